@@ -1,0 +1,110 @@
+-- Bodies in which other code stands in place of calls of some functions, and then with other indices, stay well typed.
+use Rattle.std.proofs.Common.{◌≡◌, ◌∙◌, ap, sym, subst, refl, ℕ, List, [], ◌∷◌, map, Bool, true, false, ◌||◌, ◌&&◌, Option, Some, option_and_then, slice_get, slice_index, length, true≢false, zero, suc, arith}
+use Rattle.std.specs.Prelude.{Contains}
+use Rattle.std.specs.List.{list_any}
+use Rattle.base_lists.specs.Every.{Every}
+use Rattle.base_lists.proofs.Options.{and_then_is}
+use Rattle.base_lists.proofs.Places.{replicate_at}
+use Rattle.wasm_tree.specs.declared.space.Operand.{Operand}
+use Rattle.wasm_tree.specs.declared.space.Space.{Space}
+use Rattle.wasm_tree.specs.declared.space.Space.TheVariants.{Types, Functions, Tables, Memories, Globals, ElementSegments, DataSegments}
+use Rattle.wasm_tree.specs.declared.types.FuncType.{FuncType}
+use Rattle.wasm_tree.specs.declared.instr.Instr.{Instr}
+use Rattle.wasm_tree.specs.declared.instr.Instr.TheVariants.{Call}
+use Rattle.wasm_tree.specs.declared.instr.Instr.TheOpen.{Instr-F}
+use Rattle.wasm_tree.specs.declared.module.Func.{Func}
+use Rattle.wasm_tree.specs.declared.module.Module.{Module}
+use Rattle.wasm_tree.specs.Layers.{ListLayers}
+use Rattle.wasm_tree.specs.Operands.{any_operand_passes, operands}
+use Rattle.wasm_tree.specs.OperandLaws.{AnyInside, PassesInside, PassesLayerByLayer}
+use Rattle.wasm_tree.specs.Spaces.{funcs_of}
+use Rattle.wasm_valid_bodies.specs.Typing.{Context, WellTyped}
+use Rattle.wasm_valid.specs.Named.{refs_of}
+use Rattle.wasm_valid.specs.SpaceTypes.{table_types}
+use Rattle.wasm_valid.specs.Validity.{body_context}
+use Rattle.index_remap.specs.declared.remap.Remap.{Remap}
+use Rattle.index_remap.specs.Agreement.{LayerAgrees, OperandAgrees, func_type, labelled}
+use Rattle.index_remap.specs.Laws.{TypingIsKept}
+use Rattle.index_remap.specs.References.{is_among}
+use Rattle.index_remap.specs.Renumbered.{renumbered_all}
+use Rattle.index_remap.specs.Replaced.{CodesHaveTypes, Labels, OthersAgree, is_listed_call}
+use Rattle.index_remap.proofs.Unlisted.{all_follow}
+use Rattle.index_remap_proof.specs.ButForReferences.{any_named}
+use Rattle.index_remap_proof.specs.Indices.{Indices}
+use Rattle.index_remap_proof.specs.Trees.{TreesAgree}
+use Rattle.index_remap_proof.proofs.Lists.{named_within}
+use Rattle.split_spec.specs.Calls.{with_calls}
+use Rattle.split_proof.specs.Calls.{CallsAreReplaced, renumbered_codes}
+use Rattle.split_proof.proofs.Operands.{Met, all_wanted}
+
+-- what the laws below say
+pub record BodyLaws : Type 0 where
+  pub inside : PassesInside
+  pub any : AnyInside
+  pub layers : PassesLayerByLayer
+  pub typed : TypingIsKept
+  pub replaced : CallsAreReplaced
+
+left_false : (a b : Bool) → (a || b) ≡ false → a ≡ false
+left_false true b h = h
+left_false false b h = refl
+
+right_false : (a b : Bool) → (a || b) ≡ false → b ≡ false
+right_false true b h = cc
+right_false false b h = h
+
+the_one : {A : Type 0} (x y : A) → Contains (x ∷ []) y → x ≡ y
+the_one x y (zero, h, e) = e
+the_one x y (suc k, h, e) = absurd (omega (arith, h))
+
+module _ (laws : BodyLaws) (r : Remap) (kept : Indices) (m u : Module) (agree : TreesAgree r kept m u) (listed : List ℕ) (code : ℕ → List Instr) where
+  -- the operand is a call of a function on the list, or its index is of the set
+  abbrev pub is_met : Operand → Bool
+  is_met o = is_listed_call listed o || kept o.space o.index
+
+  -- what stands in place of a call of a function on the list has its type
+  abbrev pub CodeIsTyped : Type 0
+  CodeIsTyped =
+      (f ty : ℕ) (t : FuncType) → is_among listed f ≡ true → slice_get (funcs_of m) f ≡ Some ty → slice_get m.types ty ≡ Some t →
+      (d : Context) → d.types ≡ u.types → d.funcs ≡ funcs_of u → d.tables ≡ table_types u → WellTyped d (renumbered_all r (code f)) t.params t.results
+
+  module _ (f : Func) (t : FuncType) where
+    abbrev old : Context
+    old = body_context m f t
+
+    abbrev new : Context
+    new = any_named (body_context u f t)
+
+    -- an index of the set agrees with its entry
+    entry_agrees : (space : Space) (called : Bool) (i : ℕ) → kept space i ≡ true → OperandAgrees r old new space called i
+    entry_agrees Types called = agree.types
+    entry_agrees Functions true = agree.funcs
+    entry_agrees Functions false = λ i h e. replicate_at true (length (funcs_of u)) (slice_index r.funcs i) (agree.func_space i h (named_within (refs_of m) 0 (length (funcs_of m)) i true e))
+    entry_agrees Tables called = agree.tables
+    entry_agrees Memories called = agree.memories
+    entry_agrees Globals called = agree.globals
+    entry_agrees ElementSegments called = agree.elems
+    entry_agrees DataSegments called = agree.datas
+
+    one_agrees : (o : Operand) → is_met o ≡ true → is_listed_call listed o ≡ false → OperandAgrees r old new o.space o.called o.index
+    one_agrees o h e = entry_agrees o.space o.called o.index (sym (ap (λ b. b || kept o.space o.index) e) ∙ h)
+
+    each_agrees : (os : List Operand) → Every (λ o. is_met o ≡ true) os → list_any (is_listed_call listed) os ≡ false → Every (λ o. OperandAgrees r old new o.space o.called o.index) os
+    each_agrees [] h e = tt
+    each_agrees (o ∷ os) h e =
+        (one_agrees o h.0 (left_false (is_listed_call listed o) (list_any (is_listed_call listed) os) e), each_agrees os h.1 (right_false (is_listed_call listed o) (list_any (is_listed_call listed) os) e))
+
+    others_agree : (is : List Instr) → Met is_met (λ test. any_operand_passes test is) → ListLayers (OthersAgree r listed old new) is
+    others_agree is met =
+        all_follow (λ l. Every (λ o. is_met o ≡ true) (operands l)) (OthersAgree r listed old new) (λ l. each_agrees (operands l)) is ((laws.layers is_met is).0 (all_wanted laws.inside laws.any is_met is met))
+
+    codes_typed : CodeIsTyped → CodesHaveTypes listed (renumbered_codes r code) old new
+    codes_typed typed labels func js among has ft is =
+        let ty = and_then_is (slice_get (funcs_of m) func) (slice_get m.types) ft is in
+        subst (λ z. WellTyped (labelled new labels) z ft.params ft.results) (the_one (renumbered_all r (code func)) js has) (typed func ty.0 ft among ty.1 ty.2 (labelled new labels) refl refl refl)
+
+    pub body_typed : CodeIsTyped → ((func : ℕ) → is_among listed func ≡ false → code func ≡ Call func ∷ []) → Met is_met (λ test. any_operand_passes test f.body) → WellTyped old f.body [] t.results →
+        WellTyped new (renumbered_all r (with_calls code f.body)) [] t.results
+    body_typed typed others met w =
+        laws.typed r listed (renumbered_codes r code) old new f.body (renumbered_all r (with_calls code f.body)) [] t.results (record { locals = refl; results = refl; labels = refl }) (others_agree f.body met) (codes_typed typed)
+        (laws.replaced old.types r listed code others old.labels f.body) w

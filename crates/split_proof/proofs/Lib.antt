@@ -1,0 +1,9 @@
+pub mod Lists
+pub mod Replacing
+pub mod Operands
+pub mod Typed
+pub mod Bodies
+pub mod Spaces
+pub mod SecondarySpaces
+pub mod SecondaryItems
+pub mod Whole

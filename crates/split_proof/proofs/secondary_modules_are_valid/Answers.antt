@@ -1,0 +1,19 @@
+use Rattle.split_proof.proofs.Bodies.{BodyLaws}
+use Rattle.split_proof.proofs.Whole.{Laws, secondary_valid}
+use Rattle.split_proof.proofs.secondary_modules_are_valid.Goals as goal
+
+laws : (c : goal.After-calls_are_replaced) → Laws
+laws c = record {
+  bodies = record {
+    inside = c.operands_pass_layer_by_layer.ensures.inside;
+    any = c.operands_pass_layer_by_layer.ensures.any;
+    layers = c.operands_pass_layer_by_layer.ensures.layers;
+    typed = c.steps_agree.ensures.typed;
+    replaced = c.calls_are_replaced.ensures;
+  };
+  items = c.valid_where_items_hold.ensures;
+  declared_valid = c.declared_trees_are_valid.ensures.valid;
+}
+
+pub returns : goal.returns
+returns c = λ names m moved own before valid can. secondary_valid (laws c) names m moved own before valid can
