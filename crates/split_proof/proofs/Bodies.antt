@@ -57,54 +57,52 @@ the_one : {A : Type 0} (x y : A) → Contains (x ∷ []) y → x ≡ y
 the_one x y (zero, h, e) = e
 the_one x y (suc k, h, e) = absurd (omega (arith, h))
 
-module _ (laws : BodyLaws) (r : Remap) (kept : Indices) (m u : Module) (agree : TreesAgree r kept m u) (listed : List ℕ) (code : ℕ → List Instr) where
-  -- the operand is a call of a function on the list, or its index is of the set
-  abbrev pub is_met : Operand → Bool
-  is_met o = is_listed_call listed o || kept o.space o.index
+-- an index of the set agrees with its entry
+module _ (r : Remap) (kept : Indices) (m u : Module) (agree : TreesAgree r kept m u) (f : Func) (t : FuncType) where
+  pub entry_agrees : (space : Space) (called : Bool) (i : ℕ) → kept space i ≡ true → OperandAgrees r (body_context m f t) (any_named (body_context u f t)) space called i
+  entry_agrees Types called = agree.types
+  entry_agrees Functions true = agree.funcs
+  entry_agrees Functions false = λ i h e. replicate_at true (length (funcs_of u)) (slice_index r.funcs i) (agree.func_space i h (named_within (refs_of m) 0 (length (funcs_of m)) i true e))
+  entry_agrees Tables called = agree.tables
+  entry_agrees Memories called = agree.memories
+  entry_agrees Globals called = agree.globals
+  entry_agrees ElementSegments called = agree.elems
+  entry_agrees DataSegments called = agree.datas
 
+module _ (laws : BodyLaws) (r : Remap) (m u : Module) (listed : List ℕ) (code : ℕ → List Instr) where
   -- what stands in place of a call of a function on the list has its type
   abbrev pub CodeIsTyped : Type 0
   CodeIsTyped =
       (f ty : ℕ) (t : FuncType) → is_among listed f ≡ true → slice_get (funcs_of m) f ≡ Some ty → slice_get m.types ty ≡ Some t →
       (d : Context) → d.types ≡ u.types → d.funcs ≡ funcs_of u → d.tables ≡ table_types u → WellTyped d (renumbered_all r (code f)) t.params t.results
 
-  module _ (f : Func) (t : FuncType) where
+  module _ (f : Func) (t : FuncType) (met : Operand → Bool) where
     abbrev old : Context
     old = body_context m f t
 
     abbrev new : Context
     new = any_named (body_context u f t)
 
-    -- an index of the set agrees with its entry
-    entry_agrees : (space : Space) (called : Bool) (i : ℕ) → kept space i ≡ true → OperandAgrees r old new space called i
-    entry_agrees Types called = agree.types
-    entry_agrees Functions true = agree.funcs
-    entry_agrees Functions false = λ i h e. replicate_at true (length (funcs_of u)) (slice_index r.funcs i) (agree.func_space i h (named_within (refs_of m) 0 (length (funcs_of m)) i true e))
-    entry_agrees Tables called = agree.tables
-    entry_agrees Memories called = agree.memories
-    entry_agrees Globals called = agree.globals
-    entry_agrees ElementSegments called = agree.elems
-    entry_agrees DataSegments called = agree.datas
+    -- what is met agrees, but for a call of a function on the list
+    abbrev pub MetAgrees : Type 0
+    MetAgrees = (o : Operand) → met o ≡ true → is_listed_call listed o ≡ false → OperandAgrees r old new o.space o.called o.index
 
-    one_agrees : (o : Operand) → is_met o ≡ true → is_listed_call listed o ≡ false → OperandAgrees r old new o.space o.called o.index
-    one_agrees o h e = entry_agrees o.space o.called o.index (sym (ap (λ b. b || kept o.space o.index) e) ∙ h)
+    each_agrees : MetAgrees → (os : List Operand) → Every (λ o. met o ≡ true) os → list_any (is_listed_call listed) os ≡ false → Every (λ o. OperandAgrees r old new o.space o.called o.index) os
+    each_agrees agrees [] h e = tt
+    each_agrees agrees (o ∷ os) h e =
+        (agrees o h.0 (left_false (is_listed_call listed o) (list_any (is_listed_call listed) os) e), each_agrees agrees os h.1 (right_false (is_listed_call listed o) (list_any (is_listed_call listed) os) e))
 
-    each_agrees : (os : List Operand) → Every (λ o. is_met o ≡ true) os → list_any (is_listed_call listed) os ≡ false → Every (λ o. OperandAgrees r old new o.space o.called o.index) os
-    each_agrees [] h e = tt
-    each_agrees (o ∷ os) h e =
-        (one_agrees o h.0 (left_false (is_listed_call listed o) (list_any (is_listed_call listed) os) e), each_agrees os h.1 (right_false (is_listed_call listed o) (list_any (is_listed_call listed) os) e))
-
-    others_agree : (is : List Instr) → Met is_met (λ test. any_operand_passes test is) → ListLayers (OthersAgree r listed old new) is
-    others_agree is met =
-        all_follow (λ l. Every (λ o. is_met o ≡ true) (operands l)) (OthersAgree r listed old new) (λ l. each_agrees (operands l)) is ((laws.layers is_met is).0 (all_wanted laws.inside laws.any is_met is met))
+    others_agree : MetAgrees → (is : List Instr) → Met met (λ test. any_operand_passes test is) → ListLayers (OthersAgree r listed old new) is
+    others_agree agrees is all =
+        all_follow (λ l. Every (λ o. met o ≡ true) (operands l)) (OthersAgree r listed old new) (λ l. each_agrees agrees (operands l)) is ((laws.layers met is).0 (all_wanted laws.inside laws.any met is all))
 
     codes_typed : CodeIsTyped → CodesHaveTypes listed (renumbered_codes r code) old new
     codes_typed typed labels func js among has ft is =
         let ty = and_then_is (slice_get (funcs_of m) func) (slice_get m.types) ft is in
         subst (λ z. WellTyped (labelled new labels) z ft.params ft.results) (the_one (renumbered_all r (code func)) js has) (typed func ty.0 ft among ty.1 ty.2 (labelled new labels) refl refl refl)
 
-    pub body_typed : CodeIsTyped → ((func : ℕ) → is_among listed func ≡ false → code func ≡ Call func ∷ []) → Met is_met (λ test. any_operand_passes test f.body) → WellTyped old f.body [] t.results →
+    pub body_typed : CodeIsTyped → MetAgrees → ((func : ℕ) → is_among listed func ≡ false → code func ≡ Call func ∷ []) → Met met (λ test. any_operand_passes test f.body) → WellTyped old f.body [] t.results →
         WellTyped new (renumbered_all r (with_calls code f.body)) [] t.results
-    body_typed typed others met w =
-        laws.typed r listed (renumbered_codes r code) old new f.body (renumbered_all r (with_calls code f.body)) [] t.results (record { locals = refl; results = refl; labels = refl }) (others_agree f.body met) (codes_typed typed)
+    body_typed typed agrees others all w =
+        laws.typed r listed (renumbered_codes r code) old new f.body (renumbered_all r (with_calls code f.body)) [] t.results (record { locals = refl; results = refl; labels = refl }) (others_agree agrees f.body all) (codes_typed typed)
         (laws.replaced old.types r listed code others old.labels f.body) w

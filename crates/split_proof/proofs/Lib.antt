@@ -6,4 +6,10 @@ pub mod Bodies
 pub mod Spaces
 pub mod SecondarySpaces
 pub mod SecondaryItems
+pub mod PrimarySpaces
+pub mod SlotCalls
+pub mod PrimaryItems
+pub mod Names
+pub mod SharedFuncs
+pub mod PrimaryExports
 pub mod Whole

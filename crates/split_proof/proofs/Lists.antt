@@ -1,13 +1,16 @@
 -- Lists: what is chosen at marked places, indices into two lists in a row, and the first place of a number.
-use Rattle.std.proofs.Common.{◌≡◌, ◌∙◌, ap, ap₂, sym, refl, ℕ, zero, suc, ◌+◌, ◌<◌, List, [], ◌∷◌, ◌++◌, map, length, nat_eq, Bool, true, false, cond, ◌||◌, Option, Some, None, option_and_then, filter_map, slice_get, slice_index, arith, ⊎_elim}
+use Rattle.std.proofs.Common.{◌≡◌, ◌∙◌, ap, ap₂, sym, refl, ℕ, zero, suc, ◌+◌, ◌<◌, List, [], ◌∷◌, ◌++◌, drop, eq-eqb, map, length, nat_eq, true≢false, Bool, true, false, cond, ◌||◌, Option, Some, None, option_and_then, filter_map, slice_get, slice_index, arith, ⊎_elim}
+use Rattle.std.specs.Prelude.{Contains}
 use Rattle.std.specs.List.{cons_option, list_any}
+use Rattle.std.proofs.lemmas.Option.{get_or_from_slice_get, slice_get_within}
 use Rattle.base_lists.specs.Places.{first_place, places}
 use Rattle.base_lists.proofs.Bools.{cond_is}
+use Rattle.base_lists.proofs.Each.{list_any_there}
 use Rattle.base_lists.proofs.Places.{append_at_left, append_right, slice_get_there, slice_index_is}
-use Rattle.base_kept.specs.Kept.{kept}
+use Rattle.base_kept.specs.Kept.{is_marked, kept, kept_before}
 use Rattle.base_kept.proofs.Laws.{kept_map}
 use Rattle.index_remap.specs.References.{is_among}
-use Rattle.index_remap_proof.proofs.Lists.{same_number}
+use Rattle.index_remap_proof.proofs.Lists.{left_either, right_either, same_number}
 
 -- ---- what is chosen at marked places ----
 
@@ -104,3 +107,38 @@ none_among x (y ∷ ys) n h = ap (λ b. cond b (Some n) (first_place (nat_eq x) 
     right_false : (a b : Bool) → (a || b) ≡ false → b ≡ false
     right_false true b h = cc
     right_false false b h = h
+
+-- ---- marks of which the first are all set ----
+
+pub before_drop : (bs : List Bool) (k j : ℕ) → ((i : ℕ) → i < k → is_marked bs i ≡ true) → kept_before bs (k + j) ≡ k + kept_before (drop k bs) j
+before_drop bs zero j h =
+    let e : 0 + j ≡ j = omega arith in
+    let z : kept_before bs j ≡ 0 + kept_before bs j = omega arith in
+    ap (kept_before bs) e ∙ z
+before_drop [] (suc k) j h = absurd (true≢false (sym (h 0 (omega arith))))
+before_drop (true ∷ bs) (suc k) j h =
+    let e : suc k + j ≡ suc (k + j) = omega arith in
+    let z : suc (k + kept_before (drop k bs) j) ≡ suc k + kept_before (drop k bs) j = omega arith in
+    ap (kept_before (true ∷ bs)) e ∙ ap suc (before_drop bs k j (λ i lt. h (suc i) (omega (arith, lt)))) ∙ z
+before_drop (false ∷ bs) (suc k) j h = absurd (true≢false (sym (h 0 (omega arith))))
+
+-- ---- members ----
+
+pub among_there : (xs : List ℕ) (x : ℕ) → is_among xs x ≡ true → (p : ℕ) × (slice_get xs p ≡ Some x)
+among_there xs x h = let r = list_any_there (nat_eq x) xs h in (r.1.0, r.1.1 ∙ ap Some (sym (same_number x r.0 r.2)))
+
+pub list_any_at : {A : Type 0} (test : A → Bool) (xs : List A) (n : ℕ) (x : A) → slice_get xs n ≡ Some x → test x ≡ true → list_any test xs ≡ true
+list_any_at test [] n x at h = cc
+list_any_at test (y ∷ ys) zero x at h = let same : y ≡ x = cc in left_either (test y) (list_any test ys) (ap test same ∙ h)
+list_any_at test (y ∷ ys) (suc n) x at h = right_either (test y) (list_any test ys) (list_any_at test ys n x at h)
+
+pub there_among : (xs : List ℕ) (p x : ℕ) → slice_get xs p ≡ Some x → is_among xs x ≡ true
+there_among xs p x at = list_any_at (nat_eq x) xs p x at (eq-eqb x x refl)
+
+pub contains_there : {A : Type 0} (xs : List A) (x : A) → Contains xs x → (p : ℕ) × (slice_get xs p ≡ Some x)
+contains_there xs x (k, lt, e) =
+    let y = slice_get_there xs k lt in
+    (k, y.1 ∙ ap Some (sym (get_or_from_slice_get xs k y.0 x y.1) ∙ e))
+
+pub there_contains : {A : Type 0} (xs : List A) (p : ℕ) (x : A) → slice_get xs p ≡ Some x → Contains xs x
+there_contains xs p x at = (p, slice_get_within xs p x at, get_or_from_slice_get xs p x x at)

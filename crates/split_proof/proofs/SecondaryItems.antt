@@ -45,18 +45,13 @@ use Rattle.split_spec.specs.Slots.{call_by_slot, defined_at, in_slots, place_amo
 use Rattle.split_spec.specs.FromPrimary.{entities, from_primary, imports_from_primary, is_from_primary, is_named_from_primary, name_from_primary, slots_name}
 use Rattle.split_spec.specs.Secondary.{secondary_call, secondary_call_by_place, secondary_func, secondary_imports}
 use Rattle.split_proof.specs.Premises.{CanMove}
-use Rattle.split_proof.proofs.Bodies.{BodyLaws, CodeIsTyped, body_typed, is_met}
-use Rattle.split_proof.proofs.Lists.{no_place, none_among, place_is}
+use Rattle.split_proof.proofs.Bodies.{BodyLaws, CodeIsTyped, MetAgrees, body_typed, entry_agrees}
+use Rattle.split_proof.proofs.Lists.{list_any_at, no_place, none_among, place_is}
 use Rattle.split_proof.proofs.Operands.{Met}
 use Rattle.split_proof.proofs.SecondarySpaces.{Moves, agree, funcs_many, imported_funcs_are, own_at, own_entry, own_many, own_moves, own_type, r, slot_table_at, stays, u}
 use Rattle.split_proof.proofs.Spaces.{ItemsHold, entity_holds, func_holds}
-use Rattle.split_proof.proofs.Typed.{call_renumbered, call_typed, slot_call_renumbered, slot_call_typed}
-
--- one of a list passes
-list_any_at : {A : Type 0} (test : A → Bool) (xs : List A) (n : ℕ) (x : A) → slice_get xs n ≡ Some x → test x ≡ true → list_any test xs ≡ true
-list_any_at test [] n x at h = cc
-list_any_at test (y ∷ ys) zero x at h = let same : y ≡ x = cc in left_either (test y) (list_any test ys) (ap test same ∙ h)
-list_any_at test (y ∷ ys) (suc n) x at h = right_either (test y) (list_any test ys) (list_any_at test ys n x at h)
+use Rattle.split_proof.proofs.SlotCalls.{through_slot_typed}
+use Rattle.split_proof.proofs.Typed.{call_renumbered, call_typed}
 
 -- an operand that is no call of a function that moves names its index so
 names_itself : (moved : List ℕ) (o : Operand) → is_listed_call moved o ≡ false → is_named_from_primary moved o.space o.index o ≡ true
@@ -125,11 +120,7 @@ module _ (laws : BodyLaws) (names : SplitNames) (m : Module) (holds : ItemsHold 
       right_false true b h = cc
       right_false false b h = h
 
-  -- the index of the type is the one in the module
-  type_found : (f ty : ℕ) → slice_get (funcs_of m) f ≡ Some ty → type_index m f ≡ ty
-  type_found f ty h = slice_index_is (funcs_of m) f ty h
-
-  calls_typed : CodeIsTyped laws map_of (stays names m holds moved own before) m new (agree names m holds moved own before) (moved ++ own) (secondary_call m moved own)
+  calls_typed : CodeIsTyped laws map_of m new (moved ++ own) (secondary_call m moved own)
   calls_typed f ty t among at is d types funcs tables = by (place_among own f) (place_among moved f) refl refl
     where
       by : (o p : Option ℕ) → place_among own f ≡ o → place_among moved f ≡ p → WellTyped d (renumbered_all map_of (secondary_call m moved own f)) t.params t.results
@@ -148,23 +139,20 @@ module _ (laws : BodyLaws) (names : SplitNames) (m : Module) (holds : ItemsHold 
           ap (λ o. renumbered_all map_of (secondary_call_by_place m moved o f)) e ∙ call_renumbered map_of (length (funcs_of m) + place) ∙ ap (λ k. Call k ∷ []) entry in
           subst (λ z. WellTyped d z t.params t.results) (sym code_is) (call_typed d (length (imported_funcs new.imports) + i.0) t typed)
       by None (Some slot) e q =
-          let lt = slice_get_within m.types ty t is in
-          let code_is : renumbered_all map_of (secondary_call m moved own f) ≡ _ =
-          ap (λ o. renumbered_all map_of (secondary_call_by_place m moved o f)) e ∙ ap (λ o. renumbered_all map_of (call_by_slot m o f)) q ∙ slot_call_renumbered map_of (type_index m f) (slot_table m) (pos slot) in
-          let ty_is : slice_index map_of.types (type_index m f) ≡ ty = ap (slice_index map_of.types) (type_found f ty at) ∙ numbers_index (length m.types) ty lt in
-          subst (λ z. WellTyped d z t.params t.results) (sym code_is)
-          (slot_call_typed d (slice_index map_of.types (type_index m f)) (slice_index map_of.tables (slot_table m)) (pos slot) t
-          (ap₂ (λ ts k. slice_get ts k) types ty_is ∙ is)
-          (ap (λ ts. slice_get ts (slice_index map_of.tables (slot_table m))) tables ∙ slot_table_at names m holds moved own before))
+          let code_is : secondary_call m moved own f ≡ call_by_slot m (Some slot) f = ap (λ o. secondary_call_by_place m moved o f) e ∙ ap (λ o. call_by_slot m o f) q in
+          subst (λ z. WellTyped d (renumbered_all map_of z) t.params t.results) (sym code_is) (through_slot_typed map_of m new f ty slot t refl refl (slot_table_at names m holds moved own before) at is d types tables)
       by None None e q =
           let none : is_among (moved ++ own) f ≡ false = among_append moved own f ∙ ap₂ (λ a b. a || b) (no_place f moved 0 q) (no_place f own 0 e) in
           absurd (true≢false (sym among ∙ none))
 
   -- ---- bodies ----
 
-  -- what a body of its own names is met: a call of a function that moves, or what is imported
-  body_met : (p f : ℕ) (at : slice_get own p ≡ Some f) →
-      Met (is_met laws map_of (stays names m holds moved own before) m new (agree names m holds moved own before) (moved ++ own) (secondary_call m moved own)) (λ test. any_operand_passes test (own_moves names m holds moved own before can p f at).func.body)
+  -- the operand is a call of a function on the list, or is of what stays
+  abbrev is_met : Operand → Bool
+  is_met o = is_listed_call (moved ++ own) o || stays names m holds moved own before o.space o.index
+
+  -- so is each that a body of its own names
+  body_met : (p f : ℕ) (at : slice_get own p ≡ Some f) → Met is_met (λ test. any_operand_passes test (own_moves names m holds moved own before can p f at).func.body)
   body_met p f at o t = by (is_listed_call moved o) refl
     where
       there : is_listed_call moved o ≡ false → is_from_primary moved (defined_at m own) o.space o.index ≡ true
@@ -189,6 +177,10 @@ module _ (laws : BodyLaws) (names : SplitNames) (m : Module) (holds : ItemsHold 
       by : (b : Bool) → is_listed_call moved o ≡ b → (is_listed_call (moved ++ own) o || stays names m holds moved own before o.space o.index) ≡ true
       by true e = left_either (is_listed_call (moved ++ own) o) (stays names m holds moved own before o.space o.index) (listed_too o.called e)
       by false e = right_either (is_listed_call (moved ++ own) o) (stays names m holds moved own before o.space o.index) (in_space o.space refl (there e))
+
+  met_agrees : (f : Func) (t : FuncType) → MetAgrees laws map_of m new (moved ++ own) (secondary_call m moved own) f t is_met
+  met_agrees f t o h e =
+      entry_agrees map_of (stays names m holds moved own before) m new (agree names m holds moved own before) f t o.space o.called o.index (sym (ap (λ b. b || stays names m holds moved own before o.space o.index) e) ∙ h)
 
   -- ---- all items ----
 
@@ -248,5 +240,5 @@ module _ (laws : BodyLaws) (names : SplitNames) (m : Module) (holds : ItemsHold 
         old.1,
         g.3,
         ap (slice_get m.types) entry ∙ ty,
-        body_typed laws map_of (stays names m holds moved own before) m new (agree names m holds moved own before) (moved ++ own) (secondary_call m moved own) f.func old.1 calls_typed others (body_met g.0 g.1 g.2) typed,
+        body_typed laws map_of m new (moved ++ own) (secondary_call m moved own) f.func old.1 is_met calls_typed (met_agrees f.func old.1) others (body_met g.0 g.1 g.2) typed,
       )

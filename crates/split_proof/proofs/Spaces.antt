@@ -43,7 +43,7 @@ memory_desc (im.Memory x) l e = let same : x ≡ l = cc in ap im.Memory same
 memory_desc (im.Global x) l e = absurd (let k = e in cc)
 
 module _ (m : Module) (holds : ItemsHold m) where
-  import_holds : (i : ℕ) (x : Import) → slice_get m.imports i ≡ Some x → ImportHolds m x.desc
+  pub import_holds : (i : ℕ) (x : Import) → slice_get m.imports i ≡ Some x → ImportHolds m x.desc
   import_holds i x at =
       let z = holds kind.Import i (slice_get_within m.imports i x at) in
       let both : Some z.0 ≡ Some x = sym z.1 ∙ at in
@@ -67,7 +67,7 @@ module _ (m : Module) (holds : ItemsHold m) where
   pub type_there : (i ty : ℕ) → slice_get (funcs_of m) i ≡ Some ty → ty < length m.types
   type_there = space_holds func_of im.Func (map (λ f. f.ty) m.funcs) func_desc (λ j ty h. let f = map_from (λ f. f.ty) m.funcs j ty h in subst (λ n. n < length m.types) f.2 (func_holds j f.0 f.1))
 
-  table_holds : (j : ℕ) (t : TableType) → slice_get m.tables j ≡ Some t → LimitsHold t.limits
+  pub table_holds : (j : ℕ) (t : TableType) → slice_get m.tables j ≡ Some t → LimitsHold t.limits
   table_holds j t at =
       let z = holds kind.Table j (slice_get_within m.tables j t at) in
       let both : Some z.0 ≡ Some t = sym z.1 ∙ at in
