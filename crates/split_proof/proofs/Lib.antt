@@ -12,4 +12,5 @@ pub mod PrimaryItems
 pub mod Names
 pub mod SharedFuncs
 pub mod PrimaryExports
+pub mod Bounds
 pub mod Whole

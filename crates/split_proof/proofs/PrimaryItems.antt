@@ -141,13 +141,13 @@ module _ (laws : BodyLaws) (namespace : ℕ → List ℕ) (prefix : List ℕ) (m
 
   -- ---- functions ----
 
-  record Item (j : ℕ) : Type 0 where
-    place : ℕ
-    func : Func
-    at : slice_get m.funcs place ≡ Some func
-    is : slice_get new.funcs j ≡ Some (new_func map_of (primary_func m moved (place_among moved (k + place)) (k + place) func))
+  pub record Item (j : ℕ) : Type 0 where
+    pub place : ℕ
+    pub func : Func
+    pub at : slice_get m.funcs place ≡ Some func
+    pub is : slice_get new.funcs j ≡ Some (new_func map_of (primary_func m moved (place_among moved (k + place)) (k + place) func))
 
-  func_item : (j : ℕ) → j < length new.funcs → Item j
+  pub func_item : (j : ℕ) → j < length new.funcs → Item j
   func_item j lt =
       let xs = kept (drop k (left_marks m moved)) (primary_funcs m moved k m.funcs) in
       let y = slice_get_there new.funcs j lt in
@@ -159,7 +159,7 @@ module _ (laws : BodyLaws) (namespace : ℕ → List ℕ) (prefix : List ℕ) (m
   type_at : (p : ℕ) (f : Func) → slice_get m.funcs p ≡ Some f → slice_get (funcs_of m) (k + p) ≡ Some f.ty
   type_at p f at = append_right (imported_funcs m.imports) (map (λ f. f.ty) m.funcs) p ∙ map_at (λ f. f.ty) m.funcs p f at
 
-  same_type : (o : Option ℕ) (i : ℕ) (f : Func) → f.ty < length m.types → (new_func map_of (primary_func m moved o i f)).ty ≡ f.ty
+  pub same_type : (o : Option ℕ) (i : ℕ) (f : Func) → f.ty < length m.types → (new_func map_of (primary_func m moved o i f)).ty ≡ f.ty
   same_type None i f lt = numbers_index (length m.types) f.ty lt
   same_type (Some slot) i f lt = numbers_index (length m.types) f.ty lt
 

@@ -184,7 +184,7 @@ module _ (laws : BodyLaws) (names : SplitNames) (m : Module) (holds : ItemsHold 
 
   -- ---- all items ----
 
-  func_item : (j : ℕ) → j < length new.funcs → (p : ℕ) × (f : ℕ) × (at : slice_get own p ≡ Some f) × (slice_get new.funcs j ≡ Some (new_func map_of (secondary_func m moved own (own_moves names m holds moved own before can p f at).func)))
+  pub func_item : (j : ℕ) → j < length new.funcs → (p : ℕ) × (f : ℕ) × (at : slice_get own p ≡ Some f) × (slice_get new.funcs j ≡ Some (new_func map_of (secondary_func m moved own (own_moves names m holds moved own before can p f at).func)))
   func_item j lt =
       let a = length-map (map (secondary_func m moved own) (defined_at m own)) (new_func map_of) in
       let b = length-map (defined_at m own) (secondary_func m moved own) in

@@ -1,5 +1,4 @@
-use Rattle.split_proof.proofs.Bodies.{BodyLaws}
-use Rattle.split_proof.proofs.Whole.{Laws, secondary_valid}
+use Rattle.split_proof.proofs.Whole.{Laws, secondary_valid, secondary_single, secondary_bounded}
 use Rattle.split_proof.proofs.secondary_modules_are_valid.Goals as goal
 
 laws : (c : goal.After-calls_are_replaced) → Laws
@@ -12,8 +11,14 @@ laws c = record {
     replaced = c.calls_are_replaced.ensures;
   };
   items = c.valid_where_items_hold.ensures;
-  declared_valid = c.declared_trees_are_valid.ensures.valid;
+  valid = c.declared_trees_are_valid.ensures.valid;
+  single = c.declared_trees_are_valid.ensures.single;
+  within = c.counts_are_within_where_none_is_over.ensures;
 }
 
 pub returns : goal.returns
-returns c = λ names m moved own before valid can. secondary_valid (laws c) names m moved own before valid can
+returns c = record {
+  valid = λ names m moved own before valid can. secondary_valid (laws c) names m moved own before valid can;
+  single = λ names m moved own before valid can one. secondary_single (laws c) names m moved own before valid can one;
+  bounded = λ names m moved own before valid few can none. secondary_bounded (laws c) names m moved own before valid can few none;
+}
