@@ -1,4 +1,5 @@
 pub mod Lists
+pub mod Blocks
 pub mod Replacing
 pub mod Operands
 pub mod Typed
@@ -13,4 +14,5 @@ pub mod Names
 pub mod SharedFuncs
 pub mod PrimaryExports
 pub mod Bounds
+pub mod PassedCalls
 pub mod Whole
