@@ -15,4 +15,6 @@ pub mod SharedFuncs
 pub mod PrimaryExports
 pub mod Bounds
 pub mod PassedCalls
+pub mod Fits
+pub mod SecondaryFits
 pub mod Whole

@@ -211,7 +211,7 @@ module _ (namespace : ℕ → List ℕ) (prefix : List ℕ) (m : Module) (holds 
   both_within xs ys h k n e at = ⊎_elim (λ z. h n e z) (λ z. k z.0 e z.2) (append_from xs ys n e at)
 
   -- an index that is shared is one of the space
-  shared_within : (space : Space) (n i : ℕ) → slice_get (from_primary m moved moved space) n ≡ Some i → (i < length (entities m space)) × (is_from_primary moved (defined_at m moved) space i ≡ true)
+  pub shared_within : (space : Space) (n i : ℕ) → slice_get (from_primary m moved moved space) n ≡ Some i → (i < length (entities m space)) × (is_from_primary moved (defined_at m moved) space i ≡ true)
   shared_within space n i at =
       let p = place_back (λ b. b) (marks space) 0 n i at in
       let x = map_from (is_from_primary moved (defined_at m moved) space) (numbers 0 (length (entities m space))) p.0 p.1 p.3 in

@@ -75,7 +75,7 @@ module _ (laws : BodyLaws) (names : SplitNames) (m : Module) (holds : ItemsHold 
 
   -- ---- imports ----
 
-  abbrev AllHold : List Import → Type 0
+  abbrev pub AllHold : List Import → Type 0
   AllHold xs = (n : ℕ) (x : Import) → slice_get xs n ≡ Some x → ImportHolds m x.desc
 
   both_hold : (xs ys : List Import) → AllHold xs → AllHold ys → AllHold (xs ++ ys)
@@ -93,7 +93,7 @@ module _ (laws : BodyLaws) (names : SplitNames) (m : Module) (holds : ItemsHold 
       subst (λ (y : Import). ImportHolds m y.desc) same (omega arith)
   slot_table_holds (suc n) x at = absurd (let k = at in cc)
 
-  imports_hold : AllHold (secondary_imports names m moved own)
+  pub imports_hold : AllHold (secondary_imports names m moved own)
   imports_hold =
       both_hold _ _ (from_hold Functions) (both_hold _ _ (from_hold Tables) (both_hold (record { «module» = names.import_namespace; field = slots_name names.export_prefix; desc = im.Table (slot_table_type (length moved)) } ∷ []) _ slot_table_holds (both_hold _ _ (from_hold Memories) (from_hold Globals))))
 

@@ -177,7 +177,7 @@ module _ (names : SplitNames) (m : Module) (holds : ItemsHold m) (moved own : Li
       let e : 0 + i ≡ i = omega arith in
       get_or_from_slice_get (marks space) i true false (at ∙ ap (λ n. Some (is_from_primary moved (defined_at m own) space n)) e ∙ ap Some h)
 
-  places_many : (space : Space) → length (new_places (marks space)) ≡ length (entities m space)
+  pub places_many : (space : Space) → length (new_places (marks space)) ≡ length (entities m space)
   places_many space = length-map (numbers 0 (length (marks space))) (kept_before (marks space)) ∙ length-numbers 0 (length (marks space)) ∙ marks_many space
 
   goes : {A : Type 0} (space : Space) (xs : List A) → length xs ≡ length (entities m space) → (i : ℕ) (x : A) → is_from_primary moved (defined_at m own) space i ≡ true → slice_get xs i ≡ Some x →
