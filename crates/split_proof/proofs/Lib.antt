@@ -17,4 +17,5 @@ pub mod Bounds
 pub mod PassedCalls
 pub mod Fits
 pub mod SecondaryFits
+pub mod PrimaryFits
 pub mod Whole

@@ -72,7 +72,7 @@ module _ (namespace : ℕ → List ℕ) (prefix : List ℕ) (m : Module) (holds 
           let from : k ≤ i = leb-true k i (left_true (nat_le k i) (nat_lt i (length (funcs_of m))) c.0) in
           omega (arith, from, lt)
 
-  left_many : length left ≡ length (funcs_of m)
+  pub left_many : length left ≡ length (funcs_of m)
   left_many = length-map (numbers 0 (length (funcs_of m))) (is_left m moved) ∙ length-numbers 0 (length (funcs_of m))
 
   left_at : (i : ℕ) → i < length (funcs_of m) → slice_get left i ≡ Some (is_left m moved i)

@@ -1,20 +1,21 @@
 //! That both modules of a split are valid, as laws.
 #![tactic(auto)]
 
-ghost use Rattle.std.specs.Prelude.{◌≡◌, ℕ, List, None};
+ghost use Rattle.std.specs.Prelude.{◌≡◌, ℕ, List, None, IsTrue};
 ghost use Rattle.wasm_tree.specs.declared.module.Module.{Module};
 ghost use Rattle.wasm_tree.specs.Bounds.{IsBounded};
 ghost use Rattle.wasm_valid.specs.Validity.{IsSingle, IsValid};
+ghost use Rattle.index_remap.specs.Renumbered.{fits_tree};
 ghost use Rattle.module_limits.specs.Counts.{over_limit};
 ghost use Rattle.split_spec.specs.declared.names.SplitNames.{SplitNames};
 ghost use Rattle.split_spec.specs.Faults.{prefix_taken};
-ghost use Rattle.split_spec.specs.Primary.{primary_with};
-ghost use Rattle.split_spec.specs.Secondary.{secondary_with};
+ghost use Rattle.split_spec.specs.Primary.{primary_map, primary_tree, primary_with};
+ghost use Rattle.split_spec.specs.Secondary.{secondary_map, secondary_tree, secondary_with};
 ghost use Rattle.split_proof.specs.Calls.{CallsAreReplaced};
 ghost use Rattle.split_proof.specs.Premises.{CanMove};
 
 use index_remap::steps_agree;
-use index_remap_proof::declared_trees_are_valid;
+use index_remap_proof::{declared_trees_are_valid, renumbering_keeps_typing};
 use module_limits::counts_are_within_where_none_is_over;
 use wasm_tree::operands_pass_layer_by_layer;
 use wasm_valid::valid_where_items_hold;
@@ -52,5 +53,17 @@ pub fn secondary_modules_are_valid()
     valid_where_items_hold();
     declared_trees_are_valid();
     counts_are_within_where_none_is_over();
+    calls_are_replaced();
+}
+
+/// The maps by which both modules are renumbered have an entry for each index that is named in the trees that they renumber (`primary`, `secondary`).
+pub fn maps_of_a_split_fit()
+    ensures primary { (namespace : ℕ → List ℕ) (prefix : List ℕ) (m : Module) (moved : List ℕ) → IsValid m → IsBounded m → CanMove m moved → IsTrue (fits_tree (primary_map m moved) (primary_tree namespace prefix m moved)) }
+    ensures secondary { (names : SplitNames) (m : Module) (moved own : List ℕ) (before : ℕ) → IsValid m → CanMove m own → IsTrue (fits_tree (secondary_map m moved own) (secondary_tree names m moved own before)) }
+{
+    operands_pass_layer_by_layer();
+    steps_agree();
+    valid_where_items_hold();
+    renumbering_keeps_typing();
     calls_are_replaced();
 }
