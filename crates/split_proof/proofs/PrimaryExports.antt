@@ -36,7 +36,7 @@ use Rattle.split_proof.specs.Premises.{CanMove}
 use Rattle.split_proof.proofs.Lists.{contains_there, list_any_at, there_among, there_contains}
 use Rattle.split_proof.proofs.Names.{Distinct, HasLetter, distinct_append, letters_apart, named, named_distinct, named_letter}
 use Rattle.split_proof.proofs.PrimarySpaces as spaces
-use Rattle.split_proof.proofs.SharedFuncs.{shared_left}
+use Rattle.split_proof.proofs.SharedFuncs.{shared_left, shared_within}
 use Rattle.split_proof.proofs.Spaces.{ItemsHold}
 
 -- where none is taken, no export has one of the names
@@ -210,23 +210,11 @@ module _ (namespace : ℕ → List ℕ) (prefix : List ℕ) (m : Module) (holds 
   both_within : (xs ys : List Export) → Within xs → Within ys → Within (xs ++ ys)
   both_within xs ys h k n e at = ⊎_elim (λ z. h n e z) (λ z. k z.0 e z.2) (append_from xs ys n e at)
 
-  -- an index that is shared is one of the space
-  pub shared_within : (space : Space) (n i : ℕ) → slice_get (from_primary m moved moved space) n ≡ Some i → (i < length (entities m space)) × (is_from_primary moved (defined_at m moved) space i ≡ true)
-  shared_within space n i at =
-      let p = place_back (λ b. b) (marks space) 0 n i at in
-      let x = map_from (is_from_primary moved (defined_at m moved) space) (numbers 0 (length (entities m space))) p.0 p.1 p.3 in
-      let v = numbers_is (length (entities m space)) p.0 x.0 x.1 in
-      let e = p.2 in
-      let w = v.1 in
-      let same : x.0 ≡ i = omega (arith, e, w) in
-      let lt = v.0 in
-      (omega (arith, e, lt), sym (ap (is_from_primary moved (defined_at m moved) space) same) ∙ x.2 ∙ p.4)
-
   space_within : (space : Space) (desc : ℕ → ExportDesc) → ((i : ℕ) → i < length (entities m space) → is_from_primary moved (defined_at m moved) space i ≡ true → InSpace new (new_export_desc map_of (desc i))) →
       Within (exports_for_secondary prefix space desc (from_primary m moved moved space))
   space_within space desc each n e at =
       let i = map_from (λ i. record { name = name_from_primary prefix space i; desc = desc i }) (from_primary m moved moved space) n e at in
-      let s = shared_within space n i.0 i.1 in
+      let s = shared_within m moved moved space n i.0 i.1 in
       subst (λ (x : Export). InSpace new (new_export_desc map_of x.desc)) i.2 (each i.0 s.0 s.1)
 
   last_within : Within (record { name = slots_name prefix; desc = ex.Table (slot_table m) } ∷ [])

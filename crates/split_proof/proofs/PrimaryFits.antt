@@ -25,7 +25,6 @@ use Rattle.wasm_tree.specs.declared.module.Func.{Func}
 use Rattle.wasm_tree.specs.declared.module.ImportDesc.{ImportDesc}
 use Rattle.wasm_tree.specs.declared.module.ImportDesc.TheVariants as im
 use Rattle.wasm_tree.specs.declared.module.Module.{Module}
-use Rattle.wasm_tree.specs.Bounds.{IsBounded}
 use Rattle.wasm_tree.specs.Operands.{all_operands_pass, called}
 use Rattle.wasm_tree.specs.Spaces.{imported_funcs, funcs_of, tables_of, memories_of, globals_of}
 use Rattle.wasm_valid.specs.Validity.{ImportHolds, IsValid}
@@ -40,11 +39,11 @@ use Rattle.split_spec.specs.Primary.{added_exports, left_marks, placeholder_impo
 use Rattle.split_proof.specs.Premises.{CanMove}
 use Rattle.split_proof.proofs.Fits.{EntriesAreThere, body_exact, call_passes, called_below, exact, has_below, through_slot_passes, trampoline_passes, type_below}
 use Rattle.split_proof.proofs.PassedCalls.{calls_pass}
-use Rattle.split_proof.proofs.PrimaryExports.{shared_within}
 use Rattle.split_proof.proofs.PrimarySpaces.{imports_hold, left_many, primary_at, r}
+use Rattle.split_proof.proofs.SharedFuncs.{shared_within}
 use Rattle.split_proof.proofs.Spaces.{ItemsHold, func_holds}
 
-module _ (entries_there : EntriesAreThere) (namespace : ℕ → List ℕ) (prefix : List ℕ) (m : Module) (valid : IsValid m) (holds : ItemsHold m) (moved : List ℕ) (can : CanMove m moved) (few : IsBounded m) where
+module _ (entries_there : EntriesAreThere) (namespace : ℕ → List ℕ) (prefix : List ℕ) (m : Module) (valid : IsValid m) (holds : ItemsHold m) (moved : List ℕ) (can : CanMove m moved) where
   abbrev map_of : Remap
   map_of = r namespace prefix m holds moved can
 
@@ -147,7 +146,7 @@ module _ (entries_there : EntriesAreThere) (namespace : ℕ → List ℕ) (prefi
   shared_fit : (space : Space) (desc : ℕ → ExportDesc) → ((i : ℕ) → i < length (entities m space) → fits_export_desc map_of (desc i) ≡ true) → list_all (fits_export map_of) (exports_for_secondary prefix space desc (from_primary m moved moved space)) ≡ true
   shared_fit space desc each = list_all_from (fits_export map_of) (exports_for_secondary prefix space desc (from_primary m moved moved space)) (λ n e at.
       let i = map_from (λ i. record { name = name_from_primary prefix space i; desc = desc i }) (from_primary m moved moved space) n e at in
-      let s = shared_within namespace prefix m holds moved can few space n i.0 i.1 in
+      let s = shared_within m moved moved space n i.0 i.1 in
       ap (λ (x : Export). fits_export_desc map_of x.desc) (sym i.2) ∙ each i.0 s.0)
 
   last_fits : list_all (fits_export map_of) (record { name = slots_name prefix; desc = ex.Table (slot_table m) } ∷ []) ≡ true

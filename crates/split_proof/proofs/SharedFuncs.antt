@@ -1,12 +1,16 @@
 -- A function that a secondary module imports is left in the primary one: one that moves is imported only where a body names it by `ref.func`.
-use Rattle.std.proofs.Common.{◌≡◌, ◌∙◌, ap, ap₂, sym, refl, ℕ, ◌-◌, eq-eqb, length, List, [], ◌∷◌, ◌++◌, map, Bool, true, false, ◌&&◌, ◌||◌, not, nat_eq, ⊎_elim, slice_get, true≢false}
+use Rattle.std.proofs.Common.{◌≡◌, ◌∙◌, ap, ap₂, sym, refl, ℕ, ◌-◌, ◌<◌, Some, arith, eq-eqb, length, List, [], ◌∷◌, ◌++◌, map, Bool, true, false, ◌&&◌, ◌||◌, not, nat_eq, ⊎_elim, slice_get, true≢false}
 use Rattle.std.specs.List.{cons_option, flat_map, list_any}
 use Rattle.std.proofs.lemmas.Grind.{flat_map-append}
 use Rattle.std.proofs.lemmas.List.{map-append}
 use Rattle.base_lists.specs.Every.{Every}
 use Rattle.base_lists.proofs.Each.{list_any_there}
-use Rattle.base_lists.proofs.Filtered.{chosen_from}
+use Rattle.base_lists.specs.Places.{numbers}
+use Rattle.base_lists.proofs.Filtered.{chosen_from, place_back}
+use Rattle.base_lists.proofs.Numbers.{numbers_is}
+use Rattle.base_lists.proofs.Places.{map_from}
 use Rattle.wasm_tree.specs.declared.space.Operand.{Operand}
+use Rattle.wasm_tree.specs.declared.space.Space.{Space}
 use Rattle.wasm_tree.specs.declared.space.Space.TheVariants.{Functions}
 use Rattle.wasm_tree.specs.declared.types.BlockType.{BlockType}
 use Rattle.wasm_tree.specs.declared.types.BlockType.TheVariants as block
@@ -22,7 +26,7 @@ use Rattle.index_remap.specs.References.{body_refs, is_among, refs, refs_all, re
 use Rattle.index_remap_proof.proofs.Lists.{among_joined, among_left, among_right, either_true, left_either, right_either, same_number, two_cases}
 use Rattle.split_spec.specs.Slots.{defined_at}
 use Rattle.split_spec.specs.Needed.{is_needed}
-use Rattle.split_spec.specs.FromPrimary.{is_from_primary, is_named_from_primary}
+use Rattle.split_spec.specs.FromPrimary.{entities, from_primary, is_from_primary, is_named_from_primary, marks_from_primary}
 use Rattle.split_spec.specs.Primary.{is_left}
 
 module _ (moved : List ℕ) (x : ℕ) (moves : is_among moved x ≡ true) where
@@ -86,3 +90,15 @@ shared_left m moved x h =
     right_either (not (is_among moved x)) (is_needed m x) (among_right (refs_of m) (cons_option m.start [] ++ body_refs m.funcs) x (among_right (cons_option m.start []) (body_refs m.funcs) x among)))
     (λ e. left_either (not (is_among moved x)) (is_needed m x) (ap not e))
     (two_cases (is_among moved x))
+
+-- an index that is imported is one of the space
+pub shared_within : (m : Module) (moved own : List ℕ) (space : Space) (n i : ℕ) → slice_get (from_primary m moved own space) n ≡ Some i → (i < length (entities m space)) × (is_from_primary moved (defined_at m own) space i ≡ true)
+shared_within m moved own space n i at =
+    let p = place_back (λ b. b) (marks_from_primary m moved own space) 0 n i at in
+    let x = map_from (is_from_primary moved (defined_at m own) space) (numbers 0 (length (entities m space))) p.0 p.1 p.3 in
+    let v = numbers_is (length (entities m space)) p.0 x.0 x.1 in
+    let e = p.2 in
+    let w = v.1 in
+    let same : x.0 ≡ i = omega (arith, e, w) in
+    let lt = v.0 in
+    (omega (arith, e, lt), sym (ap (is_from_primary moved (defined_at m own) space) same) ∙ x.2 ∙ p.4)

@@ -58,7 +58,7 @@ pub fn secondary_modules_are_valid()
 
 /// The maps by which both modules are renumbered have an entry for each index that is named in the trees that they renumber (`primary`, `secondary`).
 pub fn maps_of_a_split_fit()
-    ensures primary { (namespace : ℕ → List ℕ) (prefix : List ℕ) (m : Module) (moved : List ℕ) → IsValid m → IsBounded m → CanMove m moved → IsTrue (fits_tree (primary_map m moved) (primary_tree namespace prefix m moved)) }
+    ensures primary { (namespace : ℕ → List ℕ) (prefix : List ℕ) (m : Module) (moved : List ℕ) → IsValid m → CanMove m moved → IsTrue (fits_tree (primary_map m moved) (primary_tree namespace prefix m moved)) }
     ensures secondary { (names : SplitNames) (m : Module) (moved own : List ℕ) (before : ℕ) → IsValid m → CanMove m own → IsTrue (fits_tree (secondary_map m moved own) (secondary_tree names m moved own before)) }
 {
     operands_pass_layer_by_layer();
