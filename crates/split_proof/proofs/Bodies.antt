@@ -1,5 +1,5 @@
 -- Bodies in which other code stands in place of calls of some functions, and then with other indices, stay well typed.
-use Rattle.std.proofs.Common.{◌≡◌, ◌∙◌, ap, sym, subst, refl, ℕ, List, [], ◌∷◌, map, Bool, true, false, ◌||◌, ◌&&◌, Option, Some, option_and_then, slice_get, slice_index, length, true≢false, zero, suc, arith}
+use Rattle.std.proofs.Common.{◌≡◌, subst, refl, ℕ, List, [], ◌∷◌, Bool, true, false, Some, slice_get, slice_index, length, zero, suc, arith}
 use Rattle.std.specs.Prelude.{Contains}
 use Rattle.std.specs.List.{list_any}
 use Rattle.base_lists.specs.Every.{Every}
@@ -11,7 +11,6 @@ use Rattle.wasm_tree.specs.declared.space.Space.TheVariants.{Types, Functions, T
 use Rattle.wasm_tree.specs.declared.types.FuncType.{FuncType}
 use Rattle.wasm_tree.specs.declared.instr.Instr.{Instr}
 use Rattle.wasm_tree.specs.declared.instr.Instr.TheVariants.{Call}
-use Rattle.wasm_tree.specs.declared.instr.Instr.TheOpen.{Instr-F}
 use Rattle.wasm_tree.specs.declared.module.Func.{Func}
 use Rattle.wasm_tree.specs.declared.module.Module.{Module}
 use Rattle.wasm_tree.specs.Layers.{ListLayers}
@@ -23,11 +22,11 @@ use Rattle.wasm_valid.specs.Named.{refs_of}
 use Rattle.wasm_valid.specs.SpaceTypes.{table_types}
 use Rattle.wasm_valid.specs.Validity.{body_context}
 use Rattle.index_remap.specs.declared.remap.Remap.{Remap}
-use Rattle.index_remap.specs.Agreement.{LayerAgrees, OperandAgrees, func_type, labelled}
+use Rattle.index_remap.specs.Agreement.{OperandAgrees, labelled}
 use Rattle.index_remap.specs.Laws.{TypingIsKept}
 use Rattle.index_remap.specs.References.{is_among}
 use Rattle.index_remap.specs.Renumbered.{renumbered_all}
-use Rattle.index_remap.specs.Replaced.{CodesHaveTypes, Labels, OthersAgree, is_listed_call}
+use Rattle.index_remap.specs.Replaced.{CodesHaveTypes, OthersAgree, is_listed_call}
 use Rattle.index_remap.proofs.Unlisted.{all_follow}
 use Rattle.index_remap_proof.specs.ButForReferences.{any_named}
 use Rattle.index_remap_proof.specs.Indices.{Indices}
@@ -35,6 +34,7 @@ use Rattle.index_remap_proof.specs.Trees.{TreesAgree}
 use Rattle.index_remap_proof.proofs.Lists.{named_within}
 use Rattle.split_spec.specs.Calls.{with_calls}
 use Rattle.split_proof.specs.Calls.{CallsAreReplaced, renumbered_codes}
+use Rattle.split_proof.proofs.Lists.{left_false, right_false}
 use Rattle.split_proof.proofs.Operands.{Met, all_wanted}
 
 -- what the laws below say
@@ -44,14 +44,6 @@ pub record BodyLaws : Type 0 where
   pub layers : PassesLayerByLayer
   pub typed : TypingIsKept
   pub replaced : CallsAreReplaced
-
-left_false : (a b : Bool) → (a || b) ≡ false → a ≡ false
-left_false true b h = h
-left_false false b h = refl
-
-right_false : (a b : Bool) → (a || b) ≡ false → b ≡ false
-right_false true b h = cc
-right_false false b h = h
 
 the_one : {A : Type 0} (x y : A) → Contains (x ∷ []) y → x ≡ y
 the_one x y (zero, h, e) = e

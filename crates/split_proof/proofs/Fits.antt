@@ -1,53 +1,32 @@
 -- The maps of a split have an entry for each index that is named in the trees that they renumber.
-use Rattle.std.proofs.Common.{◌≡◌, ◌∙◌, ap, sym, subst, refl, ℕ, zero, suc, ◌+◌, ◌-◌, ◌<◌, ◌≤◌, List, [], ◌∷◌, ◌++◌, drop, map, length, Bool, true, false, ◌&&◌, not, Option, Some, None, ⊎_elim, slice_get, slice_index, arith, true≢false}
-use Rattle.std.specs.Prelude.{IsTrue, ℤ, nat_lt, pos}
+use Rattle.std.proofs.Common.{◌≡◌, ◌∙◌, sym, subst, refl, ℕ, suc, ◌<◌, ◌≤◌, List, [], ◌∷◌, ◌++◌, length, Bool, true, ◌&&◌, Some, slice_get, arith}
+use Rattle.std.specs.Prelude.{IsTrue, ℤ, pos}
 use Rattle.std.specs.List.{list_all}
 use Rattle.std.proofs.lemmas.Bool.{lt-ltb, ltb-true}
-use Rattle.std.proofs.lemmas.List.{length-append, length-drop, length-map}
 use Rattle.std.proofs.lemmas.List.Folds.{list_all-append}
-use Rattle.std.proofs.lemmas.Option.{slice_get_within}
 use Rattle.base_lists.specs.Places.{numbers}
 use Rattle.base_lists.proofs.Bools.{left_true, right_true}
-use Rattle.base_lists.proofs.Each.{list_all_each, list_all_from}
-use Rattle.base_lists.proofs.Numbers.{length-numbers, numbers_at}
-use Rattle.base_lists.proofs.Places.{map_from, slice_get_there, slice_index_is}
-use Rattle.base_kept.specs.Kept.{kept, kept_before, new_places}
-use Rattle.base_kept.proofs.Laws.{kept_from}
+use Rattle.base_lists.proofs.Each.{list_all_each}
+use Rattle.base_lists.proofs.Numbers.{length-numbers}
+use Rattle.base_lists.proofs.Places.{slice_get_there, slice_index_is}
 use Rattle.wasm_tree.specs.declared.space.Operand.{Operand}
-use Rattle.wasm_tree.specs.declared.space.Space.{Space}
-use Rattle.wasm_tree.specs.declared.space.Space.TheVariants.{Types, Functions, Tables, Memories, Globals, ElementSegments, DataSegments}
+use Rattle.wasm_tree.specs.declared.space.Space.TheVariants.{Types, Tables}
 use Rattle.wasm_tree.specs.declared.types.ValType.{ValType}
-use Rattle.wasm_tree.specs.declared.instr.Instr.{Instr, out-Instr}
+use Rattle.wasm_tree.specs.declared.instr.Instr.{out-Instr}
 use Rattle.wasm_tree.specs.declared.instr.Instr.TheVariants.{Call, CallIndirect, I32Const, LocalGet}
-use Rattle.wasm_tree.specs.declared.module.ConstExpr.{ConstExpr}
-use Rattle.wasm_tree.specs.declared.module.ConstExpr.TheVariants as const
 use Rattle.wasm_tree.specs.declared.module.Func.{Func}
-use Rattle.wasm_tree.specs.declared.module.Import.{Import}
-use Rattle.wasm_tree.specs.declared.module.ImportDesc.{ImportDesc}
-use Rattle.wasm_tree.specs.declared.module.ImportDesc.TheVariants as im
 use Rattle.wasm_tree.specs.declared.module.Module.{Module}
-use Rattle.wasm_tree.specs.Operands.{all_operands_pass, any_operand_passes, called, named, operands_pass}
-use Rattle.wasm_tree.specs.OperandLaws.{AnyInside, PassesInside}
-use Rattle.wasm_tree.specs.Spaces.{imported_funcs, funcs_of, tables_of, memories_of, globals_of}
-use Rattle.wasm_tree.proofs.OperandLaws.{passes_both, passes_inside}
-use Rattle.wasm_valid.specs.Validity.{ImportHolds, IsValid}
+use Rattle.wasm_tree.specs.Operands.{all_operands_pass, called, named, operands_pass}
+use Rattle.wasm_tree.specs.Spaces.{funcs_of, tables_of, memories_of, globals_of}
+use Rattle.wasm_tree.proofs.OperandLaws.{passes_inside}
+use Rattle.wasm_valid.specs.Validity.{IsValid}
 use Rattle.index_remap.specs.declared.remap.Remap.{Remap}
-use Rattle.index_remap.specs.Renumbered.{entries, fits_const, fits_elem, fits_func, fits_global, fits_import, fits_import_desc, fits_export, fits_data, fits_start, fits_tree, has, has_entry}
+use Rattle.index_remap.specs.Renumbered.{fits_func, fits_import, fits_tree, has, has_entry}
 use Rattle.index_remap.specs.Trampolines.{gets, slot_call}
 use Rattle.index_remap_proof.specs.Trees.{Covers}
-use Rattle.index_remap_proof.proofs.Lists.{both_true, two_cases}
-use Rattle.split_plan.specs.Segments.{names_segment}
-use Rattle.split_spec.specs.declared.names.SplitNames.{SplitNames}
-use Rattle.split_spec.specs.Calls.{with_calls}
-use Rattle.split_spec.specs.Slots.{call_by_slot, call_through_slot, defined_at, in_slots, params_of, place_among, slot_segment, slot_table, type_index}
-use Rattle.split_spec.specs.FromPrimary.{entities, from_primary, marks_from_primary}
-use Rattle.split_spec.specs.Primary.{is_left, left_marks, placeholder_imports, primary_func, primary_funcs, primary_map, primary_tree}
-use Rattle.split_spec.specs.Secondary.{secondary_call, secondary_call_by_place, secondary_func, secondary_imports, secondary_map, secondary_tree}
-use Rattle.split_proof.specs.Premises.{CanMove}
-use Rattle.split_proof.proofs.Lists.{place_is}
-use Rattle.split_proof.proofs.Operands.{Met, all_wanted}
-use Rattle.split_proof.proofs.PassedCalls.{calls_pass}
-use Rattle.split_proof.proofs.Spaces.{ItemsHold, func_holds, type_there}
+use Rattle.index_remap_proof.proofs.Lists.{both_true}
+use Rattle.split_spec.specs.Slots.{call_by_slot, slot_table, type_index}
+use Rattle.split_proof.proofs.Spaces.{ItemsHold, type_there}
 
 -- a map that is as long as each index space has an entry for each index that a valid module names
 abbrev pub EntriesAreThere : Type 0
@@ -58,6 +37,9 @@ has_below xs n i many lt = lt-ltb i (length xs) (omega (arith, many, lt))
 
 pub below_has : (xs : List ℕ) (n i : ℕ) → length xs ≡ n → has xs i ≡ true → i < n
 below_has xs n i many h = let lt = ltb-true i (length xs) h in omega (arith, many, lt)
+
+pub longer : (xs ys : List ℕ) (i : ℕ) → length xs ≤ length ys → has xs i ≡ true → has ys i ≡ true
+longer xs ys i le h = let lt = ltb-true i (length xs) h in lt-ltb i (length ys) (omega (arith, le, lt))
 
 -- ---- what stands in place of calls ----
 

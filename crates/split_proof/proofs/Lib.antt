@@ -19,3 +19,4 @@ pub mod Fits
 pub mod SecondaryFits
 pub mod PrimaryFits
 pub mod Whole
+mod Rows

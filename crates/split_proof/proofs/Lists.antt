@@ -96,17 +96,17 @@ no_place x (y ∷ ys) n h =
     (λ e. ap (λ b. b || is_among ys x) e.0 ∙ no_place x ys (suc n) e.1)
     (cond_is (nat_eq x y) (Some n) (first_place (nat_eq x) ys (suc n)) None h)
 
+pub left_false : (a b : Bool) → (a || b) ≡ false → a ≡ false
+left_false true b h = h
+left_false false b h = refl
+
+pub right_false : (a b : Bool) → (a || b) ≡ false → b ≡ false
+right_false true b h = cc
+right_false false b h = h
+
 pub none_among : (x : ℕ) (xs : List ℕ) (n : ℕ) → is_among xs x ≡ false → first_place (nat_eq x) xs n ≡ None
 none_among x [] n h = refl
 none_among x (y ∷ ys) n h = ap (λ b. cond b (Some n) (first_place (nat_eq x) ys (suc n))) (left_false (nat_eq x y) (is_among ys x) h) ∙ none_among x ys (suc n) (right_false (nat_eq x y) (is_among ys x) h)
-  where
-    left_false : (a b : Bool) → (a || b) ≡ false → a ≡ false
-    left_false true b h = h
-    left_false false b h = refl
-
-    right_false : (a b : Bool) → (a || b) ≡ false → b ≡ false
-    right_false true b h = cc
-    right_false false b h = h
 
 -- ---- marks of which the first are all set ----
 

@@ -1,18 +1,18 @@
 -- Each export of the primary module holds: it is in its space, and none before it has its name.
-use Rattle.std.proofs.Common.{◌≡◌, ◌∙◌, ap, ap₂, sym, subst, refl, ℕ, zero, suc, ◌+◌, ◌^◌, ◌<◌, ◌≤◌, List, [], ◌∷◌, ◌++◌, map, take, length, Bool, true, false, Option, Some, None, ◌⊎◌, inl, inr, ⊎_elim, slice_get, slice_index, arith, true≢false, nat_eq}
-use Rattle.std.specs.Prelude.{Contains, find}
+use Rattle.std.proofs.Common.{◌≡◌, ◌∙◌, ap, ap₂, sym, subst, refl, ℕ, zero, suc, ◌+◌, ◌^◌, ◌<◌, ◌≤◌, List, [], ◌∷◌, ◌++◌, map, take, length, Bool, true, false, Some, None, ⊎_elim, slice_get, slice_index, arith, true≢false}
+use Rattle.std.specs.Prelude.{Contains}
 use Rattle.std.specs.List.{list_any}
 use Rattle.std.specs.Str.{bytes_eq}
-use Rattle.std.proofs.lemmas.List.{append-nil, length-map, length-append, map-append, take-map}
+use Rattle.std.proofs.lemmas.List.{length-map, length-append, map-append, take-map}
 use Rattle.std.proofs.lemmas.Option.{slice_get_within}
 use Rattle.std.proofs.lemmas.Slice.Eq.{bytes_eq-Decides}
-use Rattle.base_lists.specs.Places.{numbers, places}
+use Rattle.base_lists.specs.Places.{numbers}
 use Rattle.base_lists.proofs.Bools.{cond_is}
-use Rattle.base_lists.proofs.Filtered.{has_chosen, place_back}
-use Rattle.base_lists.proofs.Numbers.{length-numbers, numbers_index, numbers_is}
-use Rattle.base_lists.proofs.Places.{append_at_left, append_from, map_at, map_from, map_twice, slice_get_there}
+use Rattle.base_lists.proofs.Filtered.{has_chosen}
+use Rattle.base_lists.proofs.Numbers.{length-numbers, numbers_index}
+use Rattle.base_lists.proofs.Places.{append_from, map_at, map_from, map_twice, slice_get_there}
 use Rattle.wasm_tree.specs.declared.space.Space.{Space}
-use Rattle.wasm_tree.specs.declared.space.Space.TheVariants.{Types, Functions, Tables, Memories, Globals, ElementSegments, DataSegments}
+use Rattle.wasm_tree.specs.declared.space.Space.TheVariants.{Functions, Tables, Memories, Globals}
 use Rattle.wasm_tree.specs.declared.module.Export.{Export}
 use Rattle.wasm_tree.specs.declared.module.ExportDesc.{ExportDesc}
 use Rattle.wasm_tree.specs.declared.module.ExportDesc.TheVariants as ex

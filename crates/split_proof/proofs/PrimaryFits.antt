@@ -1,8 +1,7 @@
 -- The map of the primary module has an entry for each index that is named in its tree.
-use Rattle.std.proofs.Common.{◌≡◌, ◌∙◌, ap, sym, subst, refl, ℕ, zero, suc, ◌+◌, ◌<◌, ◌≤◌, List, [], ◌∷◌, ◌++◌, drop, map, length, Bool, true, false, ◌&&◌, not, Option, Some, None, ⊎_elim, slice_get, arith}
+use Rattle.std.proofs.Common.{◌≡◌, ◌∙◌, ap, sym, refl, ℕ, suc, ◌+◌, ◌<◌, List, [], ◌∷◌, ◌++◌, drop, map, length, true, Option, Some, None, slice_get, arith}
 use Rattle.std.specs.Prelude.{IsTrue, pos}
 use Rattle.std.specs.List.{list_all}
-use Rattle.std.proofs.lemmas.Bool.{lt-ltb, ltb-true}
 use Rattle.std.proofs.lemmas.List.{length-append, length-drop, length-map}
 use Rattle.std.proofs.lemmas.List.Folds.{list_all-append}
 use Rattle.std.proofs.lemmas.Option.{slice_get_within}
@@ -10,13 +9,11 @@ use Rattle.base_lists.specs.Places.{numbers}
 use Rattle.base_lists.proofs.Bools.{left_true, right_true}
 use Rattle.base_lists.proofs.Each.{list_all_from}
 use Rattle.base_lists.proofs.Numbers.{length-numbers, numbers_at}
-use Rattle.base_lists.proofs.Places.{map_from, slice_get_there}
-use Rattle.base_kept.specs.Kept.{kept, kept_before, new_places}
+use Rattle.base_lists.proofs.Places.{map_from}
+use Rattle.base_kept.specs.Kept.{kept_before, new_places}
 use Rattle.base_kept.proofs.Laws.{kept_from}
-use Rattle.wasm_tree.specs.declared.space.Operand.{Operand}
 use Rattle.wasm_tree.specs.declared.space.Space.{Space}
 use Rattle.wasm_tree.specs.declared.space.Space.TheVariants.{Types, Functions, Tables, Memories, Globals, ElementSegments, DataSegments}
-use Rattle.wasm_tree.specs.declared.module.ConstExpr.{ConstExpr}
 use Rattle.wasm_tree.specs.declared.module.ConstExpr.TheVariants as const
 use Rattle.wasm_tree.specs.declared.module.Export.{Export}
 use Rattle.wasm_tree.specs.declared.module.ExportDesc.{ExportDesc}
@@ -37,7 +34,7 @@ use Rattle.split_spec.specs.Slots.{call_by_slot, call_through_slot, in_slots, pa
 use Rattle.split_spec.specs.FromPrimary.{entities, exports_for_secondary, from_primary, name_from_primary, slots_name}
 use Rattle.split_spec.specs.Primary.{added_exports, left_marks, placeholder_imports, primary_func, primary_funcs, primary_tree}
 use Rattle.split_proof.specs.Premises.{CanMove}
-use Rattle.split_proof.proofs.Fits.{EntriesAreThere, body_exact, call_passes, called_below, exact, has_below, through_slot_passes, trampoline_passes, type_below}
+use Rattle.split_proof.proofs.Fits.{EntriesAreThere, body_exact, call_passes, called_below, exact, has_below, longer, through_slot_passes, trampoline_passes, type_below}
 use Rattle.split_proof.proofs.PassedCalls.{calls_pass}
 use Rattle.split_proof.proofs.PrimarySpaces.{imports_hold, left_many, primary_at, r}
 use Rattle.split_proof.proofs.SharedFuncs.{shared_within}
@@ -84,9 +81,6 @@ module _ (entries_there : EntriesAreThere) (namespace : ℕ → List ℕ) (prefi
       let elems = length-numbers 0 (length m.elems) in
       let datas = length-numbers 0 (length m.datas) in
       record { types = omega (arith, types); funcs = omega (arith, funcs); tables = omega (arith, tables); memories = omega (arith, mems); globals = omega (arith, globals); elems = omega (arith, elems); datas = omega (arith, datas) }
-
-  longer : (old_list new_list : List ℕ) (i : ℕ) → length old_list ≤ length new_list → has old_list i ≡ true → has new_list i ≡ true
-  longer old_list new_list i le h = let lt = ltb-true i (length old_list) h in lt-ltb i (length new_list) (omega (arith, le, lt))
 
   others : (space : Space) (i : ℕ) → has (entries old space) i ≡ true → has (entries map_of space) i ≡ true
   others Types i h = h

@@ -1,15 +1,14 @@
 -- Each item of the primary module but its exports holds, but for references.
-use Rattle.std.proofs.Common.{◌≡◌, ◌∙◌, ap, ap₂, sym, subst, refl, ℕ, zero, suc, ◌+◌, ◌<◌, List, [], ◌∷◌, ◌++◌, drop, map, length, Option, Some, None, Bool, true, false, ◌&&◌, ◌||◌, not, ⊎_elim, option_and_then, filter_map, slice_get, slice_index, arith, true≢false}
+use Rattle.std.proofs.Common.{◌≡◌, ◌∙◌, ap, ap₂, sym, subst, refl, ℕ, ◌+◌, ◌<◌, List, [], ◌∷◌, ◌++◌, drop, map, length, Option, Some, None, Bool, true, false, ◌&&◌, not, ⊎_elim, option_and_then, filter_map, slice_get, slice_index, arith, true≢false}
 use Rattle.std.specs.Prelude.{nat_lt, pos}
 use Rattle.std.specs.List.{cons_option}
 use Rattle.std.specs.Option.{option_map_or}
 use Rattle.std.proofs.lemmas.Bool.{lt-ltb, ltb-true}
-use Rattle.std.proofs.lemmas.List.{length-map, length-append}
 use Rattle.std.proofs.lemmas.Option.{slice_get_within}
 use Rattle.base_lists.proofs.Filtered.{has_chosen}
 use Rattle.base_lists.proofs.Numbers.{length-numbers, numbers_at, numbers_index}
 use Rattle.base_lists.proofs.Options.{and_then_is}
-use Rattle.base_lists.proofs.Places.{append_at_left, append_right, map_at, map_from, push_from, slice_get_there, slice_index_is}
+use Rattle.base_lists.proofs.Places.{append_at_left, append_right, map_at, map_from, push_from, slice_get_there}
 use Rattle.base_kept.specs.Kept.{kept}
 use Rattle.base_kept.proofs.Laws.{kept_from}
 use Rattle.wasm_tree.specs.declared.space.Operand.{Operand}
@@ -35,29 +34,26 @@ use Rattle.wasm_tree.specs.declared.module.GlobalDef.{GlobalDef}
 use Rattle.wasm_tree.specs.declared.module.ImportDesc.{ImportDesc}
 use Rattle.wasm_tree.specs.declared.module.ImportDesc.TheVariants as im
 use Rattle.wasm_tree.specs.declared.module.Module.{Module}
-use Rattle.wasm_tree.specs.Operands.{any_operand_passes}
 use Rattle.wasm_tree.specs.Spaces.{imported_funcs, imported_globals, funcs_of, globals_of, type_of_func}
 use Rattle.wasm_valid_bodies.specs.Typing.{Context, WellTyped, only}
 use Rattle.wasm_valid.specs.declared.kinds.ItemKind.{ItemKind}
 use Rattle.wasm_valid.specs.declared.kinds.ItemKind.TheVariants as kind
 use Rattle.wasm_valid.specs.Constants.{const_type}
 use Rattle.wasm_valid.specs.Named.{const_func, elem_refs, export_refs, global_refs, named_of, refs_of}
-use Rattle.wasm_valid.specs.SpaceTypes.{table_types}
 use Rattle.wasm_valid.specs.Validity.{DataModeHolds, ElemModeHolds, HoldsAt, ImportHolds, LimitsHold, body_context, count_of, start_count}
 use Rattle.index_remap.specs.declared.remap.Remap.{Remap}
 use Rattle.index_remap.specs.Agreement.{OperandAgrees}
 use Rattle.index_remap.specs.References.{body_refs, is_among}
 use Rattle.index_remap.specs.Renumbered.{new_const, new_data, new_data_mode, new_elem, new_elem_mode, new_func, new_global, new_start, renumbered_all}
-use Rattle.index_remap.specs.Replaced.{is_listed_call}
 use Rattle.index_remap_proof.specs.ButForReferences.{HoldsButForReferences, any_named}
 use Rattle.index_remap_proof.specs.Trees.{TreesAgree}
 use Rattle.index_remap_proof.proofs.Lists.{among_joined, among_left, among_right, is_marked, left_either, only_rest, only_true, right_either}
 use Rattle.index_remap.specs.Trampolines.{gets, slot_call}
 use Rattle.split_spec.specs.Slots.{call_by_slot, call_through_slot, in_slots, params_of, place_among, slot_segment, slot_table, slot_table_type, trampoline_body, type_index}
 use Rattle.split_spec.specs.Needed.{is_needed, named_but_called}
-use Rattle.split_spec.specs.Primary.{is_left, left_marks, placeholder_imports, primary_func, primary_funcs}
+use Rattle.split_spec.specs.Primary.{is_left, left_marks, primary_func, primary_funcs}
 use Rattle.split_proof.specs.Premises.{CanMove}
-use Rattle.split_proof.proofs.Bodies.{BodyLaws, CodeIsTyped, MetAgrees, body_typed, entry_agrees}
+use Rattle.split_proof.proofs.Bodies.{BodyLaws, CodeIsTyped, body_typed, entry_agrees}
 use Rattle.split_proof.proofs.Lists.{no_place, none_among, there_among}
 use Rattle.split_proof.proofs.PrimarySpaces as spaces
 use Rattle.split_proof.proofs.SlotCalls.{slots_new, through_slot_typed, type_new}

@@ -1,5 +1,5 @@
 -- The index spaces of the primary module: what the module imports, the placeholders, and what is left of what it defines; and where each index goes.
-use Rattle.std.proofs.Common.{◌≡◌, ◌∙◌, ap, ap₂, sym, subst, refl, ℕ, zero, suc, ◌+◌, ◌<◌, ◌≤◌, List, [], ◌∷◌, ◌++◌, drop, map, length, Option, Some, None, Bool, true, false, ◌||◌, not, ◌⊎◌, inl, inr, ⊎_elim, filter_map, option_and_then, slice_get, slice_index, arith, append_assoc, true≢false}
+use Rattle.std.proofs.Common.{◌≡◌, ◌∙◌, ap, ap₂, sym, subst, refl, ℕ, zero, suc, ◌+◌, ◌<◌, ◌≤◌, List, [], ◌∷◌, ◌++◌, drop, map, length, Option, Some, None, Bool, true, false, not, ⊎_elim, filter_map, option_and_then, slice_get, slice_index, arith, append_assoc}
 use Rattle.std.specs.Prelude.{decimal, nat_le, nat_lt}
 use Rattle.std.specs.List.{cons_option}
 use Rattle.std.proofs.lemmas.Bool.{leb-true}
@@ -21,7 +21,7 @@ use Rattle.wasm_tree.specs.declared.module.Import.{Import}
 use Rattle.wasm_tree.specs.declared.module.ImportDesc.{ImportDesc}
 use Rattle.wasm_tree.specs.declared.module.ImportDesc.TheVariants as im
 use Rattle.wasm_tree.specs.declared.module.Module.{Module}
-use Rattle.wasm_tree.specs.Spaces.{func_of, table_of, memory_of, global_of, imported_funcs, imported_tables, imported_memories, imported_globals, funcs_of, tables_of, memories_of, globals_of}
+use Rattle.wasm_tree.specs.Spaces.{func_of, table_of, memory_of, global_of, imported_funcs, imported_tables, imported_globals, funcs_of, tables_of, memories_of, globals_of}
 use Rattle.wasm_valid.specs.SpaceTypes.{elem_types, table_types}
 use Rattle.wasm_valid.specs.Validity.{ImportHolds}
 use Rattle.index_remap.specs.declared.remap.Remap.{Remap}
@@ -37,8 +37,7 @@ use Rattle.split_spec.specs.Needed.{is_needed}
 use Rattle.split_spec.specs.Primary.{is_left, left_marks, placeholder_imports, primary_func, primary_funcs, primary_map, primary_tree}
 use Rattle.split_proof.specs.Premises.{CanMove}
 use Rattle.split_proof.proofs.Lists.{among_there, before_drop, index_left, index_right, map_stays}
-use Rattle.split_proof.proofs.SecondarySpaces.{Moves, moves}
-use Rattle.split_proof.proofs.Spaces.{ItemsHold, func_holds, import_holds, type_there}
+use Rattle.split_proof.proofs.Spaces.{ItemsHold, Moves, moves, func_holds, import_holds, type_there}
 
 module _ (namespace : ℕ → List ℕ) (prefix : List ℕ) (m : Module) (holds : ItemsHold m) (moved : List ℕ) (can : CanMove m moved) where
   abbrev pub r : Remap
@@ -237,7 +236,6 @@ module _ (namespace : ℕ → List ℕ) (prefix : List ℕ) (m : Module) (holds 
   pub placeholder_within : (p : ℕ) → p < length moved → k + p < length (funcs_of u)
   placeholder_within p lt =
       let f = slice_get_there moved p lt in
-      let e : k + p ≡ k + p = refl in
       slice_get_within (funcs_of u) (k + p) (type_index m f.0)
       (ap (λ fs. slice_get fs (k + p)) funcs_are ∙ append_right (imported_funcs m.imports) (map (type_index m) moved ++ kept (drop k left) defined_types) p
       ∙ append_at_left (map (type_index m) moved) (kept (drop k left) defined_types) p (type_index m f.0) (map_at (type_index m) moved p f.0 f.1))

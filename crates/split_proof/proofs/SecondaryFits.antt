@@ -1,8 +1,7 @@
 -- The map of a secondary module has an entry for each index that is named in its tree.
-use Rattle.std.proofs.Common.{◌≡◌, ◌∙◌, ap, sym, subst, refl, ℕ, zero, suc, ◌+◌, ◌-◌, ◌<◌, ◌≤◌, List, [], ◌∷◌, ◌++◌, map, length, Bool, true, false, ◌&&◌, not, Option, Some, None, ⊎_elim, slice_get, arith, true≢false}
+use Rattle.std.proofs.Common.{◌≡◌, ◌∙◌, ap, sym, refl, ℕ, ◌+◌, ◌-◌, ◌<◌, List, [], ◌∷◌, map, length, Bool, true, false, ◌&&◌, not, Option, Some, None, ⊎_elim, slice_get, arith, true≢false}
 use Rattle.std.specs.Prelude.{IsTrue}
 use Rattle.std.specs.List.{list_all}
-use Rattle.std.proofs.lemmas.Bool.{lt-ltb, ltb-true}
 use Rattle.std.proofs.lemmas.List.{length-append, length-map}
 use Rattle.std.proofs.lemmas.Option.{slice_get_within}
 use Rattle.base_lists.specs.Places.{numbers}
@@ -14,15 +13,12 @@ use Rattle.base_kept.specs.Kept.{new_places}
 use Rattle.wasm_tree.specs.declared.space.Operand.{Operand}
 use Rattle.wasm_tree.specs.declared.space.Space.{Space}
 use Rattle.wasm_tree.specs.declared.space.Space.TheVariants.{Types, Functions, Tables, Memories, Globals, ElementSegments, DataSegments}
-use Rattle.wasm_tree.specs.declared.module.ConstExpr.{ConstExpr}
 use Rattle.wasm_tree.specs.declared.module.ConstExpr.TheVariants as const
 use Rattle.wasm_tree.specs.declared.module.Func.{Func}
-use Rattle.wasm_tree.specs.declared.module.Import.{Import}
 use Rattle.wasm_tree.specs.declared.module.ImportDesc.{ImportDesc}
 use Rattle.wasm_tree.specs.declared.module.ImportDesc.TheVariants as im
 use Rattle.wasm_tree.specs.declared.module.Module.{Module}
-use Rattle.wasm_tree.specs.Operands.{all_operands_pass, any_operand_passes, called}
-use Rattle.wasm_tree.specs.OperandLaws.{AnyInside, PassesInside}
+use Rattle.wasm_tree.specs.Operands.{all_operands_pass, called}
 use Rattle.wasm_tree.specs.Spaces.{imported_funcs, funcs_of, tables_of, memories_of, globals_of}
 use Rattle.wasm_tree.proofs.OperandLaws.{passes_both}
 use Rattle.wasm_valid.specs.Validity.{ImportHolds, IsValid}
@@ -33,16 +29,16 @@ use Rattle.split_plan.specs.Segments.{names_segment}
 use Rattle.split_spec.specs.declared.names.SplitNames.{SplitNames}
 use Rattle.split_spec.specs.Calls.{with_calls}
 use Rattle.split_spec.specs.Slots.{call_by_slot, defined_at, in_slots, place_among, slot_table}
-use Rattle.split_spec.specs.FromPrimary.{entities, from_primary, marks_from_primary}
+use Rattle.split_spec.specs.FromPrimary.{from_primary, marks_from_primary}
 use Rattle.split_spec.specs.Secondary.{secondary_call, secondary_call_by_place, secondary_func, secondary_imports, secondary_tree}
 use Rattle.split_proof.specs.Premises.{CanMove}
 use Rattle.split_proof.proofs.Bodies.{BodyLaws}
-use Rattle.split_proof.proofs.Fits.{EntriesAreThere, body_exact, below_has, call_passes, called_below, exact, has_below, through_slot_passes}
+use Rattle.split_proof.proofs.Fits.{EntriesAreThere, body_exact, call_passes, called_below, exact, has_below, longer, through_slot_passes}
 use Rattle.split_proof.proofs.Lists.{place_is}
 use Rattle.split_proof.proofs.Operands.{all_wanted}
 use Rattle.split_proof.proofs.PassedCalls.{calls_pass}
 use Rattle.split_proof.proofs.SecondaryItems.{imports_hold}
-use Rattle.split_proof.proofs.SecondarySpaces.{Moves, own_at, own_many, own_moves, places_many, r}
+use Rattle.split_proof.proofs.SecondarySpaces.{own_at, own_many, own_moves, places_many, r}
 use Rattle.split_proof.proofs.Spaces.{ItemsHold, func_holds}
 
 module _ (laws : BodyLaws) (entries_there : EntriesAreThere) (names : SplitNames) (m : Module) (valid : IsValid m) (holds : ItemsHold m) (moved own : List ℕ) (before : ℕ) (can : CanMove m own) where
@@ -69,9 +65,6 @@ module _ (laws : BodyLaws) (entries_there : EntriesAreThere) (names : SplitNames
       let b = places_many names m holds moved own before Tables in
       let c = length-map (tables_of m) im.Table in
       omega (arith, a, b, c)
-
-  longer : (old_list new_list : List ℕ) (i : ℕ) → length old_list ≤ length new_list → has old_list i ≡ true → has new_list i ≡ true
-  longer old_list new_list i le h = let lt = ltb-true i (length old_list) h in lt-ltb i (length new_list) (omega (arith, le, lt))
 
   -- an index that is there and of no segment has an entry
   others : (space : Space) (called : Bool) (i : ℕ) → names_segment (record { space = space; index = i; called = called }) ≡ false → has (entries old space) i ≡ true → has (entries map_of space) i ≡ true

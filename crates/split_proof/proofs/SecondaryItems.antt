@@ -1,22 +1,19 @@
 -- Each item of a secondary module holds, but for references.
-use Rattle.std.proofs.Common.{◌≡◌, ◌∙◌, ap, ap₂, sym, subst, refl, ℕ, zero, suc, ◌+◌, ◌-◌, ◌<◌, List, [], ◌∷◌, ◌++◌, map, length, nat_eq, Option, Some, None, Bool, true, false, ◌&&◌, ◌||◌, not, eq-eqb, ⊎_elim, option_and_then, slice_get, slice_index, arith, true≢false, filter_map}
-use Rattle.std.specs.Prelude.{ℤ, nat_lt, pos, option_map}
-use Rattle.std.specs.List.{list_any}
+use Rattle.std.proofs.Common.{◌≡◌, ◌∙◌, ap, ap₂, sym, subst, refl, ℕ, zero, suc, ◌+◌, ◌-◌, ◌<◌, List, [], ◌∷◌, ◌++◌, map, length, Option, Some, None, Bool, true, false, ◌&&◌, ◌||◌, not, eq-eqb, ⊎_elim, option_and_then, slice_get, slice_index, arith, true≢false}
+use Rattle.std.specs.Prelude.{nat_lt, option_map}
 use Rattle.std.proofs.lemmas.Bool.{lt-ltb}
-use Rattle.std.proofs.lemmas.List.{length-map, length-append}
+use Rattle.std.proofs.lemmas.List.{length-map}
 use Rattle.std.proofs.lemmas.Option.{slice_get_within}
-use Rattle.base_lists.specs.Places.{first_place, numbers}
 use Rattle.base_lists.proofs.Filtered.{chosen_from}
 use Rattle.base_lists.proofs.Numbers.{length-numbers, numbers_at, numbers_index}
 use Rattle.base_lists.proofs.Options.{option_map_is}
-use Rattle.base_lists.proofs.Places.{append_from, map_at, map_from, slice_get_there, slice_index_is}
+use Rattle.base_lists.proofs.Places.{append_from, map_at, map_from, slice_get_there}
 use Rattle.wasm_tree.specs.declared.space.Operand.{Operand}
 use Rattle.wasm_tree.specs.declared.space.Space.{Space}
 use Rattle.wasm_tree.specs.declared.space.Space.TheVariants.{Types, Functions, Tables, Memories, Globals, ElementSegments, DataSegments}
 use Rattle.wasm_tree.specs.declared.types.RefType.TheVariants.{Func as func_ref}
-use Rattle.wasm_tree.specs.declared.types.ValType.TheVariants.{I32, Ref}
+use Rattle.wasm_tree.specs.declared.types.ValType.TheVariants.{Ref}
 use Rattle.wasm_tree.specs.declared.types.FuncType.{FuncType}
-use Rattle.wasm_tree.specs.declared.instr.Instr.{Instr}
 use Rattle.wasm_tree.specs.declared.instr.Instr.TheVariants.{Call}
 use Rattle.wasm_tree.specs.declared.module.ConstExpr.{ConstExpr}
 use Rattle.wasm_tree.specs.declared.module.ConstExpr.TheVariants as const
@@ -27,28 +24,27 @@ use Rattle.wasm_tree.specs.declared.module.ImportDesc.TheVariants as im
 use Rattle.wasm_tree.specs.declared.module.Module.{Module}
 use Rattle.wasm_tree.specs.Operands.{any_operand_passes, same_space}
 use Rattle.wasm_tree.specs.Spaces.{imported_funcs, funcs_of}
-use Rattle.wasm_valid_bodies.specs.Typing.{Context, WellTyped, only}
+use Rattle.wasm_valid_bodies.specs.Typing.{WellTyped, only}
 use Rattle.wasm_valid.specs.declared.kinds.ItemKind.TheVariants as kind
 use Rattle.wasm_valid.specs.Constants.{const_type}
-use Rattle.wasm_valid.specs.SpaceTypes.{table_types}
 use Rattle.wasm_valid.specs.Validity.{ImportHolds, body_context}
 use Rattle.index_remap.specs.declared.remap.Remap.{Remap}
 use Rattle.index_remap.specs.Agreement.{func_type}
 use Rattle.index_remap.specs.References.{is_among}
 use Rattle.index_remap.specs.Renumbered.{new_const, new_func, new_import, new_import_desc, renumbered_all}
 use Rattle.index_remap.specs.Replaced.{is_listed_call}
-use Rattle.index_remap_proof.specs.ButForReferences.{IsValidButForReferences, any_named}
+use Rattle.index_remap_proof.specs.ButForReferences.{IsValidButForReferences}
 use Rattle.index_remap_proof.proofs.Lists.{among_append, left_either, right_either}
 use Rattle.split_plan.specs.Segments.{names_segment}
 use Rattle.split_spec.specs.declared.names.SplitNames.{SplitNames}
-use Rattle.split_spec.specs.Slots.{call_by_slot, defined_at, in_slots, place_among, slot_table, slot_table_type, type_index}
+use Rattle.split_spec.specs.Slots.{call_by_slot, defined_at, in_slots, place_among, slot_table_type}
 use Rattle.split_spec.specs.FromPrimary.{entities, from_primary, imports_from_primary, is_from_primary, is_named_from_primary, name_from_primary, slots_name}
 use Rattle.split_spec.specs.Secondary.{secondary_call, secondary_call_by_place, secondary_func, secondary_imports}
 use Rattle.split_proof.specs.Premises.{CanMove}
 use Rattle.split_proof.proofs.Bodies.{BodyLaws, CodeIsTyped, MetAgrees, body_typed, entry_agrees}
-use Rattle.split_proof.proofs.Lists.{list_any_at, no_place, none_among, place_is}
+use Rattle.split_proof.proofs.Lists.{left_false, list_any_at, right_false, no_place, none_among, place_is}
 use Rattle.split_proof.proofs.Operands.{Met}
-use Rattle.split_proof.proofs.SecondarySpaces.{Moves, agree, funcs_many, imported_funcs_are, own_at, own_entry, own_many, own_moves, own_type, r, slot_table_at, stays, u}
+use Rattle.split_proof.proofs.SecondarySpaces.{agree, funcs_many, own_at, own_entry, own_many, own_moves, own_type, r, slot_table_at, stays, u}
 use Rattle.split_proof.proofs.Spaces.{ItemsHold, entity_holds, func_holds}
 use Rattle.split_proof.proofs.SlotCalls.{through_slot_typed}
 use Rattle.split_proof.proofs.Typed.{call_renumbered, call_typed}
@@ -111,14 +107,6 @@ module _ (laws : BodyLaws) (names : SplitNames) (m : Module) (holds : ItemsHold 
       let parts = sym (among_append moved own f) ∙ h in
       ap (λ o. secondary_call_by_place m moved o f) (none_among f own 0 (right_false (is_among moved f) (is_among own f) parts))
       ∙ ap (λ o. call_by_slot m o f) (none_among f moved 0 (left_false (is_among moved f) (is_among own f) parts))
-    where
-      left_false : (a b : Bool) → (a || b) ≡ false → a ≡ false
-      left_false true b h = h
-      left_false false b h = refl
-
-      right_false : (a b : Bool) → (a || b) ≡ false → b ≡ false
-      right_false true b h = cc
-      right_false false b h = h
 
   calls_typed : CodeIsTyped laws map_of m new (moved ++ own) (secondary_call m moved own)
   calls_typed f ty t among at is d types funcs tables = by (place_among own f) (place_among moved f) refl refl

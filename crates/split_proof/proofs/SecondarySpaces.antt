@@ -1,14 +1,11 @@
 -- The index spaces of a secondary module: what it imports from the primary one and then the functions of its own, and where each index of the module goes.
-use Rattle.std.proofs.Common.{◌≡◌, ◌∙◌, ap, ap₂, sym, subst, refl, ℕ, zero, suc, ◌+◌, ◌-◌, ◌<◌, ◌≤◌, List, [], ◌∷◌, ◌++◌, map, length, Option, Some, None, Bool, true, false, ◌&&◌, filter_map, option_and_then, slice_get, slice_index, arith, true≢false}
-use Rattle.std.specs.Prelude.{option_map, nat_le, nat_lt}
+use Rattle.std.proofs.Common.{◌≡◌, ◌∙◌, ap, ap₂, sym, refl, ℕ, ◌+◌, ◌-◌, ◌<◌, List, [], ◌∷◌, ◌++◌, map, length, Option, Some, None, Bool, true, false, filter_map, option_and_then, slice_get, slice_index, arith, true≢false}
+use Rattle.std.specs.Prelude.{option_map}
 use Rattle.std.specs.List.{cons_option}
-use Rattle.std.specs.Option.{option_map_or}
-use Rattle.std.proofs.lemmas.Bool.{leb-true, ltb-true}
 use Rattle.std.proofs.lemmas.List.{append-nil, length-append, length-map, map-append}
 use Rattle.std.proofs.lemmas.List.Elements.{filter_map-append}
 use Rattle.std.proofs.lemmas.Option.{get_or_from_slice_get, slice_get_within}
-use Rattle.base_lists.specs.Places.{numbers, places}
-use Rattle.base_lists.proofs.Bools.{left_true, right_true}
+use Rattle.base_lists.specs.Places.{numbers}
 use Rattle.base_lists.proofs.Each.{every_at}
 use Rattle.base_lists.proofs.Numbers.{length-numbers, numbers_at, numbers_index}
 use Rattle.base_lists.proofs.Options.{and_then_is}
@@ -26,46 +23,21 @@ use Rattle.wasm_tree.specs.declared.module.Import.{Import}
 use Rattle.wasm_tree.specs.declared.module.ImportDesc.{ImportDesc}
 use Rattle.wasm_tree.specs.declared.module.ImportDesc.TheVariants as im
 use Rattle.wasm_tree.specs.declared.module.Module.{Module}
-use Rattle.wasm_tree.specs.Operands.{any_operand_passes}
 use Rattle.wasm_tree.specs.Spaces.{func_of, table_of, memory_of, global_of, imported_funcs, imported_tables, imported_memories, imported_globals, funcs_of, tables_of, memories_of, globals_of}
 use Rattle.wasm_valid.specs.SpaceTypes.{table_types}
 use Rattle.index_remap.specs.declared.remap.Remap.{Remap}
 use Rattle.index_remap.specs.Renumbered.{new_func, new_import, new_import_desc, renumbered_tree}
 use Rattle.index_remap_proof.specs.Indices.{Indices}
 use Rattle.index_remap_proof.specs.Trees.{TreesAgree}
-use Rattle.split_plan.specs.Segments.{names_segment, uses_segment}
 use Rattle.split_plan.specs.Words.{is_defined}
 use Rattle.split_plan.specs.Plans.{body_uses_segment}
 use Rattle.split_spec.specs.declared.names.SplitNames.{SplitNames}
 use Rattle.split_spec.specs.Slots.{defined_at, slot_table, slot_table_type}
 use Rattle.split_spec.specs.FromPrimary.{entities, from_primary, imports_from_primary, is_from_primary, marks_from_primary, name_from_primary}
-use Rattle.split_spec.specs.Secondary.{secondary_func, secondary_imports, secondary_map, secondary_tree}
+use Rattle.split_spec.specs.Secondary.{secondary_func, secondary_map, secondary_tree}
 use Rattle.split_proof.specs.Premises.{CanMove}
 use Rattle.split_proof.proofs.Lists.{all_chosen, all_counted, chosen_kept, index_left, index_right, kept_counted, kept_given, kept_none, kept_themselves, map_stays}
-use Rattle.split_proof.proofs.Spaces.{ItemsHold, func_holds, type_there}
-
--- a function that can move is defined, and its body names no segment
-pub record Moves (m : Module) (f : ℕ) : Type 0 where
-  pub func : Func
-  pub is : slice_get m.funcs (f - length (imported_funcs m.imports)) ≡ Some func
-  pub typed : slice_get (funcs_of m) f ≡ Some func.ty
-  pub names_none : any_operand_passes names_segment func.body ≡ false
-
-pub moves : (m : Module) (f : ℕ) → is_defined m f ≡ true → body_uses_segment m f ≡ false → Moves m f
-moves m f d s =
-    let n = length (imported_funcs m.imports) in
-    let from : n ≤ f = leb-true n f (left_true (nat_le n f) (nat_lt f (length (funcs_of m))) d) in
-    let to : f < length (funcs_of m) = ltb-true f (length (funcs_of m)) (right_true (nat_le n f) (nat_lt f (length (funcs_of m))) d) in
-    let all = length-append (imported_funcs m.imports) (map (λ f. f.ty) m.funcs) in
-    let types = length-map m.funcs (λ f. f.ty) in
-    let back : n + (f - n) ≡ f = omega (arith, from) in
-    let g = slice_get_there m.funcs (f - n) (omega (arith, from, to, all, types)) in
-    record {
-      func = g.0;
-      is = g.1;
-      typed = ap (slice_get (funcs_of m)) (sym back) ∙ append_right (imported_funcs m.imports) (map (λ f. f.ty) m.funcs) (f - n) ∙ map_at (λ f. f.ty) m.funcs (f - n) g.0 g.1;
-      names_none = ap (λ (o : Option Func). option_map_or (λ f. uses_segment f.body) o false) (sym g.1) ∙ s;
-    }
+use Rattle.split_proof.proofs.Spaces.{ItemsHold, Moves, moves, func_holds, type_there}
 
 module _ (names : SplitNames) (m : Module) (holds : ItemsHold m) (moved own : List ℕ) (before : ℕ) where
   abbrev pub r : Remap

@@ -1,24 +1,54 @@
 -- What the items of a valid module say of its index spaces: each entity is such as an import of it may describe (WebAssembly Core 2.0, section 3.4.9).
-use Rattle.std.proofs.Common.{◌≡◌, ◌∙◌, ap, sym, subst, refl, ℕ, ◌<◌, List, [], ◌∷◌, ◌++◌, map, length, Option, Some, None, true, ◌⊎◌, inl, inr, ⊎_elim, filter_map, slice_get}
+use Rattle.std.proofs.Common.{◌≡◌, ◌∙◌, ap, sym, subst, ℕ, ◌<◌, List, ◌++◌, map, length, Option, Some, true, ⊎_elim, filter_map, slice_get, ◌+◌, ◌-◌, ◌≤◌, false, arith}
 use Rattle.std.proofs.lemmas.Option.{slice_get_within}
 use Rattle.base_lists.proofs.Filtered.{chosen_from}
-use Rattle.base_lists.proofs.Places.{append_from, append_at_left, map_at, map_from}
 use Rattle.wasm_tree.specs.declared.space.Space.{Space}
 use Rattle.wasm_tree.specs.declared.space.Space.TheVariants.{Types, Functions, Tables, Memories, Globals, ElementSegments, DataSegments}
 use Rattle.wasm_tree.specs.declared.types.Limits.{Limits}
 use Rattle.wasm_tree.specs.declared.types.TableType.{TableType}
-use Rattle.wasm_tree.specs.declared.types.GlobalType.{GlobalType}
 use Rattle.wasm_tree.specs.declared.module.Func.{Func}
-use Rattle.wasm_tree.specs.declared.module.GlobalDef.{GlobalDef}
 use Rattle.wasm_tree.specs.declared.module.Import.{Import}
 use Rattle.wasm_tree.specs.declared.module.ImportDesc.{ImportDesc}
 use Rattle.wasm_tree.specs.declared.module.ImportDesc.TheVariants as im
 use Rattle.wasm_tree.specs.declared.module.Module.{Module}
-use Rattle.wasm_tree.specs.Spaces.{func_of, table_of, memory_of, global_of, imported_funcs, funcs_of}
+use Rattle.wasm_tree.specs.Spaces.{func_of, table_of, memory_of, imported_funcs, funcs_of}
 use Rattle.wasm_valid.specs.declared.kinds.ItemKind.{ItemKind}
 use Rattle.wasm_valid.specs.declared.kinds.ItemKind.TheVariants as kind
 use Rattle.wasm_valid.specs.Validity.{HoldsAt, ImportHolds, LimitsHold, PagesHold, count_of}
 use Rattle.split_spec.specs.FromPrimary.{entities}
+use Rattle.std.specs.Prelude.{nat_le, nat_lt}
+use Rattle.std.specs.Option.{option_map_or}
+use Rattle.std.proofs.lemmas.Bool.{leb-true, ltb-true}
+use Rattle.std.proofs.lemmas.List.{length-append, length-map}
+use Rattle.base_lists.proofs.Bools.{left_true, right_true}
+use Rattle.base_lists.proofs.Places.{append_right, map_at, slice_get_there, append_from, map_from}
+use Rattle.wasm_tree.specs.Operands.{any_operand_passes}
+use Rattle.split_plan.specs.Segments.{names_segment, uses_segment}
+use Rattle.split_plan.specs.Words.{is_defined}
+use Rattle.split_plan.specs.Plans.{body_uses_segment}
+
+-- a function that can move is defined, and its body names no segment
+pub record Moves (m : Module) (f : ℕ) : Type 0 where
+  pub func : Func
+  pub is : slice_get m.funcs (f - length (imported_funcs m.imports)) ≡ Some func
+  pub typed : slice_get (funcs_of m) f ≡ Some func.ty
+  pub names_none : any_operand_passes names_segment func.body ≡ false
+
+pub moves : (m : Module) (f : ℕ) → is_defined m f ≡ true → body_uses_segment m f ≡ false → Moves m f
+moves m f d s =
+    let n = length (imported_funcs m.imports) in
+    let from : n ≤ f = leb-true n f (left_true (nat_le n f) (nat_lt f (length (funcs_of m))) d) in
+    let to : f < length (funcs_of m) = ltb-true f (length (funcs_of m)) (right_true (nat_le n f) (nat_lt f (length (funcs_of m))) d) in
+    let all = length-append (imported_funcs m.imports) (map (λ f. f.ty) m.funcs) in
+    let types = length-map m.funcs (λ f. f.ty) in
+    let back : n + (f - n) ≡ f = omega (arith, from) in
+    let g = slice_get_there m.funcs (f - n) (omega (arith, from, to, all, types)) in
+    record {
+      func = g.0;
+      is = g.1;
+      typed = ap (slice_get (funcs_of m)) (sym back) ∙ append_right (imported_funcs m.imports) (map (λ f. f.ty) m.funcs) (f - n) ∙ map_at (λ f. f.ty) m.funcs (f - n) g.0 g.1;
+      names_none = ap (λ (o : Option Func). option_map_or (λ f. uses_segment f.body) o false) (sym g.1) ∙ s;
+    }
 
 -- each item of a module holds
 abbrev pub ItemsHold : Module → Type 0

@@ -1,5 +1,5 @@
 -- The types of a call, of a call through a slot and of a trampoline's body (WebAssembly Core 2.0, sections 3.3.8 and 3.3.9).
-use Rattle.std.proofs.Common.{◌≡◌, ◌∙◌, ap, ap₂, sym, subst, refl, ℕ, zero, suc, ◌+◌, List, [], ◌∷◌, ◌++◌, map, reverse, Option, Some, None, option_and_then, slice_get, arith, rules, append_assoc}
+use Rattle.std.proofs.Common.{◌≡◌, ◌∙◌, ap, ap₂, sym, subst, refl, ℕ, suc, ◌+◌, List, [], ◌∷◌, ◌++◌, map, reverse, Option, Some, None, option_and_then, slice_get, arith, rules, append_assoc}
 use Rattle.std.specs.Prelude.{ℤ, option_map, slice_index}
 use Rattle.std.proofs.lemmas.List.{append-nil, map-append, reverse-append}
 use Rattle.wasm_tree.specs.declared.types.RefType.{RefType}
@@ -8,7 +8,7 @@ use Rattle.wasm_tree.specs.declared.types.ValType.{ValType}
 use Rattle.wasm_tree.specs.declared.types.ValType.TheVariants.{I32}
 use Rattle.wasm_tree.specs.declared.types.FuncType.{FuncType}
 use Rattle.wasm_tree.specs.declared.instr.Instr.{Instr, the_lemmas}
-use Rattle.wasm_tree.specs.declared.instr.Instr.TheVariants.{Call, CallIndirect, I32Const, LocalGet}
+use Rattle.wasm_tree.specs.declared.instr.Instr.TheVariants.{Call, CallIndirect, LocalGet}
 use Rattle.wasm_valid_bodies.specs.Typing.{Acts, AllMatch, Context, Gives, LeadsAll, Stack, WellTyped, effect_of, gives_of, is_func, only, operands, signature_in}
 use Rattle.index_remap.specs.declared.remap.Remap.{Remap}
 use Rattle.index_remap.specs.Agreement.{func_type}
