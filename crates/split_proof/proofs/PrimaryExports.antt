@@ -104,11 +104,11 @@ module _ (namespace : ℕ → List ℕ) (prefix : List ℕ) (m : Module) (holds 
   names_are =
       map-append (λ e. e.name) _ _
       ∙ ap₂ (λ xs ys. xs ++ ys) (map_twice (λ e. e.name) _ (from_primary m moved moved Functions)) (
-        map-append (λ e. e.name) _ _
-        ∙ ap₂ (λ xs ys. xs ++ ys) (map_twice (λ e. e.name) _ (from_primary m moved moved Tables)) (
-          map-append (λ e. e.name) _ _
-          ∙ ap₂ (λ xs ys. xs ++ ys) (map_twice (λ e. e.name) _ (from_primary m moved moved Memories)) (
-            map-append (λ e. e.name) _ _ ∙ ap (λ xs. xs ++ last) (map_twice (λ e. e.name) _ (from_primary m moved moved Globals)))))
+      map-append (λ e. e.name) _ _
+      ∙ ap₂ (λ xs ys. xs ++ ys) (map_twice (λ e. e.name) _ (from_primary m moved moved Tables)) (
+      map-append (λ e. e.name) _ _
+      ∙ ap₂ (λ xs ys. xs ++ ys) (map_twice (λ e. e.name) _ (from_primary m moved moved Memories)) (
+      map-append (λ e. e.name) _ _ ∙ ap (λ xs. xs ++ last) (map_twice (λ e. e.name) _ (from_primary m moved moved Globals)))))
 
   last_letter : (i : ℕ) (x : List ℕ) → slice_get last i ≡ Some x → HasLetter prefix 115 x
   last_letter zero x h = let same : slots_name prefix ≡ x = cc in (_, sym same)
@@ -258,12 +258,11 @@ module _ (namespace : ℕ → List ℕ) (prefix : List ℕ) (m : Module) (holds 
     export_holds j lt =
         let y = slice_get_there new.exports j lt in
         let e = map_from (new_export map_of) (m.exports ++ added_exports prefix m moved) j y.0 y.1 in
-        let named : slice_get (map name_of new.exports) j ≡ Some y.0.name = map_at name_of new.exports j y.0 y.1 in
-        (
+        let named : slice_get (map name_of new.exports) j ≡ Some y.0.name = map_at name_of new.exports j y.0 y.1 in (
           y.0,
           y.1,
           subst (λ (x : Export). InSpace new x.desc) e.2 (each_within j e.0 e.1),
           (λ c.
-          let i = take_there (map name_of new.exports) j y.0.name (subst (λ ns. Contains ns y.0.name) (sym (take-map name_of j new.exports)) c) in
-          subst Distinct (sym new_names) whole_distinct i.0 j y.0.name i.1 i.2 named),
+              let i = take_there (map name_of new.exports) j y.0.name (subst (λ ns. Contains ns y.0.name) (sym (take-map name_of j new.exports)) c) in
+              subst Distinct (sym new_names) whole_distinct i.0 j y.0.name i.1 i.2 named),
         )

@@ -87,7 +87,7 @@ module _ (laws : BodyLaws) (namespace : ℕ → List ℕ) (prefix : List ℕ) (m
   start_left : (f : ℕ) → m.start ≡ Some f → is_left m moved f ≡ true
   start_left f e =
       needed_left f (among_right (refs_of m) (cons_option m.start [] ++ body_refs m.funcs) f (among_left (cons_option m.start []) (body_refs m.funcs) f (
-        ap (λ o. is_among (cons_option o []) f) e ∙ there_among (f ∷ []) 0 f refl)))
+      ap (λ o. is_among (cons_option o []) f) e ∙ there_among (f ∷ []) 0 f refl)))
 
   item_left : (j p : ℕ) (s : ElemSeg) (e : ConstExpr) → slice_get m.elems j ≡ Some s → slice_get s.items p ≡ Some e → (f : ℕ) → const_func e ≡ Some f → is_left m moved f ≡ true
   item_left j p s e at got f is =
@@ -236,8 +236,7 @@ module _ (laws : BodyLaws) (namespace : ℕ → List ℕ) (prefix : List ℕ) (m
       let both : Some z.0 ≡ Some s = sym z.1 ∙ at in
       let same : z.0 ≡ s = cc in
       let items : (q : ℕ) (e : ConstExpr) → slice_get s.items q ≡ Some e → const_type m e ≡ Some (Ref s.ty) = subst (λ (w : ElemSeg). (q : ℕ) (e : ConstExpr) → slice_get w.items q ≡ Some e → const_type m e ≡ Some (Ref w.ty)) same z.2 in
-      let mode : ElemModeHolds m s.ty s.mode = subst (λ (w : ElemSeg). ElemModeHolds m w.ty w.mode) same z.3 in
-      (
+      let mode : ElemModeHolds m s.ty s.mode = subst (λ (w : ElemSeg). ElemModeHolds m w.ty w.mode) same z.3 in (
         new_elem map_of s,
         new_at,
         (λ q d g. let e = map_from (new_const map_of) s.items q d g in subst (λ d. const_type new d ≡ Some (Ref s.ty)) e.2 (const_kept e.0 (Ref s.ty) (item_left j q s e.0 at e.1) (items q e.0 e.1))),
@@ -295,8 +294,7 @@ module _ (laws : BodyLaws) (namespace : ℕ → List ℕ) (prefix : List ℕ) (m
       let same : old.0 ≡ f.func = cc in
       let ty : slice_get m.types f.func.ty ≡ Some old.1 = subst (λ (z : Func). slice_get m.types z.ty ≡ Some old.1) same old.3 in
       let typed : WellTyped (body_context m f.func old.1) f.func.body [] old.1.results = subst (λ (z : Func). WellTyped (body_context m z old.1) z.body [] old.1.results) same old.4 in
-      let within = func_holds m holds f.place f.func f.at in
-      (
+      let within = func_holds m holds f.place f.func f.at in (
         new_func map_of (primary_func m moved (place_among moved (k + f.place)) (k + f.place) f.func),
         old.1,
         f.is,

@@ -42,14 +42,13 @@ module _ (m : Remap) (code : ℕ → List Instr) where
       stands : (labels : Labels) (i : Instr) → StandsFor types m listed (renumbered_codes m code) labels i (renumbered_all m (calls_in code i))
       stands labels (Block' ty n body) = (new (items-the_row-Instr _ body), row_stands _ body, ap (renumbered_all m) (block_calls code ty n body) ∙ of_Block ty (with_calls code (items-the_row-Instr _ body)))
       stands labels (Loop' ty n body) = (new (items-the_row-Instr _ body), row_stands _ body, ap (renumbered_all m) (loop_calls code ty n body) ∙ of_Loop ty (with_calls code (items-the_row-Instr _ body)))
-      stands labels (If' ty n body k other) =
-          (
-            new (items-the_row-Instr _ body),
-            new (items-the_row-Instr _ other),
-            row_stands _ body,
-            row_stands _ other,
-            ap (renumbered_all m) (if_calls code ty n body k other) ∙ of_If ty (with_calls code (items-the_row-Instr _ body)) (with_calls code (items-the_row-Instr _ other)),
-          )
+      stands labels (If' ty n body k other) = (
+        new (items-the_row-Instr _ body),
+        new (items-the_row-Instr _ other),
+        row_stands _ body,
+        row_stands _ other,
+        ap (renumbered_all m) (if_calls code ty n body k other) ∙ of_If ty (with_calls code (items-the_row-Instr _ body)) (with_calls code (items-the_row-Instr _ other)),
+      )
       stands labels (Call func) =
           subst (λ z. CallReplaced m (is_among listed func) (renumbered_codes m code) labels func (renumbered_all m z)) (sym (fold_out-Instr (List Instr) (calls_step code) (Call func))) (call_stands labels func (is_among listed func) refl)
       stands labels i = ap (renumbered_all m) (fold_out-Instr (List Instr) (calls_step code) i)

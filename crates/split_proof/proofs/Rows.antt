@@ -30,17 +30,16 @@ so_does_its_call : WellTyped (body_context calling (func 0 (i.Call 1 ∷ [])) gi
 so_does_its_call = (Some valt.I32 ∷ [], (Some valt.I32 ∷ [], (Gives [] (valt.I32 ∷ []), refl, ([], [], refl, tt, refl)), refl), (refl, tt))
 
 calling_is_valid : IsValid calling
-calling_is_valid =
+calling_is_valid = (
+  (func 0 (i.Call 1 ∷ []), refl, omega arith),
+  (
+    (func 0 (i.I32Const (pos 7) ∷ []), refl, omega arith),
     (
-      (func 0 (i.Call 1 ∷ []), refl, omega arith),
-      (
-        (func 0 (i.I32Const (pos 7) ∷ []), refl, omega arith),
-        (
-          (export (102 ∷ []) (ex.Func 0), refl, omega arith, (λ c. let lt = c.1 in omega (arith, lt))),
-          ((func 0 (i.Call 1 ∷ []), gives_number, refl, refl, so_does_its_call), ((func 0 (i.I32Const (pos 7) ∷ []), gives_number, refl, refl, it_gives_a_number), tt)),
-        ),
-      ),
-    )
+      (export (102 ∷ []) (ex.Func 0), refl, omega arith, (λ c. let lt = c.1 in omega (arith, lt))),
+      ((func 0 (i.Call 1 ∷ []), gives_number, refl, refl, so_does_its_call), ((func 0 (i.I32Const (pos 7) ∷ []), gives_number, refl, refl, it_gives_a_number), tt)),
+    ),
+  ),
+)
 
 few_locals : (j : ℕ) (f : Func) → slice_get calling.funcs j ≡ Some f → local_count calling.types f < 2 ^ 32
 few_locals zero f at = let same : func 0 (i.Call 1 ∷ []) ≡ f = cc in subst (λ g. local_count calling.types g < 2 ^ 32) same (omega arith)

@@ -222,8 +222,7 @@ module _ (laws : BodyLaws) (names : SplitNames) (m : Module) (holds : ItemsHold 
       let same : old.0 ≡ f.func = cc in
       let ty : slice_get m.types f.func.ty ≡ Some old.1 = subst (λ (z : Func). slice_get m.types z.ty ≡ Some old.1) same old.3 in
       let typed : WellTyped (body_context m f.func old.1) f.func.body [] old.1.results = subst (λ (z : Func). WellTyped (body_context m z old.1) z.body [] old.1.results) same old.4 in
-      let entry : slice_index map_of.types f.func.ty ≡ f.func.ty = numbers_index (length m.types) f.func.ty (slice_get_within m.types f.func.ty old.1 ty) in
-      (
+      let entry : slice_index map_of.types f.func.ty ≡ f.func.ty = numbers_index (length m.types) f.func.ty (slice_get_within m.types f.func.ty old.1 ty) in (
         new_func map_of (secondary_func m moved own f.func),
         old.1,
         g.3,

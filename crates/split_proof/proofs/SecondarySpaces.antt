@@ -91,10 +91,10 @@ module _ (names : SplitNames) (m : Module) (holds : ItemsHold m) (moved own : Li
   all_added h fs ts ms gs f t s g =
       adds_append h (from Functions) _
       ∙ ap₂ (λ xs ys. xs ++ ys) (added h Functions ∙ f) (
-        adds_append h (from Tables) _
-        ∙ ap₂ (λ xs ys. xs ++ ys) (added h Tables ∙ t) (
-          ap (cons_option (h (im.Table (slot_table_type (length moved))))) (
-            adds_append h (from Memories) (from Globals) ∙ ap₂ (λ xs ys. xs ++ ys) (added h Memories ∙ s) (added h Globals ∙ g))))
+      adds_append h (from Tables) _
+      ∙ ap₂ (λ xs ys. xs ++ ys) (added h Tables ∙ t) (
+      ap (cons_option (h (im.Table (slot_table_type (length moved))))) (
+      adds_append h (from Memories) (from Globals) ∙ ap₂ (λ xs ys. xs ++ ys) (added h Memories ∙ s) (added h Globals ∙ g))))
 
   pub imported_funcs_are : imported_funcs u.imports ≡ kept (marks Functions) (funcs_of m)
   imported_funcs_are =

@@ -46,8 +46,7 @@ slot_leads d ty table slot t a b =
     let both : reverse (t.params ++ I32 ∷ []) ≡ I32 ∷ reverse t.params = reverse-append t.params (I32 ∷ []) in
     let matches : AllMatch (Some I32 ∷ operands t.params) (I32 ∷ reverse t.params) = (refl, match_operands (reverse t.params)) in
     let acts : Acts (Gives (t.params ++ I32 ∷ []) t.results) (Some I32 ∷ operands t.params) (operands t.results) =
-    (Some I32 ∷ operands t.params, [], sym (append-nil (Some I32 ∷ operands t.params)), subst (AllMatch (Some I32 ∷ operands t.params)) (sym both) matches, sym (append-nil (operands t.results))) in
-    (
+    (Some I32 ∷ operands t.params, [], sym (append-nil (Some I32 ∷ operands t.params)), subst (AllMatch (Some I32 ∷ operands t.params)) (sym both) matches, sym (append-nil (operands t.results))) in (
       Some I32 ∷ operands t.params,
       (Gives [] (I32 ∷ []), refl, ([], operands t.params, refl, tt, refl)),
       (operands t.results, (Gives (t.params ++ I32 ∷ []) t.results, indirect_effect d ty table t a b, acts), refl),
@@ -64,8 +63,7 @@ gets_lead d n (t ∷ ts) s there =
     let e : n + 0 ≡ n = omega arith in
     let at : slice_get d.locals n ≡ Some t = ap (slice_get d.locals) (sym e) ∙ there 0 t refl in
     let last : operands ts ++ (Some t ∷ s) ≡ operands (t ∷ ts) ++ s =
-    sym (append_assoc (operands ts) (Some t ∷ []) s) ∙ ap (λ z. z ++ s) (sym (map-append Some (reverse ts) (t ∷ []))) ∙ ap (λ z. map Some z ++ s) (sym (reverse-append (t ∷ []) ts)) in
-    (
+    sym (append_assoc (operands ts) (Some t ∷ []) s) ∙ ap (λ z. z ++ s) (sym (map-append Some (reverse ts) (t ∷ []))) ∙ ap (λ z. map Some z ++ s) (sym (reverse-append (t ∷ []) ts)) in (
       Some t ∷ s,
       (Gives [] (t ∷ []), ap (option_map (λ u. Gives [] (u ∷ []))) at, ([], s, refl, tt, refl)),
       subst (LeadsAll d (gets (suc n) ts) (Some t ∷ s)) last (gets_lead d (suc n) ts (Some t ∷ s) (λ i u h. let q : suc n + i ≡ n + suc i = omega arith in ap (slice_get d.locals) q ∙ there (suc i) u h)),
