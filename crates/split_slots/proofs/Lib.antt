@@ -1,3 +1,3 @@
 mod Replaced
-mod Slots
-mod Needed
+mod SlotTables
+mod NamedOutside

@@ -2,19 +2,8 @@
 #![tactic(auto)]
 
 mod calls;
-mod entities;
-mod exports;
-mod faults;
-mod moving;
 mod needing;
-mod pair;
-mod primary;
-mod secondary;
-mod sharing;
 mod slots;
-mod splitting;
 
 pub use needing::needed;
-pub use pair::Pair;
 pub use split_spec::{SplitFault, SplitNames};
-pub use splitting::split;
