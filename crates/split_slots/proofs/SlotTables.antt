@@ -1,13 +1,16 @@
 -- Tables of slots, made one slot at a time.
-use Rattle.std.proofs.Common.{◌≡◌, ◌≢◌, ℕ, zero, suc, ◌+◌, ◌-◌, ◌<◌, ◌≤◌, Bool, true, false, cond, List, [], ◌∷◌, ◌++◌, map, take, length, nat_eq, Option, Some, None, refl, sym, ap, ap₂, ◌∙◌, arith, slice_get, slice_set, slice_index, replicate, subst}
+use Rattle.std.proofs.Common.{◌≡◌, ◌≢◌, ℕ, zero, suc, ◌+◌, ◌-◌, ◌<◌, ◌≤◌, Bool, true, false, cond, List, [], ◌∷◌, ◌++◌, map, take, length, nat_eq, Option, Some, None, refl, sym, ap, ap₂, ◌∙◌, arith, slice_get, slice_set, slice_index, replicate, subst, is_some, unwrap_or, ◌||◌}
 use Rattle.std.specs.List.Sorted.{IsStrictlyIncreasing}
 use Rattle.std.proofs.lemmas.Bool.{eq-eqb}
 use Rattle.index_remap_proof.proofs.Lists.{same_number}
 use Rattle.base_lists.specs.Every.{Every}
 use Rattle.base_lists.specs.Places.{first_place, numbers}
 use Rattle.base_lists.proofs.Each.{every_at}
-use Rattle.base_lists.proofs.Places.{slice_get_there, slice_index_is}
+use Rattle.base_lists.proofs.Places.{map_at, slice_get_none, slice_get_there, slice_index_is}
+use Rattle.base_lists.proofs.Numbers.{length-numbers, numbers_is}
+use Rattle.index_remap.specs.References.{is_among}
 use Rattle.split_spec.specs.Slots.{place_among}
+use Rattle.split_slots.specs.Looking.{slot_at}
 
 -- ---- one entry of a table ----
 
@@ -51,7 +54,7 @@ last_place y (x ∷ xs) n new =
 
 -- ---- one function more has a slot ----
 
-take_one : (xs : List ℕ) (k x : ℕ) → slice_get xs k ≡ Some x → take (suc k) xs ≡ take k xs ++ x ∷ []
+pub take_one : (xs : List ℕ) (k x : ℕ) → slice_get xs k ≡ Some x → take (suc k) xs ≡ take k xs ++ x ∷ []
 take_one [] k x e = cc
 take_one (y ∷ ys) zero x e = let same : y ≡ x = cc in ap (λ z. z ∷ []) same
 take_one (y ∷ ys) (suc k) x e = ap (λ zs. y ∷ zs) (take_one ys k x e)
@@ -111,3 +114,37 @@ module _ (moved : List ℕ) (count k : ℕ) (inc : IsStrictlyIncreasing moved) (
 pub no_slots : (a n : ℕ) → replicate n None ≡ map (place_among []) (numbers a n)
 no_slots a zero = refl
 no_slots a (suc n) = ap (λ xs. None ∷ xs) (no_slots (suc a) n)
+
+-- ---- what a whole table tells ----
+
+no_place : (xs : List ℕ) (count : ℕ) → Every (λ f. f < count) xs → (j n : ℕ) → count ≤ j → first_place (nat_eq j) xs n ≡ None
+no_place [] count there j n le = refl
+no_place (x ∷ xs) count there j n le = rw (no_number j x (λ e. absurd (omega (arith, e, le, there.0)))) (no_place xs count there.1 j (suc n) le)
+
+slice_none : {A : Type 0} (i : ℕ) → slice_get {X = A} [] i ≡ None
+slice_none zero = refl
+slice_none (suc i) = refl
+
+map_none : (g : ℕ → Option ℕ) (xs : List ℕ) (i : ℕ) → slice_get xs i ≡ None → slice_get (map g xs) i ≡ None
+map_none g [] i none = slice_none i
+map_none g (x ∷ xs) zero none = cc
+map_none g (x ∷ xs) (suc i) none = map_none g xs i none
+
+pub table_tells : (moved : List ℕ) (count : ℕ) → Every (λ f. f < count) moved → (f : ℕ) → slot_at (map (place_among moved) (numbers 0 count)) f ≡ place_among moved f
+table_tells moved count there f = split (slice_get (numbers 0 count) f) refl
+  where
+    split : (o : Option ℕ) → slice_get (numbers 0 count) f ≡ o → slot_at (map (place_among moved) (numbers 0 count)) f ≡ place_among moved f
+    split (Some g) e = let (lt, same) = numbers_is count f g e in ap (λ o. unwrap_or o None) (map_at (place_among moved) (numbers 0 count) f g e) ∙ ap (place_among moved) (sym same)
+    split None e =
+        let le = slice_get_none (numbers 0 count) f e in
+        let many = length-numbers 0 count in
+        ap (λ o. unwrap_or o None) (map_none (place_among moved) (numbers 0 count) f e) ∙ sym (no_place moved count there f 0 (omega (arith, le, many)))
+
+-- a function has a slot where it is among those that move
+pub has_place : (moved : List ℕ) (f n : ℕ) → is_some (first_place (nat_eq f) moved n) ≡ is_among moved f
+has_place [] f n = refl
+has_place (x ∷ xs) f n = split (nat_eq f x) (has_place xs f (suc n))
+  where
+    split : (b : Bool) → is_some (first_place (nat_eq f) xs (suc n)) ≡ is_among xs f → is_some (cond b (Some n) (first_place (nat_eq f) xs (suc n))) ≡ (b || is_among xs f)
+    split true later = refl
+    split false later = later

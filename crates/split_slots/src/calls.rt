@@ -73,11 +73,7 @@ fn put_target(back: &mut Items<Instr>, table: u32, target: Target) -> Result<(),
 
 // Appends what stands in place of the instruction, the last first.
 #[tactic(auto, using(crate::proofs::Replaced::reverse_push))]
-fn put_backward(
-    back: &mut Items<Instr>,
-    instr: Instr,
-    calls: &Calls<'_>,
-) -> Result<(), NoMemory>
+fn put_backward(back: &mut Items<Instr>, instr: Instr, calls: &Calls<'_>) -> Result<(), NoMemory>
     requires few { FewSlots calls.now }
     ensures { OnOk result (reverse back.new ≡ replacing.code_here (replacing.code_of_call calls.now) instr ++ reverse back.old) }
 {
@@ -145,11 +141,7 @@ fn has_replaced(body: &[Instr], slots: &[Option<u32>]) -> bool
 }
 
 #[cycle(replace)]
-fn replace_inside(
-    alloc: Global,
-    instr: &mut Instr,
-    calls: &Calls<'_>,
-) -> Result<(), NoMemory>
+fn replace_inside(alloc: Global, instr: &mut Instr, calls: &Calls<'_>) -> Result<(), NoMemory>
     requires few { FewSlots calls.now }
     ensures { OnOk result (instr.new ≡ replacing.inside (replacing.code_of_call calls.now) instr.old) }
 {

@@ -2,8 +2,15 @@
 #![tactic(auto)]
 
 mod calls;
+mod exports;
+mod faults;
+mod moving;
 mod needing;
+mod parting;
+mod placing;
+mod sharing;
 mod slots;
+mod types;
 
 pub use needing::needed;
 pub use split_spec::{SplitFault, SplitNames};

@@ -2,6 +2,7 @@
 
 ghost use Rattle.std.specs.Prelude.{◌≡◌, ◌++◌, [], false, filter, length, slice_get, unwrap_or, IfOk};
 ghost use Rattle.std.specs.List.{cons_option};
+ghost use Rattle.std.specs.List.Sorted.{IsStrictlyIncreasing};
 ghost use Rattle.wasm_tree.specs.Spaces.{funcs_of};
 ghost use Rattle.wasm_valid.specs.Named.{marked_at, named_from, refs_of};
 ghost use Rattle.split_plan.specs.Plans.{IsPlan};
@@ -54,7 +55,8 @@ fn marked_among(alloc: Global, funcs: &[u32], marks: &[bool]) -> Result<Items<u3
 /// The only refusal is want of memory.
 pub fn needed(alloc: Global, input: &Valid, plan: &Plan) -> Result<Items<u32>, NoMemory>
     requires plan { IsPlan input.now plan.now }
-    ensures { IfOk result (λ all. all ≡ needed_among input.now plan.now.moved) }
+    ensures needed { IfOk result (λ all. all ≡ needed_among input.now plan.now.moved) }
+    ensures ascend { IfOk result IsStrictlyIncreasing }
 {
     // What `ref.func` names in a body of a valid module, something outside the bodies names too.
     valid_where_items_hold();
