@@ -6,3 +6,6 @@ mod AddedExports
 mod Trampolining
 mod ImportedTypes
 mod PartedFuncs
+mod PlacesBehind
+mod Placeholders
+mod Bridge

@@ -3,3 +3,4 @@ pub mod Replacing
 pub mod Noting
 pub mod ExportList
 pub mod PartedTrees
+pub mod PlaceholderList

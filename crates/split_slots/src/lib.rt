@@ -4,6 +4,7 @@
 mod calls;
 mod exports;
 mod faults;
+mod mapping;
 mod moving;
 mod needing;
 mod parting;

@@ -31,7 +31,8 @@ pub(crate) fn needed_marks(alloc: Global, module: &Module) -> Result<Vec<bool>, 
     Ok(marks)
 }
 
-fn is_marked(marks: &[bool], func: u32) -> bool
+/// Whether the function is marked.
+pub(crate) fn is_marked(marks: &[bool], func: u32) -> bool
     ensures { result ≡ unwrap_or (slice_get marks.now func) false }
 {
     marks.get(func as usize).copied().unwrap_or(false)

@@ -4,7 +4,9 @@ ghost use Rattle.std.specs.Prelude.{◌≡◌, ◌+◌, ◌++◌, ◌∷◌, ◌
 ghost use Rattle.base_lists.specs.Places.{numbers};
 ghost use Rattle.wasm_tree.specs.declared.module.ConstExpr.TheVariants.{Func as IsFunc};
 ghost use Rattle.wasm_tree.specs.declared.module.ImportDesc.TheVariants.{Func as IsImportedFunc};
+ghost use Rattle.base_lists.specs.Every.{Every};
 ghost use Rattle.split_spec.specs.Slots as spec;
+ghost use Rattle.split_slots.specs.PlaceholderList.{placeholder_of, placeholders_of};
 
 use itoa::Buffer;
 use std::alloc::Global;
@@ -71,4 +73,40 @@ pub(crate) fn placeholder(
         field: Name::from_text(alloc, Buffer::new().format(slot))?,
         desc: ImportDesc::Func(ty),
     })
+}
+
+// Adds the import of the placeholder of this slot, for the function that moves there.
+fn add_placeholder(
+    alloc: Global,
+    imports: &mut Items<Import>,
+    namespace: &Name,
+    types: &[u32],
+    moved: &[u32],
+    slot: usize,
+) -> Result<(), NoMemory>
+    requires there { slot < length moved.now }
+    requires typed { slice_index moved.now slot < length types.now }
+    requires few { slot < 2 ^ 32 }
+    ensures { OnOk result (imports.new ≡ imports.old ++ placeholder_of namespace.now types.now slot (slice_index moved.now slot) ∷ []) }
+{
+    let ty = types[moved[slot] as usize];
+    imports.keep(placeholder(alloc, namespace, slot as u32, ty)?)
+}
+
+/// Adds the imports of the placeholders of all slots.
+pub(crate) fn add_placeholders(
+    alloc: Global,
+    imports: &mut Items<Import>,
+    namespace: &Name,
+    types: &[u32],
+    moved: &[u32],
+) -> Result<(), NoMemory>
+    requires typed { Every (λ func. func < length types.now) moved.now }
+    requires few { length moved.now ≤ 2 ^ 32 }
+    ensures { OnOk result (imports.new ≡ imports.old ++ placeholders_of namespace.now types.now 0 moved.now) }
+{
+    for slot in 0..moved.len() {
+        add_placeholder(alloc, imports, namespace, types, moved, slot)?;
+    }
+    Ok(())
 }
