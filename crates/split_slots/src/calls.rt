@@ -1,6 +1,6 @@
 // Code in which other code stands in place of calls of functions that move.
 
-ghost use Rattle.std.specs.Prelude.{◌≡◌, ℕ, ◌+◌, ◌++◌, ◌<◌, ◌^◌, Some, length, reverse, OnOk};
+ghost use Rattle.std.specs.Prelude.{◌≡◌, ℕ, [], ◌++◌, ◌<◌, ◌^◌, reverse, IfOk, OnOk};
 ghost use Rattle.std.specs.List.{flat_map, list_any};
 ghost use Rattle.split_spec.specs.Calls.{with_calls};
 ghost use Rattle.split_slots.specs.Looking.{slot_at};
@@ -57,13 +57,10 @@ impl Calls<'_> {
 }
 
 // Appends what stands in place of a call, the last first.
-fn put_target(
-    back: &mut Items<Instr>,
-    table: u32,
-    target: Target,
-) -> Result<(), NoMemory>
+#[tactic(auto, using(crate::proofs::Replaced::reverse_push))]
+fn put_target(back: &mut Items<Instr>, table: u32, target: Target) -> Result<(), NoMemory>
     requires few { (ty slot : ℕ) → target ≡ targets.Slot ty slot → slot < 2 ^ 31 }
-    ensures { OnOk result (back.new ≡ back.old ++ reverse (replacing.target_code table target)) }
+    ensures { OnOk result (reverse back.new ≡ replacing.target_code table target ++ reverse back.old) }
 {
     match target {
         Target::Func(func) => back.keep(Instr::Call(func)),
@@ -75,13 +72,10 @@ fn put_target(
 }
 
 // Appends what stands in place of the instruction, the last first.
-fn put_backward(
-    back: &mut Items<Instr>,
-    instr: Instr,
-    calls: &Calls<'_>,
-) -> Result<(), NoMemory>
+#[tactic(auto, using(crate::proofs::Replaced::reverse_push))]
+fn put_backward(back: &mut Items<Instr>, instr: Instr, calls: &Calls<'_>) -> Result<(), NoMemory>
     requires few { FewSlots calls.now }
-    ensures { OnOk result (back.new ≡ back.old ++ reverse (replacing.code_here (replacing.code_of_call calls.now) instr)) }
+    ensures { OnOk result (reverse back.new ≡ replacing.code_here (replacing.code_of_call calls.now) instr ++ reverse back.old) }
 {
     match instr {
         Instr::Call(func) => put_target(back, calls.table, calls.target(func)),
@@ -89,19 +83,41 @@ fn put_backward(
     }
 }
 
-// Puts what stands for them in place of the calls, but not in blocks.
-fn replace_here(alloc: Global, body: &mut Items<Instr>, calls: &Calls<'_>) -> Result<(), NoMemory>
+// What stands for the code, the last first. It leaves none.
+fn replaced_backward(
+    alloc: Global,
+    body: &mut Items<Instr>,
+    calls: &Calls<'_>,
+) -> Result<Items<Instr>, NoMemory>
     requires few { FewSlots calls.now }
-    ensures { OnOk result (body.new ≡ flat_map (replacing.code_here (replacing.code_of_call calls.now)) body.old) }
+    ensures back { IfOk result (λ back. reverse back ≡ flat_map (replacing.code_here (replacing.code_of_call calls.now)) body.old) }
+    ensures left { OnOk result (body.new ≡ []) }
 {
     let mut back = Items::new(alloc);
     while let Some(instr) = body.pop() {
         put_backward(&mut back, instr, calls)?;
     }
+    Ok(back)
+}
+
+// Moves the instructions behind the body, the last first.
+fn refill(body: &mut Items<Instr>, back: Items<Instr>) -> Result<(), NoMemory>
+    ensures { OnOk result (body.new ≡ body.old ++ reverse back) }
+{
+    let mut back = back;
     while let Some(instr) = back.pop() {
         body.keep(instr)?;
     }
     Ok(())
+}
+
+// Puts what stands for them in place of the calls, but not in blocks.
+fn replace_here(alloc: Global, body: &mut Items<Instr>, calls: &Calls<'_>) -> Result<(), NoMemory>
+    requires few { FewSlots calls.now }
+    ensures { OnOk result (body.new ≡ flat_map (replacing.code_here (replacing.code_of_call calls.now)) body.old) }
+{
+    let back = replaced_backward(alloc, body, calls)?;
+    refill(body, back)
 }
 
 fn is_replaced(instr: &Instr, slots: &[Option<u32>]) -> bool
@@ -125,11 +141,7 @@ fn has_replaced(body: &[Instr], slots: &[Option<u32>]) -> bool
 }
 
 #[cycle(replace)]
-fn replace_inside(
-    alloc: Global,
-    instr: &mut Instr,
-    calls: &Calls<'_>,
-) -> Result<(), NoMemory>
+fn replace_inside(alloc: Global, instr: &mut Instr, calls: &Calls<'_>) -> Result<(), NoMemory>
     requires few { FewSlots calls.now }
     ensures { OnOk result (instr.new ≡ replacing.inside (replacing.code_of_call calls.now) instr.old) }
 {

@@ -1,51 +1,42 @@
-// Why a module is not split.
+// What is taken already, and what is too much.
 
-ghost use Rattle.std.specs.Prelude.{◌≡◌, IfOk, map};
-ghost use Rattle.split_spec.specs.Faults as spec;
+ghost use Rattle.std.specs.Prelude.{◌≡◌, ◌<◌, ◌≤◌, ◌^◌, [], length, nat_lt, option_and_then, slice_get};
+ghost use Rattle.std.specs.Option.{option_map_or};
+ghost use Rattle.std.specs.Str.{bytes_eq};
+ghost use Rattle.base_lists.specs.Places.{first_place};
 
-use std::alloc::{AllocError, Global};
-use std::collections::BTreeMap;
 use wasm_bytes::Name;
-use wasm_tree::{Export, FuncType, Import, Module, Which};
+use wasm_tree::{FuncType, Import};
 
-/// The first import that has this module name.
-pub(crate) fn namespace_taken(module: &Module, namespace: &Name) -> Option<u32> {
-    for (at, import) in module.imports.as_slice().iter().enumerate() {
-        if import.module.as_str() == namespace.as_str() {
+fn has_namespace(import: &Import, namespace: &str) -> bool
+    ensures { result ≡ bytes_eq import.now.«module» namespace.now }
+{
+    import.module.as_str() == namespace
+}
+
+/// The first import of this namespace.
+pub(crate) fn namespace_taken(imports: &[Import], namespace: &Name) -> Option<u32>
+    requires { length imports.now ≤ 2 ^ 32 }
+    ensures { result ≡ first_place (λ i. bytes_eq i.«module» namespace.now) imports.now 0 }
+{
+    let name = namespace.as_str();
+    for at in 0..imports.len() {
+        if has_namespace(&imports[at], name) {
             return Some(at as u32);
         }
     }
     None
 }
 
-/// The place of the first of the added exports whose name is that of an export of the module.
-pub(crate) fn name_taken(
-    alloc: Global,
-    module: &Module,
-    added: &[Export],
-) -> Result<Option<usize>, AllocError> {
-    let mut names = BTreeMap::new(alloc);
-    for export in module.exports.as_slice() {
-        names.insert(export.name.as_str(), ())?;
+/// How many parameters a function has.
+pub(crate) fn param_count(types: &[FuncType], func_types: &[u32], func: u32) -> usize
+    ensures { result ≡ length (option_map_or (λ t. t.params) (option_and_then (slice_get types.now) (slice_get func_types.now func)) []) }
+{
+    let Some(ty) = func_types.get(func as usize) else {
+        return 0;
+    };
+    match types.get(*ty as usize) {
+        Some(ty) => ty.params.len(),
+        None => 0,
     }
-    for (at, export) in added.iter().enumerate() {
-        if names.get(export.name.as_str()).is_some() {
-            return Ok(Some(at));
-        }
-    }
-    Ok(None)
-}
-
-/// Whether the functions that move have too many parameters together.
-pub(crate) fn too_many_params(types: &[FuncType], func_types: &[u32], moved: &[u32]) -> bool {
-    let most = Which::Trampolines.limit() as usize;
-    let mut total = 0;
-    for func in moved {
-        let count = types[func_types[*func as usize] as usize].params.len();
-        if count > most - total {
-            return true;
-        }
-        total += count;
-    }
-    false
 }

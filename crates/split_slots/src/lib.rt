@@ -2,19 +2,16 @@
 #![tactic(auto)]
 
 mod calls;
-mod entities;
 mod exports;
 mod faults;
+mod mapping;
 mod moving;
 mod needing;
-mod pair;
-mod primary;
-mod secondary;
+mod parting;
+mod placing;
 mod sharing;
 mod slots;
-mod splitting;
+mod types;
 
 pub use needing::needed;
-pub use pair::Pair;
 pub use split_spec::{SplitFault, SplitNames};
-pub use splitting::split;

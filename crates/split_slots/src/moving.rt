@@ -1,61 +1,49 @@
-// Functions that move: their bodies are taken out of the module, and trampolines stand in their places.
+// Trampolines, which stand in place of functions that move.
 
-ghost use Rattle.std.specs.Prelude.{◌≡◌, IfOk};
-ghost use Rattle.split_spec.specs.Slots as spec;
+ghost use Rattle.std.specs.Prelude.{◌≡◌, ◌++◌, ◌<◌, ◌≤◌, ◌^◌, length, map, pos, IfOk, OnOk};
+ghost use Rattle.base_lists.specs.Places.{numbers};
+ghost use Rattle.wasm_tree.specs.declared.instr.Instr.TheVariants.{LocalGet as IsLocalGet};
+ghost use Rattle.index_remap.specs.Trampolines.{gets, slot_call};
 
 use std::alloc::Global;
-use std::mem;
 use wasm_bytes::{Items, NoMemory};
-use wasm_tree::{Func, FuncType, Instr};
+use wasm_tree::{Instr, ValType};
 
-// A body that passes so many parameters on to the function in the slot.
-fn trampoline_body(
-    alloc: Global,
-    params: usize,
-    ty: u32,
-    table: u32,
-    slot: u32,
-) -> Result<Items<Instr>, NoMemory> {
-    let mut body = Items::new(alloc);
+// Appends a `local.get` of each of so many parameters.
+fn add_gets(body: &mut Items<Instr>, params: usize) -> Result<(), NoMemory>
+    requires { params ≤ 2 ^ 32 }
+    ensures { OnOk result (body.new ≡ body.old ++ map IsLocalGet (numbers 0 params)) }
+{
     for local in 0..params {
         body.keep(Instr::LocalGet(local as u32))?;
     }
-    body.keep(Instr::I32Const(slot as i32))?;
-    body.keep(Instr::CallIndirect { ty, table })?;
-    Ok(body)
+    Ok(())
 }
 
-// The function, in whose place a trampoline stands from then on.
-fn move_out(
+// Appends the call by this type through this slot.
+#[tactic(auto, using(crate::proofs::Trampolining::push_two))]
+fn add_slot_call(body: &mut Items<Instr>, ty: u32, table: u32, slot: u32) -> Result<(), NoMemory>
+    requires slot { slot < 2 ^ 31 }
+    ensures { OnOk result (body.new ≡ body.old ++ slot_call ty table (pos slot)) }
+{
+    body.keep(Instr::I32Const(slot as i32))?;
+    body.keep(Instr::CallIndirect { ty, table })
+}
+
+/// A body that passes its parameters on to the function in the slot.
+pub(crate) fn trampoline_body(
     alloc: Global,
-    func: &mut Func,
-    types: &[FuncType],
+    params: &[ValType],
+    ty: u32,
     table: u32,
     slot: u32,
-) -> Result<Func, NoMemory> {
-    let params = types[func.ty as usize].params.len();
-    let body = trampoline_body(alloc, params, func.ty, table, slot)?;
-    Ok(Func {
-        ty: func.ty,
-        locals: mem::replace(&mut func.locals, Items::new(alloc)),
-        body: mem::replace(&mut func.body, body),
-    })
-}
-
-/// The functions that move, in the order of their slots; trampolines stand in their places from then on.
-pub(crate) fn take_moved(
-    alloc: Global,
-    funcs: &mut Items<Func>,
-    first: usize,
-    moved: &[u32],
-    types: &[FuncType],
-    table: u32,
-) -> Result<Items<Func>, NoMemory> {
-    let mut own = Items::new(alloc);
-    for (slot, index) in moved.iter().enumerate() {
-        if let Some(func) = funcs.get_mut(*index as usize - first) {
-            own.keep(move_out(alloc, func, types, table, slot as u32)?)?;
-        }
-    }
-    Ok(own)
+) -> Result<Items<Instr>, NoMemory>
+    requires params { length params.now ≤ 2 ^ 32 }
+    requires slot { slot < 2 ^ 31 }
+    ensures { IfOk result (λ body. body ≡ gets 0 params.now ++ slot_call ty table (pos slot)) }
+{
+    let mut body = Items::new(alloc);
+    add_gets(&mut body, params.len())?;
+    add_slot_call(&mut body, ty, table, slot)?;
+    Ok(body)
 }
