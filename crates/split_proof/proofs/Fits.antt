@@ -1,31 +1,35 @@
 -- The maps of a split have an entry for each index that is named in the trees that they renumber.
-use Rattle.std.proofs.Common.{◌≡◌, ◌∙◌, sym, subst, refl, ℕ, suc, ◌<◌, ◌≤◌, List, [], ◌∷◌, ◌++◌, length, Bool, true, ◌&&◌, Some, slice_get, arith}
+use Rattle.std.proofs.lemmas.Option.{slice_get_within}
+use Rattle.std.proofs.Common.{◌≡◌, ◌∙◌, ap, sym, subst, refl, ℕ, suc, ◌<◌, ◌≤◌, List, [], ◌∷◌, ◌++◌, length, Bool, true, ◌&&◌, Some, slice_get, arith, map, ◌+◌}
 use Rattle.std.specs.Prelude.{IsTrue, ℤ, pos}
 use Rattle.std.specs.List.{list_all}
 use Rattle.std.proofs.lemmas.Bool.{lt-ltb, ltb-true}
 use Rattle.std.proofs.lemmas.List.Folds.{list_all-append}
 use Rattle.base_lists.specs.Places.{numbers}
 use Rattle.base_lists.proofs.Bools.{left_true, right_true}
-use Rattle.base_lists.proofs.Each.{list_all_each}
-use Rattle.base_lists.proofs.Numbers.{length-numbers}
-use Rattle.base_lists.proofs.Places.{slice_get_there, slice_index_is}
+use Rattle.base_lists.proofs.Each.{list_all_each, list_all_from}
+use Rattle.base_lists.proofs.Numbers.{length-numbers, numbers_at}
+use Rattle.base_lists.proofs.Places.{slice_get_there, slice_index_is, map_from}
 use Rattle.wasm_tree.specs.declared.space.Operand.{Operand}
 use Rattle.wasm_tree.specs.declared.space.Space.TheVariants.{Types, Tables}
 use Rattle.wasm_tree.specs.declared.types.ValType.{ValType}
 use Rattle.wasm_tree.specs.declared.instr.Instr.{out-Instr}
 use Rattle.wasm_tree.specs.declared.instr.Instr.TheVariants.{Call, CallIndirect, I32Const, LocalGet}
+use Rattle.wasm_tree.specs.declared.module.ConstExpr.TheVariants as const
 use Rattle.wasm_tree.specs.declared.module.Func.{Func}
+use Rattle.wasm_tree.specs.declared.module.ImportDesc.{ImportDesc}
+use Rattle.wasm_tree.specs.declared.module.ImportDesc.TheVariants as im
 use Rattle.wasm_tree.specs.declared.module.Module.{Module}
 use Rattle.wasm_tree.specs.Operands.{all_operands_pass, called, named, operands_pass}
 use Rattle.wasm_tree.specs.Spaces.{funcs_of, tables_of, memories_of, globals_of}
 use Rattle.wasm_tree.proofs.OperandLaws.{passes_inside}
-use Rattle.wasm_valid.specs.Validity.{IsValid}
+use Rattle.wasm_valid.specs.Validity.{IsValid, ImportHolds}
 use Rattle.index_remap.specs.declared.remap.Remap.{Remap}
-use Rattle.index_remap.specs.Renumbered.{fits_func, fits_import, fits_tree, has, has_entry}
+use Rattle.index_remap.specs.Renumbered.{fits_func, fits_import, fits_tree, has, has_entry, fits_const, fits_import_desc}
 use Rattle.index_remap.specs.Trampolines.{gets, slot_call}
 use Rattle.index_remap_proof.specs.Trees.{Covers}
 use Rattle.index_remap_proof.proofs.Lists.{both_true}
-use Rattle.split_spec.specs.Slots.{call_by_slot, slot_table, type_index}
+use Rattle.split_spec.specs.Slots.{call_by_slot, slot_table, type_index, in_slots}
 use Rattle.split_proof.proofs.Spaces.{ItemsHold, type_there}
 
 -- a map that is as long as each index space has an entry for each index that a valid module names
@@ -40,6 +44,24 @@ below_has xs n i many h = let lt = ltb-true i (length xs) h in omega (arith, man
 
 pub longer : (xs ys : List ℕ) (i : ℕ) → length xs ≤ length ys → has xs i ≡ true → has ys i ≡ true
 longer xs ys i le h = let lt = ltb-true i (length xs) h in lt-ltb i (length ys) (omega (arith, le, lt))
+
+-- an import that may stand in the module, where all types have an entry
+pub desc_fits : (r : Remap) (m : Module) → length r.types ≡ length m.types → (d : ImportDesc) → ImportHolds m d → fits_import_desc r d ≡ true
+desc_fits r m many (im.Func ty) h = has_below r.types (length m.types) ty many h
+desc_fits r m many (im.Table t) h = refl
+desc_fits r m many (im.Memory l) h = refl
+desc_fits r m many (im.Global g) h = refl
+
+-- what is in the slots, where each has an entry
+pub slots_fit : (r : Remap) (m : Module) (count : ℕ) → length r.funcs ≡ length (funcs_of m) + count → list_all (fits_const r) (map const.Func (in_slots m count)) ≡ true
+slots_fit r m count all = list_all_from (fits_const r) (map const.Func (in_slots m count)) (λ n e at.
+    let f = map_from const.Func (in_slots m count) n e at in
+    let many = length-numbers (length (funcs_of m)) count in
+    let within = slice_get_within (in_slots m count) n f.0 f.1 in
+    let lt : n < count = omega (arith, many, within) in
+    let both : Some (length (funcs_of m) + n) ≡ Some f.0 = sym (numbers_at (length (funcs_of m)) count n lt) ∙ f.1 in
+    let index : length (funcs_of m) + n ≡ f.0 = cc in
+    ap (fits_const r) (sym f.2) ∙ has_below r.funcs (length (funcs_of m) + count) f.0 all (omega (arith, index, lt)))
 
 -- ---- what stands in place of calls ----
 

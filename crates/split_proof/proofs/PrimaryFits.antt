@@ -8,25 +8,23 @@ use Rattle.std.proofs.lemmas.Option.{slice_get_within}
 use Rattle.base_lists.specs.Places.{numbers}
 use Rattle.base_lists.proofs.Bools.{left_true, right_true}
 use Rattle.base_lists.proofs.Each.{list_all_from}
-use Rattle.base_lists.proofs.Numbers.{length-numbers, numbers_at}
+use Rattle.base_lists.proofs.Numbers.{length-numbers}
 use Rattle.base_lists.proofs.Places.{map_from}
 use Rattle.base_kept.specs.Kept.{kept_before, new_places}
 use Rattle.base_kept.proofs.Laws.{kept_from}
 use Rattle.wasm_tree.specs.declared.space.Space.{Space}
 use Rattle.wasm_tree.specs.declared.space.Space.TheVariants.{Types, Functions, Tables, Memories, Globals, ElementSegments, DataSegments}
-use Rattle.wasm_tree.specs.declared.module.ConstExpr.TheVariants as const
 use Rattle.wasm_tree.specs.declared.module.Export.{Export}
 use Rattle.wasm_tree.specs.declared.module.ExportDesc.{ExportDesc}
 use Rattle.wasm_tree.specs.declared.module.ExportDesc.TheVariants as ex
 use Rattle.wasm_tree.specs.declared.module.Func.{Func}
-use Rattle.wasm_tree.specs.declared.module.ImportDesc.{ImportDesc}
 use Rattle.wasm_tree.specs.declared.module.ImportDesc.TheVariants as im
 use Rattle.wasm_tree.specs.declared.module.Module.{Module}
 use Rattle.wasm_tree.specs.Operands.{all_operands_pass, called}
 use Rattle.wasm_tree.specs.Spaces.{imported_funcs, funcs_of, tables_of, memories_of, globals_of}
-use Rattle.wasm_valid.specs.Validity.{ImportHolds, IsValid}
+use Rattle.wasm_valid.specs.Validity.{IsValid}
 use Rattle.index_remap.specs.declared.remap.Remap.{Remap}
-use Rattle.index_remap.specs.Renumbered.{entries, fits_const, fits_data, fits_elem, fits_export, fits_export_desc, fits_func, fits_global, fits_import, fits_import_desc, fits_start, fits_tree, has, has_entry}
+use Rattle.index_remap.specs.Renumbered.{entries, fits_data, fits_elem, fits_export, fits_export_desc, fits_func, fits_global, fits_import, fits_start, fits_tree, has, has_entry}
 use Rattle.index_remap_proof.specs.Trees.{Covers}
 use Rattle.index_remap_proof.proofs.Lists.{both_true}
 use Rattle.split_spec.specs.Calls.{with_calls}
@@ -34,7 +32,7 @@ use Rattle.split_spec.specs.Slots.{call_by_slot, call_through_slot, in_slots, pa
 use Rattle.split_spec.specs.FromPrimary.{entities, exports_for_secondary, from_primary, name_from_primary, slots_name}
 use Rattle.split_spec.specs.Primary.{added_exports, left_marks, placeholder_imports, primary_func, primary_funcs, primary_tree}
 use Rattle.split_proof.specs.Premises.{CanMove}
-use Rattle.split_proof.proofs.Fits.{EntriesAreThere, body_exact, call_passes, called_below, exact, has_below, longer, through_slot_passes, trampoline_passes, type_below}
+use Rattle.split_proof.proofs.Fits.{EntriesAreThere, body_exact, call_passes, called_below, exact, desc_fits, has_below, longer, slots_fit, through_slot_passes, trampoline_passes, type_below}
 use Rattle.split_proof.proofs.PassedCalls.{calls_pass}
 use Rattle.split_proof.proofs.PrimarySpaces.{imports_hold, left_many, primary_at, r}
 use Rattle.split_proof.proofs.SharedFuncs.{shared_within}
@@ -125,14 +123,8 @@ module _ (entries_there : EntriesAreThere) (namespace : ℕ → List ℕ) (prefi
 
   -- ---- imports, exports and the slots ----
 
-  desc_fits : (d : ImportDesc) → ImportHolds m d → fits_import_desc map_of d ≡ true
-  desc_fits (im.Func ty) h = has_below map_of.types (length m.types) ty types_many h
-  desc_fits (im.Table t) h = refl
-  desc_fits (im.Memory l) h = refl
-  desc_fits (im.Global g) h = refl
-
   imports_fit : list_all (fits_import map_of) (m.imports ++ placeholder_imports namespace m 0 moved) ≡ true
-  imports_fit = list_all_from (fits_import map_of) (m.imports ++ placeholder_imports namespace m 0 moved) (λ n x at. desc_fits x.desc (imports_hold namespace prefix m holds moved can n x at))
+  imports_fit = list_all_from (fits_import map_of) (m.imports ++ placeholder_imports namespace m 0 moved) (λ n x at. desc_fits map_of m types_many x.desc (imports_hold namespace prefix m holds moved can n x at))
 
   joined_fit : (xs ys : List Export) → list_all (fits_export map_of) xs ≡ true → list_all (fits_export map_of) ys ≡ true → list_all (fits_export map_of) (xs ++ ys) ≡ true
   joined_fit xs ys h k = list_all-append (fits_export map_of) xs ys ∙ both_true (list_all (fits_export map_of) xs) (list_all (fits_export map_of) ys) h k
@@ -157,18 +149,8 @@ module _ (entries_there : EntriesAreThere) (namespace : ℕ → List ℕ) (prefi
       (joined_fit _ _ (shared_fit Memories ex.Memory (λ i lt. has_below map_of.mems (length (memories_of m)) i (length-numbers 0 (length (memories_of m))) (omega (arith, mems, lt))))
       (joined_fit _ _ (shared_fit Globals ex.Global (λ i lt. has_below map_of.globals (length (globals_of m)) i (length-numbers 0 (length (globals_of m))) (omega (arith, globals, lt)))) last_fits)))
 
-  slots_fit : list_all (fits_const map_of) (map const.Func (in_slots m (length moved))) ≡ true
-  slots_fit = list_all_from (fits_const map_of) (map const.Func (in_slots m (length moved))) (λ n e at.
-      let f = map_from const.Func (in_slots m (length moved)) n e at in
-      let many = length-numbers (length (funcs_of m)) (length moved) in
-      let within = slice_get_within (in_slots m (length moved)) n f.0 f.1 in
-      let lt : n < length moved = omega (arith, many, within) in
-      let both : Some (length (funcs_of m) + n) ≡ Some f.0 = sym (numbers_at (length (funcs_of m)) (length moved) n lt) ∙ f.1 in
-      let index : length (funcs_of m) + n ≡ f.0 = cc in
-      ap (fits_const map_of) (sym f.2) ∙ has_below map_of.funcs (length (funcs_of m) + length moved) f.0 funcs_many (omega (arith, index, lt)))
-
   segment_fits : list_all (fits_elem map_of) (slot_segment (slot_table m) 0 (in_slots m (length moved)) ∷ []) ≡ true
-  segment_fits = both_true _ _ (both_true _ _ (both_true _ _ table_fits refl) slots_fit) refl
+  segment_fits = both_true _ _ (both_true _ _ (both_true _ _ table_fits refl) (slots_fit map_of m (length moved) funcs_many)) refl
 
   -- ---- the tree ----
 

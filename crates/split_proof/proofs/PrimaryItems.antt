@@ -6,7 +6,7 @@ use Rattle.std.specs.Option.{option_map_or}
 use Rattle.std.proofs.lemmas.Bool.{lt-ltb, ltb-true}
 use Rattle.std.proofs.lemmas.Option.{slice_get_within}
 use Rattle.base_lists.proofs.Filtered.{has_chosen}
-use Rattle.base_lists.proofs.Numbers.{length-numbers, numbers_at, numbers_index}
+use Rattle.base_lists.proofs.Numbers.{numbers_index}
 use Rattle.base_lists.proofs.Options.{and_then_is}
 use Rattle.base_lists.proofs.Places.{append_at_left, append_right, map_at, map_from, push_from, slice_get_there}
 use Rattle.base_kept.specs.Kept.{kept}
@@ -56,7 +56,7 @@ use Rattle.split_proof.specs.Premises.{CanMove}
 use Rattle.split_proof.proofs.Bodies.{BodyLaws, CodeIsTyped, body_typed, entry_agrees}
 use Rattle.split_proof.proofs.Lists.{no_place, none_among, there_among}
 use Rattle.split_proof.proofs.PrimarySpaces as spaces
-use Rattle.split_proof.proofs.SlotCalls.{slots_new, through_slot_typed, type_new}
+use Rattle.split_proof.proofs.SlotCalls.{slot_typed, slots_new, through_slot_typed, type_new}
 use Rattle.split_proof.proofs.Spaces.{ItemsHold, func_holds, table_holds}
 use Rattle.split_proof.proofs.Typed.{trampoline_renumbered, trampoline_typed}
 
@@ -209,18 +209,8 @@ module _ (laws : BodyLaws) (namespace : ℕ → List ℕ) (prefix : List ℕ) (m
   same_import (im.Memory l) h = h
   same_import (im.Global g) h = h
 
-  slot_item : (j : ℕ) (e : ConstExpr) → slice_get (map (new_const map_of) (map const.Func (in_slots m (length moved)))) j ≡ Some e → const_type new e ≡ Some (Ref func_ref)
-  slot_item j e at =
-      let c = map_from (new_const map_of) (map const.Func (in_slots m (length moved))) j e at in
-      let f = map_from const.Func (in_slots m (length moved)) j c.0 c.1 in
-      let many = length-numbers (length (funcs_of m)) (length moved) in
-      let within = slice_get_within (in_slots m (length moved)) j f.0 f.1 in
-      let lt : j < length moved = omega (arith, many, within) in
-      let both : Some (length (funcs_of m) + j) ≡ Some f.0 = sym (numbers_at (length (funcs_of m)) (length moved) j lt) ∙ f.1 in
-      let index : length (funcs_of m) + j ≡ f.0 = cc in
-      let entry : slice_index map_of.funcs f.0 ≡ k + j = ap (slice_index map_of.funcs) (sym index) ∙ spaces.placeholder_entry namespace prefix m holds moved can j lt in
-      let inside : nat_lt (slice_index map_of.funcs f.0) (length (funcs_of new)) ≡ true = lt-ltb (slice_index map_of.funcs f.0) (length (funcs_of new)) (subst (λ n. n < length (funcs_of new)) (sym entry) (spaces.placeholder_within namespace prefix m holds moved can j lt)) in
-      ap (const_type new) (sym (ap (new_const map_of) f.2 ∙ c.2)) ∙ ap (λ b. only b (Some (Ref func_ref))) inside
+  slot_within : (j : ℕ) → j < length moved → slice_index map_of.funcs (length (funcs_of m) + j) < length (funcs_of new)
+  slot_within j lt = subst (λ n. n < length (funcs_of new)) (sym (spaces.placeholder_entry namespace prefix m holds moved can j lt)) (spaces.placeholder_within namespace prefix m holds moved can j lt)
 
   start_item : (j : ℕ) (o : Option ℕ) → m.start ≡ o → j < start_count (new_start map_of o) → HoldsAt new kind.Start j
   start_item j None e lt = absurd (omega (arith, lt))
@@ -245,7 +235,7 @@ module _ (laws : BodyLaws) (namespace : ℕ → List ℕ) (prefix : List ℕ) (m
 
   slots_item : (j : ℕ) (s : ElemSeg) → slice_get new.elems j ≡ Some (new_elem map_of s) → s ≡ slot_segment (slot_table m) 0 (in_slots m (length moved)) → HoldsAt new kind.Elem j
   slots_item j s new_at same =
-      (new_elem map_of (slot_segment (slot_table m) 0 (in_slots m (length moved))), new_at ∙ ap (λ s. Some (new_elem map_of s)) same, slot_item, (spaces.slot_table_at namespace prefix m holds moved can, refl))
+      (new_elem map_of (slot_segment (slot_table m) 0 (in_slots m (length moved))), new_at ∙ ap (λ s. Some (new_elem map_of s)) same, slot_typed map_of m new (length moved) slot_within, (spaces.slot_table_at namespace prefix m holds moved can, refl))
 
   -- the exports are apart
   abbrev pub NoExport : ItemKind → Type 0

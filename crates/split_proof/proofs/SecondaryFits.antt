@@ -7,33 +7,31 @@ use Rattle.std.proofs.lemmas.Option.{slice_get_within}
 use Rattle.base_lists.specs.Places.{numbers}
 use Rattle.base_lists.proofs.Bools.{left_true, right_true}
 use Rattle.base_lists.proofs.Each.{list_all_from}
-use Rattle.base_lists.proofs.Numbers.{length-numbers, numbers_at}
+use Rattle.base_lists.proofs.Numbers.{length-numbers}
 use Rattle.base_lists.proofs.Places.{map_from, slice_get_there}
 use Rattle.base_kept.specs.Kept.{new_places}
 use Rattle.wasm_tree.specs.declared.space.Operand.{Operand}
 use Rattle.wasm_tree.specs.declared.space.Space.{Space}
 use Rattle.wasm_tree.specs.declared.space.Space.TheVariants.{Types, Functions, Tables, Memories, Globals, ElementSegments, DataSegments}
-use Rattle.wasm_tree.specs.declared.module.ConstExpr.TheVariants as const
 use Rattle.wasm_tree.specs.declared.module.Func.{Func}
-use Rattle.wasm_tree.specs.declared.module.ImportDesc.{ImportDesc}
 use Rattle.wasm_tree.specs.declared.module.ImportDesc.TheVariants as im
 use Rattle.wasm_tree.specs.declared.module.Module.{Module}
 use Rattle.wasm_tree.specs.Operands.{all_operands_pass, called}
 use Rattle.wasm_tree.specs.Spaces.{imported_funcs, funcs_of, tables_of, memories_of, globals_of}
 use Rattle.wasm_tree.proofs.OperandLaws.{passes_both}
-use Rattle.wasm_valid.specs.Validity.{ImportHolds, IsValid}
+use Rattle.wasm_valid.specs.Validity.{IsValid}
 use Rattle.index_remap.specs.declared.remap.Remap.{Remap}
-use Rattle.index_remap.specs.Renumbered.{entries, fits_const, fits_func, fits_import, fits_import_desc, fits_tree, has, has_entry}
+use Rattle.index_remap.specs.Renumbered.{entries, fits_func, fits_import, fits_tree, has, has_entry}
 use Rattle.index_remap_proof.proofs.Lists.{both_true, two_cases}
 use Rattle.split_plan.specs.Segments.{names_segment}
 use Rattle.split_spec.specs.declared.names.SplitNames.{SplitNames}
 use Rattle.split_spec.specs.Calls.{with_calls}
-use Rattle.split_spec.specs.Slots.{call_by_slot, defined_at, in_slots, place_among, slot_table}
+use Rattle.split_spec.specs.Slots.{call_by_slot, defined_at, place_among, slot_table}
 use Rattle.split_spec.specs.FromPrimary.{from_primary, marks_from_primary}
 use Rattle.split_spec.specs.Secondary.{secondary_call, secondary_call_by_place, secondary_func, secondary_imports, secondary_tree}
 use Rattle.split_proof.specs.Premises.{CanMove}
 use Rattle.split_proof.proofs.Bodies.{BodyLaws}
-use Rattle.split_proof.proofs.Fits.{EntriesAreThere, body_exact, call_passes, called_below, exact, has_below, longer, through_slot_passes}
+use Rattle.split_proof.proofs.Fits.{EntriesAreThere, body_exact, call_passes, called_below, exact, desc_fits, has_below, longer, slots_fit, through_slot_passes}
 use Rattle.split_proof.proofs.Lists.{place_is}
 use Rattle.split_proof.proofs.Operands.{all_wanted}
 use Rattle.split_proof.proofs.PassedCalls.{calls_pass}
@@ -135,28 +133,12 @@ module _ (laws : BodyLaws) (entries_there : EntriesAreThere) (names : SplitNames
       let same : f.0 ≡ (own_moves names m holds moved own before can n i.0 i.1).func = cc in
       ap (fits_func map_of) (sym f.2 ∙ ap (secondary_func m moved own) same) ∙ body_fits n i.0 i.1)
 
-  desc_fits : (d : ImportDesc) → ImportHolds m d → fits_import_desc map_of d ≡ true
-  desc_fits (im.Func ty) h = has_below map_of.types (length m.types) ty types_many h
-  desc_fits (im.Table t) h = refl
-  desc_fits (im.Memory l) h = refl
-  desc_fits (im.Global g) h = refl
-
   imports_fit : list_all (fits_import map_of) (secondary_imports names m moved own) ≡ true
-  imports_fit = list_all_from (fits_import map_of) (secondary_imports names m moved own) (λ n x at. desc_fits x.desc (imports_hold laws names m holds moved own before can n x at))
-
-  slots_fit : list_all (fits_const map_of) (map const.Func (in_slots m (length own))) ≡ true
-  slots_fit = list_all_from (fits_const map_of) (map const.Func (in_slots m (length own))) (λ n e at.
-      let f = map_from const.Func (in_slots m (length own)) n e at in
-      let many = length-numbers (length (funcs_of m)) (length own) in
-      let within = slice_get_within (in_slots m (length own)) n f.0 f.1 in
-      let lt : n < length own = omega (arith, many, within) in
-      let both : Some (length (funcs_of m) + n) ≡ Some f.0 = sym (numbers_at (length (funcs_of m)) (length own) n lt) ∙ f.1 in
-      let index : length (funcs_of m) + n ≡ f.0 = cc in
-      ap (fits_const map_of) (sym f.2) ∙ has_below map_of.funcs (length (funcs_of m) + length own) f.0 funcs_many (omega (arith, index, lt)))
+  imports_fit = list_all_from (fits_import map_of) (secondary_imports names m moved own) (λ n x at. desc_fits map_of m types_many x.desc (imports_hold laws names m holds moved own before can n x at))
 
   table_fits : has map_of.tables (slot_table m) ≡ true
   table_fits = has_below map_of.tables (length (tables_of m) + 1) (slot_table m) tables_many (omega arith)
 
   pub secondary_fits : IsTrue (fits_tree map_of (secondary_tree names m moved own before))
   secondary_fits =
-      both_true _ _ imports_fit (both_true _ _ funcs_fit (both_true _ _ refl (both_true _ _ refl (both_true _ _ refl (both_true _ _ (both_true _ _ (both_true _ _ (both_true _ _ table_fits refl) slots_fit) refl) refl)))))
+      both_true _ _ imports_fit (both_true _ _ funcs_fit (both_true _ _ refl (both_true _ _ refl (both_true _ _ refl (both_true _ _ (both_true _ _ (both_true _ _ (both_true _ _ table_fits refl) (slots_fit map_of m (length own) funcs_many)) refl) refl)))))

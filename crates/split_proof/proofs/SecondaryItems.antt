@@ -1,22 +1,17 @@
 -- Each item of a secondary module holds, but for references.
 use Rattle.std.proofs.Common.{◌≡◌, ◌∙◌, ap, ap₂, sym, subst, refl, ℕ, zero, suc, ◌+◌, ◌-◌, ◌<◌, List, [], ◌∷◌, ◌++◌, map, length, Option, Some, None, Bool, true, false, ◌&&◌, ◌||◌, not, eq-eqb, ⊎_elim, option_and_then, slice_get, slice_index, arith, true≢false}
-use Rattle.std.specs.Prelude.{nat_lt, option_map}
-use Rattle.std.proofs.lemmas.Bool.{lt-ltb}
+use Rattle.std.specs.Prelude.{option_map}
 use Rattle.std.proofs.lemmas.List.{length-map}
 use Rattle.std.proofs.lemmas.Option.{slice_get_within}
 use Rattle.base_lists.proofs.Filtered.{chosen_from}
-use Rattle.base_lists.proofs.Numbers.{length-numbers, numbers_at, numbers_index}
+use Rattle.base_lists.proofs.Numbers.{numbers_index}
 use Rattle.base_lists.proofs.Options.{option_map_is}
 use Rattle.base_lists.proofs.Places.{append_from, map_at, map_from, slice_get_there}
 use Rattle.wasm_tree.specs.declared.space.Operand.{Operand}
 use Rattle.wasm_tree.specs.declared.space.Space.{Space}
 use Rattle.wasm_tree.specs.declared.space.Space.TheVariants.{Types, Functions, Tables, Memories, Globals, ElementSegments, DataSegments}
-use Rattle.wasm_tree.specs.declared.types.RefType.TheVariants.{Func as func_ref}
-use Rattle.wasm_tree.specs.declared.types.ValType.TheVariants.{Ref}
 use Rattle.wasm_tree.specs.declared.types.FuncType.{FuncType}
 use Rattle.wasm_tree.specs.declared.instr.Instr.TheVariants.{Call}
-use Rattle.wasm_tree.specs.declared.module.ConstExpr.{ConstExpr}
-use Rattle.wasm_tree.specs.declared.module.ConstExpr.TheVariants as const
 use Rattle.wasm_tree.specs.declared.module.Func.{Func}
 use Rattle.wasm_tree.specs.declared.module.Import.{Import}
 use Rattle.wasm_tree.specs.declared.module.ImportDesc.{ImportDesc}
@@ -24,20 +19,19 @@ use Rattle.wasm_tree.specs.declared.module.ImportDesc.TheVariants as im
 use Rattle.wasm_tree.specs.declared.module.Module.{Module}
 use Rattle.wasm_tree.specs.Operands.{any_operand_passes, same_space}
 use Rattle.wasm_tree.specs.Spaces.{imported_funcs, funcs_of}
-use Rattle.wasm_valid_bodies.specs.Typing.{WellTyped, only}
+use Rattle.wasm_valid_bodies.specs.Typing.{WellTyped}
 use Rattle.wasm_valid.specs.declared.kinds.ItemKind.TheVariants as kind
-use Rattle.wasm_valid.specs.Constants.{const_type}
 use Rattle.wasm_valid.specs.Validity.{ImportHolds, body_context}
 use Rattle.index_remap.specs.declared.remap.Remap.{Remap}
 use Rattle.index_remap.specs.Agreement.{func_type}
 use Rattle.index_remap.specs.References.{is_among}
-use Rattle.index_remap.specs.Renumbered.{new_const, new_func, new_import, new_import_desc, renumbered_all}
+use Rattle.index_remap.specs.Renumbered.{new_func, new_import, new_import_desc, renumbered_all}
 use Rattle.index_remap.specs.Replaced.{is_listed_call}
 use Rattle.index_remap_proof.specs.ButForReferences.{IsValidButForReferences}
 use Rattle.index_remap_proof.proofs.Lists.{among_append, left_either, right_either}
 use Rattle.split_plan.specs.Segments.{names_segment}
 use Rattle.split_spec.specs.declared.names.SplitNames.{SplitNames}
-use Rattle.split_spec.specs.Slots.{call_by_slot, defined_at, in_slots, place_among, slot_table_type}
+use Rattle.split_spec.specs.Slots.{call_by_slot, defined_at, place_among, slot_table_type}
 use Rattle.split_spec.specs.FromPrimary.{entities, from_primary, imports_from_primary, is_from_primary, is_named_from_primary, name_from_primary, slots_name}
 use Rattle.split_spec.specs.Secondary.{secondary_call, secondary_call_by_place, secondary_func, secondary_imports}
 use Rattle.split_proof.specs.Premises.{CanMove}
@@ -46,7 +40,7 @@ use Rattle.split_proof.proofs.Lists.{left_false, list_any_at, right_false, no_pl
 use Rattle.split_proof.proofs.Operands.{Met}
 use Rattle.split_proof.proofs.SecondarySpaces.{agree, funcs_many, own_at, own_entry, own_many, own_moves, own_type, r, slot_table_at, stays, u}
 use Rattle.split_proof.proofs.Spaces.{ItemsHold, entity_holds, func_holds}
-use Rattle.split_proof.proofs.SlotCalls.{through_slot_typed}
+use Rattle.split_proof.proofs.SlotCalls.{slot_typed, through_slot_typed}
 use Rattle.split_proof.proofs.Typed.{call_renumbered, call_typed}
 
 -- an operand that is no call of a function that moves names its index so
@@ -180,19 +174,8 @@ module _ (laws : BodyLaws) (names : SplitNames) (m : Module) (holds : ItemsHold 
       let f = slice_get_there own j (omega (arith, lt, a, b, c)) in
       (j, f.0, f.1, map_at (new_func map_of) (map (secondary_func m moved own) (defined_at m own)) j _ (map_at (secondary_func m moved own) (defined_at m own) j _ (own_at names m holds moved own before can j f.0 f.1)))
 
-  slot_item : (j : ℕ) (e : ConstExpr) → slice_get (map (new_const map_of) (map const.Func (in_slots m (length own)))) j ≡ Some e → const_type new e ≡ Some (Ref func_ref)
-  slot_item j e at =
-      let c = map_from (new_const map_of) (map const.Func (in_slots m (length own))) j e at in
-      let f = map_from const.Func (in_slots m (length own)) j c.0 c.1 in
-      let many = length-numbers (length (funcs_of m)) (length own) in
-      let within = slice_get_within (in_slots m (length own)) j f.0 f.1 in
-      let lt : j < length own = omega (arith, many, within) in
-      let both : Some (length (funcs_of m) + j) ≡ Some f.0 = sym (numbers_at (length (funcs_of m)) (length own) j lt) ∙ f.1 in
-      let index : length (funcs_of m) + j ≡ f.0 = cc in
-      let entry : slice_index map_of.funcs f.0 ≡ length (imported_funcs new.imports) + j = ap (slice_index map_of.funcs) (sym index) ∙ own_entry names m holds moved own before can j lt in
-      let all = funcs_many names m holds moved own before can in
-      let inside : nat_lt (slice_index map_of.funcs f.0) (length (funcs_of new)) ≡ true = lt-ltb (slice_index map_of.funcs f.0) (length (funcs_of new)) (omega (arith, entry, all, lt)) in
-      ap (const_type new) (sym (ap (new_const map_of) f.2 ∙ c.2)) ∙ ap (λ b. only b (Some (Ref func_ref))) inside
+  slot_within : (j : ℕ) → j < length own → slice_index map_of.funcs (length (funcs_of m) + j) < length (funcs_of new)
+  slot_within j lt = let entry = own_entry names m holds moved own before can j lt in let all = funcs_many names m holds moved own before can in omega (arith, entry, all, lt)
 
   pub items_hold : IsValidButForReferences new
   items_hold kind.Import j lt =
@@ -210,7 +193,7 @@ module _ (laws : BodyLaws) (names : SplitNames) (m : Module) (holds : ItemsHold 
   items_hold kind.Global j lt = absurd (omega (arith, lt))
   items_hold kind.Export j lt = absurd (omega (arith, lt))
   items_hold kind.Start j lt = absurd (omega (arith, lt))
-  items_hold kind.Elem zero lt = (_, refl, slot_item, (slot_table_at names m holds moved own before, refl))
+  items_hold kind.Elem zero lt = (_, refl, slot_typed map_of m new (length own) slot_within, (slot_table_at names m holds moved own before, refl))
   items_hold kind.Elem (suc j) lt = absurd (omega (arith, lt))
   items_hold kind.Segment j lt = absurd (omega (arith, lt))
   items_hold kind.Body j lt =
