@@ -1,5 +1,6 @@
--- What the laws ask for is met by a small module; and the tree of a secondary module whose references are not declared yet is not always valid.
-use Rattle.std.proofs.Common.{◌≡◌, refl, sym, subst, ℕ, zero, suc, ◌^◌, ◌<◌, [], ◌∷◌, Some, None, slice_get, arith, rules}
+-- What the laws ask for is met by a small module; and the tree of a secondary module whose references are not declared yet is not always valid, nor is a primary
+-- module that calls through a slot by another type.
+use Rattle.std.proofs.Common.{◌≡◌, refl, sym, subst, ℕ, zero, suc, ◌^◌, ◌<◌, [], ◌∷◌, Some, None, slice_get, arith, rules, ◌∙◌, ◌++◌}
 use Rattle.std.specs.Fmt.{digits}
 use Rattle.std.specs.Prelude.{pos}
 use Rattle.wasm_tree.specs.declared.types.ValType.TheVariants as valt
@@ -12,13 +13,13 @@ use Rattle.wasm_tree.specs.declared.module.Func.{Func}
 use Rattle.wasm_tree.specs.declared.module.ImportDesc.TheVariants as im
 use Rattle.wasm_tree.specs.declared.module.Module.{Module}
 use Rattle.wasm_tree.specs.Bounds.{IsBounded, local_count}
-use Rattle.wasm_valid_bodies.specs.Typing.{Gives, WellTyped}
+use Rattle.wasm_valid_bodies.specs.Typing.{Acts, AllMatch, Gives, Stack, WellTyped}
 use Rattle.wasm_valid.specs.Validity.{IsValid, body_context}
 use Rattle.index_remap.specs.References.{declaring}
 use Rattle.index_remap.specs.Renumbered.{renumbered_tree}
 use Rattle.split_spec.specs.Faults.{prefix_taken}
 use Rattle.split_spec.specs.Secondary.{secondary, secondary_map, secondary_tree, secondary_with}
-use Rattle.split_spec.proofs.Rows.{calling, empty, export, func, gives_number, import, names, nothing, primary_word, segment, slots_import}
+use Rattle.split_spec.proofs.Rows.{calling, calling_primary, empty, export, func, gives_number, import, names, nothing, primary_word, segment, slots_import}
 use Rattle.split_proof.specs.Premises.{CanMove}
 
 -- ---- a module that is split ----
@@ -91,3 +92,39 @@ its_tree_is_not_valid (first, (second, (types, (items, ((f, t, at, ty, typed), n
   where
     no_type : (t : FuncType) → WellTyped (body_context undeclared (func 0 (i.RefFunc 0 ∷ i.Drop ∷ [])) t) (i.RefFunc 0 ∷ i.Drop ∷ []) [] t.results → ⊥
     no_type t (last, (u, (e, is, acts), more), match) = cc
+
+-- ---- a call through a slot by another type ----
+
+-- what the function that calls would be, if its call were by a type that gives nothing
+abbrev mistyped_func : Func
+mistyped_func = func 0 (i.I32Const (pos 0) ∷ i.CallIndirect 1 0 ∷ [])
+
+abbrev mistyped : Module
+mistyped = record calling_primary { types = gives_number ∷ nothing ∷ []; funcs = mistyped_func ∷ [] }
+
+nothing_left : (last u v more below : Stack) → u ≡ Some valt.I32 ∷ [] → u ≡ more ++ below → AllMatch more (valt.I32 ∷ []) → v ≡ below → v ≡ last → AllMatch last (valt.I32 ∷ []) → ⊥
+nothing_left last u v [] below a b m c d match = absurd m
+nothing_left last u v (x ∷ []) [] a b m c d match = subst (λ s. AllMatch s (valt.I32 ∷ [])) (sym d ∙ c) match
+nothing_left last u v (x ∷ []) (y ∷ below) a b m c d match = let e : Some valt.I32 ∷ [] ≡ x ∷ y ∷ below = sym a ∙ b in cc
+nothing_left last u v (x ∷ y ∷ more) below a b m c d match = absurd m.1
+
+mistyped_is_not_typed : WellTyped (body_context mistyped mistyped_func gives_number) mistyped_func.body [] (valt.I32 ∷ []) → ⊥
+mistyped_is_not_typed (last, (u, (e, is, acts), (v, (f, it, does), end)), match) =
+    let first : Gives [] (valt.I32 ∷ []) ≡ e = cc in
+    let second : Gives (valt.I32 ∷ []) [] ≡ f = cc in
+    let a : Acts (Gives [] (valt.I32 ∷ [])) [] u = subst (λ z. Acts z [] u) (sym first) acts in
+    let b : Acts (Gives (valt.I32 ∷ []) []) u v = subst (λ z. Acts z u v) (sym second) does in
+    by a.0 a.1 a.2 a.3 a.4 b
+  where
+    by : (args rest : Stack) → [] ≡ args ++ rest → AllMatch args [] → u ≡ Some valt.I32 ∷ rest → Acts (Gives (valt.I32 ∷ []) []) u v → ⊥
+    by [] [] e m is b = nothing_left last u v b.0 b.1 is b.2 b.3 b.4 end match
+    by [] (x ∷ rest) e m is b = cc
+    by (x ∷ args) rest e m is b = m
+
+mistyped_is_not_valid : IsValid mistyped → ⊥
+mistyped_is_not_valid (placeholder, (types, (slots, (one, (two, (items, ((f, t, at, ty, typed), none))))))) =
+    let same : mistyped_func ≡ f = cc in
+    let found : slice_get mistyped.types 0 ≡ Some t = subst (λ (g : Func). slice_get mistyped.types g.ty ≡ Some t) (sym same) ty in
+    let given : gives_number ≡ t = cc in
+    let body : WellTyped (body_context mistyped mistyped_func t) mistyped_func.body [] t.results = subst (λ (g : Func). WellTyped (body_context mistyped g t) g.body [] t.results) (sym same) typed in
+    mistyped_is_not_typed (subst (λ (z : FuncType). WellTyped (body_context mistyped mistyped_func z) mistyped_func.body [] z.results) (sym given) body)

@@ -25,9 +25,9 @@ pub fn calls_are_replaced()
     ensures { CallsAreReplaced }
 {}
 
-/// The primary module of a split of a valid module is valid, whatever the namespaces of its placeholders, where the functions on the list can move and no export has a
-/// name that is added (`valid`, WebAssembly Core 2.0, section 3.4). It has at most one memory where the module has (`single`), and a u32 can count what it has where
-/// none of its counts is above its limit (`bounded`).
+/// The primary module of a split of a valid module is valid, whatever the namespaces of its placeholders, where the functions on the list can move, a u32 can count what
+/// the module has, and no export has a name that is added (`valid`, WebAssembly Core 2.0, section 3.4). It has at most one memory where the module has (`single`), and a
+/// u32 can count what it has where none of its counts is above its limit (`bounded`).
 pub fn primary_modules_are_valid()
     ensures valid { (namespace : ℕ → List ℕ) (prefix : List ℕ) (m : Module) (moved : List ℕ) → IsValid m → IsBounded m → CanMove m moved → prefix_taken prefix m moved ≡ None → IsValid (primary_with namespace prefix m moved) }
     ensures single { (namespace : ℕ → List ℕ) (prefix : List ℕ) (m : Module) (moved : List ℕ) → IsValid m → CanMove m moved → IsSingle m → IsSingle (primary_with namespace prefix m moved) }
