@@ -143,6 +143,9 @@ module _ (laws : BodyLaws) (namespace : ℕ → List ℕ) (prefix : List ℕ) (m
     pub at : slice_get m.funcs place ≡ Some func
     pub is : slice_get new.funcs j ≡ Some (new_func map_of (primary_func m moved (place_among moved (k + place)) (k + place) func))
 
+  stands_at : (j : ℕ) (x y z : Func) → slice_get new.funcs j ≡ Some y → new_func map_of x ≡ y → x ≡ z → slice_get new.funcs j ≡ Some (new_func map_of z)
+  stands_at j x y z a b c = a ∙ ap Some (sym b ∙ ap (new_func map_of) c)
+
   pub func_item : (j : ℕ) → j < length new.funcs → Item j
   func_item j lt =
       let xs = kept (drop k (left_marks m moved)) (primary_funcs m moved k m.funcs) in
@@ -150,7 +153,7 @@ module _ (laws : BodyLaws) (namespace : ℕ → List ℕ) (prefix : List ℕ) (m
       let x = map_from (new_func map_of) xs j y.0 y.1 in
       let p = kept_from (drop k (left_marks m moved)) (primary_funcs m moved k m.funcs) j x.0 x.1 in
       let f = spaces.primary_at namespace prefix m holds moved can k m.funcs p.place x.0 p.is in
-      record { place = p.place; func = f.0; at = f.1; is = y.1 ∙ ap Some (sym x.2) ∙ ap (λ g. Some (new_func map_of g)) f.2 }
+      record { place = p.place; func = f.0; at = f.1; is = stands_at j x.0 y.0 (primary_func m moved (place_among moved (k + p.place)) (k + p.place) f.0) y.1 x.2 f.2 }
 
   type_at : (p : ℕ) (f : Func) → slice_get m.funcs p ≡ Some f → slice_get (funcs_of m) (k + p) ≡ Some f.ty
   type_at p f at = append_right (imported_funcs m.imports) (map (λ f. f.ty) m.funcs) p ∙ map_at (λ f. f.ty) m.funcs p f at
