@@ -1,0 +1,22 @@
+pub mod Lists
+pub mod Blocks
+pub mod Replacing
+pub mod Operands
+pub mod Typed
+pub mod Bodies
+pub mod Spaces
+pub mod SecondarySpaces
+pub mod SecondaryItems
+pub mod PrimarySpaces
+pub mod SlotCalls
+pub mod PrimaryItems
+pub mod Names
+pub mod SharedFuncs
+pub mod PrimaryExports
+pub mod Bounds
+pub mod PassedCalls
+pub mod Fits
+pub mod SecondaryFits
+pub mod PrimaryFits
+pub mod Whole
+mod Rows

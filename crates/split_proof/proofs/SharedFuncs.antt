@@ -1,0 +1,103 @@
+-- A function that a secondary module imports is left in the primary one: one that moves is imported only where a body names it by `ref.func`.
+use Rattle.std.proofs.Common.{◌≡◌, ◌∙◌, ap, sym, refl, ℕ, ◌-◌, ◌<◌, Some, arith, eq-eqb, length, List, [], ◌∷◌, ◌++◌, map, Bool, true, false, ◌&&◌, ◌||◌, not, nat_eq, ⊎_elim, slice_get, true≢false}
+use Rattle.std.specs.List.{cons_option, flat_map, list_any}
+use Rattle.std.proofs.lemmas.Grind.{flat_map-append}
+use Rattle.std.proofs.lemmas.List.{map-append}
+use Rattle.base_lists.specs.Every.{Every}
+use Rattle.base_lists.proofs.Each.{list_any_there}
+use Rattle.base_lists.specs.Places.{numbers}
+use Rattle.base_lists.proofs.Filtered.{chosen_from, place_back}
+use Rattle.base_lists.proofs.Numbers.{numbers_is}
+use Rattle.base_lists.proofs.Places.{map_from}
+use Rattle.wasm_tree.specs.declared.space.Operand.{Operand}
+use Rattle.wasm_tree.specs.declared.space.Space.{Space}
+use Rattle.wasm_tree.specs.declared.space.Space.TheVariants.{Functions}
+use Rattle.wasm_tree.specs.declared.types.BlockType.{BlockType}
+use Rattle.wasm_tree.specs.declared.types.BlockType.TheVariants as block
+use Rattle.wasm_tree.specs.declared.instr.Instr.{Instr, fold_out-Instr, map-Instr, out-Instr}
+use Rattle.wasm_tree.specs.declared.instr.Instr.TheOpen.{Instr-F}
+use Rattle.wasm_tree.specs.declared.module.Module.{Module}
+use Rattle.wasm_tree.specs.Operands.{any_operand_passes, block_operands, held, operand_passes, operands}
+use Rattle.wasm_tree.specs.Spaces.{imported_funcs}
+use Rattle.wasm_tree.proofs.OperandLaws.{any_inside, by_held}
+use Rattle.wasm_valid.specs.Named.{refs_of}
+use Rattle.index_remap.specs.References.{body_refs, is_among, refs, refs_all, refs_step}
+use Rattle.index_remap_proof.proofs.Lists.{among_joined, among_left, among_right, either_true, left_either, right_either, same_number, two_cases}
+use Rattle.split_spec.specs.Slots.{defined_at}
+use Rattle.split_spec.specs.Needed.{is_needed}
+use Rattle.split_spec.specs.FromPrimary.{entities, from_primary, is_from_primary, is_named_from_primary, marks_from_primary}
+use Rattle.split_spec.specs.Primary.{is_left}
+
+module _ (moved : List ℕ) (x : ℕ) (moves : is_among moved x ≡ true) where
+  abbrev test : Operand → Bool
+  test = is_named_from_primary moved Functions x
+
+  abbrev Named : Instr → Type 0
+  Named i = operand_passes test i ≡ true → is_among (refs i) x ≡ true
+
+  all_named : (is : List Instr) → Every Named is → any_operand_passes test is ≡ true → is_among (refs_all is) x ≡ true
+  all_named [] p h = cc
+  all_named (i ∷ is) p h =
+      ⊎_elim (λ e. among_left (refs i) (refs_all is) x (p.0 e)) (λ e. among_right (refs i) (refs_all is) x (all_named is p.1 e)) (either_true (operand_passes test i) (any_operand_passes test is) h)
+
+  no_type : (ty : BlockType) (b : Bool) → (list_any test (block_operands ty) || b) ≡ true → b ≡ true
+  no_type block.Empty b h = h
+  no_type (block.Value t) b h = h
+  no_type (block.Index i) b h = h
+
+  -- a call of a function that moves does not share it
+  no_call : (b c : Bool) → c ≡ true → ((b && not c) || false) ≡ true → ⊥
+  no_call true true e h = true≢false (sym h)
+  no_call true false e h = true≢false (sym e)
+  no_call false c e h = true≢false (sym h)
+
+  layer_named : (l : Instr-F Instr) → (list_any test (operands l) || any_operand_passes test (held l)) ≡ true → Every Named (held l) → is_among (refs_step (map-Instr Instr (List ℕ) refs l)) x ≡ true
+  layer_named (Instr-F.Block ty body) h p = all_named body p (no_type ty (any_operand_passes test body) h)
+  layer_named (Instr-F.Loop ty body) h p = all_named body p (no_type ty (any_operand_passes test body) h)
+  layer_named (Instr-F.If ty body other) h p =
+      let both : refs_all (body ++ other) ≡ refs_all body ++ refs_all other = ap (flat_map (λ xs. xs)) (map-append refs body other) ∙ flat_map-append (λ xs. xs) (map refs body) (map refs other) in
+      sym (ap (λ xs. is_among xs x) both) ∙ all_named (body ++ other) p (no_type ty (any_operand_passes test (body ++ other)) h)
+  layer_named (Instr-F.Call f) h p = absurd (no_call (nat_eq f x) (is_among moved x) moves (no_more _ h))
+    where
+      no_more : (b : Bool) → (b || false) ≡ true → b ≡ true
+      no_more true h = refl
+      no_more false h = h
+  layer_named (Instr-F.RefFunc f) h p = same (nat_eq f x) refl h
+    where
+      same : (b : Bool) → nat_eq f x ≡ b → (((b && true) || false) || false) ≡ true → is_among (f ∷ []) x ≡ true
+      same true e h = let is : x ≡ f = sym (same_number f x e) in left_either (nat_eq x f) false (eq-eqb x f is)
+      same false e h = absurd (true≢false (sym h))
+  layer_named _ h p = cc
+
+  instr_named : (i : Instr) → Named i
+  instr_named = by_held Named (λ i p h. ap (λ xs. is_among xs x) (fold_out-Instr (List ℕ) refs_step i) ∙ layer_named (out-Instr i) (sym (any_inside test i) ∙ h) p)
+
+  every_named : (is : List Instr) → Every Named is
+  every_named [] = tt
+  every_named (i ∷ is) = (instr_named i, every_named is)
+
+  pub ref_named : (is : List Instr) → any_operand_passes test is ≡ true → is_among (refs_all is) x ≡ true
+  ref_named is = all_named is (every_named is)
+
+pub shared_left : (m : Module) (moved : List ℕ) (x : ℕ) → is_from_primary moved (defined_at m moved) Functions x ≡ true → is_left m moved x ≡ true
+shared_left m moved x h =
+    ⊎_elim
+    (λ e.
+    let f = list_any_there (λ f. any_operand_passes (is_named_from_primary moved Functions x) f.body) (defined_at m moved) h in
+    let g = chosen_from (λ func. slice_get m.funcs (func - length (imported_funcs m.imports))) moved f.1.0 f.0 f.1.1 in
+    let among = among_joined (λ f. refs_all f.body) m.funcs (g.0 - length (imported_funcs m.imports)) f.0 x g.2 (ref_named moved x e f.0.body f.2) in
+    right_either (not (is_among moved x)) (is_needed m x) (among_right (refs_of m) (cons_option m.start [] ++ body_refs m.funcs) x (among_right (cons_option m.start []) (body_refs m.funcs) x among)))
+    (λ e. left_either (not (is_among moved x)) (is_needed m x) (ap not e))
+    (two_cases (is_among moved x))
+
+-- an index that is imported is one of the space
+pub shared_within : (m : Module) (moved own : List ℕ) (space : Space) (n i : ℕ) → slice_get (from_primary m moved own space) n ≡ Some i → (i < length (entities m space)) × (is_from_primary moved (defined_at m own) space i ≡ true)
+shared_within m moved own space n i at =
+    let p = place_back (λ b. b) (marks_from_primary m moved own space) 0 n i at in
+    let x = map_from (is_from_primary moved (defined_at m own) space) (numbers 0 (length (entities m space))) p.0 p.1 p.3 in
+    let v = numbers_is (length (entities m space)) p.0 x.0 x.1 in
+    let e = p.2 in
+    let w = v.1 in
+    let same : x.0 ≡ i = omega (arith, e, w) in
+    let lt = v.0 in
+    (omega (arith, e, lt), sym (ap (is_from_primary moved (defined_at m own) space) same) ∙ x.2 ∙ p.4)

@@ -1,0 +1,69 @@
+//! That both modules of a split are valid, as laws.
+#![tactic(auto)]
+
+ghost use Rattle.std.specs.Prelude.{◌≡◌, ℕ, List, None, IsTrue};
+ghost use Rattle.wasm_tree.specs.declared.module.Module.{Module};
+ghost use Rattle.wasm_tree.specs.Bounds.{IsBounded};
+ghost use Rattle.wasm_valid.specs.Validity.{IsSingle, IsValid};
+ghost use Rattle.index_remap.specs.Renumbered.{fits_tree};
+ghost use Rattle.module_limits.specs.Counts.{over_limit};
+ghost use Rattle.split_spec.specs.declared.names.SplitNames.{SplitNames};
+ghost use Rattle.split_spec.specs.Faults.{prefix_taken};
+ghost use Rattle.split_spec.specs.Primary.{primary_map, primary_tree, primary_with};
+ghost use Rattle.split_spec.specs.Secondary.{secondary_map, secondary_tree, secondary_with};
+ghost use Rattle.split_proof.specs.Calls.{CallsAreReplaced};
+ghost use Rattle.split_proof.specs.Premises.{CanMove};
+
+use index_remap::steps_agree;
+use index_remap_proof::{declared_trees_are_valid, renumbering_keeps_typing};
+use module_limits::counts_are_within_where_none_is_over;
+use wasm_tree::operands_pass_layer_by_layer;
+use wasm_valid::valid_where_items_hold;
+
+/// Code in which other code stands in place of calls, and then each index is replaced by its entry, is such code with other indices (`ensures`).
+pub fn calls_are_replaced()
+    ensures { CallsAreReplaced }
+{}
+
+/// The primary module of a split of a valid module is valid, whatever the namespaces of its placeholders, where the functions on the list can move, a u32 can count what
+/// the module has, and no export has a name that is added (`valid`, WebAssembly Core 2.0, section 3.4). It has at most one memory where the module has (`single`), and a
+/// u32 can count what it has where none of its counts is above its limit (`bounded`).
+pub fn primary_modules_are_valid()
+    ensures valid { (namespace : ℕ → List ℕ) (prefix : List ℕ) (m : Module) (moved : List ℕ) → IsValid m → IsBounded m → CanMove m moved → prefix_taken prefix m moved ≡ None → IsValid (primary_with namespace prefix m moved) }
+    ensures single { (namespace : ℕ → List ℕ) (prefix : List ℕ) (m : Module) (moved : List ℕ) → IsValid m → CanMove m moved → IsSingle m → IsSingle (primary_with namespace prefix m moved) }
+    ensures bounded { (namespace : ℕ → List ℕ) (prefix : List ℕ) (m : Module) (moved : List ℕ) → IsValid m → IsBounded m → CanMove m moved → over_limit (primary_with namespace prefix m moved) ≡ None → IsBounded (primary_with namespace prefix m moved) }
+{
+    operands_pass_layer_by_layer();
+    steps_agree();
+    valid_where_items_hold();
+    declared_trees_are_valid();
+    counts_are_within_where_none_is_over();
+    calls_are_replaced();
+}
+
+/// So is a secondary module, whichever functions that can move are its own, whatever others move and whatever slots stand before its own (`valid`), and it has no more
+/// memories (`single`) and no more than a u32 can count (`bounded`) likewise.
+pub fn secondary_modules_are_valid()
+    ensures valid { (names : SplitNames) (m : Module) (moved own : List ℕ) (before : ℕ) → IsValid m → CanMove m own → IsValid (secondary_with names m moved own before) }
+    ensures single { (names : SplitNames) (m : Module) (moved own : List ℕ) (before : ℕ) → IsValid m → CanMove m own → IsSingle m → IsSingle (secondary_with names m moved own before) }
+    ensures bounded { (names : SplitNames) (m : Module) (moved own : List ℕ) (before : ℕ) → IsValid m → IsBounded m → CanMove m own → over_limit (secondary_with names m moved own before) ≡ None → IsBounded (secondary_with names m moved own before) }
+{
+    operands_pass_layer_by_layer();
+    steps_agree();
+    valid_where_items_hold();
+    declared_trees_are_valid();
+    counts_are_within_where_none_is_over();
+    calls_are_replaced();
+}
+
+/// The maps by which both modules are renumbered have an entry for each index that is named in the trees that they renumber (`primary`, `secondary`).
+pub fn maps_of_a_split_fit()
+    ensures primary { (namespace : ℕ → List ℕ) (prefix : List ℕ) (m : Module) (moved : List ℕ) → IsValid m → CanMove m moved → IsTrue (fits_tree (primary_map m moved) (primary_tree namespace prefix m moved)) }
+    ensures secondary { (names : SplitNames) (m : Module) (moved own : List ℕ) (before : ℕ) → IsValid m → CanMove m own → IsTrue (fits_tree (secondary_map m moved own) (secondary_tree names m moved own before)) }
+{
+    operands_pass_layer_by_layer();
+    steps_agree();
+    valid_where_items_hold();
+    renumbering_keeps_typing();
+    calls_are_replaced();
+}

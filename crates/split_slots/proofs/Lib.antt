@@ -1,0 +1,11 @@
+mod Replaced
+mod SlotTables
+mod NamedOutside
+mod NotingLaws
+mod AddedExports
+mod Trampolining
+mod ImportedTypes
+mod PartedFuncs
+mod PlacesBehind
+mod Placeholders
+mod Bridge

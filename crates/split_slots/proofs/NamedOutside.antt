@@ -1,0 +1,71 @@
+-- In a valid module what `ref.func` names in a body is named outside the bodies too, so that marks of that tell of which functions a trampoline is needed.
+use Rattle.std.proofs.Common.{◌≡◌, ℕ, ◌<◌, Bool, true, false, ◌||◌, List, [], ◌∷◌, ◌++◌, length, filter, cond, unwrap_or, Option, Some, None, refl, sym, ap, ap₂, ◌∙◌, subst, slice_get, zero-add, append-nil}
+use Rattle.std.specs.List.{cons_option}
+use Rattle.std.specs.Prelude.{nat_le, nat_lt}
+use Rattle.std.proofs.lemmas.Bool.{ltb-true}
+use Rattle.std.proofs.lemmas.Option.{slice_get_within}
+use Rattle.base_lists.specs.Every.{Every}
+use Rattle.wasm_tree.specs.declared.types.FuncType.{FuncType}
+use Rattle.wasm_tree.specs.declared.module.Func.{Func}
+use Rattle.wasm_tree.specs.declared.module.Module.{Module}
+use Rattle.wasm_tree.specs.Spaces.{funcs_of, imported_funcs}
+use Rattle.wasm_valid.specs.declared.kinds.ItemKind.TheVariants as kind
+use Rattle.wasm_valid.specs.Named.{marked_at, named_from, named_of, refs_of}
+use Rattle.wasm_valid.specs.Validity.{HoldsAt, body_context}
+use Rattle.index_remap.specs.References.{body_refs, is_among, refs_all}
+use Rattle.index_remap.proofs.Marks.{more_marks}
+use Rattle.split_plan.specs.Words.{is_defined}
+use Rattle.split_plan.specs.Plans.{body_uses_segment}
+use Rattle.index_remap_proof.proofs.Lists.{right_true, among_append, is_marked, joined_among, named_get}
+use Rattle.index_remap_proof.proofs.NamedFuncs.{typed_named}
+use Rattle.split_spec.specs.Needed.{is_needed, needed}
+
+-- the marks of what is named outside the bodies, with the start
+pub with_start : (m : Module) (start : Option ℕ) → marked_at (named_of m) start ≡ named_from (refs_of m ++ cons_option start []) 0 (length (funcs_of m))
+with_start m None = ap (λ rs. named_from rs 0 (length (funcs_of m))) (sym (append-nil (refs_of m)))
+with_start m (Some func) = more_marks (length (funcs_of m)) (refs_of m) (func ∷ [])
+
+module _ (m : Module) (holds : (i : ℕ) → i < length m.funcs → HoldsAt m kind.Body i) where
+  body_named : (x : ℕ) → is_among (body_refs m.funcs) x ≡ true → is_among (refs_of m) x ≡ true
+  body_named x h = here (joined_among (λ f. refs_all f.body) m.funcs x h)
+    where
+      here : (i : ℕ) × (f : Func) × (slice_get m.funcs i ≡ Some f) × (is_among (refs_all f.body) x ≡ true) → is_among (refs_of m) x ≡ true
+      here (i, f, e, k) = there (holds i (slice_get_within m.funcs i f e))
+        where
+          there : HoldsAt m kind.Body i → is_among (refs_of m) x ≡ true
+          there (g, ft, at, ty, w) =
+              let same : g ≡ f = cc in
+              is_marked (refs_of m) (length (funcs_of m)) x (typed_named (body_context m g ft) g.body [] ft.results w x (subst (λ (z : Func). is_among (refs_all z.body) x ≡ true) (sym same) k))
+
+  known_twice : (a s b : Bool) → (b ≡ true → a ≡ true) → (a || (s || b)) ≡ (a || s)
+  known_twice true s b h = refl
+  known_twice false true b h = refl
+  known_twice false false true h = sym (h refl)
+  known_twice false false false h = refl
+
+  needed_is : (x : ℕ) → is_needed m x ≡ is_among (refs_of m ++ cons_option m.start []) x
+  needed_is x =
+      among_append (refs_of m) (cons_option m.start [] ++ body_refs m.funcs) x
+      ∙ ap (λ b. is_among (refs_of m) x || b) (among_append (cons_option m.start []) (body_refs m.funcs) x)
+      ∙ known_twice (is_among (refs_of m) x) (is_among (cons_option m.start []) x) (is_among (body_refs m.funcs) x) (body_named x)
+      ∙ sym (among_append (refs_of m) (cons_option m.start []) x)
+
+  -- the mark of a function
+  pub marks_tell : (x : ℕ) → x < length (funcs_of m) → slice_get (named_from (refs_of m ++ cons_option m.start []) 0 (length (funcs_of m))) x ≡ Some (is_needed m x)
+  marks_tell x lt = named_get (refs_of m ++ cons_option m.start []) 0 (length (funcs_of m)) x lt ∙ ap (λ y. Some (is_among (refs_of m ++ cons_option m.start []) y)) (zero-add x) ∙ ap Some (sym (needed_is x))
+
+  filter_same : (p q : ℕ → Bool) (xs : List ℕ) → Every (λ x. p x ≡ q x) xs → filter p xs ≡ filter q xs
+  filter_same p q [] h = refl
+  filter_same p q (x ∷ xs) h = ap₂ (λ b ys. cond b (x ∷ ys) ys) h.0 (filter_same p q xs h.1)
+
+  each_mark : (marks : List Bool) → marks ≡ named_from (refs_of m ++ cons_option m.start []) 0 (length (funcs_of m)) → (funcs : List ℕ) → Every (λ f. f < length (funcs_of m)) funcs → Every (λ f. unwrap_or (slice_get marks f) false ≡ is_needed m f) funcs
+  each_mark marks is [] lt = tt
+  each_mark marks is (f ∷ fs) lt = (ap (λ o. unwrap_or o false) (ap (λ xs. slice_get xs f) is ∙ marks_tell f lt.0), each_mark marks is fs lt.1)
+
+  pub all_needed : (marks : List Bool) → marks ≡ named_from (refs_of m ++ cons_option m.start []) 0 (length (funcs_of m)) → (funcs : List ℕ) → Every (λ f. f < length (funcs_of m)) funcs → filter (λ f. unwrap_or (slice_get marks f) false) funcs ≡ needed m funcs
+  all_needed marks is funcs lt = filter_same (λ f. unwrap_or (slice_get marks f) false) (is_needed m) funcs (each_mark marks is funcs lt)
+
+-- the functions of a plan are there
+pub all_there : (m : Module) (funcs : List ℕ) → Every (λ f. (is_defined m f ≡ true) × (body_uses_segment m f ≡ false)) funcs → Every (λ f. f < length (funcs_of m)) funcs
+all_there m [] h = tt
+all_there m (f ∷ fs) h = (ltb-true f (length (funcs_of m)) (right_true (nat_le (length (imported_funcs m.imports)) f) (nat_lt f (length (funcs_of m))) h.0.0), all_there m fs h.1)

@@ -1,0 +1,7 @@
+use Rattle.std.proofs.Common.{◌≡◌, ◌++◌, map}
+use Rattle.base_lists.specs.Places.{numbers}
+use Rattle.wasm_tree.specs.declared.instr.Instr.TheVariants.{LocalGet}
+use Rattle.split_slots.proofs.moving.add_gets.Given as goal
+
+abbrev pub invariant-loop-local : goal.invariant-loop-local
+invariant-loop-local l = l.body ≡ l.initial.body ++ map LocalGet (numbers 0 l.local)

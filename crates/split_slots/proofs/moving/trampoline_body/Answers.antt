@@ -1,0 +1,12 @@
+use Rattle.std.proofs.Common.{length, map, ◌++◌, ap, sym, ◌∙◌}
+use Rattle.std.specs.Prelude.{pos}
+use Rattle.base_lists.specs.Places.{numbers}
+use Rattle.wasm_tree.specs.declared.instr.Instr.TheVariants.{LocalGet}
+use Rattle.index_remap.specs.Trampolines.{slot_call}
+use Rattle.split_slots.proofs.Trampolining.{gets_are}
+use Rattle.split_slots.proofs.moving.trampoline_body.Goals as goal
+
+pub returns : goal.returns
+returns c =
+    let call = slot_call c.args.ty c.args.table (pos c.args.slot) in
+    c.in_ok-add_slot_call.ensures ∙ ap (λ is. is ++ call) (c.in_ok-add_gets.ensures ∙ ap (λ is. is ++ map LocalGet (numbers 0 (length c.args.params.now))) c.new-body.ensures ∙ sym (gets_are 0 c.args.params.now))

@@ -1,0 +1,8 @@
+use Rattle.std.proofs.Common.{take}
+use Rattle.std.specs.List.{list_any}
+use Rattle.split_spec.specs.Slots.{defined_at}
+use Rattle.split_slots.specs.Noting.{Notes, body_names}
+use Rattle.split_slots.proofs.sharing.named_marks.Given as goal
+
+abbrev pub invariant-loop-at : goal.invariant-loop-at
+invariant-loop-at l = Notes (λ s i. list_any (λ f. body_names l.slots f.body s i) (defined_at l.module (take l.at l.own))) l.initial.marks l.marks

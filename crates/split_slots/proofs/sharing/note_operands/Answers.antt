@@ -1,0 +1,14 @@
+use Rattle.std.proofs.Common.{◌||◌, []}
+use Rattle.std.specs.List.{cons_option, list_any}
+use Rattle.wasm_tree.specs.Operands.{listed}
+use Rattle.split_slots.specs.Noting.{named_by}
+use Rattle.split_slots.proofs.NotingLaws.{both_listed, notes_as, then_notes}
+use Rattle.split_slots.proofs.sharing.note_operands.Goals as goal
+
+pub returns : goal.returns
+returns c =
+    let slots = c.args.slots.now in
+    let os = c.args.operands in
+    notes_as (λ s i. list_any (named_by slots s i) (cons_option os.first []) || list_any (named_by slots s i) (cons_option os.second [])) (λ s i. list_any (named_by slots s i) (listed os))
+    c.args.marks.now c.note_one-2.new.marks (λ s i. both_listed (named_by slots s i) os)
+    (then_notes (λ s i. list_any (named_by slots s i) (cons_option os.first [])) (λ s i. list_any (named_by slots s i) (cons_option os.second [])) c.args.marks.now c.note_one.new.marks c.note_one-2.new.marks c.note_one.ensures c.note_one-2.ensures)

@@ -1,0 +1,6 @@
+-- What a table of slots tells.
+use Rattle.std.specs.Prelude.{ℕ, List, Option, None, slice_get, unwrap_or}
+
+-- the slot of a function, if it has one
+abbrev pub slot_at : List (Option ℕ) → ℕ → Option ℕ
+slot_at slots func = unwrap_or (slice_get slots func) None

@@ -1,0 +1,42 @@
+-- Marks of what functions name, except functions that have slots and that they only call.
+use Rattle.std.specs.Prelude.{◌≡◌, ℕ, Bool, ◌&&◌, ◌||◌, not, is_some, nat_eq, List, [], length, map, Option, option_map, slice_get}
+use Rattle.std.specs.List.{list_any}
+use Rattle.base_lists.specs.Places.{numbers}
+use Rattle.wasm_tree.specs.declared.space.Space.{Space}
+use Rattle.wasm_tree.specs.declared.space.Space.TheVariants.{Types, Functions, Tables, Memories, Globals, ElementSegments, DataSegments}
+use Rattle.wasm_tree.specs.declared.space.Operand.{Operand}
+use Rattle.wasm_tree.specs.declared.instr.Instr.{Instr, out-Instr}
+use Rattle.wasm_tree.specs.Operands.{any_operand_passes, held, same_space}
+use Rattle.wasm_tree.specs.declared.module.Module.{Module}
+use Rattle.split_spec.specs.Slots.{defined_at}
+use Rattle.split_spec.specs.FromPrimary.{entities}
+use Rattle.split_slots.specs.declared.sharing.Marks.{Marks}
+use Rattle.split_slots.specs.Looking.{slot_at}
+
+abbrev pub marks_in : Marks → Space → List Bool
+marks_in marks Functions = marks.funcs.items
+marks_in marks Tables = marks.tables.items
+marks_in marks Memories = marks.mems.items
+marks_in marks Globals = marks.globals.items
+marks_in marks Types = []
+marks_in marks ElementSegments = []
+marks_in marks DataSegments = []
+
+-- the mark of each entity is set where it was, or where the entity passes the test
+abbrev pub Notes : (Space → ℕ → Bool) → Marks → Marks → Type 0
+Notes test old new = (space : Space) (index : ℕ) → slice_get (marks_in new space) index ≡ option_map (λ mark. mark || test space index) (slice_get (marks_in old space) index)
+
+-- the operand names the entity, and not by a `call` of a function that has a slot
+abbrev pub named_by : List (Option ℕ) → Space → ℕ → Operand → Bool
+named_by slots space index o = same_space o.space space && (nat_eq o.index index && not (o.called && is_some (slot_at slots index)))
+
+abbrev pub body_names : List (Option ℕ) → List Instr → Space → ℕ → Bool
+body_names slots body space index = any_operand_passes (named_by slots space index) body
+
+-- the instructions that the instruction holds
+abbrev pub held_in : Instr → List Instr
+held_in i = held (out-Instr i)
+
+-- for each entity of an index space, whether one of these functions names it so
+abbrev pub marks_by : List (Option ℕ) → Module → (own : List ℕ) → Space → List Bool
+marks_by slots m own space = map (λ i. list_any (λ f. body_names slots f.body space i) (defined_at m own)) (numbers 0 (length (entities m space)))

@@ -1,0 +1,33 @@
+-- What becomes of the defined functions, by what is known of calls.
+use Rattle.std.specs.Prelude.{◌≡◌, ℕ, suc, ◌≤◌, ◌^◌, cond, is_some, length, List, [], ◌∷◌, ◌++◌, Option, Some, None, pos, slice_get}
+use Rattle.std.specs.Option.{option_map_or}
+use Rattle.wasm_tree.specs.declared.types.FuncType.{FuncType}
+use Rattle.wasm_tree.specs.declared.module.Func.{Func}
+use Rattle.index_remap.specs.Trampolines.{gets, slot_call}
+use Rattle.split_spec.specs.Calls.{with_calls}
+use Rattle.split_slots.specs.declared.calls.Calls.{Calls}
+use Rattle.split_slots.specs.Looking.{slot_at}
+use Rattle.split_slots.specs.Replacing.{code_of_call}
+
+-- a u32 names each parameter of a type
+abbrev pub FewParams : List FuncType → Type 0
+FewParams types = (i : ℕ) (t : FuncType) → slice_get types i ≡ Some t → length t.params ≤ 2 ^ 32
+
+-- the trampoline that stands in place of a function
+abbrev pub trampoline_of : List FuncType → (table : ℕ) → Func → (slot : ℕ) → Func
+trampoline_of types table f slot = record f { locals = []; body = gets 0 (option_map_or (λ t. t.params) (slice_get types f.ty) []) ++ slot_call f.ty table (pos slot) }
+
+-- what becomes of a function, with its slot if it moves
+abbrev pub parted_func : List FuncType → Calls → Option ℕ → Func → Func
+parted_func types c None f = record f { body = with_calls (code_of_call c) f.body }
+parted_func types c (Some slot) f = trampoline_of types c.table f slot
+
+-- and of all from this index on
+abbrev pub parted_funcs : List FuncType → Calls → (first : ℕ) → List Func → List Func
+parted_funcs types c func [] = []
+parted_funcs types c func (f ∷ fs) = parted_func types c (slot_at c.slots.now func) f ∷ parted_funcs types c (suc func) fs
+
+-- those of them that move
+abbrev pub own_funcs : Calls → (first : ℕ) → List Func → List Func
+own_funcs c func [] = []
+own_funcs c func (f ∷ fs) = cond (is_some (slot_at c.slots.now func)) (f ∷ own_funcs c (suc func) fs) (own_funcs c (suc func) fs)

@@ -1,0 +1,58 @@
+-- What stands in place of calls, instruction by instruction.
+use Rattle.std.specs.Prelude.{◌≡◌, ℕ, ◌+◌, ◌-◌, ◌<◌, ◌^◌, Bool, false, ◌&&◌, cond, is_some, length, nat_le, nat_lt, List, [], ◌∷◌, Option, None, Some, pos, slice_index}
+use Rattle.wasm_tree.specs.declared.instr.Instr.{Instr, out-Instr}
+use Rattle.wasm_tree.specs.declared.instr.Instr.TheOpen.{Instr-F}
+use Rattle.wasm_tree.specs.declared.instr.Instr.TheVariants.{Block, Loop, If, Call}
+use Rattle.index_remap.specs.Trampolines.{slot_call}
+use Rattle.split_spec.specs.Calls.{with_calls}
+use Rattle.split_slots.specs.declared.calls.Calls.{Calls}
+use Rattle.split_slots.specs.declared.calls.Target.{Target}
+use Rattle.split_slots.specs.declared.calls.Target.TheVariants as target
+use Rattle.split_slots.specs.Looking.{slot_at}
+
+-- what stands in place of a call, by what becomes of it
+abbrev pub target_code : (table : ℕ) → Target → List Instr
+target_code table (target.Func func) = Call func ∷ []
+target_code table (target.Slot ty slot) = slot_call ty table (pos slot)
+
+-- a function of the module's own slots is called itself, another with a slot through that
+abbrev pub target_of : Calls → ℕ → Option ℕ → Target
+target_of c func None = target.Func func
+target_of c func (Some slot) = cond (nat_le c.first slot && nat_lt slot c.end) (target.Func (c.base + (slot - c.first))) (target.Slot (slice_index c.types.now func) slot)
+
+abbrev pub code_of_call : Calls → ℕ → List Instr
+code_of_call c func = target_code c.table (target_of c func (slot_at c.slots.now func))
+
+-- each slot is an i32 that is not negative, the index of what is in it a u32, and the function with a slot has a type
+abbrev pub FewSlots : Calls → Type 0
+FewSlots c = (func slot : ℕ) → slot_at c.slots.now func ≡ Some slot → (slot < 2 ^ 31) × (c.base + slot < 2 ^ 32) × (func < length c.types.now)
+
+-- ---- one instruction ----
+
+abbrev pub layer_code : (ℕ → List Instr) → Instr-F Instr → Instr → List Instr
+layer_code code (Instr-F.Call func) i = code func
+layer_code code layer i = i ∷ []
+
+-- what stands in place of the instruction, which is not looked into
+abbrev pub code_here : (ℕ → List Instr) → Instr → List Instr
+code_here code i = layer_code code (out-Instr i) i
+
+abbrev pub layer_inside : (ℕ → List Instr) → Instr-F Instr → Instr → Instr
+layer_inside code (Instr-F.Block ty body) i = Block ty (with_calls code body)
+layer_inside code (Instr-F.Loop ty body) i = Loop ty (with_calls code body)
+layer_inside code (Instr-F.If ty body other) i = If ty (with_calls code body) (with_calls code other)
+layer_inside code layer i = i
+
+-- the instruction with what stands in place of the calls inside it
+abbrev pub inside : (ℕ → List Instr) → Instr → Instr
+inside code i = layer_inside code (out-Instr i) i
+
+-- ---- calls that are replaced ----
+
+abbrev pub layer_replaced : List (Option ℕ) → Instr-F Instr → Bool
+layer_replaced slots (Instr-F.Call func) = is_some (slot_at slots func)
+layer_replaced slots layer = false
+
+-- the instruction is a call of a function that has a slot
+abbrev pub is_replaced : List (Option ℕ) → Instr → Bool
+is_replaced slots i = layer_replaced slots (out-Instr i)

@@ -1,0 +1,46 @@
+// The type of each function of a module, as a place in its types.
+
+ghost use Rattle.std.specs.Prelude.{◌≡◌, ◌++◌, [], map, IfOk, OnOk};
+ghost use Rattle.std.specs.List.{cons_option};
+ghost use Rattle.wasm_tree.specs.Spaces.{func_of, funcs_of, imported_funcs};
+
+use std::alloc::Global;
+use wasm_bytes::{Items, NoMemory};
+use wasm_tree::{Func, Import, Module};
+
+fn add_import(all: &mut Items<u32>, import: &Import) -> Result<(), NoMemory>
+    ensures { OnOk result (all.new ≡ all.old ++ cons_option (func_of import.now.desc) []) }
+{
+    match import.desc.func() {
+        Some(ty) => all.keep(ty),
+        None => Ok(()),
+    }
+}
+
+fn add_imported(all: &mut Items<u32>, imports: &[Import]) -> Result<(), NoMemory>
+    ensures { OnOk result (all.new ≡ all.old ++ imported_funcs imports.now) }
+{
+    for import in imports {
+        add_import(all, import)?;
+    }
+    Ok(())
+}
+
+fn add_defined(all: &mut Items<u32>, funcs: &[Func]) -> Result<(), NoMemory>
+    ensures { OnOk result (all.new ≡ all.old ++ map (λ f. f.ty) funcs.now) }
+{
+    for func in funcs {
+        all.keep(func.ty)?;
+    }
+    Ok(())
+}
+
+/// The type of each function.
+pub(crate) fn func_types(alloc: Global, module: &Module) -> Result<Items<u32>, NoMemory>
+    ensures { IfOk result (λ all. all ≡ funcs_of «module».now) }
+{
+    let mut all = Items::new(alloc);
+    add_imported(&mut all, module.imports.as_slice())?;
+    add_defined(&mut all, module.funcs.as_slice())?;
+    Ok(all)
+}

@@ -1,0 +1,5 @@
+//! Tests of splitting.
+#![tactic(auto)]
+
+#[cfg(test)]
+mod tests;

@@ -1,0 +1,16 @@
+-- The moved functions of which a trampoline is needed: those that anything but a `call` names.
+use Rattle.std.specs.Prelude.{ℕ, Bool, List, [], ◌++◌, filter}
+use Rattle.std.specs.List.{cons_option}
+use Rattle.wasm_tree.specs.declared.module.Module.{Module}
+use Rattle.wasm_valid.specs.Named.{refs_of}
+use Rattle.index_remap.specs.References.{body_refs, is_among}
+
+-- the functions that an item of an element segment, the initialiser of a global, an export, the start, or `ref.func` in a body names
+abbrev pub named_but_called : Module → List ℕ
+named_but_called m = refs_of m ++ (cons_option m.start [] ++ body_refs m.funcs)
+
+abbrev pub is_needed : Module → ℕ → Bool
+is_needed m func = is_among (named_but_called m) func
+
+abbrev pub needed : Module → (moved : List ℕ) → List ℕ
+needed m moved = filter (is_needed m) moved

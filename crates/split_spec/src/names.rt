@@ -1,0 +1,12 @@
+use wasm_bytes::Name;
+
+/// The names that a split adds.
+#[derive(Drop)]
+pub struct SplitNames {
+    /// The module name under which the secondary module imports from the primary one.
+    pub import_namespace: Name,
+    /// The module name of the placeholders, which the primary module imports.
+    pub placeholder_namespace: Name,
+    /// What the name of each export begins with that the primary module has for the secondary one.
+    pub export_prefix: Name,
+}
