@@ -27,7 +27,7 @@ use Rattle.dce_graph.specs.declared.marks.Reached.{Reached}
 use Rattle.dce_sweep_spec.specs.Marks.{Marks}
 use Rattle.dce_sweep_spec.specs.Closed.{AreClosed}
 use Rattle.dce_sweep_spec.specs.Swept.{swept}
-use Rattle.dce_sweep_spec.specs.Reached.{AreExact, marks_of}
+use Rattle.dce_sweep_spec.specs.Reached.{marks_of}
 use Rattle.dce_reach_proof.specs.Laws.{ReachedMarksAreClosed}
 use Rattle.dce_sweep.specs.Sweeps.{Sweeps, outcome}
 use Rattle.dce_behaves_proof.specs.Laws.{SweptModulesShowTheSame, BehavesAs as BehavesAsUnswept}

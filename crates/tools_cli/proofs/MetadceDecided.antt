@@ -13,7 +13,7 @@ use Rattle.dce_graph.specs.declared.fault.GraphFault.TheVariants as graph
 use Rattle.std.specs.List.{filter_map}
 use Rattle.serde_json.specs.Data.{Data, Items}
 use Rattle.serde_json.specs.Find.{as_array}
-use Rattle.dce_graph.specs.GraphFile.{Entry, graph_result, graph_of_values, if_text, if_array, if_shaped, if_distinct, if_known, value_of, misshapen, listed, entry_of, first_repeated, first_unknown, names_of, place_of_name, reached_names, graph_of, IsFault, fault_of}
+use Rattle.dce_graph.specs.GraphFile.{Entry, graph_result, if_text, if_array, if_shaped, if_distinct, if_known, value_of, misshapen, listed, entry_of, first_repeated, first_unknown, names_of, place_of_name, reached_names, graph_of, IsFault, fault_of}
 use Rattle.dce_sweep_spec.specs.Marks.{Marks}
 use Rattle.dce_sweep_spec.specs.Reached.{AreExact, marks_of}
 use Rattle.dce_sweep_spec.specs.Swept.{swept}

@@ -1,6 +1,5 @@
 -- The names of the nodes that have no mark: they ascend, they are all of them, and no other list is so.
-use Rattle.std.proofs.Common.{◌≡◌, ◌∙◌, ◌⊎◌, inl, inr, refl, sym, ap, ap₂, subst, ℕ, zero, suc, ◌+◌, ◌<◌, List, [], ◌∷◌, map, length, drop, drop-cons, get_or, Bool, true, false, cond, Some, add-one, arith, slice_get, Contains, Bor}
-use Rattle.std.specs.Prelude.{◌↔◌, IsTrue}
+use Rattle.std.proofs.Common.{◌≡◌, ◌∙◌, ◌⊎◌, inl, inr, refl, sym, ap, ap₂, subst, ℕ, zero, suc, ◌+◌, ◌<◌, List, [], ◌∷◌, length, drop, drop-cons, get_or, Bool, true, false, cond, Some, add-one, arith, slice_get, Contains, Bor}
 use Rattle.std.specs.Ordering.{nat_cmp, match_ordering, ordering_reverse}
 use Rattle.std.specs.declared.cmp.Ordering.{Ordering}
 use Rattle.std.specs.declared.cmp.Ordering.TheVariants.{Less, Equal, Greater}

@@ -1,4 +1,4 @@
-use Rattle.std.proofs.Common.{◌≡◌, None, map, string_bytes, drop, option_map}
+use Rattle.std.proofs.Common.{◌≡◌, map, string_bytes, drop, option_map}
 use Rattle.tools_cli.specs.Words.{said_together}
 use Rattle.tools_cli.specs.Command.{arguments_value, names_of}
 use Rattle.tools_cli.proofs.Lines.{and_then_arguments, arguments_from}

@@ -1,4 +1,4 @@
-use Rattle.std.proofs.Common.{◌≡◌, ◌∙◌, refl, ap, false, rules, Err, arith}
+use Rattle.std.proofs.Common.{◌≡◌, ◌∙◌, refl, ap, false, Err, arith}
 use Rattle.std.proofs.lemmas.Result.{IfOk-weaker, IfErr-weaker}
 use Rattle.tools_cli.specs.CommandLine.{Text}
 use Rattle.tools_cli.specs.Command.{task_value, decision_value, input_entries, input_texts, write_entries}
