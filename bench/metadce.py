@@ -33,26 +33,33 @@ PARTS = [
     ("reading sections", "wasm_read::sections::read_section"),
     ("typing bodies", "wasm_valid_bodies::check::is_well_typed"),
     ("reading the graph", "dce_graph::reading::read_graph"),
-    ("what is reached", "dce_graph::reach::reached"),
-    ("sweeping", "dce_sweep::sweeping::sweep"),
+    ("what bodies name", "dce_graph::code::visit_body"),
+    ("sweeping", "dce_sweep::sweeping::renumbered"),
     ("measuring and writing", "tools_cli::encode::encode"),
 ]
 
 
+def after(code, next_one):
+    """The body, with a call of the next function before the rest of it."""
+    return code[:3] + b"\x20\x00\x20\x01\x10" + leb(next_one) + b"\x21\x03" + code[3:]
+
+
 def halves(size):
-    """A module of about as many bytes. Function 0 is exported as f, the last one as g."""
+    """A module of about as many bytes. Each function calls the next one of its half; the first function of the first half is exported as f, that of the second half as g."""
     choose = random.Random(size)
-    bodies, length = [], 0
-    functions = size // 118
+    bodies = []
+    functions = size // 176
+    half = functions // 2
     for i in range(functions):
-        code = body(choose, functions // 2 if i < functions // 2 else functions) if length + 6 * (functions - i) < size else b"\x00\x41\x00\x0b"
+        code = body(choose, half if i < half else functions)
+        if i not in (half - 1, functions - 1):
+            code = after(code, i + 1)
         bodies.append(leb(len(code)) + code)
-        length += len(bodies[-1]) + 1
     return HEADER + b"".join([
         section(1, vector([b"\x60\x02\x7f\x7f\x01\x7f"])),
         section(3, vector([b"\0"] * functions)),
         section(5, b"\1\0\1"),
-        section(7, vector([b"\1f\0\0", b"\1g\0" + leb(functions - 1)])),
+        section(7, vector([b"\1f\0\0", b"\1g\0" + leb(half)])),
         section(10, vector(bodies)),
     ])
 
