@@ -2,6 +2,7 @@
 use Rattle.std.proofs.Common.{◌≡◌, ◌∙◌, ℕ, [], Bool, true, false, not, ◌&&◌, refl, sym}
 use Rattle.std.specs.Prelude.{nat_eq, IsTrue}
 use Rattle.std.proofs.lemmas.Bool.{true≢false, eqb-true}
+use Rattle.base_lists.proofs.Bools.{left_true}
 use Rattle.wasm_tree.specs.declared.space.Space.{Space}
 use Rattle.wasm_tree.specs.declared.space.Space.TheVariants.{Functions}
 use Rattle.wasm_tree.specs.declared.module.Module.{Module}
@@ -17,10 +18,6 @@ itself k a b = nat_eq a b
 abbrev known_itself : Module → Space → ℕ → ℕ → Bool
 known_itself m k a b = nat_eq a b && not (not (same_space k Functions) && is_imported m k a)
 
-both_true : (a b : Bool) → a && b ≡ true → a ≡ true
-both_true true b e = refl
-both_true false b e = absurd (true≢false (sym e))
-
 relates : (m : Module) → RelatesAllButImports m (known_itself m) itself
 relates m k a b e h = by (nat_eq a b) (not (same_space k Functions) && is_imported m k a) h e
   where
@@ -31,6 +28,6 @@ relates m k a b e h = by (nat_eq a b) (not (same_space k Functions) && is_import
 
 one_to_one : (m : Module) → OneToOneWhereWritten (passed (known_itself m) itself [])
 one_to_one m = record {
-  right = λ {k} w a b c p q. sym (eqb-true a b (both_true _ _ p)) ∙ eqb-true a c (both_true _ _ q);
-  left = λ {k} w a b c p q. eqb-true a c (both_true _ _ p) ∙ sym (eqb-true b c (both_true _ _ q));
+  right = λ {k} w a b c p q. sym (eqb-true a b (left_true _ _ p)) ∙ eqb-true a c (left_true _ _ q);
+  left = λ {k} w a b c p q. eqb-true a c (left_true _ _ p) ∙ sym (eqb-true b c (left_true _ _ q));
 }

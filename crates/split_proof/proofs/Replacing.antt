@@ -14,9 +14,6 @@ use Rattle.split_spec.specs.Calls.{calls_in, calls_step, with_calls}
 use Rattle.split_proof.specs.Calls.{renumbered_codes}
 use Rattle.split_proof.proofs.Blocks.{block_calls, if_calls, loop_calls}
 
-the_only : {A : Type 0} (x : A) → Contains (x ∷ []) x
-the_only x = (0, omega arith, refl)
-
 module _ (m : Remap) (code : ℕ → List Instr) where
   -- with its calls replaced, and then other indices
   abbrev new : List Instr → List Instr
@@ -33,7 +30,7 @@ module _ (m : Remap) (code : ℕ → List Instr) where
 
   module _ (types : List FuncType) (listed : List ℕ) (others : (func : ℕ) → is_among listed func ≡ false → code func ≡ Call func ∷ []) where
     call_stands : (labels : Labels) (func : ℕ) (b : Bool) → is_among listed func ≡ b → CallReplaced m b (renumbered_codes m code) labels func (renumbered_all m (code func))
-    call_stands labels func true e = the_only (renumbered_all m (code func))
+    call_stands labels func true e = (0, omega arith, refl)
     call_stands labels func false e = ap (renumbered_all m) (others func e)
 
     mutual

@@ -19,18 +19,18 @@ use Rattle.index_remap.specs.References.{declaring}
 use Rattle.index_remap.specs.Renumbered.{renumbered_tree}
 use Rattle.split_spec.specs.Faults.{prefix_taken}
 use Rattle.split_spec.specs.Secondary.{secondary, secondary_map, secondary_tree, secondary_with}
-use Rattle.split_spec.proofs.Rows.{calling, calling_primary, empty, export, func, gives_number, import, names, nothing, primary_word, segment, slots_import}
+use Rattle.split_spec.proofs.Rows.{calling as calls_next, calling_primary, empty, export, func, gives_number, import, names, nothing, primary_word, segment, slots_import}
 use Rattle.split_proof.specs.Premises.{CanMove}
 
 -- ---- a module that is split ----
 
-it_gives_a_number : WellTyped (body_context calling (func 0 (i.I32Const (pos 7) ∷ [])) gives_number) (i.I32Const (pos 7) ∷ []) [] (valt.I32 ∷ [])
+it_gives_a_number : WellTyped (body_context calls_next (func 0 (i.I32Const (pos 7) ∷ [])) gives_number) (i.I32Const (pos 7) ∷ []) [] (valt.I32 ∷ [])
 it_gives_a_number = (Some valt.I32 ∷ [], (Some valt.I32 ∷ [], (Gives [] (valt.I32 ∷ []), refl, ([], [], refl, tt, refl)), refl), (refl, tt))
 
-so_does_its_call : WellTyped (body_context calling (func 0 (i.Call 1 ∷ [])) gives_number) (i.Call 1 ∷ []) [] (valt.I32 ∷ [])
+so_does_its_call : WellTyped (body_context calls_next (func 0 (i.Call 1 ∷ [])) gives_number) (i.Call 1 ∷ []) [] (valt.I32 ∷ [])
 so_does_its_call = (Some valt.I32 ∷ [], (Some valt.I32 ∷ [], (Gives [] (valt.I32 ∷ []), refl, ([], [], refl, tt, refl)), refl), (refl, tt))
 
-calling_is_valid : IsValid calling
+calling_is_valid : IsValid calls_next
 calling_is_valid = (
   (func 0 (i.Call 1 ∷ []), refl, omega arith),
   (
@@ -42,23 +42,23 @@ calling_is_valid = (
   ),
 )
 
-few_locals : (j : ℕ) (f : Func) → slice_get calling.funcs j ≡ Some f → local_count calling.types f < 2 ^ 32
-few_locals zero f at = let same : func 0 (i.Call 1 ∷ []) ≡ f = cc in subst (λ g. local_count calling.types g < 2 ^ 32) same (omega arith)
-few_locals (suc zero) f at = let same : func 0 (i.I32Const (pos 7) ∷ []) ≡ f = cc in subst (λ g. local_count calling.types g < 2 ^ 32) same (omega arith)
+few_locals : (j : ℕ) (f : Func) → slice_get calls_next.funcs j ≡ Some f → local_count calls_next.types f < 2 ^ 32
+few_locals zero f at = let same : func 0 (i.Call 1 ∷ []) ≡ f = cc in subst (λ g. local_count calls_next.types g < 2 ^ 32) same (omega arith)
+few_locals (suc zero) f at = let same : func 0 (i.I32Const (pos 7) ∷ []) ≡ f = cc in subst (λ g. local_count calls_next.types g < 2 ^ 32) same (omega arith)
 few_locals (suc (suc j)) f at = cc
 
-calling_is_bounded : IsBounded calling
+calling_is_bounded : IsBounded calls_next
 calling_is_bounded =
     record { types = omega arith; imports = omega arith; funcs = omega arith; tables = omega arith; memories = omega arith; globals = omega arith; exports = omega arith; elems = omega arith; datas = omega arith; locals = few_locals }
 
-what_is_called_can_move : CanMove calling (1 ∷ [])
+what_is_called_can_move : CanMove calls_next (1 ∷ [])
 what_is_called_can_move = ((refl, search (rules, the_lemmas)), tt)
 
 -- so can the one that is exported, which calls it
-both_can_move : CanMove calling (0 ∷ 1 ∷ [])
+both_can_move : CanMove calls_next (0 ∷ 1 ∷ [])
 both_can_move = ((refl, search (rules, the_lemmas)), ((refl, search (rules, the_lemmas)), tt))
 
-no_name_is_taken : prefix_taken (37 ∷ []) calling (1 ∷ []) ≡ None
+no_name_is_taken : prefix_taken (37 ∷ []) calls_next (1 ∷ []) ≡ None
 no_name_is_taken = search (rules, the_lemmas)
 
 -- ---- a secondary module before its references are declared ----
