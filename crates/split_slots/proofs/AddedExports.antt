@@ -30,18 +30,24 @@ taken_many [] k b e = cc
 taken_many (y ∷ ys) zero b e = refl
 taken_many (y ∷ ys) (suc k) b e = ap suc (taken_many ys k b e)
 
+-- one place more
+pub places_more : (marks : List Bool) (k : ℕ) (b : Bool) → slice_get marks k ≡ Some b → places (λ named. named) (take (k + 1) marks) 0 ≡ places (λ named. named) (take k marks) 0 ++ cond b (k ∷ []) []
+places_more marks k b e =
+    let many = taken_many marks k b e in
+    let at : 0 + length (take k marks) ≡ k = omega (arith, many) in
+    ap (λ ms. places (λ named. named) ms 0) (take_bool marks k b e) ∙ places_push (take k marks) b 0 ∙ ap (λ j. places (λ named. named) (take k marks) 0 ++ cond b (j ∷ []) []) at
+
 chosen : (prefix : List ℕ) (space : Space) (k : ℕ) (b : Bool) → exports_for_secondary prefix space (desc_of space) (cond b (k ∷ []) []) ≡ cond b (exported prefix space k ∷ []) []
 chosen prefix space k true = refl
 chosen prefix space k false = refl
 
--- one place more
+-- one export more
 pub one_more : (prefix : List ℕ) (space : Space) (marks : List Bool) (k : ℕ) (b : Bool) → slice_get marks k ≡ Some b → (old now new : List Export) →
     new ≡ now ++ cond b (exported prefix space k ∷ []) [] → now ≡ old ++ exports_for_secondary prefix space (desc_of space) (places (λ named. named) (take k marks) 0) →
     new ≡ old ++ exports_for_secondary prefix space (desc_of space) (places (λ named. named) (take (k + 1) marks) 0)
 one_more prefix space marks k b e old now new put is =
     let f = λ (i : ℕ). exported prefix space i in
     let before = places (λ named. named) (take k marks) 0 in
-    let at : 0 + length (take k marks) ≡ k = (let many = taken_many marks k b e in omega (arith, many)) in
     put ∙ ap (λ xs. xs ++ cond b (exported prefix space k ∷ []) []) is ∙ append_assoc old (map f before) (cond b (exported prefix space k ∷ []) [])
     ∙ ap (λ ys. old ++ ys) (ap (λ ys. map f before ++ ys) (sym (chosen prefix space k b)) ∙ sym (map-append f before (cond b (k ∷ []) []))
-    ∙ ap (map f) (ap (λ j. before ++ cond b (j ∷ []) []) (sym at) ∙ sym (places_push (take k marks) b 0) ∙ ap (λ ms. places (λ named. named) ms 0) (sym (take_bool marks k b e))))
+    ∙ ap (map f) (sym (places_more marks k b e)))

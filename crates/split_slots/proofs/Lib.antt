@@ -9,3 +9,7 @@ mod PartedFuncs
 mod PlacesBehind
 mod Placeholders
 mod Bridge
+mod Describing
+mod SharedParts
+mod OwnFuncs
+mod Premises

@@ -30,7 +30,7 @@ set_one g h a (suc n) (suc i) v lt is same =
 
 -- ---- the first place of a number ----
 
-no_number : (x y : ℕ) → x ≢ y → nat_eq x y ≡ false
+pub no_number : (x y : ℕ) → x ≢ y → nat_eq x y ≡ false
 no_number x y other = split (nat_eq x y) refl
   where
     split : (b : Bool) → nat_eq x y ≡ b → nat_eq x y ≡ false

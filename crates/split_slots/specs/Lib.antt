@@ -4,3 +4,6 @@ pub mod Noting
 pub mod ExportList
 pub mod PartedTrees
 pub mod PlaceholderList
+pub mod Described
+pub mod ImportList
+pub mod Maps

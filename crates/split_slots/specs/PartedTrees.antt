@@ -9,13 +9,21 @@ use Rattle.split_slots.specs.declared.calls.Calls.{Calls}
 use Rattle.split_slots.specs.Looking.{slot_at}
 use Rattle.split_slots.specs.Replacing.{code_of_call}
 
--- a u32 names each parameter of a type
-abbrev pub FewParams : List FuncType → Type 0
-FewParams types = (i : ℕ) (t : FuncType) → slice_get types i ≡ Some t → length t.params ≤ 2 ^ 32
+-- a u32 names each parameter of the function
+abbrev pub FewParams : List FuncType → Func → Type 0
+FewParams types f = length (option_map_or (λ t. t.params) (slice_get types f.ty) []) ≤ 2 ^ 32
+
+-- and of each of these
+abbrev pub EachFewParams : List FuncType → List Func → Type 0
+EachFewParams types fs = (i : ℕ) (f : Func) → slice_get fs i ≡ Some f → FewParams types f
 
 -- the trampoline that stands in place of a function
 abbrev pub trampoline_of : List FuncType → (table : ℕ) → Func → (slot : ℕ) → Func
 trampoline_of types table f slot = record f { locals = []; body = gets 0 (option_map_or (λ t. t.params) (slice_get types f.ty) []) ++ slot_call f.ty table (pos slot) }
+
+-- the function with what stands in place of its calls
+abbrev pub own_func : Calls → Func → Func
+own_func c f = record f { body = with_calls (code_of_call c) f.body }
 
 -- what becomes of a function, with its slot if it moves
 abbrev pub parted_func : List FuncType → Calls → Option ℕ → Func → Func

@@ -2,11 +2,14 @@
 #![tactic(auto)]
 
 mod calls;
+mod entities;
 mod exports;
 mod faults;
+mod finishing;
 mod mapping;
 mod moving;
 mod needing;
+mod owning;
 mod parting;
 mod placing;
 mod sharing;

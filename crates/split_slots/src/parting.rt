@@ -4,7 +4,7 @@ ghost use Rattle.std.specs.Prelude.{◌≡◌, ◌+◌, ◌++◌, ◌∷◌, ◌
 ghost use Rattle.std.specs.Option.{option_map_or};
 ghost use Rattle.split_slots.specs.Looking.{slot_at};
 ghost use Rattle.split_slots.specs.Replacing.{FewSlots};
-ghost use Rattle.split_slots.specs.PartedTrees.{FewParams, own_funcs, parted_func, parted_funcs, trampoline_of};
+ghost use Rattle.split_slots.specs.PartedTrees.{EachFewParams, FewParams, own_funcs, parted_func, parted_funcs, trampoline_of};
 
 use crate::calls::{Calls, replace_calls};
 use crate::moving::trampoline_body;
@@ -31,7 +31,7 @@ fn move_out(
     table: u32,
     slot: u32,
 ) -> Result<Func, NoMemory>
-    requires params { FewParams types.now }
+    requires params { FewParams types.now func.old }
     requires slot { slot < 2 ^ 31 }
     ensures moved { IfOk result (λ moved. moved ≡ func.old) }
     ensures left { OnOk result (func.new ≡ trampoline_of types.now table func.old slot) }
@@ -54,7 +54,7 @@ fn part_one(
     own: &mut Items<Func>,
 ) -> Result<(), NoMemory>
     requires few { FewSlots calls.now }
-    requires params { FewParams types.now }
+    requires params { FewParams types.now func.old }
     requires slot { (s : ℕ) → slot ≡ Some s → s < 2 ^ 31 }
     ensures left { OnOk result (func.new ≡ parted_func types.now calls.now slot func.old) }
     ensures own { OnOk result (own.new ≡ own.old ++ cond (is_some slot) (func.old ∷ []) []) }
@@ -77,7 +77,7 @@ pub(crate) fn part_funcs(
     calls: &Calls<'_>,
 ) -> Result<Items<Func>, NoMemory>
     requires few { FewSlots calls.now }
-    requires params { FewParams types.now }
+    requires params { EachFewParams types.now funcs.old }
     requires there { first + length funcs.old ≤ 2 ^ 32 }
     ensures left { OnOk result (funcs.new ≡ parted_funcs types.now calls.now first funcs.old) }
     ensures own { IfOk result (λ own. own ≡ own_funcs calls.now first funcs.old) }

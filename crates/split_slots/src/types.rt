@@ -1,4 +1,4 @@
-// The type of each function of a module, as a place in its types.
+// The types of a module, and of each function its place among them.
 
 ghost use Rattle.std.specs.Prelude.{◌≡◌, ◌++◌, [], map, IfOk, OnOk};
 ghost use Rattle.std.specs.List.{cons_option};
@@ -6,7 +6,7 @@ ghost use Rattle.wasm_tree.specs.Spaces.{func_of, funcs_of, imported_funcs};
 
 use std::alloc::Global;
 use wasm_bytes::{Items, NoMemory};
-use wasm_tree::{Func, Import, Module};
+use wasm_tree::{Func, FuncType, Import, Module};
 
 fn add_import(all: &mut Items<u32>, import: &Import) -> Result<(), NoMemory>
     ensures { OnOk result (all.new ≡ all.old ++ cons_option (func_of import.now.desc) []) }
@@ -42,5 +42,16 @@ pub(crate) fn func_types(alloc: Global, module: &Module) -> Result<Items<u32>, N
     let mut all = Items::new(alloc);
     add_imported(&mut all, module.imports.as_slice())?;
     add_defined(&mut all, module.funcs.as_slice())?;
+    Ok(all)
+}
+
+/// The same types.
+pub(crate) fn copy_types(alloc: Global, types: &[FuncType]) -> Result<Items<FuncType>, NoMemory>
+    ensures { IfOk result (λ all. all ≡ types.now) }
+{
+    let mut all = Items::new(alloc);
+    for ty in types {
+        all.keep(ty.copy(alloc)?)?;
+    }
     Ok(all)
 }

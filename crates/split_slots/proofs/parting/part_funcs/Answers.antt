@@ -30,3 +30,10 @@ loop-at-preserved c =
           let past = none_past fs i (w.in_default.ensures.value ∙ ap (λ ys. slice_get ys i) c.loop-at.invariant.left ∙ parted_at types calls first fs i) in
           absurd (omega (arith, past, c.loop-at-test.true, c.len-at-end.ensures))
     ]
+
+pub part_one-requires-clause-params : goal.part_one-requires-clause-params
+part_one-requires-clause-params c =
+    let fs = c.args.funcs.now in
+    let i = c.loop-at.at in
+    let at : Some c.in-Some.func.now ≡ slice_get fs i = c.in-Some.ensures.value ∙ ap (λ ys. slice_get ys i) c.loop-at.invariant.left ∙ parted_at c.args.types.now c.args.calls.now c.args.first fs i in
+    c.requires.params i c.in-Some.func.now (sym at)

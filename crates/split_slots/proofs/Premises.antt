@@ -1,0 +1,34 @@
+-- What follows for the functions of a plan.
+use Rattle.std.proofs.Common.{◌≡◌, ℕ, suc, ◌+◌, ◌<◌, ◌≤◌, arith, Bool, true, List, [], ◌∷◌, map, length, ap, ◌∙◌}
+use Rattle.std.specs.Prelude.{nat_le, nat_lt}
+use Rattle.std.specs.List.Sorted.{IsStrictlyIncreasing}
+use Rattle.std.proofs.lemmas.Bool.{leb-true}
+use Rattle.std.proofs.lemmas.List.{length-map}
+use Rattle.base_lists.specs.Every.{Every}
+use Rattle.base_lists.proofs.Numbers.{length-numbers}
+use Rattle.wasm_tree.specs.declared.space.Space.{Space}
+use Rattle.wasm_tree.specs.declared.module.Module.{Module}
+use Rattle.wasm_tree.specs.Spaces.{funcs_of, imported_funcs}
+use Rattle.index_remap_proof.proofs.Lists.{left_true}
+use Rattle.split_proof.specs.Premises.{CanMove}
+use Rattle.split_spec.specs.FromPrimary.{entities, is_from_primary, marks_from_primary}
+use Rattle.split_spec.specs.Slots.{defined_at}
+use Rattle.split_slots.proofs.OwnFuncs.{Ascends, ascends}
+
+-- they are defined ones
+pub all_defined : (m : Module) (funcs : List ℕ) → CanMove m funcs → Every (λ f. length (imported_funcs m.imports) ≤ f) funcs
+all_defined m [] h = tt
+all_defined m (f ∷ fs) h = (leb-true (length (imported_funcs m.imports)) f (left_true (nat_le (length (imported_funcs m.imports)) f) (nat_lt f (length (funcs_of m))) h.0.0), all_defined m fs h.1)
+
+few_from : (a n : ℕ) (xs : List ℕ) → a ≤ n → Ascends a xs → Every (λ f. f < n) xs → a + length xs ≤ n
+few_from a n [] le up lt = omega (arith, le)
+few_from a n (x ∷ xs) le up lt = let rest = few_from (suc x) n xs (omega (arith, lt.0)) up.1 lt.1 in omega (arith, rest, up.0)
+
+-- there are no more of them than numbers that they are below
+pub few_ascend : (n : ℕ) (xs : List ℕ) → IsStrictlyIncreasing xs → Every (λ f. f < n) xs → length xs ≤ n
+few_ascend n [] inc lt = omega arith
+few_ascend n (x ∷ xs) inc lt = let all = few_from 0 n (x ∷ xs) (omega arith) (ascends 0 x xs (omega arith) inc) lt in omega (arith, all)
+
+-- each entity has a mark
+pub many_marks : (m : Module) (moved own : List ℕ) (space : Space) → length (marks_from_primary m moved own space) ≡ length (entities m space)
+many_marks m moved own space = length-map _ (is_from_primary moved (defined_at m own) space) ∙ length-numbers 0 (length (entities m space))

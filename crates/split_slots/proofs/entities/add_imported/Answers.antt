@@ -1,0 +1,11 @@
+use Rattle.std.proofs.Common.{[], ◌++◌, append_assoc, ap, sym, ◌∙◌}
+use Rattle.std.specs.List.{cons_option}
+use Rattle.split_slots.specs.Described.{desc_in}
+use Rattle.split_slots.proofs.Describing.{described_more}
+use Rattle.split_slots.proofs.entities.add_imported.Goals as goal
+
+pub loop-import-preserved : goal.loop-import-preserved
+loop-import-preserved c =
+    let one = cons_option (desc_in c.args.space c.import-item.result.desc) [] in
+    c.in_ok-add_import.ensures ∙ ap (λ xs. xs ++ one) c.loop-import.invariant ∙ append_assoc c.args.all.now _ one
+    ∙ ap (λ xs. c.args.all.now ++ xs) (sym (described_more c.args.space c.args.imports.now c.loop-import.import-index c.import-item.result c.loop-import-test.true c.import-item.is))

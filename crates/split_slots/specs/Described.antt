@@ -1,0 +1,28 @@
+-- What a module has in an index space, as imports of it would describe it.
+use Rattle.std.specs.Prelude.{ℕ, cond, List, [], ◌++◌, map, Option, Some, None}
+use Rattle.std.specs.List.{filter_map}
+use Rattle.wasm_tree.specs.Operands.{same_space}
+use Rattle.wasm_tree.specs.Spaces.{space_of_import}
+use Rattle.wasm_tree.specs.declared.space.Space.{Space}
+use Rattle.wasm_tree.specs.declared.space.Space.TheVariants.{Types, Functions, Tables, Memories, Globals, ElementSegments, DataSegments}
+use Rattle.wasm_tree.specs.declared.module.Import.{Import}
+use Rattle.wasm_tree.specs.declared.module.Module.{Module}
+use Rattle.wasm_tree.specs.declared.module.ImportDesc.TheVariants as im
+use Rattle.wasm_tree.specs.declared.module.ImportDesc.{ImportDesc}
+
+-- what an import adds to an index space, if it adds to it
+abbrev pub desc_in : Space → ImportDesc → Option ImportDesc
+desc_in space desc = cond (same_space space (space_of_import desc)) (Some desc) None
+
+abbrev pub imported_in : Space → List Import → List ImportDesc
+imported_in space imports = filter_map (λ i. desc_in space i.desc) imports
+
+-- what the module defines in an index space
+abbrev pub defined_in : Module → Space → List ImportDesc
+defined_in m Functions = map (λ f. im.Func f.ty) m.funcs
+defined_in m Tables = map (λ t. im.Table t) m.tables
+defined_in m Memories = map (λ l. im.Memory l) m.mems
+defined_in m Globals = map (λ g. im.Global g.ty) m.globals
+defined_in m Types = []
+defined_in m ElementSegments = []
+defined_in m DataSegments = []
