@@ -1,4 +1,5 @@
 pub mod Counts
+pub mod Kept
 pub mod Replaced
 pub mod Moved
 pub mod Claimed

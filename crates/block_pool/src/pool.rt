@@ -3,7 +3,6 @@ ghost use Rattle.std.specs.Borrow.{sem};
 ghost use Rattle.block_pool.specs.Pages.{IsWidth, little_bytes};
 ghost use Rattle.block_pool.specs.Blocks.{held, IsLive, used, zeros, Changes, WritesPart};
 
-use slab::Slab;
 use std::alloc::Global;
 use std::marker::Model;
 use wasm_bytes::NoMemory;
@@ -20,25 +19,30 @@ pub struct BlockId {
 /// A region of blocks of 4,096 bytes. A block is live from `take` to `give`; contracts see the bytes of each live block, and how many blocks are spare.
 #[derive(Drop)]
 pub struct Pool {
-    blocks: Slab<[u8; 4096]>,
+    // The bytes of each block that was ever taken.
+    blocks: Vec<[u8; 4096]>,
+    // Whether each of these is live.
+    live: Vec<bool>,
+    // The numbers of those that are not.
+    free: Vec<usize>,
     // As many blocks were asked for: the live ones and the spare ones.
     room: usize,
 }
 
 impl Model for Pool {
-    ghost use Rattle.std.specs.Prelude.{◌-◌, ◌≤◌};
-    ghost use Rattle.slab.specs.Slab.{slab_len};
+    ghost use Rattle.std.specs.Prelude.{◌-◌, ◌≤◌, length, vec_capacity};
     ghost use Rattle.block_pool.specs.Blocks.{Blocks};
+    ghost use Rattle.block_pool.specs.Kept.{IsKept, live_blocks};
 
     ghost Value = { Blocks };
 
     ghost view = { λ p. record {
-      slots = p.blocks.slots;
-      spare = p.room - slab_len p.blocks;
-      numbers = p.blocks.capacity;
+      slots = live_blocks p.live.items p.blocks.items;
+      spare = p.room - (length p.blocks.items - length p.free.items);
+      numbers = p.room;
     } };
 
-    ghost invariant = { λ p. (slab_len p.blocks ≤ p.room) × (p.room ≤ p.blocks.capacity) };
+    ghost invariant = { λ p. (IsKept p.live.items p.blocks.items p.free.items) × ((length p.blocks.items ≤ p.room) × ((p.room ≤ vec_capacity p.blocks) × ((p.room ≤ vec_capacity p.live) × (p.room ≤ vec_capacity p.free)))) };
 }
 
 impl Pool {
@@ -51,7 +55,9 @@ impl Pool {
         ensures numbers { result.numbers ≡ 0 }
     {
         Pool {
-            blocks: Slab::new(alloc),
+            blocks: Vec::new(alloc),
+            live: Vec::new(alloc),
+            free: Vec::new(alloc),
             room: 0,
         }
     }
@@ -63,14 +69,38 @@ impl Pool {
         ensures err { OnErr result (self.new.spare ≡ self.old.spare) }
         ensures numbers { self.old.numbers ≤ self.new.numbers }
     {
-        match self.blocks.reserve_exact(count) {
-            Ok(()) => {
-                let _ = self.blocks.capacity();
-                self.room = self.room.max(self.blocks.len() + count);
-                Ok(())
-            }
-            Err(_) => Err(NoMemory),
+        if count <= self.spare() {
+            return Ok(());
         }
+        let more = count - self.free.len();
+        self.blocks.reserve_exact(more)?;
+        self.live.reserve_exact(more)?;
+        let room = self.blocks.len() + more;
+        self.free.reserve_exact(room - self.free.len())?;
+        self.room = room;
+        Ok(())
+    }
+
+    // Takes a spare block, and fills it with these bytes.
+    #[inline(always)]
+    fn put(&mut self, bytes: [u8; 4096]) -> BlockId
+        requires { 0 < self.old.spare }
+        ensures fresh { held self.old result.number ≡ None }
+        ensures bytes { Changes self.old self.new result.number (Some bytes) }
+        ensures used { used self.new ≡ used self.old + 1 }
+        ensures spare { self.new.spare + 1 ≡ self.old.spare }
+        ensures numbers { self.new.numbers ≡ self.old.numbers }
+        ensures below { result.number < self.new.numbers }
+    {
+        if let Some(number) = self.free.pop() {
+            self.blocks[number] = bytes;
+            self.live[number] = true;
+            return BlockId { number };
+        }
+        let number = self.blocks.len();
+        self.blocks.push_reserved(bytes);
+        self.live.push_reserved(true);
+        BlockId { number }
     }
 
     /// Takes a spare block, and fills it with zero bytes. It takes no memory.
@@ -83,9 +113,7 @@ impl Pool {
         ensures numbers { self.new.numbers ≡ self.old.numbers }
         ensures below { result.number < self.new.numbers }
     {
-        BlockId {
-            number: self.blocks.insert_reserved([0; 4096]),
-        }
+        self.put([0; 4096])
     }
 
     /// Takes a spare block, and fills it with the bytes of a live one.
@@ -100,9 +128,7 @@ impl Pool {
         ensures below { result.number < self.new.numbers }
     {
         let bytes = self.blocks[block.number];
-        BlockId {
-            number: self.blocks.insert_reserved(bytes),
-        }
+        self.put(bytes)
     }
 
     /// Gives a live block back: it is spare from then on.
@@ -113,7 +139,8 @@ impl Pool {
         ensures spare { self.new.spare ≡ self.old.spare + 1 }
         ensures numbers { self.new.numbers ≡ self.old.numbers }
     {
-        let _ = self.blocks.remove(block.number);
+        self.live[block.number] = false;
+        self.free.push_reserved(block.number);
     }
 
     /// The bytes of a live block.
@@ -143,13 +170,15 @@ impl Pool {
         ensures numbers { self.new.numbers ≡ self.old.numbers }
     {
         self.blocks.clear();
+        self.live.clear();
+        self.free.clear();
     }
 
     /// A number that those of all blocks stay below.
     pub(crate) fn numbers(&self) -> usize
         ensures { result ≡ self.now.numbers }
     {
-        self.blocks.capacity()
+        self.room
     }
 
     /// Writes bytes to a part of a live block. Other blocks stay.
@@ -193,13 +222,13 @@ impl Pool {
     pub fn used(&self) -> usize
         ensures { result ≡ used self.now }
     {
-        self.blocks.len()
+        self.blocks.len() - self.free.len()
     }
 
     /// The number of blocks that can be taken.
     pub fn spare(&self) -> usize
         ensures { result ≡ self.now.spare }
     {
-        self.room - self.blocks.len()
+        self.room - self.used()
     }
 }

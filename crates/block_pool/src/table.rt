@@ -31,13 +31,6 @@ impl Slot {
             ),
         }
     }
-
-    // Whether the block was written since the mark.
-    fn is_changed(self) -> bool
-        ensures { result ≡ is_changed self }
-    {
-        matches!(self, Slot::New(_) | Slot::Changed { .. })
-    }
 }
 
 /// A memory as the table of its blocks over a pool.
@@ -138,11 +131,14 @@ impl Table {
         ensures named { OnSome result (present (slot_at self.now.slots.items number) ≡ result) }
         ensures private { OnSome result (self.now.marked ≡ true → is_changed (slot_at self.now.slots.items number) ≡ true) }
     {
-        let slot = self.slots[number];
-        if self.marked && !slot.is_changed() {
-            return None;
+        if self.marked {
+            return match self.slots[number] {
+                Slot::New(present) => Some(present),
+                Slot::Changed { present, older: _ } => Some(present),
+                Slot::Absent | Slot::Kept(_) => None,
+            };
         }
-        slot.present()
+        self.slots[number].present()
     }
 
     // Writes a number within a block that is ready for it. False where it is not, and nothing changes.
