@@ -20,3 +20,4 @@ pub mod SecondaryFits
 pub mod PrimaryFits
 pub mod Whole
 mod Rows
+pub mod ImportCounts

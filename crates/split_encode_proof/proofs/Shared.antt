@@ -1,0 +1,38 @@
+-- What both modules of a split have: the slot table and a segment of it; and how many entities of the module there are to export or import.
+use Rattle.std.proofs.Common.{ℕ, ◌<◌, ◌^◌, List, length, arith}
+use Rattle.std.specs.Prelude.{pos}
+use Rattle.std.proofs.lemmas.Int.{ints}
+use Rattle.std.proofs.lemmas.List.{length-map}
+use Rattle.base_lists.specs.Every.{Every}
+use Rattle.wasm_bytes.specs.Numbers.{IsWithin}
+use Rattle.wasm_tree.specs.declared.space.Space.{Space}
+use Rattle.wasm_tree.specs.declared.space.Space.TheVariants.{Types, Functions, Tables, Memories, Globals, ElementSegments, DataSegments}
+use Rattle.wasm_tree.specs.declared.module.ConstExpr.TheVariants as const
+use Rattle.wasm_tree.specs.declared.module.ImportDesc.TheVariants as im
+use Rattle.wasm_tree.specs.declared.module.Module.{Module}
+use Rattle.wasm_tree.specs.Bounds.{IsBounded}
+use Rattle.wasm_tree.specs.Spaces.{funcs_of, globals_of, memories_of, tables_of}
+use Rattle.wasm_write_proof.specs.Ranges.{LimitsInRange}
+use Rattle.wasm_write_proof.proofs.Parts.{every_of}
+use Rattle.merge_encode_proof.proofs.Lists.{every_map}
+use Rattle.merge_encode_proof.proofs.Numbers.{ConstNumberInRange, ElemNumbersInRange}
+use Rattle.split_spec.specs.Slots.{slot_segment, slot_table_type}
+use Rattle.split_spec.specs.FromPrimary.{entities}
+
+pub slot_limits_in : (count : ℕ) → count < 2 ^ 32 → LimitsInRange (slot_table_type count).limits
+slot_limits_in count few = (few, few)
+
+refs_in : (funcs : List ℕ) → Every ConstNumberInRange (slot_segment 0 0 funcs).items
+refs_in funcs = every_map (λ (f : ℕ). Unit {0}) ConstNumberInRange const.Func (λ f u. tt) funcs (every_of (λ (f : ℕ). Unit {0}) funcs (λ f. tt))
+
+pub slots_from : (table from : ℕ) (funcs : List ℕ) → from < 2 ^ 31 → ElemNumbersInRange (slot_segment table from funcs)
+slots_from table from funcs few = let offset : IsWithin 32 (pos from) = (omega (arith, ints), omega (arith, ints, few)) in (offset, refs_in funcs)
+
+pub entities_few : (m : Module) → IsBounded m → (space : Space) → length (entities m space) < 2 ^ 32
+entities_few m few Functions = let many = length-map (funcs_of m) im.Func in let count = few.funcs in omega (arith, many, count)
+entities_few m few Tables = let many = length-map (tables_of m) im.Table in let count = few.tables in omega (arith, many, count)
+entities_few m few Memories = let many = length-map (memories_of m) im.Memory in let count = few.memories in omega (arith, many, count)
+entities_few m few Globals = let many = length-map (globals_of m) im.Global in let count = few.globals in omega (arith, many, count)
+entities_few m few Types = omega arith
+entities_few m few ElementSegments = omega arith
+entities_few m few DataSegments = omega arith

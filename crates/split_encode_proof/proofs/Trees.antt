@@ -1,0 +1,115 @@
+-- A module in range has its other numbers in range, and keeps them with other indices.
+use Rattle.std.proofs.Common.{◌≡◌, ℕ, List, Option, Some, filter_map, slice_get}
+use Rattle.std.specs.Prelude.{IsUtf8}
+use Rattle.base_lists.specs.Every.{Every}
+use Rattle.base_lists.proofs.Each.{every_at}
+use Rattle.base_lists.proofs.Filtered.{chosen_from}
+use Rattle.wasm_tree.specs.declared.module.ImportDesc.{ImportDesc}
+use Rattle.wasm_tree.specs.declared.module.ImportDesc.TheVariants as im
+use Rattle.wasm_tree.specs.declared.module.Import.{Import}
+use Rattle.wasm_tree.specs.declared.module.Export.{Export}
+use Rattle.wasm_tree.specs.declared.module.Func.{Func}
+use Rattle.wasm_tree.specs.declared.module.GlobalDef.{GlobalDef}
+use Rattle.wasm_tree.specs.declared.module.ElemMode.{ElemMode}
+use Rattle.wasm_tree.specs.declared.module.ElemMode.TheVariants as elem
+use Rattle.wasm_tree.specs.declared.module.ElemSeg.{ElemSeg}
+use Rattle.wasm_tree.specs.declared.module.DataMode.{DataMode}
+use Rattle.wasm_tree.specs.declared.module.DataMode.TheVariants as segment
+use Rattle.wasm_tree.specs.declared.module.DataSeg.{DataSeg}
+use Rattle.wasm_tree.specs.declared.module.Module.{Module}
+use Rattle.wasm_tree.specs.Operands.{all_operands_pass}
+use Rattle.index_remap.specs.declared.remap.Remap.{Remap}
+use Rattle.index_remap.specs.Renumbered.{entry, new_const, new_data, new_data_mode, new_elem, new_elem_mode, new_export, new_func, new_global, new_import, new_import_desc, renumbered_tree}
+use Rattle.base_lists.proofs.Bools.{right_true}
+use Rattle.wasm_write_proof.specs.Ranges.{small_operand, all_numbers_in, ConstInRange, DataModeInRange, ElemInRange, ElemModeInRange, ExportInRange, FuncInRange, ImportDescInRange, ImportInRange, InRange}
+use Rattle.wasm_write_proof.proofs.Parts.{every_of, every_with}
+use Rattle.merge_encode_proof.proofs.Numbers.{ConstNumberInRange, DataOffsetInRange, ElemNumbersInRange, ElemOffsetInRange, FuncNumbersInRange, ImportLimitsInRange, ImportNumbersInRange, NumbersInRange}
+use Rattle.merge_encode_proof.proofs.Bodies.{NumbersStay}
+use Rattle.merge_encode_proof.proofs.Consts.{new_number, number_of}
+use Rattle.merge_encode_proof.proofs.ItemRanges.{every_from}
+use Rattle.merge_encode_proof.proofs.Lists.{every_map}
+use Rattle.std.proofs.Common.{◌∙◌}
+
+-- ---- lists ----
+
+-- what is so at each place is so of every element
+pub every_place : {A : Type 0} (P : A → Type 0) (xs : List A) → ((n : ℕ) (x : A) → slice_get xs n ≡ Some x → P x) → Every P xs
+every_place P xs h = every_from (λ x. Unit {0}) P xs (every_of (λ x. Unit {0}) xs (λ x. tt)) (λ n x at u. h n x at)
+
+-- what is chosen of such elements
+pub every_chosen : {A B : Type 0} (P : A → Type 0) (Q : B → Type 0) (f : A → Option B) → ((x : A) (y : B) → P x → f x ≡ Some y → Q y) → (xs : List A) → Every P xs → Every Q (filter_map f xs)
+every_chosen P Q f keep xs h = every_place Q (filter_map f xs) (λ n y at. let c = chosen_from f xs n y at in keep c.0 y (every_at P xs c.1.0 c.0 h c.1.1) c.2)
+
+-- ---- a module in range ----
+
+limits_of_desc : (d : ImportDesc) → ImportDescInRange d → ImportLimitsInRange d
+limits_of_desc (im.Func ty) h = tt
+limits_of_desc (im.Table t) h = h
+limits_of_desc (im.Memory l) h = h
+limits_of_desc (im.Global g) h = tt
+
+offset_of_elem : (m : ElemMode) → ElemModeInRange m → ElemOffsetInRange m
+offset_of_elem (elem.Active table offset) h = number_of offset h.1
+offset_of_elem elem.Passive h = tt
+offset_of_elem elem.Declarative h = tt
+
+offset_of_data : (m : DataMode) → DataModeInRange m → DataOffsetInRange m
+offset_of_data (segment.Active memory offset) h = number_of offset h.1
+offset_of_data segment.Passive h = tt
+
+func_of_range : (f : Func) → FuncInRange f → FuncNumbersInRange f
+func_of_range f h = (h.1.0, right_true (all_operands_pass small_operand f.body) (all_numbers_in f.body) h.1.1)
+
+elem_of_range : (s : ElemSeg) → ElemInRange s → ElemNumbersInRange s
+elem_of_range s h = (offset_of_elem s.mode h.0, every_with ConstInRange ConstNumberInRange s.items number_of h.1)
+
+pub numbers_of_range : (m : Module) → InRange m → NumbersInRange m
+numbers_of_range m h = record {
+  imports = every_with ImportInRange ImportNumbersInRange m.imports (λ i q. (q.0, q.1, limits_of_desc i.desc q.2)) h.imports;
+  funcs = every_with FuncInRange FuncNumbersInRange m.funcs func_of_range h.funcs;
+  tables = h.tables;
+  mems = h.mems;
+  globals = every_with (λ (g : GlobalDef). ConstInRange g.init) (λ (g : GlobalDef). ConstNumberInRange g.init) m.globals (λ g q. number_of g.init q) h.globals;
+  exports = every_with ExportInRange (λ (e : Export). IsUtf8 e.name) m.exports (λ e q. q.0) h.exports;
+  elems = every_with ElemInRange ElemNumbersInRange m.elems elem_of_range h.elems;
+  datas = every_with (λ (s : DataSeg). DataModeInRange s.mode) (λ (s : DataSeg). DataOffsetInRange s.mode) m.datas (λ s q. offset_of_data s.mode q) h.datas;
+}
+
+-- ---- other indices ----
+
+module _ (stay : NumbersStay) (r : Remap) where
+  desc_stays : (d : ImportDesc) → ImportLimitsInRange d → ImportLimitsInRange (new_import_desc r d)
+  desc_stays (im.Func ty) h = tt
+  desc_stays (im.Table t) h = h
+  desc_stays (im.Memory l) h = h
+  desc_stays (im.Global g) h = tt
+
+  import_stays : (i : Import) → ImportNumbersInRange i → ImportNumbersInRange (new_import r i)
+  import_stays i h = (h.0, h.1, desc_stays i.desc h.2)
+
+  func_stays : (f : Func) → FuncNumbersInRange f → FuncNumbersInRange (new_func r f)
+  func_stays f h = (h.0, stay (entry r) f.body ∙ h.1)
+
+  mode_stays : (m : ElemMode) → ElemOffsetInRange m → ElemOffsetInRange (new_elem_mode r m)
+  mode_stays (elem.Active table offset) h = new_number r offset h
+  mode_stays elem.Passive h = tt
+  mode_stays elem.Declarative h = tt
+
+  elem_stays : (s : ElemSeg) → ElemNumbersInRange s → ElemNumbersInRange (new_elem r s)
+  elem_stays s h = (mode_stays s.mode h.0, every_map ConstNumberInRange ConstNumberInRange (new_const r) (new_number r) s.items h.1)
+
+  data_stays : (m : DataMode) → DataOffsetInRange m → DataOffsetInRange (new_data_mode r m)
+  data_stays (segment.Active memory offset) h = new_number r offset h
+  data_stays segment.Passive h = tt
+
+  pub renumbered_numbers : (t : Module) → NumbersInRange t → NumbersInRange (renumbered_tree r t)
+  renumbered_numbers t h = record {
+    imports = every_map ImportNumbersInRange ImportNumbersInRange (new_import r) import_stays t.imports h.imports;
+    funcs = every_map FuncNumbersInRange FuncNumbersInRange (new_func r) func_stays t.funcs h.funcs;
+    tables = h.tables;
+    mems = h.mems;
+    globals = every_map (λ (g : GlobalDef). ConstNumberInRange g.init) (λ (g : GlobalDef). ConstNumberInRange g.init) (new_global r) (λ g q. new_number r g.init q) t.globals h.globals;
+    exports = every_map (λ (e : Export). IsUtf8 e.name) (λ (e : Export). IsUtf8 e.name) (new_export r) (λ e q. q) t.exports h.exports;
+    elems = every_map ElemNumbersInRange ElemNumbersInRange (new_elem r) elem_stays t.elems h.elems;
+    datas = every_map (λ (s : DataSeg). DataOffsetInRange s.mode) (λ (s : DataSeg). DataOffsetInRange s.mode) (new_data r) (λ s q. data_stays s.mode q) t.datas h.datas;
+  }

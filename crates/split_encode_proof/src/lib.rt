@@ -1,0 +1,47 @@
+//! The numbers of both modules of a split are in the ranges of their types, as those of the module are.
+#![tactic(auto)]
+
+ghost use Rattle.std.specs.Prelude.{◌≡◌, ℕ, ◌^◌, ◌≤◌, ◌<◌, List, length, None, IsTrue, IsUtf8};
+ghost use Rattle.wasm_tree.specs.declared.module.Module.{Module};
+ghost use Rattle.wasm_tree.specs.MemoryZero.{memory_zero_funcs};
+ghost use Rattle.wasm_tree.specs.Bounds.{IsBounded};
+ghost use Rattle.wasm_valid.specs.Validity.{IsSingle, IsValid};
+ghost use Rattle.wasm_write_proof.specs.Ranges.{InRange};
+ghost use Rattle.module_limits.specs.Counts.{over_limit};
+ghost use Rattle.split_spec.specs.declared.names.SplitNames.{SplitNames};
+ghost use Rattle.split_spec.specs.Primary.{primary_with};
+ghost use Rattle.split_spec.specs.Secondary.{secondary_with};
+
+use module_limits::counts_are_within_where_none_is_over;
+use wasm_tree::operands_pass_layer_by_layer;
+use wasm_valid::valid_where_items_hold;
+use wasm_write_proof::{other_numbers_stay, spelled_operands_are_in_range};
+
+/// Where a module has its numbers in range and its names in UTF-8, and a u32 can count what it has, so have both modules of a split of it (`primary`, `secondary`), if
+/// these are valid and have at most one memory, a u32 can count what they have, the names that the split is given are UTF-8, and the slots are below 2^31, so that an `i32.const`
+/// has their numbers (WebAssembly Core 2.0, section 5.4.7): what they name is there, and their other numbers stand in the module, or are those of slots and of parameters. And their
+/// bodies name no memory but memory 0 (`primary_memory`, `secondary_memory`). Fewer than 2^31 functions move where no count of the primary module is above its limit: it imports a
+/// placeholder for each (`few`).
+pub fn split_modules_are_in_range()
+    ensures few { (namespace : ℕ → List ℕ) (prefix : List ℕ) (m : Module) (moved : List ℕ) → over_limit (primary_with namespace prefix m moved) ≡ None → length moved < 2 ^ 31 }
+    ensures primary { (namespace : ℕ → List ℕ) (prefix : List ℕ) (m : Module) (moved : List ℕ) → ((slot : ℕ) → IsUtf8 (namespace slot)) → IsUtf8 prefix
+        → InRange m → IsBounded m → length moved ≤ 2 ^ 31
+        → IsValid (primary_with namespace prefix m moved) → IsSingle (primary_with namespace prefix m moved) → IsBounded (primary_with namespace prefix m moved)
+        → InRange (primary_with namespace prefix m moved) }
+    ensures primary_memory { (namespace : ℕ → List ℕ) (prefix : List ℕ) (m : Module) (moved : List ℕ)
+        → IsValid (primary_with namespace prefix m moved) → IsSingle (primary_with namespace prefix m moved) → IsBounded (primary_with namespace prefix m moved)
+        → IsTrue (memory_zero_funcs (primary_with namespace prefix m moved).funcs) }
+    ensures secondary { (names : SplitNames) (m : Module) (moved own : List ℕ) (before : ℕ) → IsUtf8 names.import_namespace → IsUtf8 names.export_prefix
+        → InRange m → IsBounded m → length moved ≤ 2 ^ 31 → before < 2 ^ 31
+        → IsValid (secondary_with names m moved own before) → IsSingle (secondary_with names m moved own before) → IsBounded (secondary_with names m moved own before)
+        → InRange (secondary_with names m moved own before) }
+    ensures secondary_memory { (names : SplitNames) (m : Module) (moved own : List ℕ) (before : ℕ)
+        → IsValid (secondary_with names m moved own before) → IsSingle (secondary_with names m moved own before) → IsBounded (secondary_with names m moved own before)
+        → IsTrue (memory_zero_funcs (secondary_with names m moved own before).funcs) }
+{
+    valid_where_items_hold();
+    operands_pass_layer_by_layer();
+    other_numbers_stay();
+    spelled_operands_are_in_range();
+    counts_are_within_where_none_is_over();
+}
