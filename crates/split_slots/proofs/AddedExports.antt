@@ -1,6 +1,6 @@
 -- Exports that are added one after the other.
-use Rattle.std.proofs.Common.{◌≡◌, ℕ, zero, suc, ◌+◌, ◌<◌, ◌≤◌, arith, Bool, true, false, cond, List, [], ◌∷◌, ◌++◌, append_assoc, map, take, length, Some, refl, sym, ap, ◌∙◌, slice_get, get_or}
-use Rattle.std.proofs.lemmas.List.{append-nil, map-append}
+use Rattle.std.proofs.Common.{◌≡◌, ℕ, zero, suc, ◌+◌, ◌<◌, arith, Bool, true, false, cond, List, [], ◌∷◌, ◌++◌, append_assoc, map, take, length, Some, refl, sym, ap, ◌∙◌, slice_get, get_or}
+use Rattle.std.proofs.lemmas.List.{map-append}
 use Rattle.base_lists.specs.Places.{places}
 use Rattle.wasm_tree.specs.declared.space.Space.{Space}
 use Rattle.wasm_tree.specs.declared.module.Export.{Export}

@@ -1,5 +1,5 @@
 -- What is made of calls and functions is what the definitions of a split say, where the table of slots is that of the functions that move.
-use Rattle.std.proofs.Common.{◌≡◌, ℕ, zero, suc, ◌+◌, ◌-◌, ◌<◌, arith, Bool, true, false, ◌&&◌, cond, List, [], ◌∷◌, ◌++◌, map, length, nat_eq, Option, Some, None, refl, sym, ap, ap₂, ◌∙◌, slice_get, slice_index}
+use Rattle.std.proofs.Common.{◌≡◌, ℕ, suc, ◌+◌, ◌-◌, ◌<◌, arith, Bool, true, false, ◌&&◌, cond, List, [], ◌∷◌, ◌++◌, map, length, nat_eq, Option, Some, None, refl, sym, ap, ap₂, ◌∙◌, slice_get, slice_index}
 use Rattle.std.specs.Prelude.{nat_le, nat_lt, pos, option_and_then}
 use Rattle.std.specs.Option.{option_map_or}
 use Rattle.std.proofs.Math.Bool.{and-false}
@@ -8,7 +8,6 @@ use Rattle.std.proofs.lemmas.Bool.{le-leb, le-ltb, lt-ltb}
 use Rattle.base_lists.specs.Every.{Every}
 use Rattle.base_lists.specs.Places.{first_place, numbers}
 use Rattle.base_lists.proofs.Places.{slice_index_is}
-use Rattle.wasm_tree.specs.declared.types.FuncType.{FuncType}
 use Rattle.wasm_tree.specs.declared.module.Func.{Func}
 use Rattle.wasm_tree.specs.declared.module.Module.{Module}
 use Rattle.wasm_tree.specs.declared.instr.Instr.{Instr}
@@ -79,7 +78,7 @@ pub record SecondaryCalls (m : Module) (moved : List ℕ) (c : Calls) : Type 0 w
   pub from : c.first ≡ 0
   pub end : c.end ≡ length moved
 
-place_less : (f : ℕ) (xs : List ℕ) (n s : ℕ) → first_place (nat_eq f) xs n ≡ Some s → s < n + length xs
+pub place_less : (f : ℕ) (xs : List ℕ) (n s : ℕ) → first_place (nat_eq f) xs n ≡ Some s → s < n + length xs
 place_less f [] n s e = cc
 place_less f (x ∷ xs) n s e = split (nat_eq f x) e (place_less f xs (suc n) s)
   where

@@ -13,3 +13,13 @@ mod Describing
 mod SharedParts
 mod OwnFuncs
 mod Premises
+mod LeftFuncs
+mod FirstCounts
+mod LeftModules
+mod FinishedModules
+mod FirstFaults
+mod OwnModules
+mod ImportedMore
+mod MarkCounts
+mod TakenNames
+mod MapsOfSplit

@@ -1,9 +1,8 @@
 -- The functions that are taken out are the definitions of those that move, in the order of their slots.
-use Rattle.std.proofs.Common.{◌≡◌, ◌≢◌, ℕ, zero, suc, ◌+◌, ◌-◌, ◌<◌, ◌≤◌, arith, Bool, true, false, ◌||◌, cond, List, [], ◌∷◌, length, nat_eq, nat_lt, Option, Some, None, is_some, refl, sym, ap, ap₂, ◌∙◌, subst, slice_get, slice_index}
+use Rattle.std.proofs.Common.{◌≡◌, ◌≢◌, ℕ, zero, suc, ◌+◌, ◌-◌, ◌<◌, ◌≤◌, arith, Bool, true, false, ◌||◌, cond, List, [], ◌∷◌, nat_eq, nat_lt, is_some, refl, sym, ap, ap₂, ◌∙◌, subst, slice_get, slice_index}
 use Rattle.std.specs.List.{cons_option, filter_map}
 use Rattle.std.specs.List.Sorted.{IsStrictlyIncreasing}
 use Rattle.std.proofs.lemmas.Bool.{eq-eqb, eqb-false, ltb-false, ltb-true}
-use Rattle.base_lists.specs.Every.{Every}
 use Rattle.wasm_tree.specs.declared.module.Func.{Func}
 use Rattle.index_remap.specs.References.{is_among}
 use Rattle.split_slots.specs.declared.calls.Calls.{Calls}

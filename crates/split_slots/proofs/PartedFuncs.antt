@@ -1,5 +1,5 @@
 -- Functions that are parted one after the other.
-use Rattle.std.proofs.Common.{◌≡◌, ℕ, zero, suc, ◌+◌, ◌<◌, ◌≤◌, arith, Bool, true, false, cond, List, [], ◌∷◌, ◌++◌, take, drop, set, length, Option, Some, None, is_some, refl, sym, ap, ◌∙◌, slice_get}
+use Rattle.std.proofs.Common.{◌≡◌, ℕ, zero, suc, ◌+◌, ◌≤◌, arith, Bool, true, false, cond, List, [], ◌∷◌, ◌++◌, take, drop, set, length, Some, is_some, refl, ap, ◌∙◌, slice_get}
 use Rattle.wasm_tree.specs.declared.types.FuncType.{FuncType}
 use Rattle.wasm_tree.specs.declared.module.Func.{Func}
 use Rattle.split_slots.specs.declared.calls.Calls.{Calls}

@@ -1,5 +1,5 @@
 -- Code in which other code stands in place of calls, made instruction by instruction.
-use Rattle.std.proofs.Common.{◌≡◌, ℕ, zero, suc, ◌≤◌, arith, take, drop, length, Bool, true, false, ◌||◌, List, [], ◌∷◌, ◌++◌, append_assoc, map, reverse, Option, Some, None, is_some, refl, sym, ap, ap₂, ◌∙◌, subst, rules}
+use Rattle.std.proofs.Common.{◌≡◌, ℕ, zero, suc, ◌≤◌, arith, length, Bool, true, false, ◌||◌, List, [], ◌∷◌, ◌++◌, append_assoc, map, reverse, Option, Some, None, is_some, refl, sym, ap, ap₂, ◌∙◌, subst, rules}
 use Rattle.std.specs.List.{flat_map, list_any}
 use Rattle.std.proofs.lemmas.Grind.{flat_map-append}
 use Rattle.std.proofs.lemmas.List.{append-nil, reverse-append}

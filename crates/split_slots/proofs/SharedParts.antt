@@ -1,5 +1,5 @@
 -- What is made by marks is what the definitions of a split say, where the marks are of what the functions that move name.
-use Rattle.std.proofs.Common.{◌≡◌, ℕ, zero, suc, ◌+◌, ◌<◌, arith, Bool, ◌&&◌, ◌||◌, not, false, List, [], ◌∷◌, ◌++◌, map, length, nat_eq, Option, is_some, unwrap_or, refl, sym, ap, ap₂, ◌∙◌, slice_get}
+use Rattle.std.proofs.Common.{◌≡◌, ℕ, ◌<◌, Bool, ◌&&◌, not, List, [], ◌∷◌, ◌++◌, map, length, nat_eq, Option, is_some, ap, ◌∙◌}
 use Rattle.std.specs.List.{list_any}
 use Rattle.std.proofs.Math.Path.{fun_ext}
 use Rattle.base_lists.specs.Every.{Every}
@@ -12,15 +12,11 @@ use Rattle.wasm_tree.specs.declared.module.ExportDesc.TheVariants as ex
 use Rattle.wasm_tree.specs.declared.module.ImportDesc.TheVariants as im
 use Rattle.wasm_tree.specs.declared.module.Module.{Module}
 use Rattle.wasm_tree.specs.Spaces.{funcs_of}
-use Rattle.wasm_valid.specs.declared.kinds.ItemKind.TheVariants as kind
-use Rattle.wasm_valid.specs.Named.{named_from, refs_of}
-use Rattle.wasm_valid.specs.Validity.{HoldsAt}
 use Rattle.index_remap.specs.References.{is_among}
 use Rattle.index_remap.specs.declared.remap.Remap.{Remap}
 use Rattle.split_spec.specs.declared.names.SplitNames.{SplitNames}
 use Rattle.split_spec.specs.Slots.{defined_at, place_among, slot_table, slot_table_type}
 use Rattle.split_spec.specs.FromPrimary.{entities, exports_for_secondary, imports_from_primary, marks_from_primary, slots_name}
-use Rattle.split_spec.specs.Needed.{is_needed}
 use Rattle.split_spec.specs.Primary as primary
 use Rattle.split_spec.specs.Secondary as secondary
 use Rattle.split_slots.specs.declared.sharing.Marks.{Marks}
@@ -29,7 +25,6 @@ use Rattle.split_slots.specs.Noting.{marks_by, marks_in}
 use Rattle.split_slots.specs.ExportList.{exports_by}
 use Rattle.split_slots.specs.ImportList.{imports_by}
 use Rattle.split_slots.specs.Maps.{secondary_funcs_by, secondary_map_by, secondary_tables_by}
-use Rattle.split_slots.proofs.NamedOutside.{marks_tell}
 use Rattle.split_slots.proofs.SlotTables.{has_place, table_tells}
 
 -- the table of slots of the functions that move

@@ -1,5 +1,5 @@
 -- A trampoline's body, made one instruction at a time.
-use Rattle.std.proofs.Common.{◌≡◌, ℕ, zero, suc, ◌+◌, List, [], ◌∷◌, ◌++◌, append_assoc, map, length, refl, sym, ap, ◌∙◌, zero-add}
+use Rattle.std.proofs.Common.{◌≡◌, ℕ, suc, ◌+◌, List, [], ◌∷◌, ◌++◌, append_assoc, map, length, refl, ap, ◌∙◌, zero-add}
 use Rattle.std.proofs.lemmas.List.{map-append}
 use Rattle.base_lists.specs.Places.{numbers}
 use Rattle.base_lists.proofs.Numbers.{numbers_more}

@@ -1,5 +1,5 @@
 -- What a module has in an index space, as imports of it would describe it.
-use Rattle.std.specs.Prelude.{ℕ, cond, List, [], ◌++◌, map, Option, Some, None}
+use Rattle.std.specs.Prelude.{cond, List, [], map, Option, Some, None}
 use Rattle.std.specs.List.{filter_map}
 use Rattle.wasm_tree.specs.Operands.{same_space}
 use Rattle.wasm_tree.specs.Spaces.{space_of_import}

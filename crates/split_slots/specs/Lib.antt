@@ -7,3 +7,4 @@ pub mod PlaceholderList
 pub mod Described
 pub mod ImportList
 pub mod Maps
+pub mod Surveyed

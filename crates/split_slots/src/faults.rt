@@ -1,12 +1,14 @@
 // What is taken already, and what is too much.
 
-ghost use Rattle.std.specs.Prelude.{◌≡◌, ◌<◌, ◌≤◌, ◌^◌, [], length, nat_lt, option_and_then, slice_get};
+ghost use Rattle.std.specs.Prelude.{◌≡◌, ◌≤◌, ◌^◌, [], length, map, nat_lt, option_and_then, slice_get, sum};
 ghost use Rattle.std.specs.Option.{option_map_or};
 ghost use Rattle.std.specs.Str.{bytes_eq};
 ghost use Rattle.base_lists.specs.Places.{first_place};
+ghost use Rattle.wasm_tree.specs.Limits.{limit};
+ghost use Rattle.wasm_tree.specs.declared.which.Which.TheVariants.{Trampolines};
 
 use wasm_bytes::Name;
-use wasm_tree::{FuncType, Import};
+use wasm_tree::{FuncType, Import, Which};
 
 fn has_namespace(import: &Import, namespace: &str) -> bool
     ensures { result ≡ bytes_eq import.now.«module» namespace.now }
@@ -39,4 +41,19 @@ pub(crate) fn param_count(types: &[FuncType], func_types: &[u32], func: u32) -> 
         Some(ty) => ty.params.len(),
         None => 0,
     }
+}
+
+/// Whether functions that move have more parameters together than there may be.
+pub(crate) fn too_many_params(types: &[FuncType], func_types: &[u32], moved: &[u32]) -> bool
+    ensures { result ≡ nat_lt (limit Trampolines) (sum (map (λ func. length (option_map_or (λ t. t.params) (option_and_then (slice_get types.now) (slice_get func_types.now func)) [])) moved.now)) }
+{
+    let mut left = Which::Trampolines.limit() as usize;
+    for func in moved {
+        let params = param_count(types, func_types, *func);
+        if left < params {
+            return true;
+        }
+        left -= params;
+    }
+    false
 }

@@ -2,4 +2,8 @@
 #![tactic(auto)]
 
 #[cfg(test)]
+mod modules;
+#[cfg(test)]
+mod splits;
+#[cfg(test)]
 mod tests;

@@ -1,7 +1,7 @@
 use Rattle.std.proofs.Common.{◌≡◌, Some, slice_get, set, arith, ap, ◌∙◌, sym}
-use Rattle.std.specs.List.{flat_map, list_any}
+use Rattle.std.specs.List.{list_any}
 use Rattle.base_lists.proofs.Walk.{part_at, part_more, none_past}
-use Rattle.split_slots.specs.Replacing.{code_here, code_of_call, inside, is_replaced}
+use Rattle.split_slots.specs.Replacing.{code_of_call, inside, is_replaced}
 use Rattle.split_slots.proofs.Replaced.{all_inside, all_stay, others_are_called}
 use Rattle.split_slots.proofs.calls.+replace.Goals as goal
 use Rattle.split_slots.proofs.calls.+replace.Goals.{replace_calls-in-Some+in_ok-replace_inside, replace_calls-in_default}

@@ -1,5 +1,4 @@
-use Rattle.std.proofs.Common.{ℕ, ◌++◌, ◌∷◌, [], append_assoc, ap, sym, ◌∙◌}
-use Rattle.base_lists.specs.Places.{numbers}
+use Rattle.std.proofs.Common.{◌++◌, ◌∷◌, [], append_assoc, ap, sym, ◌∙◌}
 use Rattle.wasm_tree.specs.declared.instr.Instr.TheVariants.{LocalGet}
 use Rattle.split_slots.proofs.Trampolining.{counted_more}
 use Rattle.split_slots.proofs.moving.add_gets.Goals as goal

@@ -1,7 +1,7 @@
 use Rattle.std.proofs.Common.{◌≡◌, ◌+◌, ◌++◌, ◌∷◌, [], cond, is_some, Some, slice_get, set, arith, ap, ◌∙◌, sym}
 use Rattle.base_lists.proofs.Walk.{none_past}
 use Rattle.split_slots.specs.Looking.{slot_at}
-use Rattle.split_slots.specs.PartedTrees.{own_funcs, parted_func}
+use Rattle.split_slots.specs.PartedTrees.{parted_func}
 use Rattle.split_slots.proofs.PartedFuncs.{own_more, parted_at, parted_more}
 use Rattle.split_slots.proofs.parting.part_funcs.Goals as goal
 use Rattle.split_slots.proofs.parting.part_funcs.Goals.{in-Some+in_ok-part_one, in_default}

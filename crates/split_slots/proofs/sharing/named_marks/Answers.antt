@@ -1,10 +1,9 @@
-use Rattle.std.proofs.Common.{ℕ, ◌-◌, ◌+◌, ◌||◌, [], List, take, length, slice_get, arith, ap, ap₂, ◌∙◌, sym, subst}
+use Rattle.std.proofs.Common.{ℕ, ◌-◌, ◌+◌, ◌||◌, [], List, take, length, slice_get, arith, ap, ap₂, ◌∙◌, subst}
 use Rattle.std.specs.Prelude.{slice_index}
 use Rattle.std.specs.List.{cons_option, list_any}
 use Rattle.wasm_tree.specs.declared.space.Space.{Space}
 use Rattle.wasm_tree.specs.declared.module.Func.{Func}
 use Rattle.base_lists.proofs.Each.{every_at}
-use Rattle.wasm_tree.specs.Spaces.{imported_funcs}
 use Rattle.base_lists.proofs.Places.{slice_get_there, slice_index_is}
 use Rattle.split_spec.specs.Slots.{defined_at}
 use Rattle.split_spec.specs.FromPrimary.{entities}

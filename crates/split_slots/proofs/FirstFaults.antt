@@ -1,0 +1,59 @@
+-- The faults of a split that are told before anything is built, and those that are told of what is built.
+use Rattle.std.proofs.Common.{◌≡◌, ℕ, Bool, true, false, List, cond, length, nat_lt, Option, Some, None, refl, ap, ◌∙◌}
+use Rattle.std.specs.Prelude.{option_map}
+use Rattle.std.specs.Option.{option_or}
+use Rattle.wasm_tree.specs.declared.which.Which.{Which}
+use Rattle.wasm_tree.specs.declared.which.Which.TheVariants as which
+use Rattle.wasm_tree.specs.declared.module.Module.{Module}
+use Rattle.wasm_tree.specs.Limits.{limit}
+use Rattle.module_limits.specs.Counts.{over_limit}
+use Rattle.split_spec.specs.declared.names.SplitNames.{SplitNames}
+use Rattle.split_spec.specs.declared.faults.SplitFault.{SplitFault}
+use Rattle.split_spec.specs.declared.faults.SplitFault.TheVariants.{NamespaceTaken, PrefixTaken, TooMany}
+use Rattle.split_spec.specs.Faults.{moved_params, namespace_taken, prefix_taken, split_fault, too_many}
+use Rattle.split_spec.specs.Primary.{primary}
+use Rattle.split_spec.specs.Secondary.{secondary}
+use Rattle.split_slots.specs.Surveyed.{MaySplit, first_counts, first_too_many}
+use Rattle.split_slots.proofs.FirstCounts.{few_where_none, first_tells}
+
+-- the faults of a split, by their parts
+faults_of : (namespace : Option ℕ) (prefix : Option (List ℕ)) → Option Which → Option SplitFault
+faults_of namespace prefix many = option_or (option_map NamespaceTaken namespace) (option_or (option_map PrefixTaken prefix) (option_map TooMany many))
+
+module _ (names : SplitNames) (m : Module) (moved : List ℕ) where
+  pub namespace_first : (import : ℕ) → namespace_taken names.placeholder_namespace m ≡ Some import → split_fault names m moved ≡ Some (NamespaceTaken import)
+  namespace_first import e = ap (λ o. option_or (option_map NamespaceTaken o) (option_or (option_map PrefixTaken (prefix_taken names.export_prefix m moved)) (option_map TooMany (too_many names m moved)))) e
+
+  pub prefix_next : (name : List ℕ) → namespace_taken names.placeholder_namespace m ≡ None → prefix_taken names.export_prefix m moved ≡ Some name → split_fault names m moved ≡ Some (PrefixTaken name)
+  prefix_next name none e =
+      ap (λ o. option_or (option_map NamespaceTaken o) (option_or (option_map PrefixTaken (prefix_taken names.export_prefix m moved)) (option_map TooMany (too_many names m moved)))) none
+      ∙ ap (λ o. option_or (option_map PrefixTaken o) (option_map TooMany (too_many names m moved))) e
+
+  many_left : namespace_taken names.placeholder_namespace m ≡ None → prefix_taken names.export_prefix m moved ≡ None → split_fault names m moved ≡ option_map TooMany (too_many names m moved)
+  many_left none clear =
+      ap (λ o. option_or (option_map NamespaceTaken o) (option_or (option_map PrefixTaken (prefix_taken names.export_prefix m moved)) (option_map TooMany (too_many names m moved)))) none
+      ∙ ap (λ o. option_or (option_map PrefixTaken o) (option_map TooMany (too_many names m moved))) clear
+
+  many_told : (w : Which) → first_too_many m moved ≡ Some w → too_many names m moved ≡ Some w
+  many_told w e = by (nat_lt (limit which.Trampolines) (moved_params m moved)) e
+    where
+      by : (b : Bool) → cond b (Some which.Trampolines) (first_counts m (length moved)) ≡ Some w →
+          cond b (Some which.Trampolines) (option_or (over_limit (primary names m moved)) (over_limit (secondary names m moved))) ≡ Some w
+      by true e = e
+      by false e = ap (λ o. option_or o (over_limit (secondary names m moved))) (first_tells (λ slot. names.placeholder_namespace) names.export_prefix m moved w e)
+
+  pub many_next : (w : Which) → namespace_taken names.placeholder_namespace m ≡ None → prefix_taken names.export_prefix m moved ≡ None → first_too_many m moved ≡ Some w →
+      split_fault names m moved ≡ Some (TooMany w)
+  many_next w none clear e = many_left none clear ∙ ap (option_map TooMany) (many_told w e)
+
+  pub none_first : namespace_taken names.placeholder_namespace m ≡ None → prefix_taken names.export_prefix m moved ≡ None → first_too_many m moved ≡ None → MaySplit names m moved
+  none_first none clear e = by (nat_lt (limit which.Trampolines) (moved_params m moved)) refl e
+    where
+      by : (b : Bool) → nat_lt (limit which.Trampolines) (moved_params m moved) ≡ b → cond b (Some which.Trampolines) (first_counts m (length moved)) ≡ None → MaySplit names m moved
+      by true is e = cc
+      by false is e = record { namespace = none; prefix = clear; params = is; few = few_where_none m moved e }
+
+  -- what is left to be told is of what is built
+  pub built_last : MaySplit names m moved → split_fault names m moved ≡ option_map TooMany (option_or (over_limit (primary names m moved)) (over_limit (secondary names m moved)))
+  built_last may =
+      many_left may.namespace may.prefix ∙ ap (λ b. option_map TooMany (cond b (Some which.Trampolines) (option_or (over_limit (primary names m moved)) (over_limit (secondary names m moved))))) may.params

@@ -1,0 +1,74 @@
+-- The secondary module is what the definitions of a split say.
+use Rattle.std.proofs.Common.{◌≡◌, ℕ, ◌<◌, ◌^◌, ◌+◌, ◌-◌, true, false, slice_get, arith, List, [], ◌∷◌, map, length, None, ap, ap₂, ◌∙◌}
+use Rattle.std.proofs.Math.Path.{fun_ext}
+use Rattle.std.proofs.lemmas.List.{length-map}
+use Rattle.base_lists.specs.Every.{Every}
+use Rattle.base_lists.specs.Places.{numbers}
+use Rattle.base_lists.proofs.Each.{every_at}
+use Rattle.wasm_tree.specs.Bounds.{IsBounded}
+use Rattle.wasm_tree.specs.Spaces.{funcs_of, imported_funcs, globals_of, memories_of, tables_of}
+use Rattle.wasm_tree.specs.declared.module.ElemSeg.{ElemSeg}
+use Rattle.wasm_tree.specs.declared.module.Func.{Func}
+use Rattle.wasm_tree.specs.declared.module.Import.{Import}
+use Rattle.wasm_tree.specs.declared.module.ImportDesc.TheVariants as im
+use Rattle.wasm_tree.specs.declared.module.Module.{Module}
+use Rattle.wasm_tree.specs.declared.space.Space.TheVariants.{Functions, Tables, Memories, Globals}
+use Rattle.wasm_tree.specs.declared.types.FuncType.{FuncType}
+use Rattle.split_spec.specs.declared.names.SplitNames.{SplitNames}
+use Rattle.split_spec.specs.Secondary.{secondary_func, secondary_imports, secondary_tree}
+use Rattle.split_spec.specs.Slots.{defined_at, slot_segment, slot_table}
+use Rattle.split_plan.specs.Plans.{body_uses_segment}
+use Rattle.split_plan.specs.Words.{is_defined}
+use Rattle.split_proof.specs.Premises.{CanMove}
+use Rattle.split_proof.proofs.Lists.{all_counted}
+use Rattle.split_proof.proofs.Spaces.{moves}
+use Rattle.split_slots.specs.declared.calls.Calls.{Calls}
+use Rattle.split_slots.specs.declared.sharing.Marks.{Marks}
+use Rattle.split_slots.specs.PartedTrees.{own_func}
+use Rattle.split_slots.specs.Surveyed.{FewFuncs}
+use Rattle.split_slots.proofs.Bridge.{SecondaryCalls, own_func_is}
+use Rattle.split_slots.proofs.Premises.{many_marks}
+use Rattle.split_slots.proofs.SharedParts.{AreMarks}
+
+pub own_funcs_are : (m : Module) (moved : List ℕ) → Every (λ f. f < length (funcs_of m)) moved → (c : Calls) → SecondaryCalls m moved c → (own : List Func) → own ≡ defined_at m moved →
+    map (own_func c) own ≡ map (secondary_func m moved moved) (defined_at m moved)
+own_funcs_are m moved there c is own e = ap (map (own_func c)) e ∙ ap (λ f. map f (defined_at m moved)) (fun_ext (own_func_is m moved there c is))
+
+pub secondary_tree_is : (names : SplitNames) (m : Module) (moved : List ℕ) (types : List FuncType) (imports : List Import) (funcs : List Func) (table base count : ℕ) →
+    types ≡ m.types → imports ≡ secondary_imports names m moved moved → funcs ≡ map (secondary_func m moved moved) (defined_at m moved) → table ≡ slot_table m → base ≡ length (funcs_of m) →
+    count ≡ length moved →
+    record { types = types; imports = imports; funcs = funcs; tables = []; mems = []; globals = []; exports = []; start = None; elems = slot_segment table 0 (numbers base count) ∷ []; datas = [] } ≡ secondary_tree names m moved moved 0
+secondary_tree_is names m moved types imports funcs table base count ts is fs tab bas cou =
+    ap₂ (λ t i. with_all t i funcs (slot_segment table 0 (numbers base count))) ts is
+    ∙ ap₂ (λ f t. with_all m.types (secondary_imports names m moved moved) f (slot_segment t 0 (numbers base count))) fs tab
+    ∙ ap₂ (λ b k. with_all m.types (secondary_imports names m moved moved) (map (secondary_func m moved moved) (defined_at m moved)) (slot_segment (slot_table m) 0 (numbers b k))) bas cou
+  where
+    with_all : List FuncType → List Import → List Func → ElemSeg → Module
+    with_all t i f e = record { types = t; imports = i; funcs = f; tables = []; mems = []; globals = []; exports = []; start = None; elems = e ∷ []; datas = [] }
+
+-- how many of each kind are marked, at most
+pub record FewMarks (m : Module) (moved : List ℕ) (marks : Marks) : Type 0 where
+  pub funcs : length marks.funcs.items + length moved < 2 ^ 32
+  pub tables : length marks.tables.items < 2 ^ 32
+  pub mems : length marks.mems.items < 2 ^ 32
+  pub globals : length marks.globals.items < 2 ^ 32
+
+-- a u32 counts the marks of each kind
+pub few_marks : (m : Module) (moved : List ℕ) (marks : Marks) → IsBounded m → FewFuncs m moved → AreMarks m moved marks → FewMarks m moved marks
+few_marks m moved marks bounded few are =
+    let funcs = ap length (are Functions) ∙ many_marks m moved moved Functions ∙ length-map (funcs_of m) im.Func in
+    let tables = ap length (are Tables) ∙ many_marks m moved moved Tables ∙ length-map (tables_of m) im.Table in
+    let mems = ap length (are Memories) ∙ many_marks m moved moved Memories ∙ length-map (memories_of m) im.Memory in
+    let globals = ap length (are Globals) ∙ many_marks m moved moved Globals ∙ length-map (globals_of m) im.Global in
+    let b1 = bounded.tables in
+    let b2 = bounded.memories in
+    let b3 = bounded.globals in
+    record { funcs = omega (arith, few, funcs); tables = omega (arith, tables, b1); mems = omega (arith, mems, b2); globals = omega (arith, globals, b3) }
+
+-- each function that moves has a definition
+pub own_many : (m : Module) (moved : List ℕ) → CanMove m moved → length (defined_at m moved) ≡ length moved
+own_many m moved can =
+    all_counted (λ func. slice_get m.funcs (func - length (imported_funcs m.imports))) moved (λ p f at.
+    let h = every_at (λ func. (is_defined m func ≡ true) × (body_uses_segment m func ≡ false)) moved p f can at in
+    let g = moves m f h.0 h.1 in
+    (g.func, g.is))

@@ -1,0 +1,8 @@
+use Rattle.std.proofs.Common.{◌≡◌, ◌++◌, take}
+use Rattle.std.specs.List.{filter_map}
+use Rattle.base_lists.specs.Places.{places}
+use Rattle.split_slots.specs.ImportList.{import_of}
+use Rattle.split_slots.proofs.importing.add_marked.Given as goal
+
+abbrev pub invariant-loop-at : goal.invariant-loop-at
+invariant-loop-at l = l.imports ≡ l.initial.imports ++ filter_map (import_of l.names l.space l.entities) (places (λ named. named) (take l.at l.marks) 0)

@@ -1,0 +1,63 @@
+use Rattle.std.proofs.Common.{◌≡◌, refl, sym, ap, ap₂, subst, ◌∙◌, ◌⊎◌, Option, Some, ℕ, List}
+use Rattle.std.specs.Prelude.{IfErr, IfOk, option_map}
+use Rattle.std.specs.Option.{option_or}
+use Rattle.wasm_tree.specs.declared.module.Module.{Module}
+use Rattle.module_limits.specs.Counts.{over_limit}
+use Rattle.split_spec.specs.declared.faults.SplitFault.{SplitFault}
+use Rattle.split_spec.specs.declared.faults.SplitFault.TheVariants.{NoMemory, TooMany}
+use Rattle.split_slots.specs.declared.splitting.Pair.{Pair}
+use Rattle.split_slots.proofs.FinishedModules.{can_finish_primary, can_finish_secondary, made_primary, made_secondary}
+use Rattle.split_slots.proofs.FirstFaults.{built_last}
+use Rattle.split_slots.proofs.splitting.pair_of.Goals as goal
+
+pub finish_both-requires-clause-primary : goal.finish_both-requires-clause-primary
+finish_both-requires-clause-primary c =
+    let names = c.args.names.now in
+    let m = c.args.module in
+    let moved = c.args.moved.now in
+    let may = c.in_ok-drafts.ensures.none refl in
+    let namespace : ℕ → List ℕ = λ slot. names.placeholder_namespace in
+    can_finish_primary names m moved c.in_ok-drafts.drafts c.in_ok-drafts.ensures.drafts ((c.valid_where_items_hold.ensures m).0 c.requires.valid) c.requires.can may.few
+    (c.maps_of_a_split_fit.ensures.primary namespace names.export_prefix m moved c.requires.valid c.requires.can)
+    (c.primary_modules_are_valid.ensures.valid namespace names.export_prefix m moved c.requires.valid c.requires.bounded c.requires.can may.prefix)
+    (c.primary_modules_are_valid.ensures.bounded namespace names.export_prefix m moved c.requires.valid c.requires.bounded c.requires.can)
+
+pub finish_both-requires-clause-secondary : goal.finish_both-requires-clause-secondary
+finish_both-requires-clause-secondary c =
+    let names = c.args.names.now in
+    let m = c.args.module in
+    let moved = c.args.moved.now in
+    let may = c.in_ok-drafts.ensures.none refl in
+    can_finish_secondary names m moved c.in_ok-drafts.drafts c.in_ok-drafts.ensures.drafts ((c.valid_where_items_hold.ensures m).0 c.requires.valid) c.requires.can may.few
+    (c.maps_of_a_split_fit.ensures.secondary names m moved moved 0 c.requires.valid c.requires.can)
+    (c.secondary_modules_are_valid.ensures.valid names m moved moved 0 c.requires.valid c.requires.can)
+    (c.secondary_modules_are_valid.ensures.bounded names m moved moved 0 c.requires.valid c.requires.bounded c.requires.can)
+
+pub returns-clause-primary : goal.returns-clause-primary
+returns-clause-primary c =
+    subst (λ (t : Module). IfOk c.finish_both.result (λ (pair : Pair). pair.primary ≡ t)) (made_primary c.args.names.now c.args.module c.args.moved.now c.in_ok-drafts.drafts c.in_ok-drafts.ensures.drafts) c.finish_both.ensures.primary
+
+pub returns-clause-secondary : goal.returns-clause-secondary
+returns-clause-secondary c =
+    subst (λ (t : Module). IfOk c.finish_both.result (λ (pair : Pair). pair.secondary ≡ t)) (made_secondary c.args.names.now c.args.module c.args.moved.now c.in_ok-drafts.drafts c.in_ok-drafts.ensures.drafts) c.finish_both.ensures.secondary
+
+pub returns-clause-none : goal.returns-clause-none
+returns-clause-none c ok =
+    let names = c.args.names.now in
+    let m = c.args.module in
+    let moved = c.args.moved.now in
+    let d = c.in_ok-drafts.drafts in
+    let are = c.in_ok-drafts.ensures.drafts in
+    let both = ap₂ (λ (a b : Module). option_or (over_limit a) (over_limit b)) (made_primary names m moved d are) (made_secondary names m moved d are) in
+    built_last names m moved (c.in_ok-drafts.ensures.none refl) ∙ ap (option_map TooMany) (sym both ∙ c.finish_both.ensures.none ok)
+
+pub returns-clause-fault : goal.returns-clause-fault
+returns-clause-fault c =
+    let names = c.args.names.now in
+    let m = c.args.module in
+    let moved = c.args.moved.now in
+    let d = c.in_ok-drafts.drafts in
+    let are = c.in_ok-drafts.ensures.drafts in
+    let both = ap₂ (λ (a b : Module). option_or (over_limit a) (over_limit b)) (made_primary names m moved d are) (made_secondary names m moved d are) in
+    subst (λ (o : Option SplitFault). IfErr c.finish_both.result (λ (e : SplitFault). (e ≡ NoMemory) ⊎ (o ≡ Some e)))
+    (ap (option_map TooMany) both ∙ sym (built_last names m moved (c.in_ok-drafts.ensures.none refl))) c.finish_both.ensures.fault

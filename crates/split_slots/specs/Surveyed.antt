@@ -1,0 +1,81 @@
+-- What is known of a module that is split, and what is made of it.
+use Rattle.std.specs.Prelude.{◌≡◌, ℕ, ◌+◌, ◌<◌, ◌^◌, List, length, map, Option, Some, None, cond, nat_lt, false, IsTrue}
+use Rattle.base_lists.specs.Places.{numbers}
+use Rattle.wasm_tree.specs.declared.space.Space.{Space}
+use Rattle.wasm_tree.specs.declared.which.Which.{Which}
+use Rattle.wasm_tree.specs.declared.which.Which.TheVariants as which
+use Rattle.wasm_tree.specs.declared.module.Module.{Module}
+use Rattle.wasm_tree.specs.Bounds.{IsBounded}
+use Rattle.wasm_tree.specs.Limits.{limit}
+use Rattle.wasm_tree.specs.Spaces.{funcs_of}
+use Rattle.wasm_valid.specs.Validity.{IsValid}
+use Rattle.index_remap.specs.References.{declared}
+use Rattle.index_remap.specs.Renumbered.{fits_tree, renumbered_tree}
+use Rattle.module_limits.specs.Counts.{or_above, over_limit}
+use Rattle.split_spec.specs.declared.names.SplitNames.{SplitNames}
+use Rattle.split_spec.specs.Faults.{moved_params, namespace_taken, prefix_taken}
+use Rattle.split_spec.specs.FromPrimary.{marks_from_primary}
+use Rattle.split_spec.specs.Primary.{left_marks, primary_map, primary_tree}
+use Rattle.split_spec.specs.Secondary.{secondary_imports, secondary_map, secondary_tree}
+use Rattle.split_spec.specs.Slots.{place_among}
+use Rattle.split_slots.specs.declared.surveying.Survey.{Survey}
+use Rattle.split_slots.specs.declared.drafting.Draft.{Draft}
+use Rattle.split_slots.specs.declared.drafting.Drafts.{Drafts}
+use Rattle.split_slots.specs.declared.drafting.Frame.{Frame}
+use Rattle.split_slots.specs.Noting.{marks_in}
+
+-- what is known of a module of which these functions move
+pub record IsSurvey (m : Module) (moved : List ℕ) (s : Survey) : Type 0 where
+  pub types : s.types ≡ funcs_of m
+  pub slots : s.slots.items ≡ map (place_among moved) (numbers 0 (length (funcs_of m)))
+  pub left : s.left ≡ left_marks m moved
+  pub marks : (space : Space) → marks_in s.marks space ≡ marks_from_primary m moved moved space
+
+-- ---- counts ----
+
+-- the first of the first three counts of the primary module that is above its limit, where of so many defined functions no more are left out than move
+abbrev pub first_counts : Module → (moved : ℕ) → Option Which
+first_counts m moved =
+    or_above (length m.types) which.Types (or_above (length m.imports + moved) which.Imports (cond (nat_lt (limit which.Functions + moved) (length m.funcs)) (Some which.Functions) None))
+
+-- the first of what is told before anything is built
+abbrev pub first_too_many : Module → (moved : List ℕ) → Option Which
+first_too_many m moved = or_above (moved_params m moved) which.Trampolines (first_counts m (length moved))
+
+-- an i32 that is not negative names each slot, and each function of both modules
+abbrev pub FewFuncs : Module → (moved : List ℕ) → Type 0
+FewFuncs m moved = length (funcs_of m) + length moved < 2 ^ 31
+
+-- no fault is told before anything is built
+pub record MaySplit (names : SplitNames) (m : Module) (moved : List ℕ) : Type 0 where
+  pub namespace : namespace_taken names.placeholder_namespace m ≡ None
+  pub prefix : prefix_taken names.export_prefix m moved ≡ None
+  pub params : nat_lt (limit which.Trampolines) (moved_params m moved) ≡ false
+  pub few : FewFuncs m moved
+
+-- ---- what is made ----
+
+-- what a secondary module with all functions that move has beside these
+pub record IsFrame (names : SplitNames) (m : Module) (moved : List ℕ) (f : Frame) : Type 0 where
+  pub types : f.types ≡ m.types
+  pub imports : f.imports ≡ secondary_imports names m moved moved
+  pub map_is : f.map ≡ secondary_map m moved moved
+
+-- both modules in the indices of the module that is split, and where these go
+pub record AreDrafts (names : SplitNames) (m : Module) (moved : List ℕ) (d : Drafts) : Type 0 where
+  pub primary : d.primary.tree ≡ primary_tree (λ slot. names.placeholder_namespace) names.export_prefix m moved
+  pub primary_map_is : d.primary.map ≡ primary_map m moved
+  pub secondary : d.secondary.tree ≡ secondary_tree names m moved moved 0
+  pub secondary_map_is : d.secondary.map ≡ secondary_map m moved moved
+
+-- ---- with their own indices ----
+
+abbrev pub made : Draft → Module
+made d = declared (renumbered_tree d.map d.tree)
+
+-- the module with its own indices is valid, if it has not too much of anything
+pub record CanFinish (d : Draft) : Type 0 where
+  pub fits : IsTrue (fits_tree d.map d.tree)
+  pub few : length (funcs_of (renumbered_tree d.map d.tree)) < 2 ^ 32
+  pub valid : over_limit (made d) ≡ None → IsValid (made d)
+  pub bounded : over_limit (made d) ≡ None → IsBounded (made d)

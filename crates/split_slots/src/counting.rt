@@ -1,0 +1,41 @@
+// What is too much, as far as that is told before anything is built.
+
+ghost use Rattle.std.specs.Prelude.{◌≡◌, ◌+◌, ◌<◌, ◌^◌, length, nat_lt};
+ghost use Rattle.wasm_tree.specs.Limits.{limit};
+ghost use Rattle.wasm_tree.specs.declared.which.Which.TheVariants.{Functions as MostFunctions};
+ghost use Rattle.split_slots.specs.Surveyed.{first_counts};
+
+use wasm_tree::{Module, Which};
+
+// Whether there are more than there may be.
+fn is_above(count: usize, which: Which) -> bool
+    ensures { result ≡ nat_lt (limit which) count }
+{
+    count > which.limit() as usize
+}
+
+// Whether more functions are left than there may be, where of so many defined functions no more are left out than move.
+fn leaves_too_many(funcs: usize, moved: usize) -> bool
+    requires few { moved < 2 ^ 32 }
+    ensures { result ≡ nat_lt (limit MostFunctions + moved) funcs }
+{
+    funcs > Which::Functions.limit() as usize + moved
+}
+
+/// The first count of the primary module that is above its limit, of its types, imports and functions. Behind these a u32 counts all that both modules have.
+pub(crate) fn first_counts(module: &Module, moved: usize) -> Option<Which>
+    requires imports { length «module».now.imports < 2 ^ 32 }
+    requires few { moved < 2 ^ 32 }
+    ensures { result ≡ first_counts «module».now moved }
+{
+    if is_above(module.types.len(), Which::Types) {
+        return Some(Which::Types);
+    }
+    if is_above(module.imports.len() + moved, Which::Imports) {
+        return Some(Which::Imports);
+    }
+    if leaves_too_many(module.funcs.len(), moved) {
+        return Some(Which::Functions);
+    }
+    None
+}

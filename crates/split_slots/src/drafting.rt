@@ -1,0 +1,138 @@
+// Both modules of a split, in the indices of the module that is split.
+
+ghost use Rattle.std.specs.Prelude.{◌≡◌, ◌+◌, ◌∷◌, ◌<◌, ◌≤◌, ◌^◌, [], length, map as each, None, IfOk};
+ghost use Rattle.std.specs.List.Sorted.{IsStrictlyIncreasing};
+ghost use Rattle.base_lists.specs.Places.{numbers};
+ghost use Rattle.wasm_tree.specs.Bounds.{IsBounded};
+ghost use Rattle.split_proof.specs.Premises.{CanMove};
+ghost use Rattle.split_spec.specs.Primary.{added_exports};
+ghost use Rattle.split_spec.specs.Slots as spec;
+ghost use Rattle.split_slots.specs.PartedTrees.{own_func};
+ghost use Rattle.split_slots.specs.Replacing.{FewSlots};
+ghost use Rattle.split_slots.specs.Surveyed.{AreDrafts, FewFuncs, IsFrame, IsSurvey};
+
+use crate::calls::Calls;
+use crate::importing::secondary_imports;
+use crate::leaving::part_module;
+use crate::maps::{primary_map, secondary_map};
+use crate::owning::{replace_in_each, secondary_tree};
+use crate::surveying::Survey;
+use crate::types::copy_types;
+use index_remap::Remap;
+use split_spec::SplitNames;
+use std::alloc::Global;
+use wasm_bytes::{Items, NoMemory};
+use wasm_tree::{Export, Func, FuncType, Import, Module};
+
+/// A module in the indices of the one that is split, and where each of these goes.
+#[derive(Drop)]
+pub(crate) struct Draft {
+    pub(crate) tree: Module,
+    pub(crate) map: Remap,
+}
+
+/// Both modules so.
+#[derive(Drop)]
+pub(crate) struct Drafts {
+    pub(crate) primary: Draft,
+    pub(crate) secondary: Draft,
+}
+
+/// What the secondary module has beside its functions, and where each index goes.
+#[derive(Drop)]
+pub(crate) struct Frame {
+    pub(crate) types: Items<FuncType>,
+    pub(crate) imports: Items<Import>,
+    pub(crate) map: Remap,
+}
+
+// What the secondary module has beside its functions.
+fn frame_of(
+    alloc: Global,
+    module: &Module,
+    moved: &[u32],
+    survey: &Survey,
+    names: &SplitNames,
+) -> Result<Frame, NoMemory>
+    requires bounded { IsBounded «module».now }
+    requires few { FewFuncs «module».now moved.now }
+    requires survey { IsSurvey «module».now moved.now survey.now }
+    ensures { IfOk result (λ frame. IsFrame names.now «module».now moved.now frame) }
+{
+    let count = moved.len() as u32;
+    let map = secondary_map(alloc, module.types.as_slice(), &survey.marks, count)?;
+    let imports = secondary_imports(alloc, names, module, &survey.marks, count)?;
+    let types = copy_types(alloc, module.types.as_slice())?;
+    Ok(Frame {
+        types,
+        imports,
+        map,
+    })
+}
+
+// The secondary module of these functions.
+fn secondary_draft(
+    alloc: Global,
+    frame: Frame,
+    own: Items<Func>,
+    calls: &Calls<'_>,
+) -> Result<Draft, NoMemory>
+    requires few { FewSlots calls.now }
+    requires own { calls.now.base + length own ≤ 2 ^ 32 }
+    ensures tree { IfOk result (λ draft. draft.tree ≡ record { types = frame.types; imports = frame.imports; funcs = each (own_func calls.now) own; tables = []; mems = []; globals = []; exports = []; start = None; elems = spec.slot_segment calls.now.table 0 (numbers calls.now.base (length own)) ∷ []; datas = [] }) }
+    ensures map { IfOk result (λ draft. draft.map ≡ frame.map) }
+{
+    let mut own = own;
+    replace_in_each(alloc, &mut own, calls)?;
+    let tree = secondary_tree(
+        alloc,
+        frame.types,
+        frame.imports,
+        own,
+        calls.table,
+        calls.base,
+    )?;
+    Ok(Draft {
+        tree,
+        map: frame.map,
+    })
+}
+
+/// Both modules, in the indices of the module that is split, and where these go. The functions that move are moved.
+pub(crate) fn drafted(
+    alloc: Global,
+    module: Module,
+    moved: &[u32],
+    survey: &Survey,
+    added: Items<Export>,
+    names: &SplitNames,
+) -> Result<Drafts, NoMemory>
+    requires bounded { IsBounded «module» }
+    requires can { CanMove «module» moved.now }
+    requires ascend { IsStrictlyIncreasing moved.now }
+    requires few { FewFuncs «module» moved.now }
+    requires survey { IsSurvey «module» moved.now survey.now }
+    requires added { added ≡ added_exports names.now.export_prefix «module» moved.now }
+    ensures { IfOk result (λ drafts. AreDrafts names.now «module» moved.now drafts) }
+{
+    let count = moved.len() as u32;
+    let table = module.table_space() as u32;
+    let base = module.func_space() as u32;
+    let frame = frame_of(alloc, &module, moved, survey, names)?;
+    let map = primary_map(alloc, &module, survey.left.as_slice(), count)?;
+    let rest = part_module(alloc, module, moved, survey, added, names)?;
+    let calls = Calls {
+        types: survey.types.as_slice(),
+        slots: &survey.slots,
+        table,
+        base,
+        first: 0,
+        end: count,
+    };
+    let secondary = secondary_draft(alloc, frame, rest.own, &calls)?;
+    let primary = Draft {
+        tree: rest.tree,
+        map,
+    };
+    Ok(Drafts { primary, secondary })
+}

@@ -1,0 +1,138 @@
+// What the secondary module imports from the primary one.
+
+ghost use Rattle.std.specs.Prelude.{◌≡◌, ◌++◌, ◌≤◌, ◌<◌, ◌^◌, [], length, IfOk, OnOk};
+ghost use Rattle.std.specs.List.{cons_option, filter_map};
+ghost use Rattle.base_lists.specs.Places.{places};
+ghost use Rattle.wasm_tree.specs.declared.module.ImportDesc.TheVariants.{Table as IsTable};
+ghost use Rattle.split_spec.specs.FromPrimary as spec;
+ghost use Rattle.split_spec.specs.Slots as slots;
+ghost use Rattle.split_slots.specs.ImportList.{import_of, imports_by};
+
+use crate::entities::entities;
+use crate::exports::{name_from_primary, slots_name};
+use crate::placing::slot_table_type;
+use crate::sharing::Marks;
+use split_spec::SplitNames;
+use std::alloc::Global;
+use wasm_bytes::{Items, NoMemory};
+use wasm_tree::{Import, ImportDesc, Module, Space};
+
+// The import of the entity at an index, as it is described.
+fn shared_import(
+    alloc: Global,
+    names: &SplitNames,
+    space: Space,
+    index: u32,
+    desc: ImportDesc,
+) -> Result<Import, NoMemory>
+    ensures { IfOk result (λ import. import ≡ record { «module» = names.now.import_namespace; field = spec.name_from_primary names.now.export_prefix space index; desc = desc }) }
+{
+    Ok(Import {
+        module: names.import_namespace.copy(alloc)?,
+        field: name_from_primary(alloc, &names.export_prefix, space, index)?,
+        desc,
+    })
+}
+
+// Adds an import of the entity at an index, if it is among these.
+fn add_one(
+    alloc: Global,
+    imports: &mut Items<Import>,
+    names: &SplitNames,
+    space: Space,
+    entities: &[ImportDesc],
+    at: usize,
+) -> Result<(), NoMemory>
+    requires few { at < 2 ^ 32 }
+    ensures { OnOk result (imports.new ≡ imports.old ++ cons_option (import_of names.now space entities.now at) []) }
+{
+    match entities.get(at) {
+        Some(desc) => imports.keep(shared_import(alloc, names, space, at as u32, *desc)?),
+        None => Ok(()),
+    }
+}
+
+// Adds an import of each of these entities that is marked.
+fn add_marked(
+    alloc: Global,
+    imports: &mut Items<Import>,
+    names: &SplitNames,
+    space: Space,
+    entities: &[ImportDesc],
+    marks: &[bool],
+) -> Result<(), NoMemory>
+    requires few { length marks.now ≤ 2 ^ 32 }
+    ensures { OnOk result (imports.new ≡ imports.old ++ filter_map (import_of names.now space entities.now) (places (λ named. named) marks.now 0)) }
+{
+    for at in 0..marks.len() {
+        if marks[at] {
+            add_one(alloc, imports, names, space, entities, at)?;
+        }
+    }
+    Ok(())
+}
+
+// Adds an import of each entity of the space that is marked.
+fn add_shared(
+    alloc: Global,
+    imports: &mut Items<Import>,
+    names: &SplitNames,
+    module: &Module,
+    space: Space,
+    marks: &[bool],
+) -> Result<(), NoMemory>
+    requires few { length marks.now ≤ 2 ^ 32 }
+    ensures { OnOk result (imports.new ≡ imports.old ++ spec.imports_from_primary names.now.import_namespace names.now.export_prefix «module».now space (places (λ named. named) marks.now 0)) }
+{
+    let all = entities(alloc, module, space)?;
+    add_marked(alloc, imports, names, space, all.as_slice(), marks)
+}
+
+// The import of the slot table, with so many slots.
+fn slots_import(alloc: Global, names: &SplitNames, count: u32) -> Result<Import, NoMemory>
+    ensures { IfOk result (λ import. import ≡ record { «module» = names.now.import_namespace; field = spec.slots_name names.now.export_prefix; desc = IsTable (slots.slot_table_type count) }) }
+{
+    Ok(Import {
+        module: names.import_namespace.copy(alloc)?,
+        field: slots_name(alloc, &names.export_prefix)?,
+        desc: ImportDesc::Table(slot_table_type(count)),
+    })
+}
+
+/// What the secondary module imports from the primary one, in the order of its kinds: what it names, by these marks, and behind the tables the slot table, with so
+/// many slots (WebAssembly Core 2.0, section 2.5.11). Each has the name of the primary module's export. The only refusal is want of memory.
+pub(crate) fn secondary_imports(
+    alloc: Global,
+    names: &SplitNames,
+    module: &Module,
+    marks: &Marks,
+    count: u32,
+) -> Result<Items<Import>, NoMemory>
+    requires funcs { length marks.now.funcs.items ≤ 2 ^ 32 }
+    requires tables { length marks.now.tables.items ≤ 2 ^ 32 }
+    requires mems { length marks.now.mems.items ≤ 2 ^ 32 }
+    requires globals { length marks.now.globals.items ≤ 2 ^ 32 }
+    ensures { IfOk result (λ all. all ≡ imports_by names.now «module».now marks.now count) }
+{
+    let mut all = Items::new(alloc);
+    add_shared(
+        alloc,
+        &mut all,
+        names,
+        module,
+        Space::Functions,
+        &marks.funcs,
+    )?;
+    add_shared(alloc, &mut all, names, module, Space::Tables, &marks.tables)?;
+    all.keep(slots_import(alloc, names, count)?)?;
+    add_shared(alloc, &mut all, names, module, Space::Memories, &marks.mems)?;
+    add_shared(
+        alloc,
+        &mut all,
+        names,
+        module,
+        Space::Globals,
+        &marks.globals,
+    )?;
+    Ok(all)
+}

@@ -1,0 +1,136 @@
+// Splitting a module.
+
+ghost use Rattle.std.specs.Prelude.{◌≡◌, ◌⊎◌, Err, None, Some, option_map, IfErr, IfOk, IsOk};
+ghost use Rattle.std.specs.List.Sorted.{IsStrictlyIncreasing};
+ghost use Rattle.std.specs.Option.{option_or};
+ghost use Rattle.wasm_tree.specs.Bounds.{IsBounded};
+ghost use Rattle.wasm_valid.specs.Validity.{IsValid};
+ghost use Rattle.module_limits.specs.Counts as counts;
+ghost use Rattle.split_plan.specs.Plans.{IsPlan};
+ghost use Rattle.split_proof.specs.Premises.{CanMove};
+ghost use Rattle.split_spec.specs.declared.faults.SplitFault.{SplitFault as Fault};
+ghost use Rattle.split_spec.specs.declared.faults.SplitFault.TheVariants.{NoMemory as OutOfMemory, TooMany};
+ghost use Rattle.split_spec.specs.Faults.{split_fault};
+ghost use Rattle.split_spec.specs.Primary.{primary as primary_of};
+ghost use Rattle.split_spec.specs.Secondary.{secondary as secondary_of};
+ghost use Rattle.split_slots.specs.Surveyed.{AreDrafts, CanFinish, MaySplit, made};
+
+use crate::drafting::{Draft, Drafts, drafted};
+use crate::exports::added_exports;
+use crate::finishing::finished;
+use crate::refusing::refuse;
+use crate::surveying::surveyed;
+use split_plan::Plan;
+use split_proof::{maps_of_a_split_fit, primary_modules_are_valid, secondary_modules_are_valid};
+use split_spec::{SplitFault, SplitNames};
+use std::alloc::Global;
+use wasm_tree::Module;
+use wasm_valid::{Valid, valid_where_items_hold};
+
+/// The two modules of a split.
+#[derive(Drop)]
+pub struct Pair {
+    /// The module that is instantiated first, with placeholders for the functions that moved.
+    pub primary: Valid,
+    /// The module that puts these functions into their slots.
+    pub secondary: Valid,
+}
+
+// A module with its own indices, or of what it has too much.
+fn finish(alloc: Global, draft: Draft) -> Result<Valid, SplitFault>
+    requires { CanFinish draft }
+    ensures value { IfOk result (λ valid. valid ≡ made draft) }
+    ensures none { IsOk result → counts.over_limit (made draft) ≡ None }
+    ensures fault { IfErr result (λ e. (e ≡ OutOfMemory) ⊎ (option_map TooMany (counts.over_limit (made draft)) ≡ Some e)) }
+{
+    let tree = finished(alloc, draft.tree, &draft.map)?;
+    Ok(Valid::known(tree))
+}
+
+// Both modules with their own indices, or of what the first that has too much of something has too much.
+fn finish_both(alloc: Global, drafts: Drafts) -> Result<Pair, SplitFault>
+    requires primary { CanFinish drafts.primary }
+    requires secondary { CanFinish drafts.secondary }
+    ensures primary { IfOk result (λ pair. pair.primary ≡ made drafts.primary) }
+    ensures secondary { IfOk result (λ pair. pair.secondary ≡ made drafts.secondary) }
+    ensures none { IsOk result → option_or (counts.over_limit (made drafts.primary)) (counts.over_limit (made drafts.secondary)) ≡ None }
+    ensures fault { IfErr result (λ e. (e ≡ OutOfMemory) ⊎ (option_map TooMany (option_or (counts.over_limit (made drafts.primary)) (counts.over_limit (made drafts.secondary))) ≡ Some e)) }
+{
+    let primary = finish(alloc, drafts.primary)?;
+    let secondary = finish(alloc, drafts.secondary)?;
+    Ok(Pair { primary, secondary })
+}
+
+// Both modules in the indices of the module that is split, or the first fault that is told before anything is built.
+fn drafts_of(
+    alloc: Global,
+    module: Module,
+    moved: &[u32],
+    names: &SplitNames,
+) -> Result<Drafts, SplitFault>
+    requires valid { IsValid «module» }
+    requires bounded { IsBounded «module» }
+    requires can { CanMove «module» moved.now }
+    requires ascend { IsStrictlyIncreasing moved.now }
+    ensures drafts { IfOk result (λ drafts. AreDrafts names.now «module» moved.now drafts) }
+    ensures none { IsOk result → MaySplit names.now «module» moved.now }
+    ensures fault { IfErr result (λ e. (e ≡ OutOfMemory) ⊎ (split_fault names.now «module» moved.now ≡ Some e)) }
+{
+    let survey = surveyed(alloc, &module, moved)?;
+    let table = module.table_space() as u32;
+    let added = added_exports(alloc, &names.export_prefix, &survey.marks, table)?;
+    let types = survey.types.as_slice();
+    refuse(alloc, &module, types, moved, added.as_slice(), names)?;
+    let drafts = drafted(alloc, module, moved, &survey, added, names)?;
+    Ok(drafts)
+}
+
+// Both modules, or the first fault.
+fn pair_of(
+    alloc: Global,
+    module: Module,
+    moved: &[u32],
+    names: &SplitNames,
+) -> Result<Pair, SplitFault>
+    requires valid { IsValid «module» }
+    requires bounded { IsBounded «module» }
+    requires can { CanMove «module» moved.now }
+    requires ascend { IsStrictlyIncreasing moved.now }
+    ensures primary { IfOk result (λ pair. pair.primary ≡ primary_of names.now «module» moved.now) }
+    ensures secondary { IfOk result (λ pair. pair.secondary ≡ secondary_of names.now «module» moved.now) }
+    ensures none { IsOk result → split_fault names.now «module» moved.now ≡ None }
+    ensures fault { IfErr result (λ e. (e ≡ OutOfMemory) ⊎ (split_fault names.now «module» moved.now ≡ Some e)) }
+{
+    valid_where_items_hold();
+    maps_of_a_split_fit();
+    primary_modules_are_valid();
+    secondary_modules_are_valid();
+    let drafts = drafts_of(alloc, module, moved, names)?;
+    finish_both(alloc, drafts)
+}
+
+/// The two modules of a split.
+///
+/// Functions of the plan that move get slots, by the order of the plan. The primary module keeps all else: its other functions call these through their slots, and where
+/// anything but a call names one, a trampoline stands in its place. Its slots hold imports of the placeholder namespace. The secondary module has the functions that move,
+/// imports from the primary one, under names with the prefix, what they name, and puts them into their slots when it is instantiated. The definitions are those of
+/// `split_spec` (WebAssembly Core 2.0, sections 2.5 and 4.5.4). Functions that move are moved, and calls are replaced where they stand: nothing else is copied but types.
+///
+/// `NamespaceTaken` comes exactly where an import of the input has the namespace of the placeholders; else `PrefixTaken` exactly where an export has the name of one that
+/// is added; else `TooMany` exactly where the parameters of the functions that move are more than trampolines may have together, or a count of the primary module is above
+/// its limit, or one of the secondary module (`fault`, `first`, `none`). `NoMemory` is want of memory, and says nothing of the input, which is given up in each case.
+pub fn split(
+    alloc: Global,
+    input: Valid,
+    plan: &Plan,
+    names: &SplitNames,
+) -> Result<Pair, SplitFault>
+    requires plan { IsPlan input plan.now }
+    ensures primary { IfOk result (λ pair. pair.primary ≡ primary_of names.now input plan.now.moved) }
+    ensures secondary { IfOk result (λ pair. pair.secondary ≡ secondary_of names.now input plan.now.moved) }
+    ensures none { IsOk result → split_fault names.now input plan.now.moved ≡ None }
+    ensures fault { IfErr result (λ e. (e ≡ OutOfMemory) ⊎ (split_fault names.now input plan.now.moved ≡ Some e)) }
+    ensures first { (e : Fault) → split_fault names.now input plan.now.moved ≡ Some e → (result ≡ Err e) ⊎ (result ≡ Err OutOfMemory) }
+{
+    pair_of(alloc, input.into_module(), plan.moved.as_slice(), names)
+}

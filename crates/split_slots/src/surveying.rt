@@ -1,0 +1,53 @@
+// What is known of a module that is split, before it is taken apart.
+
+ghost use Rattle.std.specs.Prelude.{◌≡◌, IfOk};
+ghost use Rattle.std.specs.List.Sorted.{IsStrictlyIncreasing};
+ghost use Rattle.wasm_tree.specs.Bounds.{IsBounded};
+ghost use Rattle.wasm_valid.specs.Validity.{IsValid};
+ghost use Rattle.split_proof.specs.Premises.{CanMove};
+ghost use Rattle.split_slots.specs.Surveyed.{IsSurvey};
+
+use crate::mapping::left_marks;
+use crate::needing::needed_marks;
+use crate::sharing::{Marks, named_marks};
+use crate::slots::slots_of;
+use crate::types::func_types;
+use std::alloc::Global;
+use wasm_bytes::{Items, NoMemory};
+use wasm_tree::Module;
+use wasm_valid::valid_where_items_hold;
+
+/// What is known of a module that is split.
+#[derive(Drop)]
+pub(crate) struct Survey {
+    /// The type of each function, as a place in the types.
+    pub(crate) types: Items<u32>,
+    /// The slot of each function that moves.
+    pub(crate) slots: Vec<Option<u32>>,
+    /// Whether the primary module has a function in place of each.
+    pub(crate) left: Items<bool>,
+    /// What the functions that move name.
+    pub(crate) marks: Marks,
+}
+
+/// What is known of the module, of which these functions move.
+pub(crate) fn surveyed(alloc: Global, module: &Module, moved: &[u32]) -> Result<Survey, NoMemory>
+    requires valid { IsValid «module».now }
+    requires bounded { IsBounded «module».now }
+    requires can { CanMove «module».now moved.now }
+    requires ascend { IsStrictlyIncreasing moved.now }
+    ensures { IfOk result (λ survey. IsSurvey «module».now moved.now survey) }
+{
+    valid_where_items_hold();
+    let types = func_types(alloc, module)?;
+    let slots = slots_of(alloc, types.len(), moved)?;
+    let needed = needed_marks(alloc, module)?;
+    let left = left_marks(alloc, &slots, &needed)?;
+    let marks = named_marks(alloc, module, moved, &slots)?;
+    Ok(Survey {
+        types,
+        slots,
+        left,
+        marks,
+    })
+}
