@@ -1,0 +1,2 @@
+mod SmallRuns
+mod WrongSplits

@@ -1,0 +1,76 @@
+-- That a split module behaves as the module that is split, and that its secondary modules can be loaded.
+use Rattle.std.specs.Prelude.{◌≡◌, ℕ, ◌+◌, ◌*◌, ◌<◌, max, false, List, [], ◌∷◌, length, Some, None, slice_get}
+use Rattle.std.specs.List.{flat_map}
+use Rattle.wasm_tree.specs.declared.module.Module.{Module}
+use Rattle.wasm_tree.specs.Bounds.{IsBounded}
+use Rattle.wasm_valid.specs.Validity.{IsValid}
+use Rattle.base_simulation.specs.Machines.{state_after}
+use Rattle.wasm_meaning.specs.Outcomes.{Gives}
+use Rattle.wasm_meaning.specs.State.{Val, Inst, Store, Entry, CallsPlaceholder}
+use Rattle.wasm_meaning.specs.Environment.{Environment, is_environment}
+use Rattle.wasm_meaning.specs.World.{alone}
+use Rattle.wasm_meaning.specs.InTurn.{Added}
+use Rattle.wasm_meaning.specs.Run.{Run, Move, Steps, transition, Same, events}
+use Rattle.wasm_meaning.specs.Loader.{Secondary, LoaderWorld, LoaderRun, secondary_of, secondary_added, tick_loader, fresh_loader, events_loaded}
+use Rattle.std.specs.Prelude.{IsTrue}
+use Rattle.split_spec.specs.declared.names.SplitNames.{SplitNames}
+use Rattle.split_spec.specs.Slots.{params_of}
+use Rattle.split_spec.specs.Faults.{namespace_taken, prefix_taken}
+use Rattle.split_proof.specs.Premises.{CanMove}
+use Rattle.split_behaves_proof.specs.Worlds.{split_world}
+
+-- ---- what is asked of a split ----
+
+-- Each function that moves is in one of these lists, and all lists stand in the order of the slots.
+pub record CanBeSplit (namespace : ℕ → List ℕ) (names : SplitNames) (m : Module) (moved : List ℕ) (owns : List (List ℕ)) : Type 0 where
+  pub valid : IsValid m
+  pub bounded : IsBounded m
+  pub can_move : CanMove m moved
+  -- none moves twice
+  pub once : (i j func : ℕ) → slice_get moved i ≡ Some func → slice_get moved j ≡ Some func → i ≡ j
+  pub lists : flat_map (λ own. own) owns ≡ moved
+  -- nothing is imported from a namespace of placeholders, and no name is added that is there
+  pub namespaces : (slot : ℕ) → slot < length moved → namespace_taken (namespace slot) m ≡ None
+  pub names_free : prefix_taken names.export_prefix m moved ≡ None
+
+-- ---- what is promised ----
+
+-- the most parameters of one of these functions
+abbrev pub most_params : Module → List ℕ → ℕ
+most_params m [] = 0
+most_params m (func ∷ funcs) = max (length (params_of m func)) (most_params m funcs)
+
+-- In every environment, whatever is seen of the module in n steps is seen under the loader in (p + 8) (n + 1), and whatever is seen there in n steps is seen of the module
+-- in n, where p is the most parameters of a function that moves: a call of one may pass a trampoline.
+abbrev pub BehavesAs : Module → LoaderWorld → (most : ℕ) → Type 0
+BehavesAs m w most = Same (λ env. Unit {0}) (events (alone m)) (events_loaded w) (λ n. (most + 8) * (n + 1)) (λ n. n)
+
+-- a secondary module links, and none of its segments traps
+pub record CanBeLoaded (w : LoaderWorld) (q : LoaderRun) (secondary : ℕ) (s : Store) : Type 0 where
+  pub inst : Inst
+  pub is_inst : q.inst ≡ Some inst
+  pub loads : Secondary
+  pub is_secondary : slice_get w.secondaries secondary ≡ Some loads
+  pub added : Added
+  pub links : secondary_added w inst loads.«module» s ≡ Some added
+  pub fills : added.filled.trapped ≡ false
+
+-- a step of this run calls a placeholder of a secondary module that was not loaded before, which can be loaded then
+abbrev pub LoadsWhereAsked : LoaderWorld → LoaderRun → Type 0
+LoadsWhereAsked w q =
+    (r : Run) (slot : ℕ) (vs : List Val) (s : Store) (es : List Entry) → transition q.run ≡ Steps r (Gives (CallsPlaceholder slot vs s es)) →
+    (j : ℕ) → secondary_of w.secondaries slot ≡ Some j → slice_get q.loaded j ≡ Some false → CanBeLoaded w q j s
+
+-- so in each run, whichever step it is
+abbrev pub AlwaysLoads : LoaderWorld → Type 0
+AlwaysLoads w = (env : Environment) → IsTrue (is_environment env) → (moves : List Move) (n : ℕ) → LoadsWhereAsked w (state_after (tick_loader w) (fresh_loader env w moves) n)
+
+-- ---- the laws ----
+
+abbrev pub SplitModulesShowTheSame : Type 0
+SplitModulesShowTheSame =
+    (namespace : ℕ → List ℕ) (names : SplitNames) (m : Module) (moved : List ℕ) (owns : List (List ℕ)) → CanBeSplit namespace names m moved owns → BehavesAs m (split_world namespace names m moved owns) (most_params m moved)
+
+abbrev pub SecondariesAlwaysLoad : Type 0
+SecondariesAlwaysLoad =
+    (namespace : ℕ → List ℕ) (names : SplitNames) (m : Module) (moved : List ℕ) (owns : List (List ℕ)) → CanBeSplit namespace names m moved owns → AlwaysLoads (split_world namespace names m moved owns)
