@@ -16,13 +16,13 @@ use Rattle.wasm_tree.specs.declared.module.Module.{Module}
 use Rattle.tools_cli.specs.CommandLine.{Text, Source, are_apart}
 use Rattle.tools_cli.specs.Job.{parts_of}
 
-both_of : (a b : Bool) → (not a && b) ≡ true → (a ≡ false) × (b ≡ true)
+pub both_of : (a b : Bool) → (not a && b) ≡ true → (a ≡ false) × (b ≡ true)
 both_of false true e = (refl, refl)
 both_of false false e = cc
 both_of true true e = cc
 both_of true false e = cc
 
-neither : (a b : Bool) → (a || b) ≡ false → (a ≡ false) × (b ≡ false)
+pub neither : (a b : Bool) → (a || b) ≡ false → (a ≡ false) × (b ≡ false)
 neither false false e = (refl, refl)
 neither false true e = cc
 neither true false e = cc

@@ -1,8 +1,8 @@
 -- From the inputs of a task to its job.
 use Rattle.std.proofs.Common.{◌≡◌, ◌∙◌, sym, refl, ap, subst, Bool, true, false, cond, Result, Ok, Err, IfOk, IfErr, map, ℕ, zero, suc, ◌≤◌, List, [], ◌∷◌, ◌++◌, take, drop, length, length-append, arith, Contains}
 use Rattle.std.specs.List.{list_all}
-use Rattle.tools_cli.specs.CommandLine.{Text, MetadceTask, Task, Merge, Metadce, many_of, modules_of, texts_of, inputs_of, outputs_of}
-use Rattle.tools_cli.specs.Job.{Job, Usage, Missing, Refused, Done, Output, Decision, Refuses, Makes, not_linked, not_joined, merged, Reduces, no_graph, not_swept, reduced, Decides, is_within, spelled_output, job_of, AllLoad, OneFails, module_files, contents_of, InputsJob, not_loaded, decided}
+use Rattle.tools_cli.specs.CommandLine.{Text, MetadceTask, SplitTask, Task, Merge, Metadce, Split, many_of, modules_of, texts_of, inputs_of, outputs_of}
+use Rattle.tools_cli.specs.Job.{Job, Usage, Missing, Refused, Done, Output, Decision, Refuses, Makes, not_linked, not_joined, merged, Reduces, no_graph, not_swept, reduced, Splits, no_plan, not_parted, parted, Decides, is_within, spelled_output, job_of, AllLoad, OneFails, module_files, contents_of, InputsJob, not_loaded, decided}
 use Rattle.tools_cli.specs.Effects.{Entry, written_names}
 use Rattle.wasm_tree.specs.declared.module.Module.{Module}
 use Rattle.tools_cli.specs.Causes.{total, StopsWith, PrintsAsAllowed}
@@ -11,6 +11,7 @@ use Rattle.tools_cli.specs.declared.gather.Input.{Input}
 use Rattle.tools_cli.specs.declared.decide.Decision as code
 use Rattle.tools_cli.specs.declared.stop.Stop.{Stop}
 use Rattle.tools_cli.proofs.MetadceDecided.{of_one}
+use Rattle.tools_cli.proofs.SplitDecided.{of_one as of_one_split}
 
 -- ---- the inputs, as modules and other texts ----
 
@@ -47,6 +48,7 @@ inputs_there t xs e = sym (length_names xs) ∙ ap length e
 pub one_memory : (t : Task) → many_of t ≡ false
 one_memory (Merge merge) = refl
 one_memory (Metadce metadce) = refl
+one_memory (Split split) = refl
 
 -- ---- the job ----
 
@@ -89,11 +91,17 @@ reduced_allowed metadce tree text texts decision (no_graph fault says found told
 reduced_allowed metadce tree text texts decision (not_swept g marks fault says is found told) = tt
 reduced_allowed metadce tree text texts decision (reduced g marks left unused is found lists) = ((λ name h. h), λ e. absurd (cc))
 
+split_allowed : (split : SplitTask) (tree : Module) (bytes : Text) (texts : List Text) (decision : Decision) → Splits split tree bytes decision → DecisionIsAllowed (Split split) texts decision
+split_allowed split tree bytes texts decision (no_plan names fault says named found told) = tt
+split_allowed split tree bytes texts decision (not_parted names fault says given found told) = tt
+split_allowed split tree bytes texts decision (parted names given none) = ((λ name h. h), λ e. absurd (cc))
+
 decision_allowed : (t : Task) (trees : List Module) (contents texts : List Text) (decision : Decision) → Decides t trees contents decision → DecisionIsAllowed t texts decision
 decision_allowed (Merge merge) trees contents texts decision (not_linked fault text found says) = tt
 decision_allowed (Merge merge) trees contents texts decision (not_joined fault text linked found says) = tt
 decision_allowed (Merge merge) trees contents texts decision (merged tree is) = ((λ name h. h), λ e. refl)
 decision_allowed (Metadce metadce) trees contents texts decision h = let one = of_one metadce trees contents decision h in reduced_allowed metadce one.0 one.2 texts decision one.5
+decision_allowed (Split split) trees contents texts decision h = let one = of_one_split split trees contents decision h in split_allowed split one.0 one.1 texts decision one.4
 
 same_names : (outputs : List Output) → map (λ (o : Output). o.name) outputs ≡ written_names (map spelled_output outputs)
 same_names [] = refl

@@ -3,7 +3,7 @@ use Rattle.std.proofs.Common.{Bool, take, zero, suc, ltb, ◌-◌, ◌↔◌, �
 use Rattle.std.specs.FinMap.{get}
 use Rattle.wasm_bytes.specs.Reading.{IsBytes}
 use Rattle.tool_io.specs.FilesAndSinks.{Contents}
-use Rattle.tools_cli.specs.CommandLine.{Text, MergeTask, Task, Merge, Metadce, source_files, many_of, modules_of, inputs_of}
+use Rattle.tools_cli.specs.CommandLine.{Text, MergeTask, Task, Merge, Metadce, Split, source_files, many_of, modules_of, inputs_of}
 use Rattle.tools_cli.specs.Effects.{Entry}
 use Rattle.tools_cli.specs.Texts.{fault_text, invalid_text, link_text, join_text, over_limit}
 use Rattle.wasm_tree.specs.declared.which.Which.TheVariants.{InputBytes}
@@ -11,6 +11,7 @@ use Rattle.tools_cli.specs.Job.{IsRead, IsAccepted, invalid, Job, Refused, Gathe
 use Rattle.dce_exact_proof.specs.Laws.{ExactMarksAreOne}
 use Rattle.tools_cli.proofs.Kept.{whole_is, short_enough}
 use Rattle.tools_cli.proofs.MetadceDecided.{metadce_once}
+use Rattle.tools_cli.proofs.SplitDecided.{NamesAreRead, split_once}
 use Rattle.wasm_tree.specs.declared.module.Module.{Module}
 use Rattle.wasm_read_spec.specs.declared.fault.ReadFault.{ReadFault}
 use Rattle.wasm_valid.specs.declared.kinds.Invalid.{Invalid}
@@ -37,9 +38,10 @@ FirstIsOne = (many : Bool) (tree : Module) (one other : Invalid) → IsFirstInva
 abbrev pub NoneIsFirst : Type 0
 NoneIsFirst = (many : Bool) (tree : Module) (item : Invalid) → IsValid tree → (many ≡ false → IsSingle tree) → IsFirstInvalid tree many item → ⊥
 
--- what is known of reading, of validity and of reach
+-- what is known of reading, of validity, of reach and of names
 pub record Known : Type 0 where
   pub marks : ExactMarksAreOne
+  pub names : NamesAreRead
   pub trees : TreeIsOne
   pub faults : SpelledHasNoFault
   pub first : FirstIsOne
@@ -152,9 +154,18 @@ merges_once merge trees one other (merged tree is) (merged tree' is') =
     let same : tree ≡ tree' = cc in
     ap (λ (t : Module). Makes (record { name = merge.output; tree = t; custom = [] } ∷ []) []) same
 
-decides_once : Known → (t : Task) (trees : List Module) (contents : List Text) (one other : Decision) → Decides t trees contents one → Decides t trees contents other → one ≡ other
-decides_once known (Merge merge) trees contents one other h k = merges_once merge trees one other h k
-decides_once known (Metadce metadce) trees contents one other h k = metadce_once known.marks metadce trees contents one other h k
+-- the contents of a first file are bytes
+abbrev pub FirstIsBytes : List Text → Type 0
+FirstIsBytes contents = (bytes : Text) (more : List Text) → contents ≡ bytes ∷ more → IsBytes bytes
+
+pub first_is_bytes : (inputs : List Entry) → AreBytes inputs → FirstIsBytes (contents_of inputs)
+first_is_bytes [] are bytes more e = absurd (cc)
+first_is_bytes (x ∷ xs) are bytes more e = let same : x.1 ≡ bytes = cc in subst IsBytes same are.0
+
+decides_once : Known → (t : Task) (trees : List Module) (contents : List Text) → FirstIsBytes contents → (one other : Decision) → Decides t trees contents one → Decides t trees contents other → one ≡ other
+decides_once known (Merge merge) trees contents are one other h k = merges_once merge trees one other h k
+decides_once known (Metadce metadce) trees contents are one other h k = metadce_once known.marks metadce trees contents one other h k
+decides_once known (Split split) trees contents are one other h k = split_once known.names split trees contents are one other h k
 
 pub first_are_bytes : (n : ℕ) (files : List Entry) → AreBytes files → AreBytes (take n files)
 first_are_bytes zero files are = tt
@@ -168,7 +179,7 @@ inputs_once k t inputs are one other (decided trees decision loads d) (not_loade
 inputs_once k t inputs are one other (decided trees decision loads d) (decided trees' decision' loads' d') =
     let P : List Module → Type 0 = λ ts. Decides t ts (contents_of inputs) decision in
     let same = trees_once k (many_of t) (module_files t inputs) trees trees' loads loads' (first_are_bytes (length (modules_of t)) inputs are) in
-    ap job_of (decides_once k t trees' (contents_of inputs) decision decision' (subst P same d) d')
+    ap job_of (decides_once k t trees' (contents_of inputs) (first_is_bytes inputs are) decision decision' (subst P same d) d')
 
 task_jobs_once : Known → (t : Task) (files : Contents) → HoldBytes files → (one other : Job) → TaskJob t files one → TaskJob t files other → one ≡ other
 task_jobs_once reads t files hold one other (not_begun text e) (not_begun text' e') =

@@ -3,7 +3,7 @@ use Rattle.std.proofs.Common.{Bool, true, false, cond, ltb, ◌-◌, ◌≡◌, 
 use Rattle.std.specs.FinMap.{get}
 use Rattle.wasm_bytes.specs.Reading.{IsBytes}
 use Rattle.tool_io.specs.FilesAndSinks.{Contents}
-use Rattle.tools_cli.specs.CommandLine.{Text, Source, MergeTask, Task, Merge, Metadce, task_of, source_files, many_of, modules_of, texts_of, inputs_of}
+use Rattle.tools_cli.specs.CommandLine.{Text, Source, MergeTask, Task, Merge, Metadce, Split, task_of, source_files, many_of, modules_of, texts_of, inputs_of}
 use Rattle.tools_cli.specs.Effects.{Entry}
 use Rattle.tools_cli.specs.Texts.{fault_text, invalid_text, link_text, import_mismatch, import_cycle, limits_clash, global_cycle, too_many_memories}
 use Rattle.tools_cli.specs.Job.{IsRead, IsAccepted, invalid, Job, Gathered, add_first, add_file, HoldBytes, Whole, Lacks, TooLong, gathered, most_input, Loads, loaded, faulty, AllLoad, OneFails, Decision, Merges, not_linked, not_joined, merged, parts_of, Decides, job_of, module_files, contents_of, InputsJob, not_loaded, decided, refused_before, TaskJob, not_begun, missing, too_long, all_read, HasJob, no_task, asked}
@@ -26,16 +26,20 @@ use Rattle.std.proofs.lemmas.List.{length-map}
 use Rattle.dce_exact_proof.specs.Laws.{ExactMarksExist}
 use Rattle.tools_cli.proofs.MergeDecided.{length_parts, length_files}
 use Rattle.tools_cli.proofs.MetadceDecided.{metadce_told}
+use Rattle.tools_cli.proofs.SplitDecided.{NamesAreRead, split_decides}
+use Rattle.split_plan.specs.Causes.{FaultsHaveCauses}
 use Rattle.tools_cli.proofs.Loading.{as_many}
-use Rattle.tools_cli.proofs.Determined.{AreBytes, SpelledHasNoFault, gathered_bytes, first_are_bytes}
+use Rattle.tools_cli.proofs.Determined.{AreBytes, SpelledHasNoFault, FirstIsBytes, gathered_bytes, first_are_bytes, first_is_bytes}
 
 -- a tree is accepted, or has a first item that does not hold
 abbrev pub IsDecided : Bool → Module → Type 0
 IsDecided many tree = IsAccepted many tree ⊎ ((item : Invalid) × IsFirstInvalid tree many item)
 
--- what is known of reading, of validity and of reach
+-- what is known of reading, of validity, of reach, of names and of words
 pub record Known : Type 0 where
   pub marks : ExactMarksExist
+  pub names : NamesAreRead
+  pub words : FaultsHaveCauses
   pub faults : SpelledHasNoFault
   pub causes : (bytes : List ℕ) (many : Bool) (fault : ReadFault) → IsBytes bytes → read_fault bytes many ≡ Some fault → Cause bytes many fault
   pub decided : (many : Bool) (tree : Module) → IsDecided many tree
@@ -119,9 +123,10 @@ merge_told merge trees each (Some fault) e =
     let told = link_told merge fault (λ is. fault_not_memory parts (many_of (Merge merge)) (e ∙ ap Some is)) there in
     (_, not_linked fault told.0 e told.1)
 
-task_told : Known → (t : Task) (trees : List Module) (contents : List Text) → length trees ≡ length (modules_of t) → length contents ≡ length (inputs_of t) → (decision : Decision) × Decides t trees contents decision
-task_told k (Merge merge) trees contents each all = merge_told merge trees (each ∙ length_files merge.sources) _ refl
-task_told k (Metadce metadce) trees contents each all = metadce_told k.marks metadce trees contents each all
+task_told : Known → (t : Task) (trees : List Module) (contents : List Text) → FirstIsBytes contents → length trees ≡ length (modules_of t) → length contents ≡ length (inputs_of t) → (decision : Decision) × Decides t trees contents decision
+task_told k (Merge merge) trees contents are each all = merge_told merge trees (each ∙ length_files merge.sources) _ refl
+task_told k (Metadce metadce) trees contents are each all = metadce_told k.marks metadce trees contents each all
+task_told k (Split split) trees contents are each all = split_decides k.names k.words split trees contents are each all
 
 -- ---- the job
 
@@ -130,11 +135,11 @@ length_first zero xs h = refl
 length_first (suc n) [] h = absurd (omega arith)
 length_first (suc n) (x ∷ xs) h = ap suc (length_first n xs (omega arith))
 
-over_inputs : Known → (t : Task) (inputs : List Entry) → length (modules_of t) ≤ length inputs → length inputs ≡ length (inputs_of t) → AllOrOne (many_of t) (module_files t inputs) → (job : Job) × InputsJob t inputs job
-over_inputs k t inputs enough every (inr (text, fails)) = (_, not_loaded text fails)
-over_inputs k t inputs enough every (inl (trees, all)) =
+over_inputs : Known → (t : Task) (inputs : List Entry) → AreBytes inputs → length (modules_of t) ≤ length inputs → length inputs ≡ length (inputs_of t) → AllOrOne (many_of t) (module_files t inputs) → (job : Job) × InputsJob t inputs job
+over_inputs k t inputs are enough every (inr (text, fails)) = (_, not_loaded text fails)
+over_inputs k t inputs are enough every (inl (trees, all)) =
     let each = as_many (many_of t) (module_files t inputs) trees all ∙ length_first (length (modules_of t)) inputs enough in
-    let told = task_told k t trees (contents_of inputs) each (length-map inputs (λ (e : Entry). e.1) ∙ every) in
+    let told = task_told k t trees (contents_of inputs) (first_is_bytes inputs are) each (length-map inputs (λ (e : Entry). e.1) ∙ every) in
     (job_of told.0, decided trees told.0 all told.1)
 
 -- as many files as names
@@ -162,8 +167,8 @@ begun_job k t files hold begun (Whole inputs) e =
     let count = gathered_count files (inputs_of t) most_input inputs e in
     let both = length-append (modules_of t) (texts_of t) in
     let enough : length (modules_of t) ≤ length inputs = omega arith in
-    let are = first_are_bytes (length (modules_of t)) inputs (gathered_bytes files hold (inputs_of t) most_input inputs e) in
-    let told = over_inputs k t inputs enough count (files_load k (many_of t) (module_files t inputs) are) in
+    let are = gathered_bytes files hold (inputs_of t) most_input inputs e in
+    let told = over_inputs k t inputs are enough count (files_load k (many_of t) (module_files t inputs) (first_are_bytes (length (modules_of t)) inputs are)) in
     (told.0, all_read inputs told.0 begun e told.1)
 
 task_job : Known → (t : Task) (files : Contents) → HoldBytes files → (o : Option Text) → refused_before t ≡ o → (job : Job) × TaskJob t files job

@@ -1,17 +1,37 @@
--- A job that is done keeps the module that it read.
-use Rattle.std.proofs.Common.{IsTrue, Bool, true, false, not, ◌&&◌, cond, ltb, ◌≡◌, ◌∙◌, refl, sym, ap, subst, ℕ, zero, suc, ◌-◌, ◌≤◌, List, [], ◌∷◌, ◌++◌, append-nil, take, length, Option, Some, None, IfSome, IfOk, Result, Ok, ◌<◌, ◌^◌, arith, map}
+-- A job that is done keeps what it read: its decision is sound, by the laws of its command, and what is written of a sound decision is kept, of any command.
+use Rattle.std.proofs.Common.{IsTrue, Bool, true, false, not, cond, ltb, ◌≡◌, ◌∙◌, refl, sym, ap, subst, ℕ, zero, suc, ◌-◌, List, [], ◌∷◌, ◌++◌, append-nil, take, length, Option, Some, None, IfSome, IfOk, Result, Ok, ◌<◌, ◌≤◌, ◌^◌, arith, map, option_map}
+use Rattle.std.specs.Prelude.{IsUtf8, ◌||◌, ◌&&◌, nat_lt}
+use Rattle.std.specs.Option.{option_or}
+use Rattle.std.proofs.lemmas.Bool.{and_parts}
 use Rattle.std.proofs.lemmas.Bool.Decides.{nat_tests}
 use Rattle.std.specs.FinMap.{get, insert, get-insert}
 use Rattle.std.specs.Cmp.{eq_by_cmp_equiv}
+use Rattle.std.specs.List.{list_all, list_any}
+use Rattle.std.specs.Str.{bytes_eq}
+use Rattle.std.proofs.lemmas.Map.Text.{is_eq-slice_cmp}
 use Rattle.std.proofs.lemmas.Cmp.{nat_list_cmp_total}
 use Rattle.tool_io.specs.FilesAndSinks.{Contents}
-use Rattle.tools_cli.specs.CommandLine.{Text, Source, MergeTask, MetadceTask, Task, Merge, Metadce, task_of, source_files, inputs_of}
+use Rattle.tools_cli.specs.CommandLine.{Text, Source, MergeTask, MetadceTask, SplitTask, Task, Merge, Metadce, Split, task_of, many_of, modules_of, texts_of, inputs_of, are_apart}
 use Rattle.merge_names.specs.declared.mode.Mode.{Mode}
 use Rattle.tools_cli.specs.Effects.{Entry, made}
-use Rattle.tools_cli.specs.Job.{IsRead, IsAccepted, Job, Usage, Missing, Refused, Done, Gathered, Whole, Lacks, TooLong, add_first, add_file, gathered, most_input, most_output, Loads, loaded, faulty, invalid, AllLoad, Decision, Merges, not_linked, not_joined, merged, GivesMarks, Reduces, no_graph, not_swept, reduced, Decides, job_of, module_files, contents_of, parts_of, AreMerged, InputsJob, not_loaded, decided, TaskJob, not_begun, missing, too_long, all_read, HasJob, no_task, asked}
+use Rattle.tools_cli.specs.Job.{IsRead, IsAccepted, Job, Usage, Missing, Refused, Done, Gathered, Whole, Lacks, TooLong, add_first, add_file, gathered, most_input, most_output, Loads, loaded, faulty, invalid, AllLoad, Output, Decision, Refuses, Makes, Merges, not_linked, not_joined, merged, GivesMarks, Reduces, no_graph, not_swept, reduced, words_plan, Splits, no_plan, not_parted, parted, Decides, is_within, spelled_output, job_of, module_files, contents_of, parts_of, AreMerged, InputsJob, not_loaded, decided, TaskJob, not_begun, missing, too_long, all_read, HasJob, no_task, asked}
 use Rattle.tools_cli.specs.Run.{EndsDone}
-use Rattle.tools_cli.specs.Unused.{unused_lines}
-use Rattle.tools_cli.specs.Kept.{HoldsModule, HoldModules, TaskKeeps, Keeps, EndsKept}
+use Rattle.tools_cli.specs.Kept.{HoldModules, output_names, Findings, AreMade, equivalence, Holds, Also, TaskKeeps, Keeps, EndsKept, SplitWordsAreText}
+use Rattle.tools_cli.proofs.Apart.{both_of, neither}
+use Rattle.tools_cli.proofs.Deciding.{one_memory}
+use Rattle.tools_cli.proofs.WordTexts.{AreTexts, IsTextTask, task_is_text, task_writes_unlike}
+use Rattle.wasm_valid.proofs.Repeats.{equivalence as same_texts}
+use Rattle.wasm_names.specs.declared.func_name.FuncName.{FuncName}
+use Rattle.split_plan.specs.declared.plans.Plan.{Plan}
+use Rattle.split_plan.specs.Plans.{IsPlan, is_wanted}
+use Rattle.split_plan.proofs.Chosen.{result_shaped}
+use Rattle.split_spec.specs.declared.names.SplitNames.{SplitNames}
+use Rattle.split_spec.specs.declared.faults.SplitFault.TheVariants.{NamespaceTaken, PrefixTaken, TooMany}
+use Rattle.split_spec.specs.Faults.{namespace_taken, prefix_taken, moved_params, too_many, split_fault}
+use Rattle.split_spec.specs.Primary.{primary, primary_with}
+use Rattle.split_spec.specs.Secondary.{secondary, secondary_with}
+use Rattle.split_proof.specs.Premises.{CanMove}
+use Rattle.base_lists.proofs.Places.{map_twice}
 use Rattle.wasm_tree.specs.declared.module.Module.{Module}
 use Rattle.wasm_tree.specs.Bounds.{IsBounded}
 use Rattle.wasm_valid.specs.Validity.{IsValid, IsSingle}
@@ -35,7 +55,9 @@ use Rattle.world_sequential_proof.specs.Laws.{TurnsAreNotSeen}
 use Rattle.merge_spec.specs.View.{linked_world}
 use Rattle.wasm_tree.specs.declared.which.Which.{Which}
 use Rattle.merge_spec.specs.Joined.{joined_module, repeated_name, outcome as merged_outcome}
-use Rattle.module_limits.specs.Counts.{over_limit}
+use Rattle.module_limits.specs.Counts.{or_above, over_limit}
+use Rattle.wasm_tree.specs.Limits.{limit}
+use Rattle.wasm_tree.specs.declared.which.Which.TheVariants.{Trampolines}
 use Rattle.wasm_write_spec.specs.Plain.{plain}
 use Rattle.wasm_tree.specs.MemoryZero.{memory_zero_funcs}
 use Rattle.wasm_write_proof.specs.Ranges.{InRange}
@@ -48,7 +70,7 @@ IsSound p = IsValid p.«module» × IsBounded p.«module»
 abbrev IsWritable : Module → Type 0
 IsWritable m = InRange m × IsTrue (memory_zero_funcs m.funcs)
 
--- what is known of the plain spelling, of merged modules and of what is left of one
+-- what is known of the plain spelling, of merged modules, of what is left of one and of both of a split
 pub record Respelled : Type 0 where
   pub plainly : (tree : Module) → IsWritable tree → length (plain tree) < 2 ^ 32 → Spells (plain tree) tree false
   pub ranges : (bytes : List ℕ) (tree : Module) → Spells bytes tree false → InRange tree
@@ -68,6 +90,21 @@ pub record Respelled : Type 0 where
   pub left_in_range : (k : Marks) (m : Module) → InRange m → IsValid (swept k m) → IsSingle (swept k m) → IsBounded (swept k m) → InRange (swept k m)
   pub left_memory : (k : Marks) (m : Module) → IsValid (swept k m) → IsSingle (swept k m) → IsBounded (swept k m) → IsTrue (memory_zero_funcs (swept k m).funcs)
   pub left_same : SweptModulesShowTheSame
+  pub few_move : (namespace : ℕ → Text) (prefix : Text) (m : Module) (moved : List ℕ) → over_limit (primary_with namespace prefix m moved) ≡ None → length moved < 2 ^ 31
+  pub primary_valid : (namespace : ℕ → Text) (prefix : Text) (m : Module) (moved : List ℕ) → IsValid m → IsBounded m → CanMove m moved → prefix_taken prefix m moved ≡ None → IsValid (primary_with namespace prefix m moved)
+  pub primary_single : (namespace : ℕ → Text) (prefix : Text) (m : Module) (moved : List ℕ) → IsValid m → CanMove m moved → IsSingle m → IsSingle (primary_with namespace prefix m moved)
+  pub primary_sizes : (namespace : ℕ → Text) (prefix : Text) (m : Module) (moved : List ℕ) → IsValid m → IsBounded m → CanMove m moved → over_limit (primary_with namespace prefix m moved) ≡ None → IsBounded (primary_with namespace prefix m moved)
+  pub primary_in_range : (namespace : ℕ → Text) (prefix : Text) (m : Module) (moved : List ℕ) → ((slot : ℕ) → IsUtf8 (namespace slot)) → IsUtf8 prefix → InRange m → IsBounded m → length moved ≤ 2 ^ 31
+      → IsValid (primary_with namespace prefix m moved) → IsSingle (primary_with namespace prefix m moved) → IsBounded (primary_with namespace prefix m moved) → InRange (primary_with namespace prefix m moved)
+  pub primary_memory : (namespace : ℕ → Text) (prefix : Text) (m : Module) (moved : List ℕ) → IsValid (primary_with namespace prefix m moved) → IsSingle (primary_with namespace prefix m moved) → IsBounded (primary_with namespace prefix m moved)
+      → IsTrue (memory_zero_funcs (primary_with namespace prefix m moved).funcs)
+  pub secondary_valid : (names : SplitNames) (m : Module) (moved own : List ℕ) (before : ℕ) → IsValid m → CanMove m own → IsValid (secondary_with names m moved own before)
+  pub secondary_single : (names : SplitNames) (m : Module) (moved own : List ℕ) (before : ℕ) → IsValid m → CanMove m own → IsSingle m → IsSingle (secondary_with names m moved own before)
+  pub secondary_sizes : (names : SplitNames) (m : Module) (moved own : List ℕ) (before : ℕ) → IsValid m → IsBounded m → CanMove m own → over_limit (secondary_with names m moved own before) ≡ None → IsBounded (secondary_with names m moved own before)
+  pub secondary_in_range : (names : SplitNames) (m : Module) (moved own : List ℕ) (before : ℕ) → IsUtf8 names.import_namespace → IsUtf8 names.export_prefix → InRange m → IsBounded m → length moved ≤ 2 ^ 31 → before < 2 ^ 31
+      → IsValid (secondary_with names m moved own before) → IsSingle (secondary_with names m moved own before) → IsBounded (secondary_with names m moved own before) → InRange (secondary_with names m moved own before)
+  pub secondary_memory : (names : SplitNames) (m : Module) (moved own : List ℕ) (before : ℕ) → IsValid (secondary_with names m moved own before) → IsSingle (secondary_with names m moved own before) → IsBounded (secondary_with names m moved own before)
+      → IsTrue (memory_zero_funcs (secondary_with names m moved own before).funcs)
 
 sound_at : (P : Module → Type 0) → ((p : Part) → IsSound p → P p.«module») → (parts : List Part) → Every IsSound parts → (n : ℕ) (m : Module) → module_at parts n ≡ Some m → P m
 sound_at P f [] h n m e = absurd (cc)
@@ -94,23 +131,6 @@ merged_is_sound k parts mode tree sound ranged is =
     let single = k.single parts mode can is.0 in
     let P : Module → Type 0 = λ m. IsAccepted false m × IsWritable m × BehavesAs parts mode m in
     subst P joins.2 (record { valid = valid; single = λ e. single }, (k.in_range parts mode ranged valid single (k.sizes parts mode can), k.memory parts mode valid single (k.sizes parts mode can)), k.same parts mode can)
-
--- what a job that is done keeps
-abbrev pub JobKeeps : List Text → Contents → Job → Type 0
-JobKeeps words before (Done writes lines) = Keeps words before (made writes before)
-JobKeeps words before Usage = Unit {0}
-JobKeeps words before Missing = Unit {0}
-JobKeeps words before (Refused text) = Unit {0}
-
-abbrev pub JobKept : Task → Contents → Job → Type 0
-JobKept task before (Done writes lines) = TaskKeeps task before (made writes before)
-JobKept task before Usage = Unit {0}
-JobKept task before Missing = Unit {0}
-JobKept task before (Refused text) = Unit {0}
-
--- the file under a name that was just written
-written_there : (files : Contents) (name bytes : Text) → get (insert files name bytes) name ≡ Some bytes
-written_there files name bytes = get-insert nat_list_cmp_total files name bytes name ∙ ap (λ b. cond b (Some bytes) (get files name)) ((eq_by_cmp_equiv nat_list_cmp_total).refl name)
 
 -- what was gathered of a first name, and the rest
 abbrev pub IsFirstFile : Text → Option Text → (ℕ → Gathered) → List Entry → Type 0
@@ -184,45 +204,43 @@ parts_in_range k (s ∷ sources) files [] h = tt
 parts_in_range k (s ∷ sources) [] (tree ∷ trees) h = absurd h
 parts_in_range k (s ∷ sources) (file ∷ files) (tree ∷ trees) h = ((loaded_sound k file.0 file.1 tree (Some s.name) h.0).1, parts_in_range k sources files trees h.1)
 
--- the file of an output that is the plain spelling of a tree spells it
-one_written : Respelled → (before : Contents) (name : Text) (tree : Module) → IsWritable tree → length (plain tree) ≤ most_output → HoldsModule false (insert before name (plain tree ++ [])) name tree
-one_written k before name tree writable fits =
-    let short : length (plain tree) < 2 ^ 32 = omega arith in
-    (plain tree, written_there before name (plain tree ++ []) ∙ ap Some (append-nil (plain tree)), k.plainly tree writable short)
+-- ---- what a task makes is sound ----
 
-output_keeps : Respelled → (merge : MergeTask) (before : Contents) (files : List Entry) (trees : List Module) (tree : Module) (b : Bool) → gathered (inputs_of (Merge merge)) before most_input ≡ Whole files → AllLoad false (module_files (Merge merge) files) trees
-    → AreMerged false (parts_of merge.sources trees) merge.mode tree → (b ≡ true → length (plain tree) ≤ most_output) → (text : Text)
-    → JobKept (Merge merge) before (cond b (Done ((merge.output, plain tree ++ []) ∷ []) []) (Refused text))
-output_keeps k merge before files trees tree false e loads is fits text = tt
-output_keeps k merge before files trees tree true e loads is fits text =
+abbrev output_trees : List Output → List Module
+output_trees outputs = map (λ (o : Output). o.tree) outputs
+
+-- an output is valid, and its bytes are a plain spelling that spells it
+abbrev IsSoundOutput : Bool → Output → Type 0
+IsSoundOutput many o = IsAccepted many o.tree × IsWritable o.tree × (o.custom ≡ [])
+
+-- all that is kept of a task that makes these outputs, but for what the files hold
+pub record MakesSoundly (task : Task) (trees : List Module) (contents : List Text) (outputs : List Output) : Type 0 where
+  pub found : Findings task
+  pub made : AreMade task trees contents found (output_trees outputs)
+  pub names : map (λ (o : Output). o.name) outputs ≡ output_names task contents
+  pub each : Every (IsSoundOutput (many_of task)) outputs
+  pub behaves : IfSome (equivalence task found trees (output_trees outputs)) Holds
+  pub also : Also task trees
+
+abbrev IsSoundDecision : (task : Task) → (trees : List Module) → (contents : List Text) → Decision → Type 0
+IsSoundDecision task trees contents (Refuses text) = Unit {0}
+IsSoundDecision task trees contents (Makes outputs lines) = MakesSoundly task trees contents outputs
+
+merge_is_sound : Respelled → (merge : MergeTask) (contents : List Text) (files : List Entry) (trees : List Module) (decision : Decision) → AllLoad false files trees → Merges merge trees decision → IsSoundDecision (Merge merge) trees contents decision
+merge_is_sound k merge contents files trees decision loads (not_linked fault text found says) = tt
+merge_is_sound k merge contents files trees decision loads (not_joined fault text linked found says) = tt
+merge_is_sound k merge contents files trees decision loads (merged tree is) =
     let parts = parts_of merge.sources trees in
-    let files' = module_files (Merge merge) files in
-    let sound = merged_is_sound k parts merge.mode tree (parts_sound k merge.sources files' trees loads) (parts_in_range k merge.sources files' trees loads) is in
+    let sources_sound = parts_sound k merge.sources files trees loads in
+    let sound = merged_is_sound k parts merge.mode tree sources_sound (parts_in_range k merge.sources files trees loads) is in
     record {
-      trees = trees;
-      tree = tree;
-      read = files_hold false before (source_files merge) [] most_input files trees e loads;
-      merged = is;
-      written = one_written k before merge.output tree sound.1 (fits refl);
-      accepted = sound.0;
-      behaves = sound.2;
-      in_turn = k.turns (linked_world parts merge.mode) (sound_at IsValid (λ p h. h.0) parts (parts_sound k merge.sources files' trees loads));
+      found = tt;
+      made = is;
+      names = refl;
+      each = ((sound.0, sound.1, refl), tt);
+      behaves = λ env is named moves n. sound.2 env is tt moves n;
+      also = k.turns (linked_world parts merge.mode) (sound_at IsValid (λ p h. h.0) parts sources_sound);
     }
-
-within_is : (n most : ℕ) (b : Bool) → (not (ltb most n) && true) ≡ b → b ≡ true → n ≤ most
-within_is n most true e is = let less : ltb most n ≡ false = not_true (ltb most n) e in grind (arith, nat_tests)
-  where
-    not_true : (b : Bool) → (not b && true) ≡ true → b ≡ false
-    not_true true e = cc
-    not_true false e = refl
-within_is n most false e is = cc
-
-merge_keeps : Respelled → (merge : MergeTask) (before : Contents) (files : List Entry) (trees : List Module) (decision : Decision) → gathered (inputs_of (Merge merge)) before most_input ≡ Whole files → AllLoad false (module_files (Merge merge) files) trees
-    → Merges merge trees decision → JobKept (Merge merge) before (job_of decision)
-merge_keeps k merge before files trees decision e loads (not_linked fault text found says) = tt
-merge_keeps k merge before files trees decision e loads (not_joined fault text linked found says) = tt
-merge_keeps k merge before files trees decision e loads (merged tree is) =
-    output_keeps k merge before files trees tree (not (ltb most_output (length (plain tree))) && true) e loads is (within_is (length (plain tree)) most_output _ refl) _
 
 -- ---- what is left of a module ----
 
@@ -245,64 +263,245 @@ left_is_sound k marks file bytes tree left loads closed is =
       k.left_same marks tree loaded.1.valid closed,
     )
 
--- the two files of a metadce, where it has read them
-abbrev HoldBoth : MetadceTask → Contents → Entry → Entry → Type 0
-HoldBoth metadce before file text = (get before metadce.file ≡ Some file.1) × (get before metadce.graph_file ≡ Some text.1)
-
-hold_both : (metadce : MetadceTask) (before : Contents) (file text : Entry) → gathered (inputs_of (Metadce metadce)) before most_input ≡ Whole (file ∷ text ∷ []) → HoldBoth metadce before file text
-hold_both metadce before file text e =
-    let held : get before metadce.file ∷ get before metadce.graph_file ∷ [] ≡ Some file.1 ∷ Some text.1 ∷ [] = gathered_held before (inputs_of (Metadce metadce)) most_input (file ∷ text ∷ []) e in
-    let first : get before metadce.file ≡ Some file.1 = cc in
-    let second : get before metadce.graph_file ≡ Some text.1 = cc in
-    (first, second)
-
-left_keeps : Respelled → (metadce : MetadceTask) (before : Contents) (file text : Entry) (tree left : Module) (g : Graph) (marks : Reached) (b : Bool) (lines refusal : Text) → HoldBoth metadce before file text → Loads false file.0 file.1 (Ok tree)
-    → GivesMarks text.1 tree g marks → Sweeps (marks_of marks) tree (Ok left) → (b ≡ true → length (plain left) ≤ most_output)
-    → JobKept (Metadce metadce) before (cond b (Done ((metadce.output, plain left ++ []) ∷ []) lines) (Refused refusal))
-left_keeps k metadce before file text tree left g marks false lines refusal held loads is left_is fits = tt
-left_keeps k metadce before file text tree left g marks true lines refusal held loads is left_is fits =
+left_makes : Respelled → (metadce : MetadceTask) (file text : Entry) (tree left : Module) (graph : Graph) (marks : Reached) → Loads false file.0 file.1 (Ok tree) → GivesMarks text.1 tree graph marks → Sweeps (marks_of marks) tree (Ok left)
+    → MakesSoundly (Metadce metadce) (tree ∷ []) (file.1 ∷ text.1 ∷ []) (record { name = metadce.output; tree = left; custom = [] } ∷ [])
+left_makes k metadce file text tree left graph marks loads is left_is =
     let loaded = loaded_is false file.0 file.1 (Ok tree) loads in
-    let sound = left_is_sound k (marks_of marks) file.0 file.1 tree left loads (k.closed g tree marks loaded.1.valid is.exact) left_is in
+    let sound = left_is_sound k (marks_of marks) file.0 file.1 tree left loads (k.closed graph tree marks loaded.1.valid is.exact) left_is in
     record {
-      tree = tree;
-      graph = g;
-      marks = marks;
-      left = left;
-      read = (file.1, held.0, loaded.0.spelled);
-      graphed = (text.1, held.1, is.read);
-      exact = is.exact;
-      swept = left_is;
-      written = one_written k before metadce.output left sound.1 (fits refl);
-      accepted = sound.0;
+      found = marks;
+      made = (graph, is, left_is);
+      names = refl;
+      each = ((sound.0, sound.1, refl), tt);
       behaves = sound.2;
+      also = tt;
     }
 
-reduces_keep : Respelled → (metadce : MetadceTask) (before : Contents) (file text : Entry) (tree : Module) (decision : Decision) → HoldBoth metadce before file text → Loads false file.0 file.1 (Ok tree) → Reduces metadce tree text.1 decision
-    → JobKept (Metadce metadce) before (job_of decision)
-reduces_keep k metadce before file text tree decision held loads (no_graph fault says found told) = tt
-reduces_keep k metadce before file text tree decision held loads (not_swept g marks fault says is found told) = tt
-reduces_keep k metadce before file text tree decision held loads (reduced g marks left unused is found lists) =
-    left_keeps k metadce before file text tree left g marks (not (ltb most_output (length (plain left))) && true) (unused_lines unused) _ held loads is found (within_is (length (plain left)) most_output _ refl)
+reducing_is_sound : Respelled → (metadce : MetadceTask) (file text : Entry) (tree : Module) (decision : Decision) → Loads false file.0 file.1 (Ok tree) → Reduces metadce tree text.1 decision
+    → IsSoundDecision (Metadce metadce) (tree ∷ []) (file.1 ∷ text.1 ∷ []) decision
+reducing_is_sound k metadce file text tree decision loads (no_graph fault says found told) = tt
+reducing_is_sound k metadce file text tree decision loads (not_swept graph marks fault says is found told) = tt
+reducing_is_sound k metadce file text tree decision loads (reduced graph marks left unused is found lists) = left_makes k metadce file text tree left graph marks loads is found
 
-metadce_keeps : Respelled → (metadce : MetadceTask) (before : Contents) (files : List Entry) (trees : List Module) (decision : Decision) → gathered (inputs_of (Metadce metadce)) before most_input ≡ Whole files
-    → AllLoad false (module_files (Metadce metadce) files) trees → Decides (Metadce metadce) trees (contents_of files) decision → JobKept (Metadce metadce) before (job_of decision)
-metadce_keeps k metadce before files [] decision e loads h = absurd h
-metadce_keeps k metadce before [] (tree ∷ []) decision e loads h = absurd h
-metadce_keeps k metadce before (file ∷ []) (tree ∷ []) decision e loads h = absurd h
-metadce_keeps k metadce before (file ∷ text ∷ []) (tree ∷ []) decision e loads h = reduces_keep k metadce before file text tree decision (hold_both metadce before file text e) loads.0 h
-metadce_keeps k metadce before (file ∷ text ∷ other ∷ files) (tree ∷ []) decision e loads h = absurd h
-metadce_keeps k metadce before files (tree ∷ other ∷ trees) decision e loads h = absurd h
+metadce_is_sound : Respelled → (metadce : MetadceTask) (files : List Entry) (trees : List Module) (decision : Decision) → AllLoad false (module_files (Metadce metadce) files) trees → Decides (Metadce metadce) trees (contents_of files) decision
+    → IsSoundDecision (Metadce metadce) trees (contents_of files) decision
+metadce_is_sound k metadce files [] decision loads h = absurd h
+metadce_is_sound k metadce [] (tree ∷ []) decision loads h = absurd h
+metadce_is_sound k metadce (file ∷ []) (tree ∷ []) decision loads h = absurd h
+metadce_is_sound k metadce (file ∷ text ∷ []) (tree ∷ []) decision loads h = reducing_is_sound k metadce file text tree decision loads.0 h
+metadce_is_sound k metadce (file ∷ text ∷ other ∷ files) (tree ∷ []) decision loads h = absurd h
+metadce_is_sound k metadce files (tree ∷ other ∷ trees) decision loads h = absurd h
 
-inputs_keep : Respelled → (task : Task) (before : Contents) (files : List Entry) (job : Job) → gathered (inputs_of task) before most_input ≡ Whole files → InputsJob task files job → JobKept task before job
-inputs_keep k task before files job e (not_loaded text h) = tt
-inputs_keep k (Merge merge) before files job e (decided trees decision loads h) = merge_keeps k merge before files trees decision e loads h
-inputs_keep k (Metadce metadce) before files job e (decided trees decision loads h) = metadce_keeps k metadce before files trees decision e loads h
+-- ---- both modules of a split ----
 
-task_keeps : Respelled → (task : Task) (before : Contents) (job : Job) → TaskJob task before job → JobKept task before job
-task_keeps k task before job (not_begun text e) = tt
-task_keeps k task before job (missing name begun e) = tt
-task_keeps k task before job (too_long name begun e) = tt
-task_keeps k task before job (all_read files _ begun e h) = inputs_keep k task before files job e h
+-- what has no fault
+none_of_both : {A : Type 0} (a b : Option A) → option_or a b ≡ None → (a ≡ None) × (b ≡ None)
+none_of_both None b e = (refl, e)
+none_of_both (Some x) b e = absurd (cc)
+
+none_from : {A B : Type 0} (f : A → B) (o : Option A) → option_map f o ≡ None → o ≡ None
+none_from f None e = refl
+none_from f (Some x) e = absurd (cc)
+
+none_above : (n : ℕ) (which : Which) (rest : Option Which) → or_above n which rest ≡ None → rest ≡ None
+none_above n which rest e = by (nat_lt (limit which) n) e
+  where
+    by : (b : Bool) → cond b (Some which) rest ≡ None → rest ≡ None
+    by true e = absurd (cc)
+    by false e = e
+
+-- no added name is taken, and no count of either module is above its limit
+abbrev HasNoFault : SplitNames → Module → List ℕ → Type 0
+HasNoFault names m moved = (prefix_taken names.export_prefix m moved ≡ None) × (over_limit (primary names m moved) ≡ None) × (over_limit (secondary names m moved) ≡ None)
+
+no_fault : (names : SplitNames) (m : Module) (moved : List ℕ) → split_fault names m moved ≡ None → HasNoFault names m moved
+no_fault names m moved e =
+    let first = none_of_both (option_map NamespaceTaken (namespace_taken names.placeholder_namespace m)) (option_or (option_map PrefixTaken (prefix_taken names.export_prefix m moved)) (option_map TooMany (too_many names m moved))) e in
+    let second = none_of_both (option_map PrefixTaken (prefix_taken names.export_prefix m moved)) (option_map TooMany (too_many names m moved)) first.1 in
+    let counts = none_above (moved_params m moved) Trampolines (option_or (over_limit (primary names m moved)) (over_limit (secondary names m moved))) (none_from TooMany (too_many names m moved) second.1) in
+    let both = none_of_both (over_limit (primary names m moved)) (over_limit (secondary names m moved)) counts in
+    (none_from PrefixTaken (prefix_taken names.export_prefix m moved) second.0, both.0, both.1)
+
+-- functions that words tell can move
+can_move : (split : SplitTask) (tree : Module) (names : List FuncName) → CanMove tree (words_plan split tree names).moved
+can_move split tree names = shaped.moved
+  where
+    ok : Result Plan (Unit {0})
+    ok = Ok (words_plan split tree names)
+
+    shaped : IsPlan tree (words_plan split tree names)
+    shaped = result_shaped tree (is_wanted tree names split.words.split split.words.keep) ok refl
+
+pair_is_sound : Respelled → (names : SplitNames) (bytes : Text) (tree : Module) (moved : List ℕ) → AreTexts names → IsRead false bytes tree → IsAccepted false tree → CanMove tree moved → HasNoFault names tree moved
+    → (IsAccepted false (secondary names tree moved) × IsWritable (secondary names tree moved)) × (IsAccepted false (primary names tree moved) × IsWritable (primary names tree moved))
+pair_is_sound k names bytes tree moved text read accepted can none =
+    let namespace : ℕ → Text = λ slot. names.placeholder_namespace in
+    let prefix = names.export_prefix in
+    let bounded = k.bounded bytes tree read.spelled read.within in
+    let ranges = k.ranges bytes tree read.spelled in
+    let single = accepted.single refl in
+    let below = k.few_move namespace prefix tree moved none.1 in
+    let few : length moved ≤ 2 ^ 31 = omega arith in
+    let first_valid = k.secondary_valid names tree moved moved 0 accepted.valid can in
+    let first_single = k.secondary_single names tree moved moved 0 accepted.valid can single in
+    let first_sizes = k.secondary_sizes names tree moved moved 0 accepted.valid bounded can none.2 in
+    let second_valid = k.primary_valid namespace prefix tree moved accepted.valid bounded can none.0 in
+    let second_single = k.primary_single namespace prefix tree moved accepted.valid can single in
+    let second_sizes = k.primary_sizes namespace prefix tree moved accepted.valid bounded can none.1 in (
+      (
+        record { valid = first_valid; single = λ e. first_single },
+        (k.secondary_in_range names tree moved moved 0 text.0 text.2 ranges bounded few (omega arith) first_valid first_single first_sizes, k.secondary_memory names tree moved moved 0 first_valid first_single first_sizes),
+      ),
+      (
+        record { valid = second_valid; single = λ e. second_single },
+        (k.primary_in_range namespace prefix tree moved (λ slot. text.1) text.2 ranges bounded few second_valid second_single second_sizes, k.primary_memory namespace prefix tree moved second_valid second_single second_sizes),
+      ),
+    )
+
+splitting_is_sound : Respelled → (split : SplitTask) (file : Entry) (tree : Module) (decision : Decision) → AreTexts split.names → Loads false file.0 file.1 (Ok tree) → Splits split tree file.1 decision
+    → IsSoundDecision (Split split) (tree ∷ []) (file.1 ∷ []) decision
+splitting_is_sound k split file tree decision text loads (no_plan names fault says named found told) = tt
+splitting_is_sound k split file tree decision text loads (not_parted names fault says given found told) = tt
+splitting_is_sound k split file tree decision text loads (parted names given none) =
+    let loaded = loaded_is false file.0 file.1 (Ok tree) loads in
+    let moved = (words_plan split tree names).moved in
+    let sound = pair_is_sound k split.names file.1 tree moved text loaded.0 loaded.1 (can_move split tree names) (no_fault split.names tree moved none) in
+    record {
+      found = names;
+      made = (given, none, refl, refl);
+      names = refl;
+      each = ((sound.0.0, sound.0.1, refl), ((sound.1.0, sound.1.1, refl), tt));
+      behaves = tt;
+      also = tt;
+    }
+
+split_is_sound : Respelled → (split : SplitTask) (files : List Entry) (trees : List Module) (decision : Decision) → AreTexts split.names → AllLoad false (module_files (Split split) files) trees → Decides (Split split) trees (contents_of files) decision
+    → IsSoundDecision (Split split) trees (contents_of files) decision
+split_is_sound k split files [] decision text loads h = absurd h
+split_is_sound k split [] (tree ∷ []) decision text loads h = absurd h
+split_is_sound k split (file ∷ []) (tree ∷ []) decision text loads h = splitting_is_sound k split file tree decision text loads.0 h
+split_is_sound k split (file ∷ other ∷ files) (tree ∷ []) decision text loads h = absurd h
+split_is_sound k split files (tree ∷ other ∷ trees) decision text loads h = absurd h
+
+-- ---- all commands ----
+
+decision_is_sound : Respelled → (task : Task) (files : List Entry) (trees : List Module) (decision : Decision) → IsTextTask task → AllLoad (many_of task) (module_files task files) trees → Decides task trees (contents_of files) decision
+    → IsSoundDecision task trees (contents_of files) decision
+decision_is_sound k (Merge merge) files trees decision text loads h = merge_is_sound k merge (contents_of files) (module_files (Merge merge) files) trees decision loads h
+decision_is_sound k (Metadce metadce) files trees decision text loads h = metadce_is_sound k metadce files trees decision loads h
+decision_is_sound k (Split split) files trees decision text loads h = split_is_sound k split files trees decision text loads h
+
+-- no two outputs of a task have one name
+abbrev AreOutputsApart : Task → Type 0
+AreOutputsApart task = (contents : List Text) → are_apart (output_names task contents) ≡ true
+
+outputs_apart : (words : List Text) (task : Task) → task_of words ≡ Some task → AreOutputsApart task
+outputs_apart words (Merge merge) e contents = refl
+outputs_apart words (Metadce metadce) e contents = refl
+outputs_apart words (Split split) e contents = ap (λ b. not (b || false) && true) (same_texts.symm split.outputs.secondary split.outputs.primary ∙ task_writes_unlike words (Split split) e)
+
+-- ---- what is written ----
+
+-- the file under a name that was just written, and under another
+written_there : (files : Contents) (name bytes : Text) → get (insert files name bytes) name ≡ Some bytes
+written_there files name bytes = get-insert nat_list_cmp_total files name bytes name ∙ ap (λ b. cond b (Some bytes) (get files name)) ((eq_by_cmp_equiv nat_list_cmp_total).refl name)
+
+written_elsewhere : (files : Contents) (name other bytes : Text) → bytes_eq name other ≡ false → get (insert files other bytes) name ≡ get files name
+written_elsewhere files name other bytes e =
+    get-insert nat_list_cmp_total files other bytes name ∙ ap (λ b. cond b (Some bytes) (get files name)) (is_eq-slice_cmp name other ∙ e)
+
+others_stay : (name : Text) (outputs : List Output) (files : Contents) → list_any (bytes_eq name) (map (λ (o : Output). o.name) outputs) ≡ false → get (made (map spelled_output outputs) files) name ≡ get files name
+others_stay name [] files e = refl
+others_stay name (o ∷ outputs) files e =
+    let unlike = neither (bytes_eq name o.name) (list_any (bytes_eq name) (map (λ (o : Output). o.name) outputs)) e in
+    others_stay name outputs (insert files o.name (plain o.tree ++ o.custom)) unlike.1 ∙ written_elsewhere files name o.name (plain o.tree ++ o.custom) unlike.0
+
+-- an output within the limit whose bytes are the plain spelling of its tree spells it
+output_spells : Respelled → (o : Output) → is_within o ≡ true → IsSoundOutput false o → Spells (plain o.tree ++ o.custom) o.tree false
+output_spells k o within is =
+    let short : length (plain o.tree) < 2 ^ 32 = few (ltb most_output (length (plain o.tree))) refl within in
+    let P : Text → Type 0 = λ t. Spells t o.tree false in
+    subst P (sym (append-nil (plain o.tree)) ∙ ap (λ c. plain o.tree ++ c) (sym is.2)) (k.plainly o.tree is.1 short)
+  where
+    few : (b : Bool) → ltb most_output (length (plain o.tree)) ≡ b → not b ≡ true → length (plain o.tree) < 2 ^ 32
+    few true e h = cc
+    few false e h = grind (arith, nat_tests)
+
+-- so after all writes each file spells its output, where they have names apart
+outputs_written : Respelled → (outputs : List Output) (files : Contents) → are_apart (map (λ (o : Output). o.name) outputs) ≡ true → list_all is_within outputs ≡ true → Every (IsSoundOutput false) outputs
+    → HoldModules false (made (map spelled_output outputs) files) (map (λ (o : Output). o.name) outputs) (output_trees outputs)
+outputs_written k [] files apart within each = tt
+outputs_written k (o ∷ outputs) files apart within each =
+    let unlike = both_of (list_any (bytes_eq o.name) (map (λ (o : Output). o.name) outputs)) (are_apart (map (λ (o : Output). o.name) outputs)) apart in
+    let fit = and_parts (is_within o) (list_all is_within outputs) within in
+    let bytes = plain o.tree ++ o.custom in
+    ((bytes, others_stay o.name outputs (insert files o.name bytes) unlike.0 ∙ written_there files o.name bytes, output_spells k o fit.0 each.0), outputs_written k outputs (insert files o.name bytes) unlike.1 fit.1 each.1)
+
+each_accepted : (many : Bool) (outputs : List Output) → Every (IsSoundOutput many) outputs → Every (IsAccepted many) (output_trees outputs)
+each_accepted many [] h = tt
+each_accepted many (o ∷ outputs) h = (h.0.0, each_accepted many outputs h.1)
+
+-- ---- what a job that is done keeps ----
+
+abbrev pub JobKeeps : List Text → Contents → Job → Type 0
+JobKeeps words before (Done writes lines) = Keeps words before (made writes before)
+JobKeeps words before Usage = Unit {0}
+JobKeeps words before Missing = Unit {0}
+JobKeeps words before (Refused text) = Unit {0}
+
+abbrev pub JobKept : Task → Contents → Job → Type 0
+JobKept task before (Done writes lines) = TaskKeeps task before (made writes before)
+JobKept task before Usage = Unit {0}
+JobKept task before Missing = Unit {0}
+JobKept task before (Refused text) = Unit {0}
+
+-- the files hold the outputs under the names of the task, whether it allows several memories or not
+held_by_name : (many : Bool) (after : Contents) (names others : List Text) (trees : List Module) → many ≡ false → names ≡ others → HoldModules false after names trees → HoldModules many after others trees
+held_by_name many after names others trees one same h =
+    let P : Bool → Type 0 = λ b. HoldModules b after others trees in
+    let Q : List Text → Type 0 = λ l. HoldModules false after l trees in
+    subst P (sym one) (subst Q same h)
+
+task_written : Respelled → (task : Task) (trees : List Module) (contents : List Text) (outputs : List Output) (before : Contents) → AreOutputsApart task → MakesSoundly task trees contents outputs → list_all is_within outputs ≡ true
+    → HoldModules (many_of task) (made (map spelled_output outputs) before) (output_names task contents) (output_trees outputs)
+task_written k task trees contents outputs before apart sound within =
+    let P : List Text → Type 0 = λ l. are_apart l ≡ true in
+    let Q : Bool → Type 0 = λ b. Every (IsSoundOutput b) outputs in
+    held_by_name (many_of task) (made (map spelled_output outputs) before) (map (λ (o : Output). o.name) outputs) (output_names task contents) (output_trees outputs) (one_memory task) sound.names
+    (outputs_written k outputs before (subst P (sym sound.names) (apart contents)) within (subst Q (one_memory task) sound.each))
+
+makes_keep : Respelled → (task : Task) (before : Contents) (files : List Entry) (trees : List Module) (outputs : List Output) (lines refusal : Text) (b : Bool) → AreOutputsApart task → gathered (inputs_of task) before most_input ≡ Whole files
+    → AllLoad (many_of task) (module_files task files) trees → MakesSoundly task trees (contents_of files) outputs → list_all is_within outputs ≡ b → JobKept task before (cond b (Done (map spelled_output outputs) lines) (Refused refusal))
+makes_keep k task before files trees outputs lines refusal false apart e loads sound within = tt
+makes_keep k task before files trees outputs lines refusal true apart e loads sound within =
+    record {
+      trees = trees;
+      contents = contents_of files;
+      found = sound.found;
+      outputs = output_trees outputs;
+      read = files_hold (many_of task) before (modules_of task) (texts_of task) most_input files trees e loads;
+      held = gathered_held before (inputs_of task) most_input files e ∙ sym (map_twice Some (λ (e : Entry). e.1) files);
+      made = sound.made;
+      written = task_written k task trees (contents_of files) outputs before apart sound within;
+      accepted = each_accepted (many_of task) outputs sound.each;
+      behaves = sound.behaves;
+      also = sound.also;
+    }
+
+decision_keeps : Respelled → (task : Task) (before : Contents) (files : List Entry) (trees : List Module) (decision : Decision) → AreOutputsApart task → gathered (inputs_of task) before most_input ≡ Whole files
+    → AllLoad (many_of task) (module_files task files) trees → IsSoundDecision task trees (contents_of files) decision → JobKept task before (job_of decision)
+decision_keeps k task before files trees (Refuses text) apart e loads sound = tt
+decision_keeps k task before files trees (Makes outputs lines) apart e loads sound = makes_keep k task before files trees outputs lines _ (list_all is_within outputs) apart e loads sound refl
+
+inputs_keep : Respelled → (task : Task) (before : Contents) (files : List Entry) (job : Job) → IsTextTask task → AreOutputsApart task → gathered (inputs_of task) before most_input ≡ Whole files → InputsJob task files job → JobKept task before job
+inputs_keep k task before files job text_task apart e (not_loaded text h) = tt
+inputs_keep k task before files job text_task apart e (decided trees decision loads h) = decision_keeps k task before files trees decision apart e loads (decision_is_sound k task files trees decision text_task loads h)
+
+task_keeps : Respelled → (task : Task) (before : Contents) (job : Job) → IsTextTask task → AreOutputsApart task → TaskJob task before job → JobKept task before job
+task_keeps k task before job text_task apart (not_begun text e) = tt
+task_keeps k task before job text_task apart (missing name begun e) = tt
+task_keeps k task before job text_task apart (too_long name begun e) = tt
+task_keeps k task before job text_task apart (all_read files _ begun e h) = inputs_keep k task before files job text_task apart e h
 
 words_keep : (words : List Text) (task : Task) (before : Contents) (job : Job) → task_of words ≡ Some task → JobKept task before job → JobKeeps words before job
 words_keep words task before (Done writes lines) e h = (task, e, h)
@@ -310,17 +509,22 @@ words_keep words task before Usage e h = tt
 words_keep words task before Missing e h = tt
 words_keep words task before (Refused text) e h = tt
 
-job_keeps : Respelled → (words : List Text) (before : Contents) (job : Job) → HasJob words before job → JobKeeps words before job
-job_keeps k words before job (no_task e) = tt
-job_keeps k words before job (asked task _ e h) = words_keep words task before job e (task_keeps k task before job h)
+names_are_text : (words : List Text) → SplitWordsAreText words → (task : Task) → task_of words ≡ Some task → IsTextTask task
+names_are_text words text (Merge merge) e = tt
+names_are_text words text (Metadce metadce) e = tt
+names_are_text words text (Split split) e = task_is_text words (text split e) (Split split) e
 
-pub done_keeps : Respelled → (words : List Text) (before : Contents) (writes : List Entry) (lines : Text) → HasJob words before (Done writes lines) → Keeps words before (made writes before)
-done_keeps k words before writes lines h = job_keeps k words before (Done writes lines) h
+job_keeps : Respelled → (words : List Text) (before : Contents) (job : Job) → SplitWordsAreText words → HasJob words before job → JobKeeps words before job
+job_keeps k words before job text (no_task e) = tt
+job_keeps k words before job text (asked task _ e h) = words_keep words task before job e (task_keeps k task before job (names_are_text words text task e) (outputs_apart words task e) h)
+
+pub done_keeps : Respelled → (words : List Text) (before : Contents) (writes : List Entry) (lines : Text) → SplitWordsAreText words → HasJob words before (Done writes lines) → Keeps words before (made writes before)
+done_keeps k words before writes lines text h = job_keeps k words before (Done writes lines) text h
 
 -- and so does a run that ends done
 abbrev pub DoneKeeps : Type 0
-DoneKeeps = (words : List Text) (before : Contents) (writes : List Entry) (lines : Text) → HasJob words before (Done writes lines) → Keeps words before (made writes before)
+DoneKeeps = (words : List Text) (before : Contents) (writes : List Entry) (lines : Text) → SplitWordsAreText words → HasJob words before (Done writes lines) → Keeps words before (made writes before)
 
-pub end_keeps : DoneKeeps → (held new : Option Contents) (words : List Text) (out out' : Option Text) → IfSome held (λ before. EndsDone words before new out out') → IfSome held (λ before. EndsKept words before new)
-end_keeps law None new words out out' h = tt
-end_keeps law (Some before) new words out out' (writes, lines, job, (made_all, gains)) = (made writes before, made_all, law words before writes lines job)
+pub end_keeps : DoneKeeps → (held new : Option Contents) (words : List Text) (out out' : Option Text) → SplitWordsAreText words → IfSome held (λ before. EndsDone words before new out out') → IfSome held (λ before. EndsKept words before new)
+end_keeps law None new words out out' text h = tt
+end_keeps law (Some before) new words out out' text (writes, lines, job, (made_all, gains)) = (made writes before, made_all, law words before writes lines text job)

@@ -6,12 +6,14 @@ pub mod Loading
 pub mod MergeDecided
 pub mod UnusedNames
 pub mod MetadceDecided
+pub mod SplitDecided
 pub mod Deciding
 pub mod Encoding
 pub mod Determined
 pub mod FirstItems
 pub mod Existing
 pub mod Accepted
+pub mod WordTexts
 pub mod Kept
 pub mod Lines
 pub mod Apart

@@ -1,12 +1,14 @@
 -- Words that are read one by one.
 use Rattle.std.proofs.lemmas.Bool.Decides.{nat_tests}
-use Rattle.std.specs.Prelude.{◌&&◌, ◌==◌, is_none, bytes_eq}
+use Rattle.std.specs.Prelude.{◌&&◌, ◌||◌, ◌==◌, is_none, is_some, unwrap_or, option_to_list, bytes_eq}
+use Rattle.std.specs.Option.{option_flatten}
+use Rattle.std.specs.List.{list_any}
+use Rattle.wasm_valid.proofs.Repeats.{equivalence}
 use Rattle.std.proofs.Common.{◌≡◌, ◌∙◌, refl, sym, ap, ap₂, ◌++◌, ℕ, suc, ◌+◌, ◌<◌, arith, add-one, map, drop, drop-cons, length, get_or, Bool, true, false, cond, List, [], ◌∷◌, append_assoc, append-nil, Option, Some, None, option_map, option_and_then}
 use Rattle.std.specs.Borrow.{Bor}
-use Rattle.tools_cli.specs.Words.{Text, Vocabulary, Argument, Value, Flag, Plain, OptionValue, Arguments, behind, long_name, takes_value, next_argument, add_argument, said_from, arguments_of, values_of}
+use Rattle.tools_cli.specs.Words.{Text, Vocabulary, Argument, Value, Flag, Plain, OptionValue, Arguments, behind, long_name, takes_value, next_argument, add_argument, said_from, arguments_of, values_of, only, at_most_one}
 use Rattle.tools_cli.specs.CommandLine.{Source, are_apart, some_apart, make_merge}
 use Rattle.merge_names.specs.declared.mode.Mode.{Mode}
-use Rattle.std.proofs.lemmas.List.{map-append}
 use Rattle.tools_cli.specs.Command.{join_arguments, names_of}
 use Rattle.tools_cli.specs.Sources.{source_values, source_names}
 use Rattle.tools_cli.specs.declared.merge.Source as code
@@ -86,16 +88,54 @@ right_word v due arguments whole word said rest test e h =
 
 -- ---- values and words that are looked up ----
 
--- the first value is one of the option, or not
-pub kept_value : (option : Text) (found : List Text) (v : OptionValue) (rest : List OptionValue) (whole : List Text) → bytes_eq v.option option ≡ true → found ++ values_of option (v ∷ rest) ≡ whole → (found ++ v.value ∷ []) ++ values_of option rest ≡ whole
-kept_value option found v rest whole e h = append_assoc found (v.value ∷ []) (values_of option rest) ∙ ap (λ b. found ++ cond b (v.value ∷ values_of option rest) (values_of option rest)) (sym e) ∙ h
+-- a value that is found of an option, where another was found or not, and one of another option
+abbrev pub found_then : Option (Bor Text) → List Text → Option (Option Text)
+found_then found more = at_most_one (option_to_list (option_map (λ t. t.now) found) ++ more)
 
-pub passed_value : (option : Text) (found : List Text) (v : OptionValue) (rest : List OptionValue) (whole : List Text) → bytes_eq v.option option ≡ false → found ++ values_of option (v ∷ rest) ≡ whole → found ++ values_of option rest ≡ whole
-passed_value option found v rest whole e h = ap (λ b. found ++ cond b (v.value ∷ values_of option rest) (values_of option rest)) (sym e) ∙ h
+pub found_again : (option : Text) (found : Option (Bor Text)) (v : OptionValue) (rest : List OptionValue) (whole : Option (Option Text)) → is_some found ≡ true → bytes_eq v.option option ≡ true → found_then found (values_of option (v ∷ rest)) ≡ whole → None ≡ whole
+found_again option None v rest whole some is e = absurd (cc)
+found_again option (Some x) v rest whole some is e = ap (λ b. at_most_one (x.now ∷ cond b (v.value ∷ values_of option rest) (values_of option rest))) (sym is) ∙ e
 
--- the names that are found, and one more
-pub one_found_more : (found more : List (Bor Text)) (x : Bor Text) → more ≡ found ++ x ∷ [] → names_of more ≡ names_of found ++ x.now ∷ []
-one_found_more found more x e = ap names_of e ∙ map-append (λ w. w.now) found (x ∷ [])
+pub found_first : (option : Text) (found : Option (Bor Text)) (value : Bor Text) (v : OptionValue) (rest : List OptionValue) (whole : Option (Option Text)) → is_some found ≡ false → bytes_eq v.option option ≡ true → value.now ≡ v.value
+    → found_then found (values_of option (v ∷ rest)) ≡ whole → found_then (Some value) (values_of option rest) ≡ whole
+found_first option (Some x) value v rest whole none is same e = absurd (cc)
+found_first option None value v rest whole none is same e = ap (λ x. at_most_one (x ∷ values_of option rest)) same ∙ ap (λ b. at_most_one (cond b (v.value ∷ values_of option rest) (values_of option rest))) (sym is) ∙ e
+
+pub passed_value : (option : Text) (found : Option (Bor Text)) (v : OptionValue) (rest : List OptionValue) (whole : Option (Option Text)) → bytes_eq v.option option ≡ false → found_then found (values_of option (v ∷ rest)) ≡ whole → found_then found (values_of option rest) ≡ whole
+passed_value option found v rest whole is e = ap (λ b. found_then found (cond b (v.value ∷ values_of option rest) (values_of option rest))) (sym is) ∙ e
+
+pub all_found : (found : Option (Bor Text)) (whole : Option (Option Text)) → found_then found [] ≡ whole → Some (option_map (λ t. t.now) found) ≡ whole
+all_found None whole e = e
+all_found (Some x) whole e = e
+
+pub only_from : (r : Option (Option (Bor Text))) (values : List Text) → option_map (option_map (λ t. t.now)) r ≡ at_most_one values → option_map (λ t. t.now) (option_flatten r) ≡ only values
+only_from None [] e = absurd (cc)
+only_from (Some None) [] e = refl
+only_from (Some (Some x)) [] e = absurd (cc)
+only_from None (v ∷ []) e = absurd (cc)
+only_from (Some None) (v ∷ []) e = absurd (cc)
+only_from (Some (Some x)) (v ∷ []) e = cc
+only_from None (v ∷ w ∷ values) e = refl
+only_from (Some r) (v ∷ w ∷ values) e = absurd (cc)
+
+-- a text, or another in its place
+pub one_or : (o : Option (Bor Text)) (other : Bor Text) → (unwrap_or o other).now ≡ unwrap_or (option_map (λ t. t.now) o) other.now
+one_or None other = refl
+one_or (Some x) other = refl
+
+-- all words of a list are taken
+pub all_taken : (words whole : List Text) (rest : List (Bor Text)) → length rest ≡ 0 → words ++ names_of rest ≡ whole → words ≡ whole
+all_taken words whole [] none e = sym (append-nil words) ∙ e
+all_taken words whole (x ∷ rest) none e = absurd (omega arith)
+
+pub one_taken : (words more whole : List Text) (word : Text) (x : Bor Text) (items rest : List (Bor Text)) → more ≡ words ++ word ∷ [] → word ≡ x.now → items ≡ x ∷ rest → words ++ names_of items ≡ whole → more ++ names_of rest ≡ whole
+one_taken words more whole word x items rest added same first e =
+    ap (λ l. l ++ names_of rest) added ∙ append_assoc words (word ∷ []) (names_of rest) ∙ ap (λ w. words ++ w ∷ names_of rest) same ∙ ap (λ l. words ++ names_of l) (sym first) ∙ e
+
+-- a word is among others, tested from either side
+pub any_from_either : (word : Text) (words : List (Bor Text)) → list_any (λ w. bytes_eq w.now word) words ≡ list_any (bytes_eq word) (names_of words)
+any_from_either word [] = refl
+any_from_either word (w ∷ words) = ap₂ (λ a b. a || b) (equivalence.symm w.now word) (any_from_either word words)
 
 -- what stands behind a beginning
 pub behind_found : (beginning text rest : Text) → text ≡ beginning ++ rest → behind beginning text ≡ Some rest

@@ -8,6 +8,8 @@ use Rattle.tools_cli.specs.Effects.{Entry}
 use Rattle.tools_cli.specs.Sources.{source_values}
 use Rattle.tools_cli.specs.declared.merge.MergeTask.{MergeTask}
 use Rattle.tools_cli.specs.declared.metadce.MetadceTask.{MetadceTask}
+use Rattle.tools_cli.specs.declared.split.SplitOutputs.{SplitOutputs}
+use Rattle.tools_cli.specs.declared.split.SplitTask.{SplitTask}
 use Rattle.tools_cli.specs.declared.task.Task.{Task}
 use Rattle.tools_cli.specs.declared.task.Task.TheVariants as task
 use Rattle.tools_cli.specs.declared.decide.Output.{Output}
@@ -47,9 +49,16 @@ merge_value merge = record { sources = source_values merge.sources.items; output
 abbrev pub metadce_value : MetadceTask → words.MetadceTask
 metadce_value metadce = record { file = metadce.file.now; graph_file = metadce.graph_file.now; output = metadce.output.now }
 
+abbrev pub outputs_value : SplitOutputs → words.SplitOutputs
+outputs_value outputs = record { primary = outputs.primary.now; secondary = outputs.secondary.now }
+
+abbrev pub split_value : SplitTask → words.SplitTask
+split_value split = record { file = split.file.now; outputs = outputs_value split.outputs; words = split.words; names = split.names }
+
 abbrev pub task_value : Task → words.Task
 task_value (task.Merge merge) = words.Merge (merge_value merge)
 task_value (task.Metadce metadce) = words.Metadce (metadce_value metadce)
+task_value (task.Split split) = words.Split (split_value split)
 
 -- The name and the bytes of a file that was read.
 abbrev pub input_entry : Input → Entry

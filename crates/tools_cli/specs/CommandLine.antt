@@ -1,10 +1,12 @@
 -- The words of a command line, and the task that they ask for.
 use Rattle.std.specs.Prelude.{Bool, true, false, not, ◌&&◌, if◌then◌else◌, List, [], ◌∷◌, ◌++◌, map, Option, Some, None, option_map, option_and_then, bytes_eq, codes}
 use Rattle.std.specs.List.{list_any}
-use Rattle.tools_cli.specs.Words.{Vocabulary, Arguments, said_together, only, only_value}
+use Rattle.tools_cli.specs.Words.{Vocabulary, Arguments, output_option, said_together, only, only_value, value_if_any, value_or, listed_words}
 pub use Rattle.tools_cli.specs.Words.{Text}
 use Rattle.merge_names.specs.declared.mode.Mode.{Mode}
 use Rattle.merge_names.specs.declared.mode.Mode.TheVariants as mode
+use Rattle.split_spec.specs.declared.names.SplitNames.{SplitNames}
+use Rattle.tools_cli.specs.declared.split.SplitWords.{SplitWords}
 
 -- Where a part of a merge comes from: its file, and its name.
 pub record Source : Type 0 where
@@ -24,10 +26,24 @@ pub record MetadceTask : Type 0 where
   pub graph_file : Text
   pub output : Text
 
+-- Where the two modules of a split are written.
+pub record SplitOutputs : Type 0 where
+  pub primary : Text
+  pub secondary : Text
+
+-- What a split is to do: of the module of this file, the functions that the words name move to the secondary module, and both modules are written. The names
+-- are those that a split adds to them.
+pub record SplitTask : Type 0 where
+  pub file : Text
+  pub outputs : SplitOutputs
+  pub words : SplitWords
+  pub names : SplitNames
+
 -- What a command is to do: a case for each command.
 pub data Task : Type 0 where
   Merge : MergeTask → Task
   Metadce : MetadceTask → Task
+  Split : SplitTask → Task
 
 -- ---- merge ----
 
@@ -38,7 +54,7 @@ abbrev pub skip_flag : Text
 skip_flag = codes "--skip-export-conflicts"
 
 abbrev pub merge_vocabulary : Vocabulary
-merge_vocabulary = record { options = codes "--output" ∷ []; flags = rename_flag ∷ skip_flag ∷ [] }
+merge_vocabulary = record { options = output_option ∷ []; flags = rename_flag ∷ skip_flag ∷ [] }
 
 -- Plain words as pairs FILE NAME; none where a file has no name.
 abbrev pub sources_of : List Text → Option (List Source)
@@ -71,12 +87,12 @@ make_merge (Some sources) (Some output) (Some mode) = Some (Merge (record { sour
 make_merge _ _ _ = None
 
 abbrev pub merge_of_arguments : Arguments → Option Task
-merge_of_arguments arguments = make_merge (option_and_then some_apart (sources_of arguments.plain)) (only_value (codes "--output") arguments) (merge_mode arguments.flags)
+merge_of_arguments arguments = make_merge (option_and_then some_apart (sources_of arguments.plain)) (only_value (output_option) arguments) (merge_mode arguments.flags)
 
 -- ---- metadce ----
 
 abbrev pub metadce_vocabulary : Vocabulary
-metadce_vocabulary = record { options = codes "--graph-file" ∷ codes "--output" ∷ []; flags = [] }
+metadce_vocabulary = record { options = codes "--graph-file" ∷ output_option ∷ []; flags = [] }
 
 abbrev pub make_metadce : Option Text → Option Text → Option Text → Option Task
 make_metadce (Some file) (Some graph_file) (Some output) = Some (Metadce (record { file = file; graph_file = graph_file; output = output }))
@@ -84,23 +100,70 @@ make_metadce _ _ _ = None
 
 -- One plain word, the file, and both options.
 abbrev pub metadce_of_arguments : Arguments → Option Task
-metadce_of_arguments arguments = make_metadce (only arguments.plain) (only_value (codes "--graph-file") arguments) (only_value (codes "--output") arguments)
+metadce_of_arguments arguments = make_metadce (only arguments.plain) (only_value (codes "--graph-file") arguments) (only_value (output_option) arguments)
+
+-- ---- split ----
+
+abbrev pub split_vocabulary : Vocabulary
+split_vocabulary = record {
+  options = codes "--primary-output" ∷ codes "--secondary-output" ∷ codes "--split-funcs" ∷ codes "--keep-funcs" ∷ codes "--import-namespace" ∷ codes "--placeholder-namespace" ∷ codes "--export-prefix" ∷ [];
+  flags = [];
+}
+
+-- Two outputs that differ.
+abbrev pub make_outputs : (primary secondary : Option Text) → Option SplitOutputs
+make_outputs (Some primary) (Some secondary) = if bytes_eq primary secondary then None else Some (record { primary = primary; secondary = secondary })
+make_outputs _ _ = None
+
+-- Words to split, words to keep, or both.
+abbrev pub make_words : (split keep : Option (Option Text)) → Option SplitWords
+make_words (Some None) (Some None) = None
+make_words (Some split) (Some keep) = Some (record { split = option_map listed_words split; keep = option_map listed_words keep })
+make_words _ _ = None
+
+abbrev pub make_names : (import_namespace placeholder_namespace export_prefix : Option Text) → Option SplitNames
+make_names (Some import_namespace) (Some placeholder_namespace) (Some export_prefix) =
+    Some (record { import_namespace = import_namespace; placeholder_namespace = placeholder_namespace; export_prefix = export_prefix })
+make_names _ _ _ = None
+
+abbrev pub outputs_said : Arguments → Option SplitOutputs
+outputs_said arguments = make_outputs (only_value (codes "--primary-output") arguments) (only_value (codes "--secondary-output") arguments)
+
+abbrev pub words_said : Arguments → Option SplitWords
+words_said arguments = make_words (value_if_any (codes "--split-funcs") arguments) (value_if_any (codes "--keep-funcs") arguments)
+
+-- Each of the names may be absent and has a text for that.
+abbrev pub names_said : Arguments → Option SplitNames
+names_said arguments =
+    make_names (value_or (codes "--import-namespace") (codes "primary") arguments) (value_or (codes "--placeholder-namespace") (codes "placeholder") arguments) (value_or (codes "--export-prefix") (codes "%") arguments)
+
+abbrev pub make_split : Option Text → Option SplitOutputs → Option SplitWords → Option SplitNames → Option Task
+make_split (Some file) (Some outputs) (Some words) (Some names) = Some (Split (record { file = file; outputs = outputs; words = words; names = names }))
+make_split _ _ _ _ = None
+
+-- One plain word, the file, both outputs, words and the names.
+abbrev pub split_of_arguments : Arguments → Option Task
+split_of_arguments arguments = make_split (only arguments.plain) (outputs_said arguments) (words_said arguments) (names_said arguments)
 
 -- ---- all commands ----
 
--- The task of the words after `merge`, and of those after `metadce`.
+-- The task of the words after `merge`, of those after `metadce` and of those after `split`.
 abbrev pub merge_of : List Text → Option Task
 merge_of words = option_and_then merge_of_arguments (said_together merge_vocabulary words)
 
 abbrev pub metadce_of : List Text → Option Task
 metadce_of words = option_and_then metadce_of_arguments (said_together metadce_vocabulary words)
 
+abbrev pub split_of : List Text → Option Task
+split_of words = option_and_then split_of_arguments (said_together split_vocabulary words)
+
 -- The task of a command line, or none.
 unfoldable pub task_of : List Text → Option Task
 task_of [] = None
 task_of (word ∷ rest) =
     if bytes_eq word (codes "merge") then merge_of rest
-    else (if bytes_eq word (codes "metadce") then metadce_of rest else None)
+    else (if bytes_eq word (codes "metadce") then metadce_of rest
+    else (if bytes_eq word (codes "split") then split_of rest else None))
 
 -- ---- what a task reads, writes and prints ----
 
@@ -112,16 +175,19 @@ source_files merge = map (λ s. s.file) merge.sources
 abbrev pub many_of : Task → Bool
 many_of (Merge merge) = false
 many_of (Metadce metadce) = false
+many_of (Split split) = false
 
 -- The files that a task reads as modules, in order.
 abbrev pub modules_of : Task → List Text
 modules_of (Merge merge) = source_files merge
 modules_of (Metadce metadce) = metadce.file ∷ []
+modules_of (Split split) = split.file ∷ []
 
 -- The files that it reads as other texts, in order.
 abbrev pub texts_of : Task → List Text
 texts_of (Merge merge) = []
 texts_of (Metadce metadce) = metadce.graph_file ∷ []
+texts_of (Split split) = []
 
 -- The files that a task reads, in order: the modules first.
 abbrev pub inputs_of : Task → List Text
@@ -131,11 +197,13 @@ inputs_of task = modules_of task ++ texts_of task
 abbrev pub outputs_of : Task → (texts : List Text) → List Text
 outputs_of (Merge merge) texts = merge.output ∷ []
 outputs_of (Metadce metadce) texts = metadce.output ∷ []
+outputs_of (Split split) texts = split.outputs.secondary ∷ split.outputs.primary ∷ []
 
 -- Whether a task may print lines.
 abbrev pub may_print : Task → Bool
 may_print (Merge merge) = false
 may_print (Metadce metadce) = true
+may_print (Split split) = true
 
 -- The line that is put where a command line asks for no task: that of its command, or that of all where the first word is no command.
 abbrev pub all_usage : Text
@@ -145,4 +213,5 @@ abbrev pub usage_line : List Text → Text
 usage_line [] = all_usage
 usage_line (word ∷ _) =
     if bytes_eq word (codes "merge") then codes "usage: binkit merge\n"
-    else (if bytes_eq word (codes "metadce") then codes "usage: binkit metadce\n" else all_usage)
+    else (if bytes_eq word (codes "metadce") then codes "usage: binkit metadce\n"
+    else (if bytes_eq word (codes "split") then codes "usage: binkit split\n" else all_usage))

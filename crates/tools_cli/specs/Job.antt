@@ -4,7 +4,7 @@ use Rattle.std.specs.FinMap.{get}
 use Rattle.std.specs.List.{list_all}
 use Rattle.tool_io.specs.FilesAndSinks.{Contents}
 use Rattle.wasm_bytes.specs.Reading.{IsBytes}
-use Rattle.tools_cli.specs.CommandLine.{Text, Source, MergeTask, MetadceTask, Task, Merge, Metadce, task_of, source_files, many_of, modules_of, inputs_of}
+use Rattle.tools_cli.specs.CommandLine.{Text, Source, MergeTask, MetadceTask, SplitTask, Task, Merge, Metadce, Split, task_of, source_files, many_of, modules_of, inputs_of}
 use Rattle.wasm_meaning.specs.Linking.{Part}
 use Rattle.dce_graph.specs.declared.graph.Graph.{Graph}
 use Rattle.dce_graph.specs.declared.marks.Reached.{Reached}
@@ -13,6 +13,15 @@ use Rattle.dce_graph.specs.GraphFile.{graph_result}
 use Rattle.dce_sweep_spec.specs.Reached.{AreExact, marks_of}
 use Rattle.dce_sweep.specs.declared.faults.SweepFault.{SweepFault}
 use Rattle.dce_sweep.specs.Sweeps.{Sweeps}
+use Rattle.wasm_names.specs.declared.func_name.FuncName.{FuncName}
+use Rattle.wasm_names.specs.NameList.{AreFunctionNames}
+use Rattle.split_plan.specs.declared.plans.Plan.{Plan}
+use Rattle.split_plan.specs.declared.fault.PlanFault.{PlanFault}
+use Rattle.split_plan.specs.Plans.{plan_fault, plan_of}
+use Rattle.split_spec.specs.declared.faults.SplitFault.{SplitFault}
+use Rattle.split_spec.specs.Faults.{split_fault}
+use Rattle.split_spec.specs.Primary.{primary}
+use Rattle.split_spec.specs.Secondary.{secondary}
 use Rattle.merge_names.specs.declared.mode.Mode.{Mode}
 use Rattle.merge_spec.specs.declared.faults.LinkFault.{LinkFault}
 use Rattle.merge_spec.specs.declared.faults.JoinFault.{JoinFault}
@@ -20,7 +29,8 @@ use Rattle.merge_spec.specs.Faults.{link_fault}
 use Rattle.merge_spec.specs.Joined.{Joins}
 use Rattle.tools_cli.specs.Effects.{Entry}
 use Rattle.tools_cli.specs.Unused.{AreUnused, unused_lines}
-use Rattle.tools_cli.specs.Texts.{fault_text, invalid_text, link_text, join_text, graph_text, sweep_text, over_limit, too_many_parts, too_many}
+use Rattle.tools_cli.specs.KeptFuncs.{kept_lines}
+use Rattle.tools_cli.specs.Texts.{fault_text, invalid_text, link_text, join_text, graph_text, sweep_text, plan_text, split_text, over_limit, too_many_parts, too_many}
 use Rattle.wasm_tree.specs.declared.module.Module.{Module}
 use Rattle.wasm_tree.specs.declared.which.Which.TheVariants.{InputBytes, Parts, OutputBytes}
 use Rattle.wasm_tree.specs.Limits.{limit}
@@ -143,16 +153,45 @@ pub data Reduces (metadce : MetadceTask) (tree : Module) (text : Text) : Decisio
   reduced : (graph : Graph) (marks : Reached) (left : Module) (unused : List Text) → GivesMarks text tree graph marks → Sweeps (marks_of marks) tree (Ok left) → AreUnused graph tree unused
       → Reduces metadce tree text (Makes (record { name = metadce.output; tree = left; custom = [] } ∷ []) (unused_lines unused))
 
+-- Which functions of a module with these names a split moves and which it keeps, and the first fault of its words.
+abbrev pub words_plan : SplitTask → Module → List FuncName → Plan
+words_plan split tree names = plan_of tree names split.words.split split.words.keep
+
+abbrev pub words_fault : SplitTask → Module → List FuncName → Option PlanFault
+words_fault split tree names = plan_fault tree names split.words.split split.words.keep
+
+-- These are the names that the file gives its functions, and by them the words have no fault.
+pub record GivesPlan (split : SplitTask) (bytes : Text) (tree : Module) (names : List FuncName) : Type 0 where
+  pub named : AreFunctionNames bytes names
+  pub planned : words_fault split tree names ≡ None
+
+-- Both modules, the secondary one first.
+abbrev pub both_modules : SplitTask → Module → (moved : List ℕ) → List Output
+both_modules split tree moved =
+    record { name = split.outputs.secondary; tree = secondary split.names tree moved; custom = [] } ∷ record { name = split.outputs.primary; tree = primary split.names tree moved; custom = [] } ∷ []
+
+-- What a split of this module, which these bytes of its file spell, decides: the words have a fault; the module is not split; or both modules are the outputs, and there is a line for each
+-- function that was asked to move and is kept.
+pub data Splits (split : SplitTask) (tree : Module) (bytes : Text) : Decision → Type 0 where
+  no_plan : (names : List FuncName) (fault : PlanFault) (says : Text) → AreFunctionNames bytes names → words_fault split tree names ≡ Some fault → plan_text fault ≡ Some says → Splits split tree bytes (Refuses says)
+  not_parted : (names : List FuncName) (fault : SplitFault) (says : Text) → GivesPlan split bytes tree names → split_fault split.names tree (words_plan split tree names).moved ≡ Some fault → split_text split.file fault ≡ Some says
+      → Splits split tree bytes (Refuses says)
+  parted : (names : List FuncName) → GivesPlan split bytes tree names → split_fault split.names tree (words_plan split tree names).moved ≡ None
+      → Splits split tree bytes (Makes (both_modules split tree (words_plan split tree names).moved) (kept_lines tree names (words_plan split tree names).kept))
+
 -- What a task decides over its modules and the contents of all its files, those of the modules first.
 abbrev pub Decides : Task → List Module → (contents : List Text) → Decision → Type 0
 Decides (Merge merge) trees contents decision = Merges merge trees decision
 Decides (Metadce metadce) (tree ∷ []) (bytes ∷ text ∷ []) decision = Reduces metadce tree text decision
 Decides (Metadce metadce) _ _ decision = ⊥
+Decides (Split split) (tree ∷ []) (bytes ∷ []) decision = Splits split tree bytes decision
+Decides (Split split) _ _ decision = ⊥
 
 -- The text of a task that is refused before a file is read.
 abbrev pub refused_before : Task → Option Text
 refused_before (Merge merge) = if ltb most_parts (length merge.sources) then Some too_many_parts else None
 refused_before (Metadce metadce) = None
+refused_before (Split split) = None
 
 -- ---- the job ----
 

@@ -1,19 +1,25 @@
--- What a command that is done has kept of the modules that it read.
-use Rattle.std.specs.Prelude.{◌≡◌, Bool, List, [], ◌∷◌, Option, Some, Ok}
+-- What a command that is done has kept of what it read: said once for all commands, with a case for each where they differ.
+use Rattle.std.specs.Prelude.{◌≡◌, ℕ, ◌+◌, Bool, true, List, [], ◌∷◌, drop, length, map, Option, Some, None, Ok, IfSome, IsTrue, IsUtf8}
 use Rattle.std.specs.FinMap.{get}
 use Rattle.tool_io.specs.FilesAndSinks.{Contents}
-use Rattle.tools_cli.specs.CommandLine.{Text, MergeTask, MetadceTask, Task, Merge, Metadce, task_of, source_files, many_of}
-use Rattle.tools_cli.specs.Job.{IsAccepted, parts_of, AreMerged}
+use Rattle.base_lists.specs.Every.{Every}
+use Rattle.tools_cli.specs.CommandLine.{Text, SplitTask, Task, Merge, Metadce, Split, task_of, many_of, modules_of, inputs_of, outputs_of}
+use Rattle.tools_cli.specs.Job.{IsAccepted, parts_of, AreMerged, GivesMarks, words_plan, GivesPlan}
 use Rattle.wasm_tree.specs.declared.module.Module.{Module}
 use Rattle.wasm_read_spec.specs.Files.{Spells}
+use Rattle.wasm_meaning.specs.Environment.{Environment}
+use Rattle.wasm_meaning.specs.World.{alone, links}
+use Rattle.wasm_meaning.specs.Run.{Event, Move, Same, events}
 use Rattle.merge_spec.specs.View.{linked_world}
 use Rattle.dce_graph.specs.declared.graph.Graph.{Graph}
 use Rattle.dce_graph.specs.declared.marks.Reached.{Reached}
-use Rattle.dce_graph.specs.GraphFile.{graph_result}
-use Rattle.dce_sweep_spec.specs.Reached.{AreExact, marks_of}
+use Rattle.dce_sweep_spec.specs.Reached.{marks_of}
+use Rattle.dce_sweep_spec.specs.Unswept.{unswept}
 use Rattle.dce_sweep.specs.Sweeps.{Sweeps}
-use Rattle.dce_behaves_proof.specs.Laws.{BehavesAs as BehavesAsUnswept}
-use Rattle.merge_behaves_proof.specs.Laws.{BehavesAs}
+use Rattle.wasm_names.specs.declared.func_name.FuncName.{FuncName}
+use Rattle.split_spec.specs.Faults.{split_fault}
+use Rattle.split_spec.specs.Primary.{primary}
+use Rattle.split_spec.specs.Secondary.{secondary}
 use Rattle.world_sequential_proof.specs.Laws.{MayComeInTurn}
 
 -- The file of this name spells this module.
@@ -26,44 +32,108 @@ HoldModules many files [] [] = Unit {0}
 HoldModules many files (name ∷ names) (tree ∷ trees) = HoldsModule many files name tree × HoldModules many files names trees
 HoldModules many files _ _ = ⊥
 
--- A merge. Its files spelled modules before, and its output spells the module that these parts are merged into, which is valid and behaves as the parts do where
--- they are linked by their NAMEs and an embedder sees their exports under the names that the mode gives: in each environment, by each list of moves, whatever is
--- seen of the parts in some number of steps is seen of the module alone in at most four more, and the other way round. Where OUT is one of the FILEs, the parts are
--- what stood there before.
-pub record MergeKeeps (merge : MergeTask) (before after : Contents) : Type 0 where
+-- The names of a task's outputs, in the order of writing, where its files have these contents, those of the modules first.
+abbrev pub output_names : Task → (contents : List Text) → List Text
+output_names task contents = outputs_of task (drop (length (modules_of task)) contents)
+
+-- ---- what a task makes ----
+
+-- What a task finds out of what it read, by which it is told what it makes and with what this is compared: a merge nothing, a metadce what is reached, a split the
+-- names of functions.
+abbrev pub Findings : Task → Type 0
+Findings (Merge merge) = Unit {0}
+Findings (Metadce metadce) = Reached
+Findings (Split split) = List FuncName
+
+-- The text holds a graph; of the points of this module these marks are on exactly those that a path from a root of the graph meets; and this is what is left by them.
+abbrev pub IsLeft : Text → Module → Reached → Module → Type 0
+IsLeft text tree marks left = (graph : Graph) × GivesMarks text tree graph marks × Sweeps (marks_of marks) tree (Ok left)
+
+-- The file of these bytes gives functions these names; by them the words tell which functions move; and these are the secondary and the primary module of the split
+-- that moves them, which has no fault.
+abbrev pub ArePair : SplitTask → Text → Module → List FuncName → (first second : Module) → Type 0
+ArePair split bytes tree names first second =
+    GivesPlan split bytes tree names × (split_fault split.names tree (words_plan split tree names).moved ≡ None)
+    × (first ≡ secondary split.names tree (words_plan split tree names).moved) × (second ≡ primary split.names tree (words_plan split tree names).moved)
+
+-- These are the outputs, in the order of writing, that a task makes of these modules and of the contents of all its files, those of the modules first. A merge: the
+-- module that the parts are merged into. A metadce: what is left of the module when of its functions, globals, imports and exports exactly those are kept that a path
+-- from a root reaches. A split: the secondary and the primary module.
+abbrev pub AreMade : (task : Task) → (trees : List Module) → (contents : List Text) → Findings task → (outputs : List Module) → Type 0
+AreMade (Merge merge) trees contents found (tree ∷ []) = AreMerged (many_of (Merge merge)) (parts_of merge.sources trees) merge.mode tree
+AreMade (Merge merge) trees contents found _ = ⊥
+AreMade (Metadce metadce) (tree ∷ []) (bytes ∷ text ∷ []) marks (left ∷ []) = IsLeft text tree marks left
+AreMade (Metadce metadce) _ _ marks _ = ⊥
+AreMade (Split split) (tree ∷ []) (bytes ∷ []) names (first ∷ second ∷ []) = ArePair split bytes tree names first second
+AreMade (Split split) _ _ names _ = ⊥
+
+-- ---- what is seen of it ----
+
+-- A way to run something: what is seen in the first steps in an environment whose embedder makes these moves.
+abbrev pub WayToRun : Type 0
+WayToRun = Environment → List Move → ℕ → List Event
+
+-- A claim that what was written behaves as what was read: in these environments, by each list of moves, whatever is seen of the original world in n steps is seen of
+-- the written one in `written_bound n`, and the other way round in `original_bound n`.
+pub record Equivalence : Type 0 where
+  pub original_world : WayToRun
+  pub written_world : WayToRun
+  pub written_bound : ℕ → ℕ
+  pub original_bound : ℕ → ℕ
+  pub environments : Environment → Bool
+
+abbrev pub Holds : Equivalence → Type 0
+Holds claim = Same (λ env. IsTrue (claim.environments env)) claim.original_world claim.written_world claim.written_bound claim.original_bound
+
+-- What is claimed of a task that made these outputs of these modules: none of a task of which nothing is claimed yet, and none where `AreMade` does not hold anyway.
+-- A merge: the parts, linked by their NAMEs, of which an embedder sees the exports under the names that the mode gives, and the output alone, in every environment; each
+-- shows in four steps more what the other shows. A metadce: the module, of which an embedder uses only the exports that are kept, and the output alone, in each
+-- environment that links the module, step by step. A split: nothing yet.
+abbrev pub equivalence : (task : Task) → Findings task → (trees outputs : List Module) → Option Equivalence
+equivalence (Merge merge) found trees (tree ∷ []) = Some (record {
+  original_world = events (linked_world (parts_of merge.sources trees) merge.mode);
+  written_world = events (alone tree);
+  written_bound = λ n. n + 4;
+  original_bound = λ n. n + 4;
+  environments = λ env. true;
+})
+equivalence (Merge merge) found trees _ = None
+equivalence (Metadce metadce) marks (tree ∷ []) (left ∷ []) = Some (record {
+  original_world = events (unswept (marks_of marks) tree);
+  written_world = events (alone left);
+  written_bound = λ n. n;
+  original_bound = λ n. n;
+  environments = λ env. links env (unswept (marks_of marks) tree);
+})
+equivalence (Metadce metadce) marks _ _ = None
+equivalence (Split split) names _ _ = None
+
+-- What is kept besides. A merge: where the law of world_sequential_proof lets them, the parts may be instantiated one after the other.
+abbrev pub Also : (task : Task) → (trees : List Module) → Type 0
+Also (Merge merge) trees = MayComeInTurn (linked_world (parts_of merge.sources trees) merge.mode)
+Also (Metadce metadce) trees = Unit {0}
+Also (Split split) trees = Unit {0}
+
+-- ---- what is kept ----
+
+-- What a task has kept that is done. Its module files spelled these modules before, and all its files had these contents; its outputs spell what it makes of them, and
+-- each is valid; and they behave as what was read. Where an output is one of the files that were read, these are what stood there before.
+pub record TaskKeeps (task : Task) (before after : Contents) : Type 0 where
   pub trees : List Module
-  pub tree : Module
-  pub read : HoldModules (many_of (Merge merge)) before (source_files merge) trees
-  pub merged : AreMerged (many_of (Merge merge)) (parts_of merge.sources trees) merge.mode tree
-  pub written : HoldsModule (many_of (Merge merge)) after merge.output tree
-  pub accepted : IsAccepted (many_of (Merge merge)) tree
-  pub behaves : BehavesAs (parts_of merge.sources trees) merge.mode tree
-  -- where the law of world_sequential_proof lets them, the parts may be instantiated one after the other
-  pub in_turn : MayComeInTurn (linked_world (parts_of merge.sources trees) merge.mode)
+  pub contents : List Text
+  pub found : Findings task
+  pub outputs : List Module
+  pub read : HoldModules (many_of task) before (modules_of task) trees
+  pub held : map (get before) (inputs_of task) ≡ map Some contents
+  pub made : AreMade task trees contents found outputs
+  pub written : HoldModules (many_of task) after (output_names task contents) outputs
+  pub accepted : Every (IsAccepted (many_of task)) outputs
+  pub behaves : IfSome (equivalence task found trees outputs) Holds
+  pub also : Also task trees
 
--- The file of this name holds the text of this graph.
-abbrev pub HoldsGraph : Contents → Text → Graph → Type 0
-HoldsGraph files name graph = (bytes : Text) × (get files name ≡ Some bytes) × (graph_result bytes ≡ Ok graph)
-
--- A metadce. Its FILE spelled a module before and its graph file held a graph, and its output spells what is left of the module when of its functions, globals, imports
--- and exports exactly those are kept that a path from a root reaches. This is valid, and behaves as the whole module does towards an embedder that uses only the exports that are kept: in each environment that links
--- the module, by each list of moves, the same is seen of both in each number of steps. Where OUT is FILE or the graph file, these are what stood there before.
-pub record MetadceKeeps (metadce : MetadceTask) (before after : Contents) : Type 0 where
-  pub tree : Module
-  pub graph : Graph
-  pub marks : Reached
-  pub left : Module
-  pub read : HoldsModule (many_of (Metadce metadce)) before metadce.file tree
-  pub graphed : HoldsGraph before metadce.graph_file graph
-  pub exact : AreExact graph tree marks
-  pub swept : Sweeps (marks_of marks) tree (Ok left)
-  pub written : HoldsModule (many_of (Metadce metadce)) after metadce.output left
-  pub accepted : IsAccepted (many_of (Metadce metadce)) left
-  pub behaves : BehavesAsUnswept (marks_of marks) tree left
-
-abbrev pub TaskKeeps : Task → Contents → Contents → Type 0
-TaskKeeps (Merge merge) = MergeKeeps merge
-TaskKeeps (Metadce metadce) = MetadceKeeps metadce
+-- Words that ask for a split are text: the names that it adds come from them, and no bytes spell a module whose names are no text. Of other tasks nothing is asked.
+abbrev pub SplitWordsAreText : List Text → Type 0
+SplitWordsAreText words = (split : SplitTask) → task_of words ≡ Some (Split split) → Every IsUtf8 words
 
 -- The words ask for a task, and it keeps what it read.
 abbrev pub Keeps : List Text → Contents → Contents → Type 0

@@ -4,6 +4,8 @@ pub mod Effects
 pub mod Texts
 pub mod Unused
 pub mod Unmarked
+pub mod KeptFuncs
+pub mod Labels
 pub mod Job
 pub mod Sources
 pub mod Command

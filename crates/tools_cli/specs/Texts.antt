@@ -17,6 +17,10 @@ use Rattle.dce_graph.specs.declared.fault.GraphFault.{GraphFault}
 use Rattle.dce_graph.specs.declared.fault.GraphFault.TheVariants as graph
 use Rattle.dce_sweep.specs.declared.faults.SweepFault.{SweepFault}
 use Rattle.dce_sweep.specs.declared.faults.SweepFault.TheVariants as sweep
+use Rattle.split_plan.specs.declared.fault.PlanFault.{PlanFault}
+use Rattle.split_plan.specs.declared.fault.PlanFault.TheVariants as plan
+use Rattle.split_spec.specs.declared.faults.SplitFault.{SplitFault}
+use Rattle.split_spec.specs.declared.faults.SplitFault.TheVariants as split
 use Rattle.tools_cli.specs.CommandLine.{Text}
 
 -- The name of a limited quantity.
@@ -93,6 +97,21 @@ node_twice file name = file ++ (codes ": node " ++ (name ++ codes " stands twice
 abbrev pub unknown_node : Text → Text → Text
 unknown_node file name = file ++ (codes ": no node " ++ name)
 
+abbrev pub no_function : Text → Text
+no_function name = codes "no function " ++ name
+
+abbrev pub several_functions : Text → Text
+several_functions name = codes "several functions " ++ name
+
+abbrev pub kept_and_split : Text → Text
+kept_and_split name = codes "function " ++ (name ++ codes " is kept and split")
+
+abbrev pub namespace_taken : Text → ℕ → Text
+namespace_taken file import = file ++ (codes ": import " ++ (decimal import ++ codes " uses the placeholder namespace"))
+
+abbrev pub prefix_taken : Text → Text
+prefix_taken name = codes "export " ++ (name ++ codes " is taken")
+
 -- The text of a fault of a file. Want of memory is no fault of it.
 abbrev pub fault_text : Text → ReadFault → Option Text
 fault_text file NotModule = Some (not_module file)
@@ -148,3 +167,17 @@ graph_text file graph.NoMemory = None
 abbrev pub sweep_text : SweepFault → Option Text
 sweep_text (sweep.TooMany which) = Some (too_many which)
 sweep_text sweep.NoMemory = None
+
+-- The text of a fault of the words of a split.
+abbrev pub plan_text : PlanFault → Option Text
+plan_text (plan.NoSuchFunction name) = Some (no_function name)
+plan_text (plan.AmbiguousFunction name) = Some (several_functions name)
+plan_text (plan.KeptAndSplit name) = Some (kept_and_split name)
+plan_text plan.NoMemory = None
+
+-- The text of a fault of splitting the module of this file.
+abbrev pub split_text : Text → SplitFault → Option Text
+split_text file (split.NamespaceTaken import) = Some (namespace_taken file import)
+split_text file (split.PrefixTaken name) = Some (prefix_taken name)
+split_text file (split.TooMany which) = Some (too_many which)
+split_text file split.NoMemory = None

@@ -1,7 +1,7 @@
 -- What the words of a command say: the values of its options, its flags, and plain words.
-use Rattle.std.specs.Prelude.{ℕ, Bool, false, not, ◌==◌, if◌then◌else◌, List, [], ◌∷◌, Option, Some, None, option_map, option_and_then, bytes_eq, codes}
+use Rattle.std.specs.Prelude.{ℕ, Bool, false, not, ◌==◌, if◌then◌else◌, List, [], ◌∷◌, Option, Some, None, unwrap_or, option_map, option_and_then, bytes_eq, codes}
 use Rattle.std.specs.Option.{option_or}
-use Rattle.std.specs.List.{list_any}
+use Rattle.std.specs.List.{list_any, slice_split}
 
 -- A text or a file's content, as its bytes.
 abbrev pub Text : Type 0
@@ -31,9 +31,12 @@ behind [] text = Some text
 behind (c ∷ beginning) [] = None
 behind (c ∷ beginning) (d ∷ text) = if c == d then behind beginning text else None
 
--- `-o` and `--output` are one option.
+-- The option of a command with one output. `-o` is the same.
+abbrev pub output_option : Text
+output_option = codes "--output"
+
 abbrev pub long_name : Text → Text
-long_name word = if bytes_eq word (codes "-o") then codes "--output" else word
+long_name word = if bytes_eq word (codes "-o") then output_option else word
 
 -- An option whose value is the next word.
 abbrev pub takes_value : List Text → Text → Bool
@@ -120,3 +123,21 @@ only _ = None
 -- The value of an option that stands exactly once.
 abbrev pub only_value : Text → Arguments → Option Text
 only_value option arguments = only (values_of option arguments.values)
+
+-- No text or the one text; none where there are more.
+abbrev pub at_most_one : List Text → Option (Option Text)
+at_most_one [] = Some None
+at_most_one (text ∷ []) = Some (Some text)
+at_most_one _ = None
+
+-- The value of an option that may be absent; none where the option stands twice.
+abbrev pub value_if_any : Text → Arguments → Option (Option Text)
+value_if_any option arguments = at_most_one (values_of option arguments.values)
+
+-- The same with a value for where it is absent.
+abbrev pub value_or : Text → (default : Text) → Arguments → Option Text
+value_or option default arguments = option_map (λ value. unwrap_or value default) (value_if_any option arguments)
+
+-- The words of a list, which is cut at each comma: an empty piece is an empty word.
+abbrev pub listed_words : Text → List Text
+listed_words text = slice_split (λ c. c == 44) text

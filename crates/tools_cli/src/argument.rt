@@ -23,19 +23,17 @@ fn is_plain(word: &str) -> bool
 fn is_one_of(words: &[&str], word: &str) -> bool
     ensures { result ≡ list_any (bytes_eq word.now) (names_of words.now) }
 {
-    for other in words {
-        if word == *other {
-            return true;
-        }
-    }
-    false
+    words.contains(&word)
 }
+
+/// The option of a command with one output.
+pub(crate) const OUTPUT_OPTION: &str = "--output";
 
 /// The name of an option that a word may be.
 pub(crate) fn long_name(word: &str) -> &str
     ensures { result.now ≡ long_name word.now }
 {
-    if word == "-o" { "--output" } else { word }
+    if word == "-o" { OUTPUT_OPTION } else { word }
 }
 
 /// An option whose value is the next word.

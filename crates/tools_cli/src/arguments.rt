@@ -1,11 +1,11 @@
 // What all words of a command say together.
 ghost use Rattle.std.specs.Prelude.{◌≡◌, ◌∷◌, [], ◌&&◌, map, option_map, is_none, string_bytes, OnOk, IfOk};
-ghost use Rattle.tools_cli.specs.Words.{said_together, arguments_of, takes_value, next_argument, only, only_value, values_of};
-ghost use Rattle.tools_cli.specs.Command.{arguments_value, argument_value, option_value, join_arguments, names_of};
+ghost use Rattle.tools_cli.specs.Words.{said_together, arguments_of, takes_value, next_argument, only, only_value, value_if_any, value_or, listed_words};
+ghost use Rattle.tools_cli.specs.Command.{arguments_value, argument_value, join_arguments, names_of};
 
 use crate::argument::{Argument, long_name, other_word, own_value, takes_value};
-use std::alloc::Global;
-use wasm_bytes::NoMemory;
+use std::alloc::{AllocError, Global};
+use wasm_bytes::{Items, Name, NoMemory};
 
 /// An option and its value.
 #[derive(Clone, Copy, Debug)]
@@ -106,31 +106,58 @@ pub(crate) fn only<'a>(texts: &[&'a str]) -> Option<&'a str>
     }
 }
 
-// The values of an option, in order.
-fn values_of<'a>(
-    alloc: Global,
-    option: &str,
-    values: &[OptionValue<'a>],
-) -> Result<Vec<&'a str>, NoMemory>
-    ensures { IfOk result (λ found. names_of found.items ≡ values_of option.now (map option_value values.now)) }
+/// The value of an option that may be absent; none where the option stands twice.
+pub(crate) fn value_if_any<'a>(option: &str, arguments: &Arguments<'a>) -> Option<Option<&'a str>>
+    ensures { option_map (option_map (λ text. text.now)) result ≡ value_if_any option.now (arguments_value arguments.now) }
 {
-    let mut found = Vec::new(alloc);
-    for valued in values {
+    let mut found = None;
+    for valued in &arguments.values {
         if valued.option == option {
-            found.push(valued.value)?;
+            if found.is_some() {
+                return None;
+            }
+            found = Some(valued.value);
         }
     }
-    Ok(found)
+    Some(found)
 }
 
 /// The value of an option that stands exactly once.
-pub(crate) fn only_value<'a>(
-    alloc: Global,
-    option: &str,
-    arguments: &Arguments<'a>,
-) -> Result<Option<&'a str>, NoMemory>
-    ensures { IfOk result (λ value. option_map (λ text. text.now) value ≡ only_value option.now (arguments_value arguments.now)) }
+pub(crate) fn only_value<'a>(option: &str, arguments: &Arguments<'a>) -> Option<&'a str>
+    ensures { option_map (λ text. text.now) result ≡ only_value option.now (arguments_value arguments.now) }
 {
-    let values = values_of(alloc, option, arguments.values.as_slice())?;
-    Ok(only(values.as_slice()))
+    value_if_any(option, arguments).flatten()
+}
+
+/// The value of an option, or this one where it is absent; none where the option stands twice.
+pub(crate) fn value_or<'a>(
+    option: &str,
+    default: &'a str,
+    arguments: &Arguments<'a>,
+) -> Option<&'a str>
+    ensures { option_map (λ text. text.now) result ≡ value_or option.now default.now (arguments_value arguments.now) }
+{
+    match value_if_any(option, arguments) {
+        Some(value) => Some(value.unwrap_or(default)),
+        None => None,
+    }
+}
+
+// The words of a list, as they stand in it.
+fn cut<'a>(alloc: Global, text: &'a str) -> Result<Vec<&'a str>, AllocError>
+    ensures { IfOk result (λ pieces. names_of pieces.items ≡ listed_words text.now) }
+{
+    text.split(',').collect(alloc)
+}
+
+/// The words of a list, which is cut at each comma.
+pub(crate) fn listed_words(alloc: Global, text: &str) -> Result<Items<Name>, NoMemory>
+    ensures { IfOk result (λ words. words ≡ listed_words text.now) }
+{
+    let pieces = cut(alloc, text)?;
+    let mut words = Items::new(alloc);
+    for piece in pieces {
+        words.keep(Name::from_text(alloc, piece)?)?;
+    }
+    Ok(words)
 }

@@ -1,17 +1,23 @@
 // The task that the words of a command line ask for.
 ghost use Rattle.std.specs.Prelude.{◌≡◌, true, map, option_map, option_and_then, string_bytes, IfOk, IfSome};
-ghost use Rattle.tools_cli.specs.CommandLine.{task_of, merge_of, metadce_of, merge_of_arguments, metadce_of_arguments, sources_of, some_apart, are_apart, flag_mode, merge_mode, usage_line};
-ghost use Rattle.tools_cli.specs.Command.{task_value, arguments_value, names_of};
+ghost use Rattle.tools_cli.specs.Words.{listed_words};
+ghost use Rattle.tools_cli.specs.CommandLine.{task_of, merge_of, metadce_of, split_of, merge_of_arguments, metadce_of_arguments, split_of_arguments, outputs_said, words_said, names_said, sources_of, some_apart, are_apart, flag_mode, merge_mode, usage_line};
+ghost use Rattle.tools_cli.specs.Command.{task_value, outputs_value, arguments_value, names_of};
 ghost use Rattle.tools_cli.specs.Sources.{source_values, source_names};
 
-use crate::arguments::{Arguments, only, only_value, read_arguments};
+use crate::argument::OUTPUT_OPTION;
+use crate::arguments::{
+    Arguments, listed_words, only, only_value, read_arguments, value_if_any, value_or,
+};
 use crate::merge::{MergeTask, Source};
 use crate::metadce::MetadceTask;
+use crate::split::{SplitOutputs, SplitTask, SplitWords};
 use crate::task::Task;
 use merge_names::Mode;
+use split_spec::SplitNames;
 use std::alloc::Global;
 use std::collections::BTreeMap;
-use wasm_bytes::NoMemory;
+use wasm_bytes::{Items, Name, NoMemory};
 
 // Plain words as pairs of a file and a name; none where a file has no name.
 fn pair<'a>(alloc: Global, plain: &[&'a str]) -> Result<Option<Vec<Source<'a>>>, NoMemory>
@@ -93,7 +99,7 @@ fn merge_of_arguments<'a>(
     let Some(sources) = some_apart(alloc, arguments.plain.as_slice())? else {
         return Ok(None);
     };
-    let Some(output) = only_value(alloc, "--output", arguments)? else {
+    let Some(output) = only_value(OUTPUT_OPTION, arguments) else {
         return Ok(None);
     };
     let Some(mode) = merge_mode(arguments.flags.as_slice()) else {
@@ -110,7 +116,7 @@ fn merge_of_arguments<'a>(
 fn parse_merge<'a>(alloc: Global, words: &'a [String]) -> Result<Option<Task<'a>>, NoMemory>
     ensures { IfOk result (λ task. option_map task_value task ≡ merge_of (map string_bytes words.now)) }
 {
-    let options = ["--output"];
+    let options = [OUTPUT_OPTION];
     let flags = ["--rename-export-conflicts", "--skip-export-conflicts"];
     match read_arguments(alloc, &options, &flags, words)? {
         Some(arguments) => merge_of_arguments(alloc, &arguments),
@@ -119,35 +125,133 @@ fn parse_merge<'a>(alloc: Global, words: &'a [String]) -> Result<Option<Task<'a>
 }
 
 // The metadce of what is said, or none.
-fn metadce_of_arguments<'a>(
-    alloc: Global,
-    arguments: &Arguments<'a>,
-) -> Result<Option<Task<'a>>, NoMemory>
-    ensures { IfOk result (λ task. option_map task_value task ≡ metadce_of_arguments (arguments_value arguments.now)) }
+fn metadce_of_arguments<'a>(arguments: &Arguments<'a>) -> Option<Task<'a>>
+    ensures { option_map task_value result ≡ metadce_of_arguments (arguments_value arguments.now) }
 {
-    let Some(file) = only(arguments.plain.as_slice()) else {
-        return Ok(None);
-    };
-    let Some(graph_file) = only_value(alloc, "--graph-file", arguments)? else {
-        return Ok(None);
-    };
-    let Some(output) = only_value(alloc, "--output", arguments)? else {
-        return Ok(None);
-    };
-    Ok(Some(Task::Metadce(MetadceTask {
+    let file = only(arguments.plain.as_slice())?;
+    let graph_file = only_value("--graph-file", arguments)?;
+    let output = only_value(OUTPUT_OPTION, arguments)?;
+    Some(Task::Metadce(MetadceTask {
         file,
         graph_file,
         output,
-    })))
+    }))
 }
 
 // The metadce that the words after `metadce` ask for, or none.
 fn parse_metadce<'a>(alloc: Global, words: &'a [String]) -> Result<Option<Task<'a>>, NoMemory>
     ensures { IfOk result (λ task. option_map task_value task ≡ metadce_of (map string_bytes words.now)) }
 {
-    let options = ["--graph-file", "--output"];
+    let options = ["--graph-file", OUTPUT_OPTION];
     match read_arguments(alloc, &options, &[], words)? {
-        Some(arguments) => metadce_of_arguments(alloc, &arguments),
+        Some(arguments) => Ok(metadce_of_arguments(&arguments)),
+        None => Ok(None),
+    }
+}
+
+// Two outputs that differ, or none.
+fn outputs_said<'a>(arguments: &Arguments<'a>) -> Option<SplitOutputs<'a>>
+    ensures { option_map outputs_value result ≡ outputs_said (arguments_value arguments.now) }
+{
+    let primary = only_value("--primary-output", arguments)?;
+    let secondary = only_value("--secondary-output", arguments)?;
+    if primary == secondary {
+        return None;
+    }
+    Some(SplitOutputs { primary, secondary })
+}
+
+// The words of a list, if there is one.
+fn words_in(alloc: Global, list: Option<&str>) -> Result<Option<Items<Name>>, NoMemory>
+    ensures { IfOk result (λ words. words ≡ option_map listed_words (option_map (λ text. text.now) list.entry)) }
+{
+    match list {
+        Some(text) => Ok(Some(listed_words(alloc, text)?)),
+        None => Ok(None),
+    }
+}
+
+// The words to split, the words to keep, or both, or none.
+fn words_said(alloc: Global, arguments: &Arguments<'_>) -> Result<Option<SplitWords>, NoMemory>
+    ensures { IfOk result (λ words. words ≡ words_said (arguments_value arguments.now)) }
+{
+    let Some(split) = value_if_any("--split-funcs", arguments) else {
+        return Ok(None);
+    };
+    let Some(keep) = value_if_any("--keep-funcs", arguments) else {
+        return Ok(None);
+    };
+    if split.is_none() && keep.is_none() {
+        return Ok(None);
+    }
+    Ok(Some(SplitWords {
+        split: words_in(alloc, split)?,
+        keep: words_in(alloc, keep)?,
+    }))
+}
+
+// The names that a split adds, or none.
+fn names_said(alloc: Global, arguments: &Arguments<'_>) -> Result<Option<SplitNames>, NoMemory>
+    ensures { IfOk result (λ names. names ≡ names_said (arguments_value arguments.now)) }
+{
+    let Some(importing) = value_or("--import-namespace", "primary", arguments) else {
+        return Ok(None);
+    };
+    let Some(placeholder) = value_or("--placeholder-namespace", "placeholder", arguments) else {
+        return Ok(None);
+    };
+    let Some(prefix) = value_or("--export-prefix", "%", arguments) else {
+        return Ok(None);
+    };
+    Ok(Some(SplitNames {
+        import_namespace: Name::from_text(alloc, importing)?,
+        placeholder_namespace: Name::from_text(alloc, placeholder)?,
+        export_prefix: Name::from_text(alloc, prefix)?,
+    }))
+}
+
+// The split of what is said, or none.
+fn split_of_arguments<'a>(
+    alloc: Global,
+    arguments: &Arguments<'a>,
+) -> Result<Option<Task<'a>>, NoMemory>
+    ensures { IfOk result (λ task. option_map task_value task ≡ split_of_arguments (arguments_value arguments.now)) }
+{
+    let Some(file) = only(arguments.plain.as_slice()) else {
+        return Ok(None);
+    };
+    let Some(outputs) = outputs_said(arguments) else {
+        return Ok(None);
+    };
+    let Some(words) = words_said(alloc, arguments)? else {
+        return Ok(None);
+    };
+    let Some(names) = names_said(alloc, arguments)? else {
+        return Ok(None);
+    };
+    Ok(Some(Task::Split(SplitTask {
+        file,
+        outputs,
+        words,
+        names,
+    })))
+}
+
+// The split that the words after `split` ask for, or none.
+fn parse_split<'a>(alloc: Global, words: &'a [String]) -> Result<Option<Task<'a>>, NoMemory>
+    ensures { IfOk result (λ task. option_map task_value task ≡ split_of (map string_bytes words.now)) }
+{
+    let options = [
+        "--primary-output",
+        "--secondary-output",
+        "--split-funcs",
+        "--keep-funcs",
+        "--import-namespace",
+        "--placeholder-namespace",
+        "--export-prefix",
+    ];
+    match read_arguments(alloc, &options, &[], words)? {
+        Some(arguments) => split_of_arguments(alloc, &arguments),
         None => Ok(None),
     }
 }
@@ -166,6 +270,9 @@ pub(crate) fn parse<'a>(alloc: Global, words: &'a [String]) -> Result<Option<Tas
     if word.as_str() == "metadce" {
         return parse_metadce(alloc, rest);
     }
+    if word.as_str() == "split" {
+        return parse_split(alloc, rest);
+    }
     Ok(None)
 }
 
@@ -176,6 +283,7 @@ pub(crate) fn usage(words: &[String]) -> &'static str
     match words.first() {
         Some(word) if word.as_str() == "merge" => "usage: binkit merge\n",
         Some(word) if word.as_str() == "metadce" => "usage: binkit metadce\n",
+        Some(word) if word.as_str() == "split" => "usage: binkit split\n",
         _ => "usage: binkit merge|split|metadce|ctor-eval|sample\n",
     }
 }

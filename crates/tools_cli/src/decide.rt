@@ -2,13 +2,14 @@
 ghost use Rattle.std.specs.Prelude.{◌≡◌, ◌≤◌, ◌∷◌, [], length, None, IfOk, IfErr};
 ghost use Rattle.base_lists.specs.Every.{Every};
 ghost use Rattle.tools_cli.specs.CommandLine.{modules_of, inputs_of};
-ghost use Rattle.tools_cli.specs.Command.{task_value, decision_value, input_entries, input_texts};
+ghost use Rattle.tools_cli.specs.Command.{task_value, output_value, decision_value, input_entries, input_texts};
 ghost use Rattle.tools_cli.specs.Job.{Decides, Makes, Refuses, refused_before, most_input};
 ghost use Rattle.tools_cli.specs.Causes.{IsWithinLimits, StopsWith, total};
 
 use crate::gather::Input;
 use crate::merging::decide_merge;
 use crate::reducing::decide_metadce;
+use crate::splitting::decide_split;
 use crate::stop::Stop;
 use crate::task::Task;
 use std::alloc::Global;
@@ -30,6 +31,15 @@ pub(crate) struct Decision {
     pub(crate) lines: Vec<u8>,
 }
 
+/// An output without custom sections.
+pub(crate) fn plain_output(alloc: Global, name: &str, tree: Valid) -> Result<Output, NoMemory>
+    ensures { IfOk result (λ output. output_value output ≡ record { name = name.now; tree = tree; custom = [] }) }
+{
+    let name = String::from_str(alloc, name)?;
+    let custom = Vec::new(alloc);
+    Ok(Output { name, tree, custom })
+}
+
 /// One output without custom sections, and lines.
 pub(crate) fn one_output(
     alloc: Global,
@@ -39,10 +49,23 @@ pub(crate) fn one_output(
 ) -> Result<Decision, NoMemory>
     ensures { IfOk result (λ decision. decision_value decision ≡ Makes (record { name = name.now; tree = tree; custom = [] } ∷ []) lines.items) }
 {
-    let name = String::from_str(alloc, name)?;
-    let custom = Vec::new(alloc);
     let mut outputs = Vec::new(alloc);
-    outputs.push(Output { name, tree, custom })?;
+    outputs.push(plain_output(alloc, name, tree)?)?;
+    Ok(Decision { outputs, lines })
+}
+
+/// Two outputs, in the order of writing, and lines.
+pub(crate) fn two_outputs(
+    alloc: Global,
+    first: Output,
+    second: Output,
+    lines: Vec<u8>,
+) -> Result<Decision, NoMemory>
+    ensures { IfOk result (λ decision. decision_value decision ≡ Makes (output_value first ∷ output_value second ∷ []) lines.items) }
+{
+    let mut outputs = Vec::new(alloc);
+    outputs.push(first)?;
+    outputs.push(second)?;
     Ok(Decision { outputs, lines })
 }
 
@@ -64,5 +87,6 @@ pub(crate) fn decide<'a>(
     match task {
         Task::Merge(merge) => decide_merge(alloc, merge, modules),
         Task::Metadce(metadce) => decide_metadce(alloc, metadce, modules, inputs),
+        Task::Split(split) => decide_split(alloc, split, modules, inputs),
     }
 }

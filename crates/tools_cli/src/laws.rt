@@ -3,7 +3,7 @@ ghost use Rattle.std.specs.Prelude.{◌≡◌, List, ℕ};
 ghost use Rattle.tool_io.specs.FilesAndSinks.{Contents};
 ghost use Rattle.tools_cli.specs.Effects.{Entry, made};
 ghost use Rattle.tools_cli.specs.Job.{Done, Job, HasJob, HoldBytes};
-ghost use Rattle.tools_cli.specs.Kept.{Keeps};
+ghost use Rattle.tools_cli.specs.Kept.{Keeps, SplitWordsAreText};
 
 use dce_behaves_proof::swept_modules_show_the_same;
 use dce_encode_proof::swept_modules_are_in_range;
@@ -13,6 +13,10 @@ use dce_sweep_proof::swept_modules_are_valid;
 use merge_behaves_proof::merged_modules_show_the_same;
 use merge_encode_proof::merged_modules_are_in_range;
 use merge_valid_proof::merged_modules_are_valid;
+use split_encode_proof::split_modules_are_in_range;
+use split_plan::plan_faults_have_causes;
+use split_proof::{primary_modules_are_valid, secondary_modules_are_valid};
+use wasm_names::name_lists_are_those_of_the_first_name_section;
 use wasm_read_spec::{
     faults_have_causes, no_fault_where_spelled, one_tree, spelled_trees_are_bounded,
 };
@@ -26,6 +30,7 @@ pub fn jobs_are_determined()
     one_tree();
     no_fault_where_spelled();
     exact_marks_exist();
+    name_lists_are_those_of_the_first_name_section();
 }
 
 /// Over files that hold bytes every command line has a job.
@@ -35,13 +40,15 @@ pub fn command_lines_have_jobs()
     no_fault_where_spelled();
     faults_have_causes();
     exact_marks_exist();
+    name_lists_are_those_of_the_first_name_section();
+    plan_faults_have_causes();
 }
 
 /// A job that is done keeps the modules that it read. Of a merge the output spells the module that they are merged into, it is valid, and it behaves as they do where
 /// they are linked by name. Of a metadce it spells what is left of the module by what is reached, it is valid, and it behaves as the whole does through the exports
-/// that are kept.
+/// that are kept. Of a split, whose words are UTF-8, the outputs spell the secondary and the primary module, and both are valid.
 pub fn done_jobs_keep_the_modules()
-    ensures { (words : List (List ℕ)) (before : Contents) (writes : List Entry) (lines : List ℕ) → HasJob words before (Done writes lines) → Keeps words before (made writes before) }
+    ensures { (words : List (List ℕ)) (before : Contents) (writes : List Entry) (lines : List ℕ) → SplitWordsAreText words → HasJob words before (Done writes lines) → Keeps words before (made writes before) }
 {
     plain_spells();
     trees_that_fit_have_small_sizes();
@@ -55,4 +62,7 @@ pub fn done_jobs_keep_the_modules()
     swept_modules_are_valid();
     swept_modules_are_in_range();
     swept_modules_show_the_same();
+    primary_modules_are_valid();
+    secondary_modules_are_valid();
+    split_modules_are_in_range();
 }

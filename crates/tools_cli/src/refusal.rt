@@ -1,6 +1,6 @@
 // What is wrong with the input, and the text of it.
 ghost use Rattle.std.specs.Prelude.{◌≡◌, ◌++◌, Some, IfOk, decimal, flat_map, length, slice_get, codes, ◌<◌};
-ghost use Rattle.tools_cli.specs.Texts.{which_text, fault_text, kind_text, invalid_text, link_text, join_text, graph_text, sweep_text};
+ghost use Rattle.tools_cli.specs.Texts.{which_text, fault_text, kind_text, invalid_text, link_text, join_text, graph_text, sweep_text, plan_text, split_text};
 ghost use Rattle.tools_cli.specs.Stop.{refusal_text};
 ghost use Rattle.tools_cli.specs.Sources.{files_of};
 ghost use Rattle.merge_spec.specs.Faults.{NamesPart};
@@ -10,6 +10,8 @@ use crate::merge::Source;
 use dce_graph::GraphFault;
 use dce_sweep::SweepFault;
 use merge_spec::{JoinFault, LinkFault};
+use split_plan::PlanFault;
+use split_slots::SplitFault;
 use std::alloc::Global;
 use wasm_bytes::{Name, NoMemory};
 use wasm_read::ReadFault;
@@ -84,6 +86,22 @@ pub(crate) enum Refusal<'a> {
     },
     UnknownNode {
         file: &'a str,
+        name: Name,
+    },
+    NoSuchFunction {
+        name: Name,
+    },
+    AmbiguousFunction {
+        name: Name,
+    },
+    KeptAndSplit {
+        name: Name,
+    },
+    NamespaceTaken {
+        file: &'a str,
+        import: Digits,
+    },
+    PrefixTaken {
         name: Name,
     },
 }
@@ -221,6 +239,37 @@ pub(crate) fn refuse_sweep<'a>(fault: SweepFault) -> Result<Refusal<'a>, NoMemor
     }
 }
 
+/// The refusal of words that tell no plan. Want of memory is the error, as a fault.
+pub(crate) fn refuse_plan<'a>(fault: PlanFault) -> Result<Refusal<'a>, NoMemory>
+    ensures { IfOk result (λ refusal. plan_text fault ≡ Some (refusal_text refusal)) }
+{
+    match fault {
+        PlanFault::NoSuchFunction { name } => Ok(Refusal::NoSuchFunction { name }),
+        PlanFault::AmbiguousFunction { name } => Ok(Refusal::AmbiguousFunction { name }),
+        PlanFault::KeptAndSplit { name } => Ok(Refusal::KeptAndSplit { name }),
+        PlanFault::NoMemory => Err(NoMemory),
+    }
+}
+
+/// The refusal of a module that is not split. Want of memory is the error, also as a fault.
+pub(crate) fn refuse_split<'a>(
+    alloc: Global,
+    file: &'a str,
+    fault: SplitFault,
+) -> Result<Refusal<'a>, NoMemory>
+    ensures { IfOk result (λ refusal. split_text file.entry.now fault ≡ Some (refusal_text refusal)) }
+{
+    match fault {
+        SplitFault::NamespaceTaken { import } => Ok(Refusal::NamespaceTaken {
+            file,
+            import: Digits::new(alloc, import)?,
+        }),
+        SplitFault::PrefixTaken { name } => Ok(Refusal::PrefixTaken { name }),
+        SplitFault::TooMany { which } => Ok(Refusal::TooMany { which }),
+        SplitFault::NoMemory => Err(NoMemory),
+    }
+}
+
 // The name of a limited quantity.
 fn which_name<'a>(which: Which) -> &'a str
     ensures { result.now ≡ which_text which }
@@ -313,5 +362,12 @@ pub(crate) fn refusal_pieces<'a>(refusal: &'a Refusal<'a>) -> [&'a str; 4]
         ],
         Refusal::NodeTwice { file, name } => [file, ": node ", name.as_str(), " stands twice"],
         Refusal::UnknownNode { file, name } => [file, ": no node ", name.as_str(), ""],
+        Refusal::NoSuchFunction { name } => ["no function ", name.as_str(), "", ""],
+        Refusal::AmbiguousFunction { name } => ["several functions ", name.as_str(), "", ""],
+        Refusal::KeptAndSplit { name } => ["function ", name.as_str(), " is kept and split", ""],
+        Refusal::NamespaceTaken { file, import } => {
+            at_import(file, import, " uses the placeholder namespace")
+        }
+        Refusal::PrefixTaken { name } => ["export ", name.as_str(), " is taken", ""],
     }
 }

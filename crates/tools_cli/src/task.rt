@@ -8,6 +8,7 @@ ghost use Rattle.tools_cli.specs.Command.{task_value, names_of};
 use crate::merge::MergeTask;
 use crate::metadce::MetadceTask;
 use crate::refusal::Refusal;
+use crate::split::SplitTask;
 use std::alloc::Global;
 use wasm_bytes::NoMemory;
 use wasm_tree::MOST_PARTS;
@@ -17,6 +18,7 @@ use wasm_tree::MOST_PARTS;
 pub(crate) enum Task<'a> {
     Merge(MergeTask<'a>),
     Metadce(MetadceTask<'a>),
+    Split(SplitTask<'a>),
 }
 
 impl<'a> Task<'a> {
@@ -27,6 +29,7 @@ impl<'a> Task<'a> {
         match self {
             Task::Merge(merge) => merge.files(alloc),
             Task::Metadce(metadce) => metadce.files(alloc),
+            Task::Split(split) => split.files(alloc),
         }
     }
 
@@ -36,7 +39,7 @@ impl<'a> Task<'a> {
     {
         match self {
             Task::Merge(merge) => merge.sources.len(),
-            Task::Metadce(_) => 1,
+            Task::Metadce(_) | Task::Split(_) => 1,
         }
     }
 
@@ -48,7 +51,7 @@ impl<'a> Task<'a> {
             Task::Merge(merge) if merge.sources.len() > MOST_PARTS as usize => {
                 Some(Refusal::TooManyParts)
             }
-            Task::Merge(_) | Task::Metadce(_) => None,
+            Task::Merge(_) | Task::Metadce(_) | Task::Split(_) => None,
         }
     }
 }

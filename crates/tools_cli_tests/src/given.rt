@@ -48,6 +48,19 @@ pub fn run_line(
     Ok((ended, err))
 }
 
+// What a line comes to over the files, and what is put on standard output and standard error.
+pub fn run_over(
+    alloc: Global,
+    files: &mut MemFiles,
+    line: &str,
+) -> Result<(Status, MemSink, MemSink), Fail> {
+    let words = words_of(alloc, line)?;
+    let mut out = MemSink::new(alloc);
+    let mut err = MemSink::new(alloc);
+    let ended = run(alloc, words.as_slice(), files, &mut out, &mut err);
+    Ok((ended, out, err))
+}
+
 // Adds the bytes that a text gives in hexadecimal.
 fn add_bytes(bytes: &mut Vec<u8>, text: &str) -> Result<(), Fail> {
     for byte in text.split_whitespace() {
@@ -60,6 +73,15 @@ fn add_bytes(bytes: &mut Vec<u8>, text: &str) -> Result<(), Fail> {
 pub fn module_of(alloc: Global, sections: &str) -> Result<Vec<u8>, Fail> {
     let mut bytes = Vec::from_slice(alloc, &HEADER)?;
     add_bytes(&mut bytes, sections)?;
+    Ok(bytes)
+}
+
+// So many bytes, each of them 0.
+pub fn zeros(alloc: Global, count: usize) -> Result<Vec<u8>, Fail> {
+    let mut bytes = Vec::new(alloc);
+    for _ in 0..count {
+        bytes.push(0)?;
+    }
     Ok(bytes)
 }
 
@@ -106,3 +128,10 @@ pub fn merge_two(
 // One function, exported as f, that gives 7.
 pub const GIVES: &str =
     "01 05 01 60 00 01 7F 03 02 01 00 07 05 01 01 66 00 00 0A 06 01 04 00 41 07 0B";
+
+// A module as a linker leaves it.
+pub const LINKED: &str =
+    "01 0D 03 60 00 00 60 01 7F 01 7F 60 01 7F 00 02 0B 01 03 65 6E 76 03 6C 6F 67 00 02 03 05 04 00 00 01 01 04 05 01 70 01 05 05 05 03 01 00 02 06 08 01 7F 01 41 90 88 04 0B 07 24 03 06 6D 65 6D 6F 72 79 02 00 11 5F 5F 77 61 73 6D 5F 63 61 6C 6C 5F 63 74 6F 72 73 00 01 03 72 75 6E 00 04 09 07 01 00 41 01 0B 01 03 0A 33 04 08 00 10 82 80 80 80 00 0B 0A 00 41 00 41 2A 36 02 84 08 0B 07 00 20 00 41 01 74 0B 15 00 20 00 10 80 80 80 80 00 20 00 41 01 11 81 80 80 80 00 00 0B 0B 09 01 00 41 80 08 0B 02 68 69 00 32 04 6E 61 6D 65 01 2B 05 00 03 6C 6F 67 01 11 5F 5F 77 61 73 6D 5F 63 61 6C 6C 5F 63 74 6F 72 73 02 04 69 6E 69 74 03 05 74 77 69 63 65 04 03 72 75 6E 00 0B 09 70 72 6F 64 75 63 65 72 73 00";
+
+// A function that is to give a number, and gives none.
+pub const NOTHING_GIVEN: &str = "01 05 01 60 00 01 7F 03 02 01 00 0A 04 01 02 00 0B";

@@ -12,4 +12,6 @@ mod outside;
 #[cfg(test)]
 mod refusals;
 #[cfg(test)]
+mod split;
+#[cfg(test)]
 mod tests;

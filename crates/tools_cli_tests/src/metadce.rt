@@ -1,4 +1,4 @@
-use crate::given::{CUT, module_of, words_of};
+use crate::given::{CUT, LINKED, NOTHING_GIVEN, module_of, run_over, words_of, zeros};
 use std::alloc::Global;
 use std::test::Fail;
 use tool_io::{MemFiles, MemSink};
@@ -24,19 +24,6 @@ fn files_of(alloc: Global, module: &[u8], graph: &str) -> Result<MemFiles, Fail>
     files.add("m.wasm", module)?;
     files.add("g.json", graph.as_bytes())?;
     Ok(files)
-}
-
-// What a line comes to over the files, and what is put on standard output and standard error.
-fn run_over(
-    alloc: Global,
-    files: &mut MemFiles,
-    line: &str,
-) -> Result<(Status, MemSink, MemSink), Fail> {
-    let words = words_of(alloc, line)?;
-    let mut out = MemSink::new(alloc);
-    let mut err = MemSink::new(alloc);
-    let ended = run(alloc, words.as_slice(), files, &mut out, &mut err);
-    Ok((ended, out, err))
 }
 
 #[test]
@@ -82,10 +69,7 @@ fn what_no_path_reaches_is_left_out_and_told(rt: HostRuntime) -> Result<(), Fail
     Ok(())
 }
 
-// A module as a linker leaves it, and what is left of it for a host that uses its memory and run.
-const LINKED: &str =
-    "01 0D 03 60 00 00 60 01 7F 01 7F 60 01 7F 00 02 0B 01 03 65 6E 76 03 6C 6F 67 00 02 03 05 04 00 00 01 01 04 05 01 70 01 05 05 05 03 01 00 02 06 08 01 7F 01 41 90 88 04 0B 07 24 03 06 6D 65 6D 6F 72 79 02 00 11 5F 5F 77 61 73 6D 5F 63 61 6C 6C 5F 63 74 6F 72 73 00 01 03 72 75 6E 00 04 09 07 01 00 41 01 0B 01 03 0A 33 04 08 00 10 82 80 80 80 00 0B 0A 00 41 00 41 2A 36 02 84 08 0B 07 00 20 00 41 01 74 0B 15 00 20 00 10 80 80 80 80 00 20 00 41 01 11 81 80 80 80 00 00 0B 0B 09 01 00 41 80 08 0B 02 68 69 00 32 04 6E 61 6D 65 01 2B 05 00 03 6C 6F 67 01 11 5F 5F 77 61 73 6D 5F 63 61 6C 6C 5F 63 74 6F 72 73 02 04 69 6E 69 74 03 05 74 77 69 63 65 04 03 72 75 6E 00 0B 09 70 72 6F 64 75 63 65 72 73 00";
-
+// What is left of a module as a linker leaves it, for a host that uses its memory and run.
 const LINKED_LEFT: &str =
     "01 0D 03 60 00 00 60 01 7F 01 7F 60 01 7F 00 02 0B 01 03 65 6E 76 03 6C 6F 67 00 02 03 03 02 01 01 04 05 01 70 01 05 05 05 03 01 00 02 07 10 02 06 6D 65 6D 6F 72 79 02 00 03 72 75 6E 00 02 09 07 01 00 41 01 0B 01 01 0A 17 02 07 00 20 00 41 01 74 0B 0D 00 20 00 10 00 20 00 41 01 11 01 00 0B 0B 09 01 00 41 80 08 0B 02 68 69";
 
@@ -141,15 +125,71 @@ fn graphs_are_refused_with_their_text(rt: HostRuntime) -> Result<(), Fail> {
 }
 
 #[test]
-fn the_module_is_decoded_before_the_graph(rt: HostRuntime) -> Result<(), Fail> {
+fn the_module_is_read_and_validated_before_the_graph_is_read(rt: HostRuntime) -> Result<(), Fail> {
     let alloc = rt.alloc();
-    let mut files = files_of(alloc, &CUT, "{")?;
-    let (ended, _, err) = run_over(alloc, &mut files, LINE)?;
-    assert_eq!(rt;
-        err.text(),
-        b"binkit: m.wasm: malformed section 3\n".as_slice()
-    );
-    assert_eq!(rt; ended, Status::Refused);
+    let cut = Vec::from_slice(alloc, &CUT)?;
+    let invalid = module_of(alloc, NOTHING_GIVEN)?;
+    for (module, text) in [
+        (cut.as_slice(), "binkit: m.wasm: malformed section 3\n"),
+        (invalid.as_slice(), "binkit: m.wasm: invalid body 0\n"),
+    ] {
+        let mut files = files_of(alloc, module, "{")?;
+        let (ended, _, err) = run_over(alloc, &mut files, LINE)?;
+        assert_eq!(rt; err.text(), text.as_bytes());
+        assert_eq!(rt; ended, Status::Refused, "{text}");
+        assert_eq!(rt; files.contents("o.wasm"), None, "{text}");
+    }
+    Ok(())
+}
+
+#[test]
+fn the_graph_counts_as_input_bytes(rt: HostRuntime) -> Result<(), Fail> {
+    let alloc = rt.alloc();
+    let module = module_of(alloc, CALLS_BACK)?;
+    let left = 16_777_216_usize.saturating_sub(module.len());
+    let mut graph = zeros(alloc, left + 1)?;
+    for text in [
+        "binkit: g.json: limit on input bytes\n",
+        "binkit: g.json: not JSON\n",
+    ] {
+        let mut files = MemFiles::new(alloc);
+        files.add("m.wasm", module.as_slice())?;
+        files.add("g.json", graph.as_slice())?;
+        let (ended, out, err) = run_over(alloc, &mut files, LINE)?;
+        assert_eq!(rt; err.text(), text.as_bytes());
+        assert_eq!(rt; ended, Status::Refused, "{text}");
+        assert_eq!(rt; out.text(), b"".as_slice(), "{text}");
+        assert_eq!(rt; files.contents("o.wasm"), None, "{text}");
+        graph.pop();
+    }
+    Ok(())
+}
+
+// What a line comes to over the module and the graph of the host, and the files.
+fn run_over_both(alloc: Global, line: &str) -> Result<(Status, MemSink, MemFiles), Fail> {
+    let module = module_of(alloc, CALLS_BACK)?;
+    let mut files = files_of(alloc, module.as_slice(), HOST)?;
+    let (ended, out, _) = run_over(alloc, &mut files, line)?;
+    Ok((ended, out, files))
+}
+
+#[test]
+fn the_output_may_be_one_of_its_files(rt: HostRuntime) -> Result<(), Fail> {
+    let alloc = rt.alloc();
+    let module = module_of(alloc, CALLS_BACK)?;
+    let left = module_of(alloc, LEFT)?;
+    let line = "metadce m.wasm --graph-file g.json -o m.wasm";
+    let (ended, out, files) = run_over_both(alloc, line)?;
+    assert_eq!(rt; ended, Status::Done);
+    assert_eq!(rt; out.text(), b"unused: C\n".as_slice());
+    assert_eq!(rt; files.contents("m.wasm"), Some(left.as_slice()));
+    assert_eq!(rt; files.contents("g.json"), Some(HOST.as_bytes()));
+    let line = "metadce m.wasm --graph-file g.json -o g.json";
+    let (ended, out, files) = run_over_both(alloc, line)?;
+    assert_eq!(rt; ended, Status::Done);
+    assert_eq!(rt; out.text(), b"unused: C\n".as_slice());
+    assert_eq!(rt; files.contents("m.wasm"), Some(module.as_slice()));
+    assert_eq!(rt; files.contents("g.json"), Some(left.as_slice()));
     Ok(())
 }
 

@@ -1,4 +1,4 @@
-use crate::given::{A, CUT, HEADER, run_line, words_of};
+use crate::given::{A, CUT, HEADER, run_line, words_of, zeros};
 use std::alloc::Global;
 use std::test::Fail;
 use tool_io::{MemFiles, MemSink};
@@ -58,15 +58,6 @@ fn faults_of_files_and_of_standard_error_are_told(rt: HostRuntime) -> Result<(),
         assert_eq!(rt; files.contents("o.wasm"), half, "{text}");
     }
     Ok(())
-}
-
-// So many bytes, each of them 0.
-fn zeros(alloc: Global, count: usize) -> Result<Vec<u8>, Fail> {
-    let mut bytes = Vec::new(alloc);
-    for _ in 0..count {
-        bytes.push(0)?;
-    }
-    Ok(bytes)
 }
 
 #[test]

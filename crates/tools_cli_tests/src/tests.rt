@@ -146,7 +146,7 @@ fn no_other_options_are_known(rt: HostRuntime) -> Result<(), Fail> {
 #[test]
 fn other_first_words_are_told_what_there_is(rt: HostRuntime) -> Result<(), Fail> {
     let alloc = rt.alloc();
-    for line in ["", "split", "--help", "merges h.wasm m -o o"] {
+    for line in ["", "ctor-eval", "--help", "merges h.wasm m -o o"] {
         let mut files = MemFiles::new(alloc);
         let (ended, err) = run_line(alloc, &mut files, line)?;
         assert_eq!(rt; ended, Status::Usage, "{line}");

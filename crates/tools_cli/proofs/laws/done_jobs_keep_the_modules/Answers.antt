@@ -3,7 +3,7 @@ use Rattle.tools_cli.proofs.Kept.{done_keeps}
 use Rattle.tools_cli.proofs.laws.done_jobs_keep_the_modules.Goals as goal
 
 pub returns : goal.returns
-returns c words before writes lines h =
+returns c words before writes lines text h =
     done_keeps (record {
       plainly = λ tree writable few. c.plain_spells.ensures.spells tree writable.0 writable.1 (c.trees_that_fit_have_small_sizes.ensures tree few);
       ranges = c.spelled_trees_are_in_range.ensures;
@@ -22,4 +22,15 @@ returns c words before writes lines h =
       left_in_range = c.swept_modules_are_in_range.ensures.range;
       left_memory = c.swept_modules_are_in_range.ensures.memory;
       left_same = c.swept_modules_show_the_same.ensures;
-    }) words before writes lines h
+      few_move = c.split_modules_are_in_range.ensures.few;
+      primary_valid = c.primary_modules_are_valid.ensures.valid;
+      primary_single = c.primary_modules_are_valid.ensures.single;
+      primary_sizes = c.primary_modules_are_valid.ensures.bounded;
+      primary_in_range = c.split_modules_are_in_range.ensures.primary;
+      primary_memory = c.split_modules_are_in_range.ensures.primary_memory;
+      secondary_valid = c.secondary_modules_are_valid.ensures.valid;
+      secondary_single = c.secondary_modules_are_valid.ensures.single;
+      secondary_sizes = c.secondary_modules_are_valid.ensures.bounded;
+      secondary_in_range = c.split_modules_are_in_range.ensures.secondary;
+      secondary_memory = c.split_modules_are_in_range.ensures.secondary_memory;
+    }) words before writes lines text h

@@ -1,0 +1,115 @@
+// What a split decides.
+ghost use Rattle.std.specs.Prelude.{◌≡◌, ◌≤◌, ◌<◌, ◌^◌, length, None, IfOk, IfErr};
+ghost use Rattle.wasm_names.specs.NameList.{AreFunctionNames};
+ghost use Rattle.split_plan.specs.Plans.{IsPlan};
+ghost use Rattle.split_spec.specs.Faults.{split_fault};
+ghost use Rattle.split_spec.specs.Primary.{primary};
+ghost use Rattle.split_spec.specs.Secondary.{secondary};
+ghost use Rattle.tools_cli.specs.CommandLine.{Split};
+ghost use Rattle.tools_cli.specs.Command.{split_value, decision_value, input_texts, input_entries};
+ghost use Rattle.tools_cli.specs.Job.{Decides, Splits, Refuses, words_plan, words_fault, most_input};
+ghost use Rattle.tools_cli.specs.Causes.{StopsWith, PlanFails, SplitFails, total};
+
+use crate::decide::{Decision, plain_output, two_outputs};
+use crate::gather::Input;
+use crate::kept_funcs::kept_lines;
+use crate::refusal::{refuse_plan, refuse_split};
+use crate::split::SplitTask;
+use crate::stop::Stop;
+use split_plan::{Plan, plan};
+use split_slots::{Pair, split};
+use std::alloc::Global;
+use wasm_bytes::Items;
+use wasm_names::{FuncName, function_names};
+use wasm_valid::Valid;
+
+// Which functions move, and which were asked to and are kept.
+fn plan_by<'a>(
+    alloc: Global,
+    task: &SplitTask<'a>,
+    module: &Valid,
+    names: &Items<FuncName>,
+) -> Result<Plan, Stop<'a>>
+    ensures plan { IfOk result (λ plan. plan ≡ words_plan (split_value task.now) «module».now names.now) }
+    ensures shape { IfOk result (IsPlan «module».now) }
+    ensures none { IfOk result (λ plan. words_fault (split_value task.now) «module».now names.now ≡ None) }
+    ensures stops { IfErr result (StopsWith (PlanFails (split_value task.now) «module».now names.now)) }
+{
+    let words = &task.words;
+    match plan(
+        alloc,
+        module,
+        names,
+        words.split.as_ref(),
+        words.keep.as_ref(),
+    ) {
+        Ok(plan) => Ok(plan),
+        Err(fault) => Err(Stop::Refused(refuse_plan(fault)?)),
+    }
+}
+
+// The two modules.
+fn split_by<'a>(
+    alloc: Global,
+    task: &SplitTask<'a>,
+    module: Valid,
+    plan: &Plan,
+) -> Result<Pair, Stop<'a>>
+    requires { IsPlan «module» plan.now }
+    ensures primary { IfOk result (λ pair. pair.primary ≡ primary task.now.names «module» plan.now.moved) }
+    ensures secondary { IfOk result (λ pair. pair.secondary ≡ secondary task.now.names «module» plan.now.moved) }
+    ensures none { IfOk result (λ pair. split_fault task.now.names «module» plan.now.moved ≡ None) }
+    ensures stops { IfErr result (StopsWith (SplitFails (split_value task.now) «module» plan.now.moved)) }
+{
+    match split(alloc, module, plan, &task.names) {
+        Ok(pair) => Ok(pair),
+        Err(fault) => Err(Stop::Refused(refuse_split(alloc, task.file, fault)?)),
+    }
+}
+
+// Splits one module by the words, whose functions have these names.
+fn split_named<'a>(
+    alloc: Global,
+    task: &SplitTask<'a>,
+    module: Valid,
+    names: &Items<FuncName>,
+    bytes: &[u8],
+) -> Result<Decision, Stop<'a>>
+    requires { AreFunctionNames bytes.now names.now }
+    ensures decided { IfOk result (λ decision. Splits (split_value task.now) «module» bytes.now (decision_value decision)) }
+    ensures stops { IfErr result (StopsWith (λ says. Splits (split_value task.now) «module» bytes.now (Refuses says))) }
+{
+    let plan = plan_by(alloc, task, &module, names)?;
+    let lines = kept_lines(
+        alloc,
+        module.module(),
+        names.as_slice(),
+        plan.kept.as_slice(),
+    )?;
+    let pair = split_by(alloc, task, module, &plan)?;
+    let Pair { primary, secondary } = pair;
+    let first = plain_output(alloc, task.outputs.secondary, secondary)?;
+    let second = plain_output(alloc, task.outputs.primary, primary)?;
+    Ok(two_outputs(alloc, first, second, lines)?)
+}
+
+/// Splits the module of a split, which is one, by the names in its file.
+pub(crate) fn decide_split<'a>(
+    alloc: Global,
+    task: &SplitTask<'a>,
+    modules: Vec<Valid>,
+    inputs: &[Input<'a>],
+) -> Result<Decision, Stop<'a>>
+    requires one { length modules.items ≡ 1 }
+    requires one_file { length inputs.now ≡ 1 }
+    requires room { total (input_entries inputs.now) ≤ most_input }
+    ensures decided { IfOk result (λ decision. Decides (Split (split_value task.now)) modules.items (input_texts inputs.now) (decision_value decision)) }
+    ensures stops { IfErr result (StopsWith (λ says. Decides (Split (split_value task.now)) modules.items (input_texts inputs.now) (Refuses says))) }
+{
+    let Some(module) = modules.into_iter().next() else {
+        unreachable!()
+    };
+    let bytes = inputs[0].bytes.as_slice();
+    let names = function_names(alloc, bytes)?;
+    split_named(alloc, task, module, &names, bytes)
+}

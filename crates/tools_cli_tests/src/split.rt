@@ -1,0 +1,707 @@
+use crate::given::{
+    CUT, HEADER, LINKED, NOTHING_GIVEN, module_of, module_of_tables, run_over, words_of,
+};
+use std::alloc::Global;
+use std::test::Fail;
+use tool_io::{MemFiles, MemSink};
+use tools_cli::{Status, run};
+
+// The module s.wasm, and an older file p.
+fn files_of(alloc: Global, module: &[u8]) -> Result<MemFiles, Fail> {
+    let mut files = MemFiles::new(alloc);
+    files.add("s.wasm", module)?;
+    files.add("p", &HEADER)?;
+    Ok(files)
+}
+
+// Splits a module into p and q by these words: what it comes to, what is put on standard output and
+// on standard error, and the files.
+fn split_by(
+    alloc: Global,
+    module: &[u8],
+    words: &str,
+) -> Result<(Status, MemSink, MemSink, MemFiles), Fail> {
+    let mut files = files_of(alloc, module)?;
+    let line = format!(in alloc; "split s.wasm {words} --primary-output=p --secondary-output=q")?;
+    let (ended, out, err) = run_over(alloc, &mut files, line.as_str())?;
+    Ok((ended, out, err, files))
+}
+
+// A function, exported as add, that adds its parameters. Its primary module calls it through a trampoline.
+const ADDS: &str =
+    "01 07 01 60 02 7F 7F 01 7F 03 02 01 00 07 07 01 03 61 64 64 00 00 0A 09 01 07 00 20 00 20 01 6A 0B";
+
+const ADDS_PRIMARY: &str =
+    "01 07 01 60 02 7F 7F 01 7F 02 11 01 0B 70 6C 61 63 65 68 6F 6C 64 65 72 01 30 00 00 03 02 01 00 04 05 01 70 01 01 01 07 10 02 03 61 64 64 00 01 06 25 73 6C 6F 74 73 01 00 09 07 01 00 41 00 0B 01 00 0A 0D 01 0B 00 20 00 20 01 41 00 11 00 00 0B";
+
+const ADDS_SECONDARY: &str =
+    "01 07 01 60 02 7F 7F 01 7F 02 15 01 07 70 72 69 6D 61 72 79 06 25 73 6C 6F 74 73 01 70 01 01 01 03 02 01 00 09 07 01 00 41 00 0B 01 00 0A 09 01 07 00 20 00 20 01 6A 0B";
+
+// A function, exported as i, that copies from a segment.
+const COPIES: &str =
+    "01 04 01 60 00 00 03 02 01 00 05 03 01 00 01 07 05 01 01 69 00 00 0C 01 01 0A 0E 01 0C 00 41 00 41 00 41 00 FC 08 00 00 0B 0B 04 01 01 01 78";
+
+const COPIES_PRIMARY: &str =
+    "01 04 01 60 00 00 03 02 01 00 04 05 01 70 01 00 00 05 03 01 00 01 07 0E 02 01 69 00 00 06 25 73 6C 6F 74 73 01 00 09 06 01 00 41 00 0B 00 0C 01 01 0A 0E 01 0C 00 41 00 41 00 41 00 FC 08 00 00 0B 0B 04 01 01 01 78";
+
+const COPIES_SECONDARY: &str =
+    "01 04 01 60 00 00 02 15 01 07 70 72 69 6D 61 72 79 06 25 73 6C 6F 74 73 01 70 01 00 00 09 06 01 00 41 00 0B 00";
+
+const LINKED_PRIMARY: &str =
+    "01 0D 03 60 00 00 60 01 7F 01 7F 60 01 7F 00 02 1B 02 03 65 6E 76 03 6C 6F 67 00 02 0B 70 6C 61 63 65 68 6F 6C 64 65 72 01 30 00 01 03 05 04 00 00 01 01 04 09 02 70 01 05 05 70 01 01 01 05 03 01 00 02 06 08 01 7F 01 41 90 88 04 0B 07 2D 04 06 6D 65 6D 6F 72 79 02 00 11 5F 5F 77 61 73 6D 5F 63 61 6C 6C 5F 63 74 6F 72 73 00 02 03 72 75 6E 00 05 06 25 73 6C 6F 74 73 01 01 09 0F 02 00 41 01 0B 01 04 02 01 41 00 0B 00 01 01 0A 29 04 04 00 10 03 0B 0A 00 41 00 41 2A 36 02 84 08 0B 09 00 20 00 41 00 11 01 01 0B 0D 00 20 00 10 00 20 00 41 01 11 01 00 0B 0B 09 01 00 41 80 08 0B 02 68 69";
+
+const LINKED_SECONDARY: &str =
+    "01 0D 03 60 00 00 60 01 7F 01 7F 60 01 7F 00 02 15 01 07 70 72 69 6D 61 72 79 06 25 73 6C 6F 74 73 01 70 01 01 01 03 02 01 01 09 07 01 00 41 00 0B 01 00 0A 09 01 07 00 20 00 41 01 74 0B";
+
+// Function 1, exported as r, calls the import e.f and names a table, a memory and a global.
+const NAMES_ALL: &str =
+    "01 04 01 60 00 00 02 07 01 01 65 01 66 00 00 03 02 01 00 04 04 01 70 00 01 05 03 01 00 01 06 06 01 7F 01 41 00 0B 07 05 01 01 72 00 01 0A 11 01 0F 00 10 00 41 00 25 00 1A 3F 00 1A 23 00 1A 0B";
+
+const NAMES_ALL_PRIMARY: &str =
+    "01 04 01 60 00 00 02 17 02 01 65 01 66 00 00 0B 70 6C 61 63 65 68 6F 6C 64 65 72 01 30 00 00 03 02 01 00 04 08 02 70 00 01 70 01 01 01 05 03 01 00 01 06 06 01 7F 01 41 00 0B 07 26 06 01 72 00 02 03 25 66 30 00 00 03 25 74 30 01 00 03 25 6D 30 02 00 03 25 67 30 03 00 06 25 73 6C 6F 74 73 01 01 09 09 01 02 01 41 00 0B 00 01 01 0A 09 01 07 00 41 00 11 00 01 0B";
+
+const NAMES_ALL_SECONDARY: &str =
+    "01 04 01 60 00 00 02 51 05 07 70 72 69 6D 61 72 79 03 25 66 30 00 00 07 70 72 69 6D 61 72 79 03 25 74 30 01 70 00 01 07 70 72 69 6D 61 72 79 06 25 73 6C 6F 74 73 01 70 01 01 01 07 70 72 69 6D 61 72 79 03 25 6D 30 02 00 01 07 70 72 69 6D 61 72 79 03 25 67 30 03 7F 01 03 02 01 00 09 09 01 02 01 41 00 0B 00 01 01 0A 11 01 0F 00 10 00 41 00 25 00 1A 3F 00 1A 23 00 1A 0B";
+
+#[test]
+fn functions_move_to_the_secondary_module(rt: HostRuntime) -> Result<(), Fail> {
+    let alloc = rt.alloc();
+    for (module, words, lines, primary, secondary) in [
+        (ADDS, "--split-funcs=add", "", ADDS_PRIMARY, ADDS_SECONDARY),
+        (
+            COPIES,
+            "--split-funcs=i",
+            "kept i: uses a segment\n",
+            COPIES_PRIMARY,
+            COPIES_SECONDARY,
+        ),
+        (
+            LINKED,
+            "--split-funcs twice",
+            "",
+            LINKED_PRIMARY,
+            LINKED_SECONDARY,
+        ),
+        (
+            NAMES_ALL,
+            "--split-funcs=r",
+            "",
+            NAMES_ALL_PRIMARY,
+            NAMES_ALL_SECONDARY,
+        ),
+    ] {
+        let module = module_of(alloc, module)?;
+        let (ended, out, err, files) = split_by(alloc, module.as_slice(), words)?;
+        let primary = module_of(alloc, primary)?;
+        let secondary = module_of(alloc, secondary)?;
+        assert_eq!(rt; err.text(), b"".as_slice(), "{words}");
+        assert_eq!(rt; ended, Status::Done, "{words}");
+        assert_eq!(rt; out.text(), lines.as_bytes(), "{words}");
+        assert_eq!(rt; files.contents("p"), Some(primary.as_slice()), "{words}");
+        assert_eq!(rt; files.contents("q"), Some(secondary.as_slice()), "{words}");
+    }
+    Ok(())
+}
+
+// Function 0, exported as f, calls function 1, which is named g and gives 7.
+const CALLS: &str =
+    "01 05 01 60 00 01 7F 03 03 02 00 00 07 05 01 01 66 00 00 0A 0B 02 04 00 10 01 0B 04 00 41 07 0B 00 0B 04 6E 61 6D 65 01 04 01 01 01 67";
+
+const CALLS_PRIMARY: &str =
+    "01 05 01 60 00 01 7F 02 11 01 0B 70 6C 61 63 65 68 6F 6C 64 65 72 01 30 00 00 03 02 01 00 04 05 01 70 01 01 01 07 0E 02 01 66 00 01 06 25 73 6C 6F 74 73 01 00 09 07 01 00 41 00 0B 01 00 0A 09 01 07 00 41 00 11 00 00 0B";
+
+// A function that gives 7 in slot 0.
+const GIVES_SECONDARY: &str =
+    "01 05 01 60 00 01 7F 02 15 01 07 70 72 69 6D 61 72 79 06 25 73 6C 6F 74 73 01 70 01 01 01 03 02 01 00 09 07 01 00 41 00 0B 01 00 0A 06 01 04 00 41 07 0B";
+
+// Nothing moves.
+const CALLS_WHOLE: &str =
+    "01 05 01 60 00 01 7F 03 03 02 00 00 04 05 01 70 01 00 00 07 0E 02 01 66 00 00 06 25 73 6C 6F 74 73 01 00 09 06 01 00 41 00 0B 00 0A 0B 02 04 00 10 01 0B 04 00 41 07 0B";
+
+const EMPTY_SECONDARY: &str =
+    "01 05 01 60 00 01 7F 02 15 01 07 70 72 69 6D 61 72 79 06 25 73 6C 6F 74 73 01 70 01 00 00 09 06 01 00 41 00 0B 00";
+
+// The import namespace i, the placeholder namespace h and the prefix x.
+const CALLS_NAMED: &str =
+    "01 05 01 60 00 01 7F 02 07 01 01 68 01 30 00 00 03 02 01 00 04 05 01 70 01 01 01 07 0E 02 01 66 00 01 06 78 73 6C 6F 74 73 01 00 09 07 01 00 41 00 0B 01 00 0A 09 01 07 00 41 00 11 00 00 0B";
+
+const GIVES_NAMED: &str =
+    "01 05 01 60 00 01 7F 02 0F 01 01 69 06 78 73 6C 6F 74 73 01 70 01 01 01 03 02 01 00 09 07 01 00 41 00 0B 01 00 0A 06 01 04 00 41 07 0B";
+
+#[test]
+fn a_call_goes_through_the_slot_under_default_and_given_names(rt: HostRuntime) -> Result<(), Fail> {
+    let alloc = rt.alloc();
+    for (words, primary, secondary) in [
+        ("--split-funcs=g", CALLS_PRIMARY, GIVES_SECONDARY),
+        ("--split-funcs=g,g", CALLS_PRIMARY, GIVES_SECONDARY),
+        ("--keep-funcs=f", CALLS_PRIMARY, GIVES_SECONDARY),
+        ("--keep-funcs f,f", CALLS_PRIMARY, GIVES_SECONDARY),
+        (
+            "--split-funcs=g --keep-funcs=f",
+            CALLS_PRIMARY,
+            GIVES_SECONDARY,
+        ),
+        (
+            "--split-funcs=g --import-namespace=primary --placeholder-namespace=placeholder --export-prefix=%",
+            CALLS_PRIMARY,
+            GIVES_SECONDARY,
+        ),
+        ("--keep-funcs=f,g", CALLS_WHOLE, EMPTY_SECONDARY),
+        (
+            "--export-prefix x --placeholder-namespace=h --split-funcs=g --import-namespace i",
+            CALLS_NAMED,
+            GIVES_NAMED,
+        ),
+    ] {
+        let module = module_of(alloc, CALLS)?;
+        let (ended, out, err, files) = split_by(alloc, module.as_slice(), words)?;
+        let primary = module_of(alloc, primary)?;
+        let secondary = module_of(alloc, secondary)?;
+        assert_eq!(rt; err.text(), b"".as_slice(), "{words}");
+        assert_eq!(rt; ended, Status::Done, "{words}");
+        assert_eq!(rt; out.text(), b"".as_slice(), "{words}");
+        assert_eq!(rt; files.contents("p"), Some(primary.as_slice()), "{words}");
+        assert_eq!(rt; files.contents("q"), Some(secondary.as_slice()), "{words}");
+    }
+    Ok(())
+}
+
+// Function 0 is the import e.g, which is exported as g. Function 1, exported as f, calls function 2, which gives 7.
+const CALLS_BESIDE: &str =
+    "01 05 01 60 00 01 7F 02 07 01 01 65 01 67 00 00 03 03 02 00 00 07 09 02 01 66 00 01 01 67 00 00 0A 0B 02 04 00 10 02 0B 04 00 41 07 0B";
+
+// Function 2 moves.
+const BESIDE_PRIMARY: &str =
+    "01 05 01 60 00 01 7F 02 17 02 01 65 01 67 00 00 0B 70 6C 61 63 65 68 6F 6C 64 65 72 01 30 00 00 03 02 01 00 04 05 01 70 01 01 01 07 12 03 01 66 00 02 01 67 00 00 06 25 73 6C 6F 74 73 01 00 09 07 01 00 41 00 0B 01 01 0A 09 01 07 00 41 00 11 00 00 0B";
+
+// Function 1 moves.
+const CALLER_PRIMARY: &str =
+    "01 05 01 60 00 01 7F 02 17 02 01 65 01 67 00 00 0B 70 6C 61 63 65 68 6F 6C 64 65 72 01 30 00 00 03 03 02 00 00 04 05 01 70 01 01 01 07 18 04 01 66 00 02 01 67 00 00 03 25 66 32 00 03 06 25 73 6C 6F 74 73 01 00 09 07 01 00 41 00 0B 01 01 0A 0E 02 07 00 41 00 11 00 00 0B 04 00 41 07 0B";
+
+const CALLER_SECONDARY: &str =
+    "01 05 01 60 00 01 7F 02 23 02 07 70 72 69 6D 61 72 79 03 25 66 32 00 00 07 70 72 69 6D 61 72 79 06 25 73 6C 6F 74 73 01 70 01 01 01 03 02 01 00 09 07 01 00 41 00 0B 01 01 0A 06 01 04 00 10 00 0B";
+
+// The name section that names function 2 f, and this one with a byte too few.
+const F_IS_2: &str = "00 0B 04 6E 61 6D 65 01 04 01 02 01 66";
+
+const F_CUT: &str = "00 0B 04 6E 61 6D 65 01 05 01 02 01 66";
+
+// A name section behind CALLS_BESIDE, a word, and the function that it names: 1 or 2.
+const NAMED: [(&str, &str, u32); 13] = [
+    ("", "f", 1),
+    (F_IS_2, "f", 2),
+    // a name that an import bears is passed over, and so is one of no function
+    ("00 0B 04 6E 61 6D 65 01 04 01 00 01 66", "f", 1),
+    ("00 0B 04 6E 61 6D 65 01 04 01 09 01 66", "f", 1),
+    ("00 0E 04 6E 61 6D 65 01 07 02 00 01 67 02 01 67", "g", 2),
+    // malformed, which is as none: cut off, twice, not ascending, a byte too many, no text
+    (F_CUT, "f", 1),
+    (
+        "00 11 04 6E 61 6D 65 01 04 01 02 01 66 01 04 01 02 01 66",
+        "f",
+        1,
+    ),
+    ("00 0E 04 6E 61 6D 65 01 07 02 02 01 66 02 01 66", "f", 1),
+    ("00 0C 04 6E 61 6D 65 01 05 01 02 01 66 00", "f", 1),
+    ("00 0B 04 6E 61 6D 65 01 04 01 02 01 FF", "f", 1),
+    // the first one decides
+    (
+        "00 0B 04 6E 61 6D 65 01 05 01 02 01 66 00 0B 04 6E 61 6D 65 01 04 01 02 01 66",
+        "f",
+        1,
+    ),
+    // other subsections, and sections of other names, are not read
+    ("00 0E 04 6E 61 6D 65 00 01 FF 01 04 01 02 01 66", "f", 2),
+    ("00 0B 04 6E 61 6D 66 01 04 01 02 01 66", "f", 1),
+];
+
+#[test]
+fn words_name_functions_by_the_name_list_and_then_by_exports(rt: HostRuntime) -> Result<(), Fail> {
+    let alloc = rt.alloc();
+    for (names, word, func) in NAMED {
+        let module = format!(in alloc; "{CALLS_BESIDE} {names}")?;
+        let module = module_of(alloc, module.as_str())?;
+        let words = format!(in alloc; "--split-funcs={word}")?;
+        let (ended, _, err, files) = split_by(alloc, module.as_slice(), words.as_str())?;
+        let (primary, secondary) = if func == 1 {
+            (CALLER_PRIMARY, CALLER_SECONDARY)
+        } else {
+            (BESIDE_PRIMARY, GIVES_SECONDARY)
+        };
+        let primary = module_of(alloc, primary)?;
+        let secondary = module_of(alloc, secondary)?;
+        assert_eq!(rt; err.text(), b"".as_slice(), "{names}");
+        assert_eq!(rt; ended, Status::Done, "{names}");
+        assert_eq!(rt; files.contents("p"), Some(primary.as_slice()), "{names}");
+        assert_eq!(rt; files.contents("q"), Some(secondary.as_slice()), "{names}");
+    }
+    Ok(())
+}
+
+// Functions 1 to 4 use a segment: one is named one, and exported as x; the next is exported as b and as a. Function 5 is exported as m. The import is named i.
+const SEGMENTS: &str =
+    "01 04 01 60 00 00 02 09 01 03 65 6E 76 01 66 00 00 03 07 06 00 00 00 00 00 00 04 04 01 70 00 00 05 03 01 00 00 07 11 04 01 78 00 01 01 62 00 02 01 61 00 02 01 6D 00 05 09 04 01 01 00 00 0C 01 01 0A 30 06 0C 00 41 00 41 00 41 00 FC 08 00 00 0B 08 00 02 40 FC 09 00 0B 0B 0C 00 41 00 41 00 41 00 FC 0C 00 00 0B 05 00 FC 0D 00 0B 02 00 0B 02 00 0B 0B 04 01 01 01 78 00 16 04 6E 61 6D 65 01 0F 03 00 01 69 01 03 6F 6E 65 09 04 67 6F 6E 65";
+
+// Function 6 moves.
+const SEGMENTS_PRIMARY: &str =
+    "01 04 01 60 00 00 02 19 02 03 65 6E 76 01 66 00 00 0B 70 6C 61 63 65 68 6F 6C 64 65 72 01 30 00 00 03 06 05 00 00 00 00 00 04 08 02 70 00 00 70 01 01 01 05 03 01 00 00 07 1A 05 01 78 00 02 01 62 00 03 01 61 00 03 01 6D 00 06 06 25 73 6C 6F 74 73 01 01 09 0C 02 01 00 00 02 01 41 00 0B 00 01 01 0C 01 01 0A 2D 05 0C 00 41 00 41 00 41 00 FC 08 00 00 0B 08 00 02 40 FC 09 00 0B 0B 0C 00 41 00 41 00 41 00 FC 0C 00 00 0B 05 00 FC 0D 00 0B 02 00 0B 0B 04 01 01 01 78";
+
+const SEGMENTS_SECONDARY: &str =
+    "01 04 01 60 00 00 02 15 01 07 70 72 69 6D 61 72 79 06 25 73 6C 6F 74 73 01 70 01 01 01 03 02 01 00 09 07 01 00 41 00 0B 01 00 0A 04 01 02 00 0B";
+
+const ALL_LINES: &str =
+    "kept one: uses a segment\nkept b: uses a segment\nkept 3: uses a segment\nkept 4: uses a segment\n";
+
+#[test]
+fn functions_that_use_a_segment_are_kept_and_told_in_order(rt: HostRuntime) -> Result<(), Fail> {
+    let alloc = rt.alloc();
+    let module = module_of(alloc, SEGMENTS)?;
+    for (words, lines) in [
+        ("--keep-funcs=m", ALL_LINES),
+        (
+            "--split-funcs=a,m,one,b,one",
+            "kept one: uses a segment\nkept b: uses a segment\n",
+        ),
+        ("--split-funcs=x", "kept one: uses a segment\n"),
+        ("--split-funcs=m", ""),
+        (
+            "--keep-funcs=one,x,b",
+            "kept 3: uses a segment\nkept 4: uses a segment\n",
+        ),
+    ] {
+        let (ended, out, err, _) = split_by(alloc, module.as_slice(), words)?;
+        assert_eq!(rt; err.text(), b"".as_slice(), "{words}");
+        assert_eq!(rt; ended, Status::Done, "{words}");
+        assert_eq!(rt; out.text(), lines.as_bytes(), "{words}");
+    }
+    let (_, _, _, files) = split_by(alloc, module.as_slice(), "--keep-funcs=m")?;
+    let primary = module_of(alloc, SEGMENTS_PRIMARY)?;
+    let secondary = module_of(alloc, SEGMENTS_SECONDARY)?;
+    assert_eq!(rt; files.contents("p"), Some(primary.as_slice()));
+    assert_eq!(rt; files.contents("q"), Some(secondary.as_slice()));
+    Ok(())
+}
+
+// Two functions that are named n, of which the second is exported as m and as k.
+const BOTH_N: &str =
+    "01 04 01 60 00 00 03 03 02 00 00 07 09 02 01 6D 00 01 01 6B 00 01 0A 07 02 02 00 0B 02 00 0B 00 0E 04 6E 61 6D 65 01 07 02 00 01 6E 01 01 6E";
+
+// The import a.f, which is named h and exported as h, and a function that calls it.
+const IMPORTED: &str =
+    "01 05 01 60 00 01 7F 02 07 01 01 61 01 66 00 00 03 02 01 00 07 05 01 01 68 00 00 0A 06 01 04 00 10 00 0B 00 0B 04 6E 61 6D 65 01 04 01 00 01 68";
+
+// CALLS, whose name list has a byte too many.
+const CALLS_MALFORMED: &str =
+    "01 05 01 60 00 01 7F 03 03 02 00 00 07 05 01 01 66 00 00 0A 0B 02 04 00 10 01 0B 04 00 41 07 0B 00 0C 04 6E 61 6D 65 01 05 01 01 01 67 00";
+
+// ADDS, and the immutable global placeholder.g.
+const ADDS_BESIDE: &str =
+    "01 07 01 60 02 7F 7F 01 7F 02 12 01 0B 70 6C 61 63 65 68 6F 6C 64 65 72 01 67 03 7F 00 03 02 01 00 07 07 01 03 61 64 64 00 00 0A 09 01 07 00 20 00 20 01 6A 0B";
+
+// ADDS, exported as %slots.
+const SLOTS: &str =
+    "01 07 01 60 02 7F 7F 01 7F 03 02 01 00 07 0A 01 06 25 73 6C 6F 74 73 00 00 0A 09 01 07 00 20 00 20 01 6A 0B";
+
+// Both.
+const SLOTS_BESIDE: &str =
+    "01 07 01 60 02 7F 7F 01 7F 02 12 01 0B 70 6C 61 63 65 68 6F 6C 64 65 72 01 67 03 7F 00 03 02 01 00 07 0A 01 06 25 73 6C 6F 74 73 00 00 0A 09 01 07 00 20 00 20 01 6A 0B";
+
+// The imports e.f and h.f, and a function that is exported as f.
+const TWO_IMPORTS: &str =
+    "01 04 01 60 00 00 02 0D 02 01 65 01 66 00 00 01 68 01 66 00 00 03 02 01 00 07 05 01 01 66 00 02 0A 04 01 02 00 0B";
+
+// Function 0, exported as %slots, and function 1, exported as %f0, which calls it.
+const TWO_TAKEN: &str =
+    "01 04 01 60 00 00 03 03 02 00 00 07 10 02 06 25 73 6C 6F 74 73 00 00 03 25 66 30 00 01 0A 09 02 02 00 0B 04 00 10 00 0B";
+
+const IMPORT_0: &str = "s.wasm: import 0 uses the placeholder namespace";
+
+const IMPORT_1: &str = "s.wasm: import 1 uses the placeholder namespace";
+
+// A module, words, and what is told.
+const REFUSED: [(&str, &str, &str); 38] = [
+    (COPIES, "--split-funcs=zz", "no function zz"),
+    (COPIES, "--keep-funcs=zz", "no function zz"),
+    (COPIES, "--split-funcs=,", "no function "),
+    (COPIES, "--split-funcs=i,", "no function "),
+    (BOTH_N, "--split-funcs=n", "several functions n"),
+    (BOTH_N, "--keep-funcs=m,n", "several functions n"),
+    (BOTH_N, "--split-funcs=n,zz", "several functions n"),
+    (BOTH_N, "--split-funcs=zz,n", "no function zz"),
+    (BOTH_N, "--split-funcs=zz --keep-funcs=n", "no function zz"),
+    (
+        BOTH_N,
+        "--keep-funcs=zz --split-funcs=n",
+        "several functions n",
+    ),
+    (
+        BOTH_N,
+        "--split-funcs=m --keep-funcs=m,zz",
+        "no function zz",
+    ),
+    (
+        BOTH_N,
+        "--split-funcs=m --keep-funcs=n",
+        "several functions n",
+    ),
+    (
+        BOTH_N,
+        "--split-funcs=m --keep-funcs=k",
+        "function m is kept and split",
+    ),
+    (
+        BOTH_N,
+        "--split-funcs=k,m --keep-funcs=m",
+        "function k is kept and split",
+    ),
+    (
+        CALLS,
+        "--split-funcs=g --keep-funcs=g",
+        "function g is kept and split",
+    ),
+    (
+        CALLS,
+        "--split-funcs=f,g --keep-funcs=g",
+        "function g is kept and split",
+    ),
+    (
+        CALLS,
+        "--split-funcs=g,f --keep-funcs=f,g",
+        "function g is kept and split",
+    ),
+    // a name that an import alone bears, and the name of an import that is exported
+    (SEGMENTS, "--split-funcs=i", "no function i"),
+    (IMPORTED, "--split-funcs=h", "no function h"),
+    (CALLS_BESIDE, "--split-funcs=g", "no function g"),
+    // a name of no function, and a name of a malformed list
+    (SEGMENTS, "--split-funcs=gone", "no function gone"),
+    (CALLS_MALFORMED, "--split-funcs=g", "no function g"),
+    // of the words before the module, and its imports before its exports
+    (ADDS_BESIDE, "--split-funcs=add", IMPORT_0),
+    (ADDS_BESIDE, "--split-funcs=zz", "no function zz"),
+    (
+        ADDS_BESIDE,
+        "--split-funcs=add --keep-funcs=add",
+        "function add is kept and split",
+    ),
+    (SLOTS, "--split-funcs=%slots", "export %slots is taken"),
+    (SLOTS, "--split-funcs=%slots,zz", "no function zz"),
+    (SLOTS, "--keep-funcs=%slots", "export %slots is taken"),
+    (
+        SLOTS,
+        "--split-funcs=%slots --keep-funcs=%slots",
+        "function %slots is kept and split",
+    ),
+    (SLOTS_BESIDE, "--split-funcs=%slots", IMPORT_0),
+    (
+        SLOTS_BESIDE,
+        "--split-funcs=%slots --placeholder-namespace=h",
+        "export %slots is taken",
+    ),
+    (
+        SLOTS_BESIDE,
+        "--split-funcs=%slots --export-prefix=x",
+        IMPORT_0,
+    ),
+    (
+        LINKED,
+        "--split-funcs=twice --placeholder-namespace=env",
+        IMPORT_0,
+    ),
+    // nothing moves
+    (
+        TWO_IMPORTS,
+        "--keep-funcs=f --placeholder-namespace=h",
+        IMPORT_1,
+    ),
+    (
+        TWO_IMPORTS,
+        "--keep-funcs=f --placeholder-namespace=e",
+        IMPORT_0,
+    ),
+    (TWO_TAKEN, "--split-funcs=%f0", "export %f0 is taken"),
+    (TWO_TAKEN, "--split-funcs=%slots", "export %slots is taken"),
+    (
+        TWO_TAKEN,
+        "--split-funcs=%slots,%f0",
+        "export %slots is taken",
+    ),
+];
+
+#[test]
+fn the_first_fault_is_told_and_no_file_is_written(rt: HostRuntime) -> Result<(), Fail> {
+    let alloc = rt.alloc();
+    for (module, words, text) in REFUSED {
+        let module = module_of(alloc, module)?;
+        let (ended, out, err, files) = split_by(alloc, module.as_slice(), words)?;
+        let text = format!(in alloc; "binkit: {text}\n")?;
+        assert_eq!(rt; err.text(), text.as_bytes(), "{words}");
+        assert_eq!(rt; ended, Status::Refused, "{words}");
+        assert_eq!(rt; out.text(), b"".as_slice(), "{words}");
+        assert_eq!(rt;
+            files.contents("s.wasm"),
+            Some(module.as_slice()),
+            "{words}"
+        );
+        assert_eq!(rt; files.contents("p"), Some(HEADER.as_slice()), "{words}");
+        assert_eq!(rt; files.contents("q"), None, "{words}");
+    }
+    Ok(())
+}
+
+// The function without parameters that is exported as k, and 4,001 functions of 1,000 parameters, the first of which is exported as l.
+fn many_params(alloc: Global) -> Result<Vec<u8>, Fail> {
+    let mut bytes = module_of(alloc, "01 F0 07 02 60 00 00 60 E8 07")?;
+    for _ in 0..1000 {
+        bytes.push(0x7F)?;
+    }
+    bytes.extend_from_slice(&[0x00, 0x03, 0xA4, 0x1F, 0xA2, 0x1F, 0x00])?;
+    for _ in 0..4001 {
+        bytes.push(1)?;
+    }
+    bytes.extend_from_slice(&[
+        0x07, 0x09, 0x02, 0x01, 0x6B, 0x00, 0x00, 0x01, 0x6C, 0x00, 0x01, 0x0A, 0xE8, 0x5D, 0xA2,
+        0x1F,
+    ])?;
+    for _ in 0..4002 {
+        bytes.extend_from_slice(&[0x02, 0x00, 0x0B])?;
+    }
+    Ok(bytes)
+}
+
+#[test]
+fn too_many_parameters_of_functions_that_move_are_told(rt: HostRuntime) -> Result<(), Fail> {
+    let alloc = rt.alloc();
+    let module = many_params(alloc)?;
+    let text = "binkit: output exceeds the limit on trampolines\n";
+    for (words, text, status) in [
+        ("--keep-funcs=k", text, Status::Refused),
+        ("--keep-funcs=k,l", "", Status::Done),
+    ] {
+        let (ended, out, err, files) = split_by(alloc, module.as_slice(), words)?;
+        assert_eq!(rt; err.text(), text.as_bytes(), "{words}");
+        assert_eq!(rt; ended, status, "{words}");
+        assert_eq!(rt; out.text(), b"".as_slice(), "{words}");
+        assert_eq!(rt;
+            files.contents("q").is_some(),
+            status == Status::Done,
+            "{words}"
+        );
+    }
+    Ok(())
+}
+
+// A module of so many tables, whose section begins so, and a function that is exported as f.
+fn many_tables(alloc: Global, head: &str, count: usize) -> Result<Vec<u8>, Fail> {
+    let before = format!(in alloc; "01 04 01 60 00 00 03 02 01 00 {head}")?;
+    let behind = "07 05 01 01 66 00 00 0A 04 01 02 00 0B";
+    module_of_tables(alloc, before.as_str(), count, behind)
+}
+
+#[test]
+fn a_table_too_many_is_told(rt: HostRuntime) -> Result<(), Fail> {
+    let alloc = rt.alloc();
+    let most = many_tables(alloc, "04 B2 EA 01 90 4E", 10000)?;
+    let fewer = many_tables(alloc, "04 AF EA 01 8F 4E", 9999)?;
+    let text = "binkit: output exceeds the limit on tables\n";
+    for (module, text, status) in [
+        (most.as_slice(), text, Status::Refused),
+        (fewer.as_slice(), "", Status::Done),
+    ] {
+        let (ended, out, err, files) = split_by(alloc, module, "--split-funcs=f")?;
+        assert_eq!(rt; err.text(), text.as_bytes());
+        assert_eq!(rt; ended, status);
+        assert_eq!(rt; out.text(), b"".as_slice());
+        assert_eq!(rt; files.contents("q").is_some(), status == Status::Done);
+    }
+    Ok(())
+}
+
+#[test]
+fn the_module_is_read_and_validated_before_the_words_are_looked_up(
+    rt: HostRuntime,
+) -> Result<(), Fail> {
+    let alloc = rt.alloc();
+    let invalid = module_of(alloc, NOTHING_GIVEN)?;
+    for (module, text) in [
+        (CUT.as_slice(), "binkit: s.wasm: malformed section 3\n"),
+        (invalid.as_slice(), "binkit: s.wasm: invalid body 0\n"),
+        (b"".as_slice(), "binkit: s.wasm: not a WebAssembly module\n"),
+    ] {
+        let (ended, _, err, files) = split_by(alloc, module, "--split-funcs=zz")?;
+        assert_eq!(rt; err.text(), text.as_bytes());
+        assert_eq!(rt; ended, Status::Refused, "{text}");
+        assert_eq!(rt; files.contents("q"), None, "{text}");
+    }
+    Ok(())
+}
+
+// What a write that fails leaves of each module of ADDS.
+const HALF_PRIMARY: &str =
+    "01 07 01 60 02 7F 7F 01 7F 02 11 01 0B 70 6C 61 63 65 68 6F 6C 64 65 72 01 30 00 00 03 02 01 00 04 05 01 70";
+
+const HALF_SECONDARY: &str =
+    "01 07 01 60 02 7F 7F 01 7F 02 15 01 07 70 72 69 6D 61 72 79 06 25 73 6C";
+
+#[test]
+fn the_secondary_module_is_written_first(rt: HostRuntime) -> Result<(), Fail> {
+    let alloc = rt.alloc();
+    let module = module_of(alloc, ADDS)?;
+    let secondary = module_of(alloc, ADDS_SECONDARY)?;
+    let half_primary = module_of(alloc, HALF_PRIMARY)?;
+    let half_secondary = module_of(alloc, HALF_SECONDARY)?;
+    let whole = Some(secondary.as_slice());
+    let half = Some(half_secondary.as_slice());
+    for (file, call, text, p, q) in [
+        ("s.wasm", 1, "read s.wasm", HEADER.as_slice(), None),
+        ("n.wasm", 0, "read n.wasm", HEADER.as_slice(), None),
+        ("s.wasm", 2, "write q", HEADER.as_slice(), half),
+        ("s.wasm", 3, "write p", half_primary.as_slice(), whole),
+    ] {
+        let mut files = files_of(alloc, module.as_slice())?;
+        files.fail_at(call)?;
+        let line = format!(in alloc;
+            "split {file} --split-funcs=add --primary-output=p --secondary-output=q"
+        )?;
+        let (ended, out, err) = run_over(alloc, &mut files, line.as_str())?;
+        let told = format!(in alloc; "binkit: cannot {text}\n")?;
+        assert_eq!(rt; err.text(), told.as_bytes(), "{text}");
+        assert_eq!(rt; ended, Status::Outside, "{text}");
+        assert_eq!(rt; out.text(), b"".as_slice(), "{text}");
+        assert_eq!(rt; files.contents("p"), Some(p), "{text}");
+        assert_eq!(rt; files.contents("q"), q, "{text}");
+    }
+    Ok(())
+}
+
+#[test]
+fn both_outputs_are_whole_where_standard_output_fails(rt: HostRuntime) -> Result<(), Fail> {
+    let alloc = rt.alloc();
+    let module = module_of(alloc, COPIES)?;
+    let mut files = files_of(alloc, module.as_slice())?;
+    let line = "split s.wasm --split-funcs=i --primary-output=p --secondary-output=q";
+    let words = words_of(alloc, line)?;
+    let mut out = MemSink::new(alloc);
+    let mut err = MemSink::new(alloc);
+    out.fail_at(1)?;
+    let ended = run(alloc, words.as_slice(), &mut files, &mut out, &mut err);
+    let primary = module_of(alloc, COPIES_PRIMARY)?;
+    let secondary = module_of(alloc, COPIES_SECONDARY)?;
+    assert_eq!(rt;
+        err.text(),
+        b"binkit: cannot write standard output\n".as_slice()
+    );
+    assert_eq!(rt; ended, Status::Outside);
+    assert_eq!(rt; files.contents("p"), Some(primary.as_slice()));
+    assert_eq!(rt; files.contents("q"), Some(secondary.as_slice()));
+    Ok(())
+}
+
+#[test]
+fn an_output_may_be_the_file(rt: HostRuntime) -> Result<(), Fail> {
+    let alloc = rt.alloc();
+    let module = module_of(alloc, CALLS)?;
+    let primary = module_of(alloc, CALLS_PRIMARY)?;
+    let secondary = module_of(alloc, GIVES_SECONDARY)?;
+
+    let mut files = files_of(alloc, module.as_slice())?;
+    let line = "split s.wasm --split-funcs=g --primary-output=s.wasm --secondary-output=q";
+    let (ended, out, err) = run_over(alloc, &mut files, line)?;
+    assert_eq!(rt; err.text(), b"".as_slice());
+    assert_eq!(rt; ended, Status::Done);
+    assert_eq!(rt; out.text(), b"".as_slice());
+    assert_eq!(rt; files.contents("s.wasm"), Some(primary.as_slice()));
+    assert_eq!(rt; files.contents("q"), Some(secondary.as_slice()));
+
+    let mut files = files_of(alloc, module.as_slice())?;
+    let line = "split s.wasm --split-funcs=g --primary-output=p --secondary-output=s.wasm";
+    let (ended, out, err) = run_over(alloc, &mut files, line)?;
+    assert_eq!(rt; err.text(), b"".as_slice());
+    assert_eq!(rt; ended, Status::Done);
+    assert_eq!(rt; out.text(), b"".as_slice());
+    assert_eq!(rt; files.contents("s.wasm"), Some(secondary.as_slice()));
+    assert_eq!(rt; files.contents("p"), Some(primary.as_slice()));
+    Ok(())
+}
+
+// A function that is exported under the empty name and gives 7.
+const NAMELESS: &str = "01 05 01 60 00 01 7F 03 02 01 00 07 04 01 00 00 00 0A 06 01 04 00 41 07 0B";
+
+const NAMELESS_PRIMARY: &str =
+    "01 05 01 60 00 01 7F 02 11 01 0B 70 6C 61 63 65 68 6F 6C 64 65 72 01 30 00 00 03 02 01 00 04 05 01 70 01 01 01 07 0D 02 00 00 01 06 25 73 6C 6F 74 73 01 00 09 07 01 00 41 00 0B 01 00 0A 09 01 07 00 41 00 11 00 00 0B";
+
+#[test]
+fn an_empty_piece_of_a_list_is_the_empty_name(rt: HostRuntime) -> Result<(), Fail> {
+    let alloc = rt.alloc();
+    let module = module_of(alloc, NAMELESS)?;
+    let (ended, _, err, files) = split_by(alloc, module.as_slice(), "--split-funcs=,")?;
+    let primary = module_of(alloc, NAMELESS_PRIMARY)?;
+    let secondary = module_of(alloc, GIVES_SECONDARY)?;
+    assert_eq!(rt; err.text(), b"".as_slice());
+    assert_eq!(rt; ended, Status::Done);
+    assert_eq!(rt; files.contents("p"), Some(primary.as_slice()));
+    assert_eq!(rt; files.contents("q"), Some(secondary.as_slice()));
+    Ok(())
+}
+
+#[test]
+fn its_options_stand_anywhere_and_once(rt: HostRuntime) -> Result<(), Fail> {
+    let alloc = rt.alloc();
+    let module = module_of(alloc, CALLS)?;
+    let secondary = module_of(alloc, GIVES_SECONDARY)?;
+    for line in [
+        "split --split-funcs g --secondary-output q --primary-output p s.wasm",
+        "split --secondary-output=q s.wasm --primary-output=p --keep-funcs=f",
+        "split --split-funcs=g --secondary-output=q --primary-output=-p s.wasm",
+    ] {
+        let mut files = files_of(alloc, module.as_slice())?;
+        let (ended, _, _) = run_over(alloc, &mut files, line)?;
+        assert_eq!(rt; ended, Status::Done, "{line}");
+        assert_eq!(rt; files.contents("q"), Some(secondary.as_slice()), "{line}");
+    }
+    Ok(())
+}
+
+// Words that are no split.
+const NO_SPLIT: [&str; 27] = [
+    "split",
+    "split s.wasm",
+    "split s.wasm --split-funcs=g --primary-output=p",
+    "split s.wasm --split-funcs=g --secondary-output=q",
+    "split s.wasm --split-funcs=g --primary-output=p --secondary-output=p",
+    "split s.wasm --primary-output=p --secondary-output=q",
+    "split --split-funcs=g --primary-output=p --secondary-output=q",
+    "split s.wasm t.wasm --split-funcs=g --primary-output=p --secondary-output=q",
+    "split '' --split-funcs=g --primary-output=p --secondary-output=q",
+    "split s.wasm --split-funcs=g --split-funcs=f --primary-output=p --secondary-output=q",
+    "split s.wasm --keep-funcs=g --keep-funcs g --primary-output=p --secondary-output=q",
+    "split s.wasm --split-funcs=g --primary-output=p --primary-output=r --secondary-output=q",
+    "split s.wasm --split-funcs=g --primary-output=p --secondary-output=q --secondary-output=q",
+    "split s.wasm --split-funcs=g --primary-output=p --secondary-output=q --import-namespace=i --import-namespace=i",
+    "split s.wasm --split-funcs=g --primary-output=p --secondary-output=q --placeholder-namespace=i --placeholder-namespace=j",
+    "split s.wasm --split-funcs=g --primary-output=p --secondary-output=q --export-prefix=i --export-prefix=j",
+    "split s.wasm --split-funcs= --primary-output=p --secondary-output=q",
+    "split s.wasm --keep-funcs '' --primary-output=p --secondary-output=q",
+    "split s.wasm --split-funcs=g --primary-output=p --secondary-output=q --export-prefix=",
+    "split s.wasm --primary-output=p --secondary-output=q --split-funcs",
+    "split s.wasm --split-funcs -g --primary-output=p --secondary-output=q",
+    "split s.wasm --split-funcs=g --primary-output=p --secondary-output=q -o o.wasm",
+    "split s.wasm --split-funcs=g --primary-output=p --secondary-output=q --output=o.wasm",
+    "split s.wasm --split-funcs=g --primary-output=p --secondary-output=q -g",
+    "split s.wasm --split=g --primary-output=p --secondary-output=q",
+    "split s.wasm --groups=m.json --primary-output=p",
+    "split s.wasm --split-funcs=g --primary-output=p --secondary-output=q --",
+];
+
+#[test]
+fn other_words_are_answered_with_the_usage_line(rt: HostRuntime) -> Result<(), Fail> {
+    let alloc = rt.alloc();
+    for line in NO_SPLIT {
+        let mut files = MemFiles::new(alloc);
+        let (ended, out, err) = run_over(alloc, &mut files, line)?;
+        assert_eq!(rt; ended, Status::Usage, "{line}");
+        assert_eq!(rt; out.text(), b"".as_slice(), "{line}");
+        assert_eq!(rt; err.text(), b"usage: binkit split\n".as_slice(), "{line}");
+    }
+    Ok(())
+}
