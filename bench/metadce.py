@@ -96,10 +96,14 @@ def compare(mib, reached, folder):
         print_parts(ours, len(content), folder)
     merge = row(mib, reached, "binkit merge", [PROGRAM, "merge", name, "m", "-o", out], len(content), folder)
     theirs = row(mib, reached, "wasm-metadce", ["wasm-metadce", *words], len(content), folder)
-    if ours and merge:
-        print(f"times the instructions of merge: {ours / merge:.2f}")
-    if ours and theirs:
-        print(f"times the instructions of wasm-metadce: {ours / theirs:.2f}")
+    print_ratios(ours, [("merge", merge), ("wasm-metadce", theirs)])
+
+
+def print_ratios(ours, others):
+    """How many times the instructions of each other tool were taken, where both were counted."""
+    for tool, count in others:
+        if ours and count:
+            print(f"times the instructions of {tool}: {ours / count:.2f}")
 
 
 def print_parts(count, size, folder):

@@ -14,7 +14,7 @@ import shutil
 import sys
 import tempfile
 
-from metadce import HEADER, MIB, TOP, row, write
+from metadce import HEADER, MIB, TOP, print_ratios, row, write
 from read_write import body, leb, section, timed, vector
 
 PROGRAM = os.path.abspath(sys.argv[1]) if len(sys.argv) > 1 else os.path.join(TOP, "crates/binkit/out/binkit")
@@ -65,10 +65,7 @@ def compare(mib, part, folder):
     ours = row(mib, part, "binkit split", [PROGRAM, "split", *words], len(content), folder)
     merge = row(mib, part, "binkit merge", [PROGRAM, "merge", name, "m", "-o", out], len(content), folder)
     theirs = row(mib, part, "wasm-split", ["wasm-split", *words], len(content), folder)
-    if ours and merge:
-        print(f"times the instructions of merge: {ours / merge:.2f}")
-    if ours and theirs:
-        print(f"times the instructions of wasm-split: {ours / theirs:.2f}")
+    print_ratios(ours, [("merge", merge), ("wasm-split", theirs)])
 
 
 def time_all(title, bodies, folder):
