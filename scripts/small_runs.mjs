@@ -1,7 +1,7 @@
-// The small runs of crates/wasm_meaning, made in a real engine.
+// The small runs of crates/wasm_meaning, and those of split modules of crates/split_behaves_proof, made in a real engine.
 //
 // Reads the theorems of the files named below, builds the modules of each as bytes, makes the embedder's moves, and compares what is seen with the
-// events that the theorem states. Of a module under a loader it is the loader, too. A run that the engine can't show (a growth that is denied, a move
+// events that the theorem states. Of a module under a loader it is the loader, too; split modules are loaded by the loader that users take (loader/). A run that the engine can't show (a growth that is denied, a move
 // while a growth waits, a run that doesn't end in its steps, imports in a circle, what several parts do at once, two memories, a load while the
 // primary starts) is named with its reason. A run is shown in part where a move isn't taken, which is then left out,
 // or a growth is granted, whose request no engine tells. Ends with 1 where the engine shows something else, or nothing was read.
@@ -10,10 +10,15 @@
 import { readFileSync } from "node:fs";
 import { dirname, join } from "node:path";
 import { fileURLToPath } from "node:url";
+import { SplitInstance } from "../loader/split_instance.mjs";
 
-const FOLDER = join(dirname(dirname(fileURLToPath(import.meta.url))), "crates/wasm_meaning/proofs");
+const CRATES = join(dirname(dirname(fileURLToPath(import.meta.url))), "crates");
+const FOLDER = join(CRATES, "wasm_meaning/proofs");
 const NAMES = ["SmallRuns", "MoreRuns", "EmbedderRuns", "FurtherRuns", "LoaderRuns", "TellingRuns", "TellingWorlds"];
 const FILES = process.argv.length > 2 ? process.argv.slice(2) : NAMES.map((name) => join(FOLDER, `${name}.antt`));
+// The runs of split modules, and the definitions that they use.
+const SPLIT = join(CRATES, "split_behaves_proof/proofs/SmallRuns.antt");
+const SPLIT_WORDS = join(CRATES, "split_spec/proofs/Rows.antt");
 
 // ---- reading: terms of names, numbers, lists and their joins, pairs, records and applications ----
 
@@ -100,12 +105,19 @@ function value(term, local) {
 
 // a definition of the specs, a field of what is defined here, or a constructor
 function named(name) {
-  if (name === "world.alone") return alone;
+  if (name === "world.alone" || name === "alone") return alone;
+  if (name === "in_place_of") return inPlaceOf;
   const [first, last] = [name.split(".")[0], name.split(".").at(-1)];
   return first !== last && definitions.has(first) ? value({ name: first }, {})[last] : made(last);
 }
 
 const alone = (module) => ({ parts: [{ name: made("None"), module }], view: module.exports.map((e) => ({ pair: [e.name, { part: 0n, what: e.desc }] })) });
+
+// the world of a split: what the module exports is seen, under the names and as what the primary exports
+const inPlaceOf = (input) => (primary) => (secondaries) => {
+  const view = input.exports.map(({ name }) => ({ pair: [name, primary.exports.find((e) => text(e.name) === text(name)).desc] }));
+  return { primary, secondaries, slot_table: BigInt(input.tables.length), view };
+};
 
 const closure = (known, names, local) => (names.length ? (given) => closure(known, names.slice(1), { ...local, [names[0]]: given }) : value(known.term, local));
 
@@ -121,6 +133,13 @@ function read(path) {
     else if (lines[0]) theorems.push(theorem(lines));
   }
   return theorems;
+}
+
+// Of a file of split modules: the definitions, and the runs of worlds that are written out.
+function readSplit(path) {
+  const blocks = readFileSync(path, "utf8").replace(/^--.*\n/gm, "").replace(/^use .*\n/gm, "").split(/\n\s*\n/).map((block) => block.trim().split("\n"));
+  for (const lines of blocks) if (lines[0].startsWith("abbrev ")) define(lines.slice(1).join("\n"));
+  return blocks.filter((lines) => /^\w+ : events(_loaded)? /.test(lines[0]) && lines[1].startsWith("unfolding ")).map(theorem);
 }
 
 function define(text) {
@@ -284,6 +303,7 @@ class Embedder {
     this.view = new Map(world.view.map(({ pair: [name, entity] }) => [string(name), entity]));
     this.moves = moves;
     this.shown = [];
+    this.types = new Map();
     this.externs = new Map();
     this.events = [];
     const key = (offer) => JSON.stringify(offer.pair.pair.map(string));
@@ -417,14 +437,21 @@ class Embedder {
     if (this.isLeftOut()) return undefined;
     switch (tag) {
       case "Call": return this.calls(this.viewed(args[0]), this.typeOf(args[0]), args[1]);
-      case "Invoke": return this.calls(this.shown[Number(args[0])], null, args[1]);
-      case "Take": return this.got(this.viewed(args[0]));
+      case "Invoke": return this.calls(this.shown[Number(args[0])], this.types.get(this.shown[Number(args[0])]) ?? null, args[1]);
+      case "Take": return this.takes(args[0]);
       case "Get": return this.got(this.element(this.placed(args[0]), Number(args[1])));
       case "Size": return this.got(this.size(this.placed(args[0])));
       case "Set": return this.set(this.placed(args[0]), Number(args[1]), args[2]);
       case "Extend": return this.extend(this.placed(args[0]), Number(args[1]));
       default: throw new NotShown(`the move ${tag}`);
     }
+  }
+
+  // the type of a function that is got by its name is known from then on
+  takes(name) {
+    const taken = this.viewed(name);
+    this.types.set(taken, this.typeOf(name));
+    this.got(taken);
   }
 
   calls(callee, type, args) {
@@ -555,6 +582,31 @@ class Loader extends Embedder {
   }
 }
 
+// ---- the loader of split modules ----
+
+class SplitLoader extends Embedder {
+  constructor({ primary, secondaries, view }, environment, moves, expected) {
+    const entities = view.map(({ pair: [name, what] }) => ({ pair: [name, { part: 0n, what }] }));
+    super({ parts: [{ name: made("None"), module: primary }], view: entities }, environment, moves, expected);
+    if (secondaries.length > 1) throw new NotShown("several secondary modules");
+    [this.secondary] = secondaries;
+  }
+
+  instance({ module }) {
+    const placeholders = this.secondary.placeholders.map(({ pair: [{ pair }] }) => text(pair));
+    const others = module.imports.filter((i) => !placeholders.includes(text([i.module, i.field])));
+    return new SplitInstance(moduleBytes(module), () => moduleBytes(this.secondary.module), this.objects({ ...module, imports: others }));
+  }
+
+  isReady() {
+    return true;
+  }
+
+  viewed(name) {
+    return this.parts[0].instance.exports[string(name)];
+  }
+}
+
 // ---- comparing ----
 
 const text = (what) => JSON.stringify(what, (key, part) => (typeof part === "bigint" ? part.toString() : part));
@@ -569,7 +621,7 @@ function unseen(events, moves) {
 }
 
 // what the engine shows of a theorem, or why it shows nothing
-function tried({ run, events }) {
+function tried({ run, events }, loader) {
   const { tag, args: [world, environment, moves] } = value(run, {});
   const all = value(events, {});
   const reason = unseen(all, moves);
@@ -577,7 +629,7 @@ function tried({ run, events }) {
   const expected = all.filter((event) => event.tag !== "GrowAsked");
   const grants = moves.filter((move) => move.tag === "Grant").slice(0, count(all, "GrowAsked"));
   try {
-    const seen = new (tag === "events_loaded" ? Loader : Embedder)(world, environment, moves.filter((move) => !grants.includes(move)), expected).run();
+    const seen = new (tag === "events_loaded" ? loader : Embedder)(world, environment, moves.filter((move) => !grants.includes(move)), expected).run();
     return { seen: text(seen), wanted: text(expected), inPart: count(all, "BadMove", "GrowAsked") > 0 };
   } catch (error) {
     if (error instanceof NotShown) return { reason: error.message };
@@ -587,12 +639,13 @@ function tried({ run, events }) {
 
 let wrong = 0;
 let total = 0;
-for (const path of FILES) {
-  const theorems = read(path);
+
+// makes the runs of a file, and says what came of them
+function show(path, theorems, loader) {
   const hidden = [];
   let [shown, partly] = [0, 0];
   for (const one of theorems) {
-    const { reason, seen, wanted, inPart } = tried(one);
+    const { reason, seen, wanted, inPart } = tried(one, loader);
     if (reason) hidden.push(`    ${one.name}: ${reason}`);
     else if (seen === wanted) {
       shown += 1;
@@ -603,8 +656,16 @@ for (const path of FILES) {
     }
   }
   total += shown;
-  console.log(`${path.split("/").at(-1)}: ${theorems.length} runs, ${shown} shown by the engine (${partly} of them in part), ${hidden.length} that it cannot show${hidden.length ? ":" : ""}`);
+  console.log(`${path.split("/").slice(-3).join("/")}: ${theorems.length} runs, ${shown} shown by the engine (${partly} of them in part), ${hidden.length} that it cannot show${hidden.length ? ":" : ""}`);
   for (const line of hidden) console.log(line);
+}
+
+for (const path of FILES) show(path, read(path), Loader);
+if (process.argv.length === 2) {
+  definitions.clear();
+  define("func_ref = Func");
+  readSplit(SPLIT_WORDS);
+  show(SPLIT, readSplit(SPLIT), SplitLoader);
 }
 console.log(wrong ? `${wrong} runs are contradicted` : "no run is contradicted");
 process.exit(wrong || !total ? 1 : 0);

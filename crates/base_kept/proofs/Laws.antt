@@ -191,3 +191,14 @@ kept_chosen {A} {B} test f is (b ∷ bs) cs (x ∷ xs) from l m h = by (λ cs. k
         let few = subst (λ o. length (cons_option o (filter_map f xs)) ≤ suc (length cs)) e m in
         let rest = on cs (omega (arith, few)) (λ i n k. told (suc i) (suc n) (k ∙ ap Some (next n))) in
         chosen b c y (filter_map f xs) cs (told 0 0 (ap Some (let z : from ≡ from + 0 = omega arith in z))) e rest ∙ ap (λ o. kept (c ∷ cs) (cons_option o (filter_map f xs))) (sym e)
+
+-- two that are kept go to two places
+pub marked_apart : (bs : List Bool) (x y : ℕ) → is_marked bs x ≡ true → is_marked bs y ≡ true → kept_before bs x ≡ kept_before bs y → x ≡ y
+marked_apart [] x y h k e = absurd (true≢false (sym h))
+marked_apart (b ∷ bs) zero zero h k e = refl
+marked_apart (true ∷ bs) zero (suc y) h k e = absurd (omega (arith, e))
+marked_apart (false ∷ bs) zero (suc y) h k e = absurd (true≢false (sym h))
+marked_apart (true ∷ bs) (suc x) zero h k e = absurd (omega (arith, e))
+marked_apart (false ∷ bs) (suc x) zero h k e = absurd (true≢false (sym k))
+marked_apart (true ∷ bs) (suc x) (suc y) h k e = ap suc (marked_apart bs x y h k (omega (arith, e)))
+marked_apart (false ∷ bs) (suc x) (suc y) h k e = ap suc (marked_apart bs x y h k e)

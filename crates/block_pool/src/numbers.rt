@@ -1,11 +1,12 @@
-ghost use Rattle.std.specs.Prelude.{◌≡◌, ◌≢◌, ◌+◌, ◌<◌, ◌≤◌, ℕ, length, take, None, Some, slice_index, IfSome, IfNone, IsTrue};
+ghost use Rattle.std.specs.Prelude.{◌≡◌, ◌≢◌, ◌+◌, ◌^◌, ◌<◌, ◌≤◌, ℕ, length, take, None, Some, slice_index, IfSome, IfNone, IsTrue};
 ghost use Rattle.block_pool.specs.Pages.{IsWidth, IsNextNonzero, IsZeroTo, little, little_bytes};
 
 // The number that 1, 2, 4 or 8 bytes spell, the lowest first.
 #[inline(always)]
 pub(crate) fn number(bytes: &[u8]) -> u64
     requires { IsWidth (length bytes.now) }
-    ensures { result ≡ little bytes.now }
+    ensures value { result ≡ little bytes.now }
+    ensures small { result < 256 ^ length bytes.now }
 {
     match bytes {
         [a, b, c, d, e, f, g, h] => u64::from_le_bytes([*a, *b, *c, *d, *e, *f, *g, *h]),

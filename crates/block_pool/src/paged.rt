@@ -84,7 +84,8 @@ impl Paged {
     pub fn load(&self, at: u64, width: u32) -> u64
         requires width { IsWidth width }
         requires inside { at + width ≤ size self.now }
-        ensures { result ≡ little (part self.now.now.bytes at width) }
+        ensures value { result ≡ little (part self.now.now.bytes at width) }
+        ensures small { result < 256 ^ width }
     {
         self.table.load(at as usize, width as usize)
     }

@@ -1,4 +1,4 @@
-ghost use Rattle.std.specs.Prelude.{◌≡◌, ◌≢◌, ◌+◌, ◌*◌, ◌/◌, ◌%◌, ◌<◌, ◌≤◌, ◌↔◌, ℕ, length, replicate, false, None, Some, IfSome, IfNone, IsNone, IsTrue, slice_index, if◌then◌else◌};
+ghost use Rattle.std.specs.Prelude.{◌≡◌, ◌≢◌, ◌+◌, ◌*◌, ◌/◌, ◌%◌, ◌^◌, ◌<◌, ◌≤◌, ◌↔◌, ℕ, length, replicate, false, None, Some, IfSome, IfNone, IsNone, IsTrue, slice_index, if◌then◌else◌};
 ghost use Rattle.block_pool.specs.declared.table.Slot.TheVariants.{Absent};
 ghost use Rattle.block_pool.specs.Pages.{IsWidth, IsNextNonzero, IsZeroFrom, IsZeroTo, Writes, Fits, part, little, little_bytes};
 ghost use Rattle.block_pool.specs.Table.{IsSound, IsFixed, IsBlock, IsZeroBlock, pages_of, is_present, slot_at};
@@ -89,7 +89,8 @@ impl Table {
         requires sound { IsSound self.now }
         requires width { IsWidth width }
         requires inside { at + width ≤ self.now.size }
-        ensures { result ≡ little (part (pages_of self.now).now.bytes at width) }
+        ensures value { result ≡ little (part (pages_of self.now).now.bytes at width) }
+        ensures small { result < 256 ^ width }
     {
         let mut bytes = [0; 8];
         self.read(at, &mut bytes[..width]);
@@ -101,7 +102,8 @@ impl Table {
         requires sound { IsSound self.now }
         requires width { IsWidth width }
         requires inside { at + width ≤ self.now.size }
-        ensures { result ≡ little (part (pages_of self.now).now.bytes at width) }
+        ensures value { result ≡ little (part (pages_of self.now).now.bytes at width) }
+        ensures small { result < 256 ^ width }
     {
         let offset = at % 4096;
         if offset + width <= BLOCK_BYTES {

@@ -31,17 +31,6 @@ marked_within [] z h = absurd (true≢false (sym h))
 marked_within (b ∷ bs) zero h = omega arith
 marked_within (b ∷ bs) (suc z) h = let k = marked_within bs z h in omega (arith, k)
 
--- two that are kept go to two places
-pub marked_apart : (bs : List Bool) (x y : ℕ) → is_marked bs x ≡ true → is_marked bs y ≡ true → kept_before bs x ≡ kept_before bs y → x ≡ y
-marked_apart [] x y h k e = absurd (true≢false (sym h))
-marked_apart (b ∷ bs) zero zero h k e = refl
-marked_apart (true ∷ bs) zero (suc y) h k e = absurd (omega (arith, e))
-marked_apart (false ∷ bs) zero (suc y) h k e = absurd (true≢false (sym h))
-marked_apart (true ∷ bs) (suc x) zero h k e = absurd (omega (arith, e))
-marked_apart (false ∷ bs) (suc x) zero h k e = absurd (true≢false (sym k))
-marked_apart (true ∷ bs) (suc x) (suc y) h k e = ap suc (marked_apart bs x y h k (omega (arith, e)))
-marked_apart (false ∷ bs) (suc x) (suc y) h k e = ap suc (marked_apart bs x y h k e)
-
 -- ---- all are marked ----
 
 pub all_marked : (n x : ℕ) → x < n → is_marked (replicate n true) x ≡ true

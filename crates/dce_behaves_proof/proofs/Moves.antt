@@ -11,7 +11,8 @@ use Rattle.index_remap.proofs.Rel.{get_rel}
 use Rattle.world_simulation.proofs.Places.{opt_at, opt_self}
 use Rattle.base_kept.specs.Kept.{kept, is_marked, kept_before}
 use Rattle.base_kept.proofs.Laws.{kept_at, marked_drop}
-use Rattle.dce_behaves_proof.proofs.Marked.{kept_length, before_sum, before_less, marked_apart}
+use Rattle.base_kept.proofs.Laws.{marked_apart}
+use Rattle.dce_behaves_proof.proofs.Marked.{kept_length, before_sum, before_less}
 
 -- ---- addresses ----
 

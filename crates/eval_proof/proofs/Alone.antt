@@ -264,7 +264,7 @@ module _ (m : Module) (of named : Space → ℕ → ℕ → Bool) (all : Relates
   code_told i j z [] [] k ws end = just tt
   code_told i j z [] (p ∷ d) k ws c = elim c [ ]
   code_told i j z (o ∷ c) (p ∷ d) k ws (then r rest) = op_told R i j z k.0 ws (op_known R i j k.1 r)
-  code_told i j z (o ∷ c) _ k ws (instead {a = b} e is at listed rest) = absurd (steps.none_listed m of named all b listed)
+  code_told i j z (o ∷ c) _ k ws (instead {a = b} e is at listed _ rest) = absurd (steps.none_listed m of named all b listed)
 
   levels_told : (i j : Inst) (z : Store) (ls ks : List Level) → NextTop i j ls → ListRel (LevelRel R i j) ls ks → AllOf (Told R (SetsTop i ls)) (touched_levels (record { store = z; inst = j }) ks)
   levels_told i j z [] [] k nil = ill_typed

@@ -24,7 +24,7 @@ use Rattle.index_remap.proofs.TableSteps.{bind_table, slot_known}
 pub followed_rel : {R : Pairing} {i j : Inst} {c d e f : List Instr} → CodeRel R i j c d → CodeRel R i j e f → CodeRel R i j (c ++ e) (d ++ f)
 followed_rel end s = s
 followed_rel (then o r) s = then o (followed_rel r s)
-followed_rel {R} {i} {j} {e = g} {f = f} (instead {o = o} {c = c} {d = d} e p q l r) s = subst (λ x. CodeRel R i j (o ∷ (c ++ g)) x) (sym (append_assoc e d f)) (instead e p q l (followed_rel r s))
+followed_rel {R} {i} {j} {e = g} {f = f} (instead {o = o} {c = c} {d = d} e p q l k r) s = subst (λ x. CodeRel R i j (o ∷ (c ++ g)) x) (sym (append_assoc e d f)) (instead e p q l k (followed_rel r s))
 
 module _ (R : Pairing) (off : Unknowns) (ev ew : Env) (st : StoreRelOff R off ev.store ew.store) where
   -- ---- calls ----

@@ -1,23 +1,23 @@
 -- Runs of which the second has frames between that only pass results on: one or two of its steps answer a step of the first.
-use Rattle.std.proofs.Common.{◌≡◌, ℕ, zero, suc, ◌+◌, List, [], ◌∷◌, length, None, Some, refl, sym, ap, subst, ◌∙◌, arith}
+use Rattle.std.proofs.Common.{◌≡◌, ℕ, zero, suc, ◌+◌, ◌≤◌, false, List, [], ◌∷◌, length, None, Some, refl, sym, ap, subst, ◌∙◌, arith}
 use Rattle.wasm_tree.specs.declared.types.ValType.{ValType}
 use Rattle.base_simulation.specs.Machines.{noted, events_of, state_after}
 use Rattle.wasm_meaning.specs.Outcomes.{Outcome, Gives, Traps, IllTyped, bind, onto, split_at}
-use Rattle.wasm_meaning.specs.State.{Val, Inst, Store, Frame, Entry, Running, Caller, Host, Starter, Act, Ends, Next, Ran, CallsOwn, WaitsGrowth, CallsPlaceholder, EndsCall}
+use Rattle.wasm_meaning.specs.State.{Val, Inst, Store, Level, Frame, Entry, Running, Mark, Opening, Waiting, Ended, Growing, Caller, Host, Starter, Act, Ends, Next, Ran, CallsOwn, WaitsGrowth, CallsPlaceholder, EndsCall}
 use Rattle.wasm_meaning.specs.Values.{pop_typed}
-use Rattle.wasm_meaning.specs.Step.{act, give, perform, step, to_mark}
-use Rattle.wasm_meaning.specs.Run.{Run, Out, trapped_to, made, transition_at, run_after, tick}
+use Rattle.wasm_meaning.specs.Step.{act, give, give_levels, perform, step, to_mark}
+use Rattle.wasm_meaning.specs.Run.{Run, Out, Steps, trapped_to, made, transition_at, run_after, transition, tick}
 use Rattle.wasm_meaning.proofs.Outcomes.{all_at}
 use Rattle.index_remap.specs.Related.{Pairing, OneToOne, ResRel, done, trap, wrong, ListRel, ValRel, FrameRel, EntryRel, running, mark, opening, waiting, ended, growing, goes, calls, asks_grow, ends, ActRel, NotListed, NextRel}
 use Rattle.index_remap.specs.RelatedRuns.{RunRel}
 use Rattle.index_remap.specs.Laws.{EntriesKnown}
-use Rattle.index_remap.specs.ListedRuns.{TickSkips, RunsStepTogether}
+use Rattle.index_remap.specs.ListedRuns.{TickSkips, calls_placeholder, RunsStepTogether}
 use Rattle.index_remap.specs.Trampolines.{passing, WithPassing, nil, cons, through, FramesBetween, AnsweredInTwo, HaveTypes}
 use Rattle.index_remap.specs.Related as related
 use Rattle.index_remap.proofs.Rel.{written, bind_rel_is, length_rel, PairRel}
 use Rattle.index_remap.proofs.ValueSteps.{pop_typed_all, pop_typed_rel}
 use Rattle.index_remap.proofs.StepsAgree.{TopView, top_none, top_mark, top_opening, top_waiting, top_ended, top_growing, top_running, act_rel}
-use Rattle.index_remap.proofs.Shapes.{IsEnd, Shape, Held, unchanged, perform_rel, together, given_together}
+use Rattle.index_remap.proofs.Shapes.{IsEnd, Shape, Held, unchanged, perform_rel, together, same_kinds, given_together}
 
 -- ---- what passes values on ----
 
@@ -35,7 +35,7 @@ length_onto : (xs ys : List Val) → length (onto xs ys) ≡ length xs + length 
 length_onto [] ys = omega arith
 length_onto (x ∷ xs) ys = let l = length_onto xs (x ∷ ys) in omega (arith, l)
 
--- values of these types that were pushed one run_after the other are those on top
+-- values of these types that were pushed one after the other are those on top
 pub pop_pushed : {ts : List ValType} {ws : List Val} (vs : List Val) → HaveTypes ts ws → pop_typed ts (onto ws vs) ≡ Gives (ws, vs)
 pop_pushed vs related.nil = refl
 pop_pushed vs (related.cons {b = w} typed more) = rw (pop_pushed (w ∷ vs) more, typed) refl
@@ -80,6 +80,20 @@ two_events q p o e f = ap (λ (x : Out). noted x.1 (noted (tick x.0).1 [])) e �
 
 two_states : (q p : Run) (o : Out) → tick q ≡ (p, None) → tick p ≡ o → state_after tick q 2 ≡ o.0
 two_states q p o e f = ap (λ (x : Out). (tick x.0).0) e ∙ ap (λ (x : Out). x.0) f
+
+-- to give values is no call
+given_plain : (r : Run) (t : Store) (ws : List Val) (ys : List Entry) → calls_placeholder (Steps r (give t ws ys)) ≡ false
+given_plain r t ws [] = refl
+given_plain r t ws (Running f ∷ ys) = in_levels f.levels
+  where
+    in_levels : (ls : List Level) → calls_placeholder (Steps r (give_levels t ws f ls ys)) ≡ false
+    in_levels [] = refl
+    in_levels (l ∷ ls) = refl
+given_plain r t ws (Mark ∷ ys) = refl
+given_plain r t ws (Opening xs ∷ ys) = refl
+given_plain r t ws (Waiting ts ∷ ys) = refl
+given_plain r t ws (Ended vs ∷ ys) = refl
+given_plain r t ws (Growing g ∷ ys) = refl
 
 -- ---- the shape ----
 
@@ -163,7 +177,12 @@ module _ (R : Pairing) (apart : OneToOne R) where
     from_one : {es fs : List Entry} → r.entries ≡ es → q.entries ≡ fs → TickSkips R r r.entries → ResRel (NextRel R Both) (step r.store es) (step q.store fs) → AnsweredInTwo R r q
     from_one e f skips next =
         let o = together R apart (WithPassing R) between r q h skips (rw (e, f) next) in
-        record { further = 0; bound = omega arith; shown = ap (λ x. noted x []) (sym o.out.event); run = o.out.run; first = o.first; second = o.second }
+        let kinds = same_kinds R apart (WithPassing R) between r q h skips (rw (e, f) next) in
+        record { further = 0; bound = omega arith; shown = ap (λ x. noted x []) (sym o.out.event); run = o.out.run; plain = λ plain k le. alone (sym kinds ∙ plain) k le; first = o.first; second = o.second }
+      where
+        alone : calls_placeholder (transition q) ≡ false → (k : ℕ) → k ≤ 0 → calls_placeholder (transition (state_after tick q k)) ≡ false
+        alone plain zero le = plain
+        alone plain (suc k) le = absurd (omega (arith, le))
 
     from_two : {f g k held : Frame} {xs ys : List Entry} {us ws : List Val} → r.entries ≡ Running f ∷ xs → q.entries ≡ Running g ∷ (Running k ∷ ys) → ListRel (ValRel R) us ws → WithPassing R xs ys → step r.store r.entries ≡ give r.store us xs →
         step q.store q.entries ≡ Gives (Ran q.store (Running held ∷ ys)) → step q.store (Running held ∷ ys) ≡ give q.store ws ys → AnsweredInTwo R r q
@@ -182,9 +201,15 @@ module _ (R : Pairing) (apart : OneToOne R) where
           bound = omega arith;
           shown = two_events q q1 _ silent two_is ∙ ap (λ x. noted x []) (sym o.out.event) ∙ sym (one_event r _ one_is);
           run = rw (one_is, end) o.out.run;
+          plain = λ _ k le. both (ap (λ xs. calls_placeholder (transition_at q xs)) i ∙ ap (λ o. calls_placeholder (Steps q o)) second) (ap (λ (o : Out). calls_placeholder (transition o.0)) silent ∙ ap (λ o. calls_placeholder (Steps q1 o)) last ∙ given_plain q1 q.store ws ys) k le;
           first = λ b. rw one_is (o.first b);
           second = λ b. rw end (o.second b);
         }
+      where
+        both : calls_placeholder (transition q) ≡ false → calls_placeholder (transition (tick q).0) ≡ false → (k : ℕ) → k ≤ 1 → calls_placeholder (transition (state_after tick q k)) ≡ false
+        both first second zero le = first
+        both first second (suc zero) le = second
+        both first second (suc (suc k)) le = absurd (omega (arith, le))
 
     answered : {es fs : List Entry} → r.entries ≡ es → q.entries ≡ fs → TickSkips R r r.entries → Answer es fs → AnsweredInTwo R r q
     answered e f skips (one next) = from_one e f skips next

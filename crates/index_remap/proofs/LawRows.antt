@@ -321,7 +321,7 @@ a_listed_function_is_named : ResRel (NextRel L (Above L [] [])) (step it_traps (
 unfolding out-Instr denote.Hole.Carrier.out
 a_listed_function_is_named =
     let e : EntryRel L (runs in_one [] (refers (i.Call 0 ∷ []))) (runs in_one [] (refers (i.Nop ∷ (i.Nop ∷ [])))) =
-    running (record { locals = nil; results = refl; levels = cons (record { values = nil; code = then (Related.ref_func (some refl)) (then Related.drop (instead (i.Nop ∷ (i.Nop ∷ [])) refl refl refl end)); gives = refl; takes = refl; back = end }) nil }) in
+    running (record { locals = nil; results = refl; levels = cons (record { values = nil; code = then (Related.ref_func (some refl)) (then Related.drop (instead (i.Nop ∷ (i.Nop ∷ [])) refl refl refl refl end)); gives = refl; takes = refl; back = end }) nil }) in
     steps_of_one L listed_apart (λ k a b p. p) it_traps one_function (runs in_one [] (refers (i.Call 0 ∷ []))) (runs in_one [] (refers (i.Nop ∷ (i.Nop ∷ [])))) listed_related e (λ x e. subst NoneListed e tt)
 
 a_reference_to_it : (s : Store) (rest : List Instr) → step s (runs in_one [] (refers rest) ∷ []) ≡ Gives (Ran s (runs in_one (Ref (FuncRef (Some 0)) ∷ []) (i.Drop ∷ rest) ∷ []))

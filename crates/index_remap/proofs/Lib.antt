@@ -18,6 +18,7 @@ pub mod Shapes
 pub mod Lockstep
 pub mod FramesBetween
 pub mod SlotCalls
+pub mod Wider
 pub mod SameRuns
 pub mod AboveSteps
 pub mod Keeping
@@ -28,7 +29,7 @@ pub mod Replacing
 pub mod Unlisted
 pub mod RenumberedCode
 pub mod ItselfCode
-mod Unknown
+pub mod Unknown
 mod UnknownSteps
 mod UnknownRows
 mod ReplacedRows

@@ -20,7 +20,7 @@ use Rattle.index_remap.specs.Renumbered.{entry, new_type, renumbered, renumbered
 use Rattle.index_remap.specs.References.{is_among}
 use Rattle.index_remap.specs.CodeNames.{EntryNames, LayerNames}
 use Rattle.wasm_tree.specs.Layers.{Layers, RowLayers, ListLayers}
-use Rattle.index_remap.specs.Replaced.{Labels, Codes, CallReplaced, StandsFor, RowReplaced, Replaced, is_listed_call, OtherNamed, OthersNamed}
+use Rattle.index_remap.specs.Replaced.{Labels, Codes, CallReplaced, StandsFor, RowReplaced, Replaced, is_listed_call, OtherNamed, OthersNamed, CodesStand}
 use Rattle.index_remap.proofs.Unlisted.{operands_follow, unlisted_renumbered}
 
 module _ (R : Pairing) (m : Remap) (x y : Inst) where
@@ -83,18 +83,18 @@ module _ (R : Pairing) (m : Remap) (x y : Inst) where
   one_rel : (o p : Instr) (code c d : List Instr) → code ≡ p ∷ [] → OpRel R x y false (out-Instr o) (out-Instr p) → CodeRel R x y c d → CodeRel R x y (o ∷ c) (code ++ d)
   one_rel o p code c d e h k = subst (λ z. CodeRel R x y (o ∷ c) (z ++ d)) (sym e) (then h k)
 
-  module _ (types : List FuncType) (listed : List ℕ) (codes : Codes) where
+  module _ (types : List FuncType) (listed : List ℕ) (codes : Codes) (may : CodesStand R listed codes x y) where
     block_rel : (b : BlockType) → Every (λ o. OtherNamed R m (is_listed_call listed o) x y o.space o.index) (block_operands b) → BlockRel x y b (new_type m b)
     block_rel bt.Empty n = empty
     block_rel (bt.Value t) n = value
     block_rel (bt.Index k) n = indexed n.0
 
     -- a call of a function that is on the list, or not
-    call_rel : (b : Bool) (labels : Labels) (f : ℕ) (code c d : List Instr) → OtherNamed R m b x y Functions f → CallReplaced m b codes labels f code → CodeRel R x y c d →
+    call_rel : (f : ℕ) (b : Bool) → b ≡ is_among listed f → (labels : Labels) (code c d : List Instr) → OtherNamed R m b x y Functions f → CallReplaced m b codes labels f code → CodeRel R x y c d →
         CodeRel R x y (Call f ∷ c) (code ++ d)
     unfolding out-Instr denote.Hole.Carrier.out
-    call_rel true labels f code c d (a, found, free) k h = instead code refl found free h
-    call_rel false labels f code c d q k h = one_rel (Call f) (renumbered m (Call f)) code c d k (plain_rel (Call f) tt (q, tt)) h
+    call_rel f true is labels code c d (a, found, free) k h = instead code refl found free (may labels f a code (sym is) k found) h
+    call_rel f false is labels code c d q k h = one_rel (Call f) (renumbered m (Call f)) code c d k (plain_rel (Call f) tt (q, tt)) h
 
     mutual
       unfolding out-Instr denote.Hole.Carrier.out
@@ -110,7 +110,7 @@ module _ (R : Pairing) (m : Remap) (x y : Inst) where
           let held : CodeRel R x y (shown-the_row-Instr-0 n body) b = rw (items_shown-the_row-Instr-0 n body) (row_rel _ body b q.1 k) in
           let others : CodeRel R x y (shown-the_row-Instr-0 l other) o = rw (items_shown-the_row-Instr-0 l other) (row_rel _ other o q.2 z) in
           one_rel (If' ty n body l other) (If (new_type m ty) b o) code c d e (rw (i.outs-If (new_type m ty) b o) (Related.if_else (block_rel ty q.0) held others)) h
-      stands_rel labels (Call f) code c d q k h = call_rel (is_among listed f) labels f code c d q.0 k h
+      stands_rel labels (Call f) code c d q k h = call_rel f (is_among listed f) refl labels code c d q.0 k h
       stands_rel labels o code c d q k h = one_rel o (renumbered m o) code c d k (plain_rel o tt q) h
 
       row_rel : {n : _} (labels : Labels) (r : Row_of-Instr n) (js : List Instr) → RowLayers (OthersNamed R m listed x y) r → RowReplaced types m listed codes labels r js → CodeRel R x y (items-the_row-Instr n r) js
@@ -129,4 +129,4 @@ named_other R m x y false space n h = h
 
 pub renumbered_rel : (R : Pairing) (m : Remap) (x y : Inst) (os : List Instr) → ListLayers (LayerNames R m x y) os → CodeRel R x y os (renumbered_all m os)
 renumbered_rel R m x y os h =
-    replaced_rel R m x y [] [] (λ labels f. []) [] os (renumbered_all m os) (operands_follow (λ o. EntryNames R m x y o.space o.index) (λ o. OtherNamed R m (is_listed_call [] o) x y o.space o.index) (λ o. named_other R m x y o.called o.space o.index) os h) (unlisted_renumbered [] m (λ labels f. []) [] os)
+    replaced_rel R m x y [] [] (λ labels f. []) (λ labels f a code among. cc) [] os (renumbered_all m os) (operands_follow (λ o. EntryNames R m x y o.space o.index) (λ o. OtherNamed R m (is_listed_call [] o) x y o.space o.index) (λ o. named_other R m x y o.called o.space o.index) os h) (unlisted_renumbered [] m (λ labels f. []) [] os)

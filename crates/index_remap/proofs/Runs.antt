@@ -19,7 +19,7 @@ use Rattle.wasm_meaning.specs.World.{Begun}
 use Rattle.wasm_meaning.specs.Run.{Event, InstanceTrapped, Returned, Asked, Got, Place, TableOf, MemoryOf, GlobalOf, Named, Move, Call, Invoke, Take, Answer, Refuse, Grant, Deny, Get, Size, Set, Extend, Phase, Pending, Opened, Closed, Run, Out, Transition, Steps, Makes, made, place_at, trapped_at, trapped_to, showing, run_after, called, is_mark, delivered, grown_table, answered, refused, with_change, granted, decided, shows, got, size_of, does, byte_of, set, extended, moved, at_entries, or_bad, or_closed, next_move, began, view_of, nothing_in, started, open_next, is_taken_closed, closed_move, in_phase, transition_at}
 use Rattle.index_remap.specs.Related.{Pairing, OneToOne, OptRel, none, some, ResRel, done, trap, wrong, ListRel, nil, cons, RefRel, func, extern, ValRel, number, reference, TableRel, StoreRel, mark, opening, waiting, ended, growing, ChangeRel, set_global, set_memory, set_table, GrowthRel, memory_grows, table_grows, NextRel, ran, asked, asked_grow, loads, returned}
 use Rattle.index_remap.specs.RelatedRuns.{ThingRel, a_func, a_table, a_memory, a_global, KeyRel, BegunRel, PhaseRel, fresh, pending, opened, closed, RunRel, OutRel}
-use Rattle.index_remap.specs.ListedRuns.{MoveSkips, NextMoveSkips, TickSkips}
+use Rattle.index_remap.specs.ListedRuns.{MoveSkips, NextMoveSkips, TickSkips, calls_placeholder}
 use Rattle.index_remap.proofs.Rel.{written, there, then_rel, then_rel_is, then_same, either_rel, PairRel, IfThere, absent, present, then_all, any_there, all_there, get_rel, append_rel, length_rel, copies_rel, overwrite_rel}
 use Rattle.index_remap.proofs.ValueSteps.{Fits}
 use Rattle.index_remap.proofs.Shown.{show_rel, show_all_rel}
@@ -111,6 +111,17 @@ module _ (R : Pairing) (apart : OneToOne R) (B C : Store → Store → List Entr
   made_rel : {t u : Transition} → TransitionRel t u → OutRel R B F (made t) (made u)
   made_rel (steps h s) = after_rel h s
   made_rel (makes o) = o
+
+  -- both call a placeholder, or neither does
+  kinds_rel : {t u : Transition} → TransitionRel t u → calls_placeholder t ≡ calls_placeholder u
+  kinds_rel (steps h trap) = refl
+  kinds_rel (steps h wrong) = refl
+  kinds_rel (steps h (done (ran s e))) = refl
+  kinds_rel (steps h (done (asked v s e))) = refl
+  kinds_rel (steps h (done (asked_grow n s e))) = refl
+  kinds_rel (steps h (done (loads v s e))) = refl
+  kinds_rel (steps h (done (returned v s e))) = refl
+  kinds_rel (makes o) = refl
 
   -- ---- moves ----
 
@@ -340,3 +351,7 @@ module _ (R : Pairing) (apart : OneToOne R) (B C : Store → Store → List Entr
 
   pub still_rel : {r q : Run} {es fs : List Entry} → RunRel R B F r q → (C r.store q.store es fs → C r.store q.store r.entries q.entries) → (TopView R (written apart) C r.store q.store es fs → TopView R (written apart) C r.store q.store r.entries q.entries) → TopView R (written apart) C r.store q.store es fs → ResRel (NextRel R B) (step r.store r.entries) (step q.store q.entries) → r.entries ≡ es → TickSkips R r es → OutRel R B F (made (transition_at r es)) (made (transition_at q fs))
   still_rel h whole views w s same free = made_rel (between_rel h whole views w s same free)
+
+  -- of what kind they are
+  pub still_kinds : {r q : Run} {es fs : List Entry} → RunRel R B F r q → (C r.store q.store es fs → C r.store q.store r.entries q.entries) → (TopView R (written apart) C r.store q.store es fs → TopView R (written apart) C r.store q.store r.entries q.entries) → TopView R (written apart) C r.store q.store es fs → ResRel (NextRel R B) (step r.store r.entries) (step q.store q.entries) → r.entries ≡ es → TickSkips R r es → calls_placeholder (transition_at r es) ≡ calls_placeholder (transition_at q fs)
+  still_kinds h whole views w s same free = kinds_rel (between_rel h whole views w s same free)

@@ -4,16 +4,16 @@ use Rattle.std.proofs.Common.{◌≡◌, List, [], ◌∷◌, refl}
 use Rattle.wasm_meaning.specs.Outcomes.{Outcome}
 use Rattle.wasm_meaning.specs.State.{Val, Store, Change, Level, Frame, Entry, Running, Caller, Act, Ends}
 use Rattle.wasm_meaning.specs.Step.{changed, give, give_levels, perform, step, to_mark}
-use Rattle.wasm_meaning.specs.Run.{Phase, Run, Out, is_mark, run_after, tick}
+use Rattle.wasm_meaning.specs.Run.{Phase, Run, Out, is_mark, run_after, transition, tick}
 use Rattle.wasm_meaning.proofs.Outcomes.{all_at}
 use Rattle.index_remap.specs.Related.{Pairing, OneToOne, none, some, ResRel, done, trap, wrong, ListRel, nil, cons, ValRel, StoreRel, LevelRel, FrameRel, EntryRel, growing, ActRel, goes, calls, asks_grow, ends, ChangeRel, NextRel, ran, asked_grow, returned, NotListed}
 use Rattle.index_remap.specs.RelatedRuns.{turned, PhaseRel, fresh, pending, opened, closed, KeepsOthers, IsBegun, RunRel, OutRel}
-use Rattle.index_remap.specs.ListedRuns.{TickSkips, RunsStepTogether}
+use Rattle.index_remap.specs.ListedRuns.{TickSkips, calls_placeholder, RunsStepTogether}
 use Rattle.index_remap.proofs.Rel.{written, there, same_there, bind_rel, bind_found, bind_is, bind_rel_is, PairRel}
 use Rattle.index_remap.proofs.ValueSteps.{pop_typed_all, pop_typed_rel}
 use Rattle.index_remap.proofs.StepsAgree.{Stacks, TopView, top_none, top_mark, top_opening, top_waiting, top_ended, top_growing, top_running, changed_rel, frame_rel, left_rel, frame_given, enter_rel}
 use Rattle.index_remap.proofs.Others.{first_partnered, second_partnered, change_keeps, none_changed}
-use Rattle.index_remap.proofs.Runs.{after_rel, still_rel}
+use Rattle.index_remap.proofs.Runs.{after_rel, still_rel, still_kinds}
 
 -- the act ends its frame
 abbrev pub IsEnd : Act → Type 0
@@ -133,6 +133,9 @@ module _ (R : Pairing) (apart : OneToOne R) where
     pub after_next : (r q : Run) → RunRel R Held NoneBegun r q → TickSkips R r r.entries → ResRel (NextRel R Held) (step r.store r.entries) (step q.store q.entries) → OutRel R Held NoneBegun (tick r) (tick q)
     after_next r q h skips next = still_rel R apart Held Held stacks NoneBegun (λ s t es fs b. from_none b) h (λ b. b) (λ b. b) (view_of h.entries) next refl skips
 
+    pub kinds_next : (r q : Run) → RunRel R Held NoneBegun r q → TickSkips R r r.entries → ResRel (NextRel R Held) (step r.store r.entries) (step q.store q.entries) → calls_placeholder (transition r) ≡ calls_placeholder (transition q)
+    kinds_next r q h skips next = still_kinds R apart Held Held stacks NoneBegun (λ s t es fs b. from_none b) h (λ b. b) (λ b. b) (view_of h.entries) next refl skips
+
   -- runs before a step, of which nothing was changed
   module _ (E : List Entry → List Entry → Type 0) (shape : Shape E) (r q : Run) (h : RunRel R (λ s t. E) (λ s t. E) r q) where
     pub unchanged : {es fs : List Entry} → E es fs → Held E shape r.phase r.store q.store r.store q.store es fs
@@ -152,6 +155,10 @@ module _ (R : Pairing) (apart : OneToOne R) where
 
     pub together : TickSkips R r r.entries → ResRel (NextRel R (Held E shape r.phase r.store q.store)) (step r.store r.entries) (step q.store q.entries) → RunsStepTogether R (λ s t. E) r q (tick r) (tick q)
     together skips next = as_before (after_next E shape r.phase r.store q.store r q held_before skips next)
+
+    -- both steps call a placeholder, or neither does
+    pub same_kinds : TickSkips R r r.entries → ResRel (NextRel R (Held E shape r.phase r.store q.store)) (step r.store r.entries) (step q.store q.entries) → calls_placeholder (transition r) ≡ calls_placeholder (transition q)
+    same_kinds skips next = kinds_next E shape r.phase r.store q.store r q held_before skips next
 
     -- both give values to what waits for them
     pub given_together : {us ws : List Val} → ListRel (ValRel R) us ws → RunsStepTogether R (λ s t. E) r q (run_after r (give r.store us r.entries)) (run_after q (give q.store ws q.entries))

@@ -1,8 +1,8 @@
 -- Calls through a slot of a table, by a trampoline and by two instructions in place of a direct call.
-use Rattle.std.proofs.Common.{◌≡◌, true, ℕ, suc, ◌+◌, List, [], ◌∷◌, ◌++◌, length, Some, option_and_then, refl, ap, subst, ◌∙◌, arith, append-nil, slice_get}
+use Rattle.std.proofs.Common.{◌≡◌, true, ℕ, suc, ◌+◌, List, [], ◌∷◌, ◌++◌, length, Some, option_and_then, refl, ap, ap₂, subst, ◌∙◌, arith, append-nil, slice_get}
 use Rattle.std.specs.Prelude.{ℤ}
-use Rattle.std.proofs.lemmas.Bool.{and_from}
-use Rattle.base_lists.proofs.Same.{each_same_self}
+use Rattle.std.proofs.lemmas.Bool.{and_from, and_parts}
+use Rattle.base_lists.proofs.Same.{each_same_is, each_same_self}
 use Rattle.wasm_tree.specs.declared.types.ValType.{ValType}
 use Rattle.wasm_tree.specs.declared.types.FuncType.{FuncType}
 use Rattle.wasm_tree.specs.declared.instr.Instr.{Instr, out-Instr}
@@ -21,14 +21,20 @@ use Rattle.index_remap.proofs.Rel.{bind_rel, append_rel}
 use Rattle.index_remap.proofs.ValueSteps.{pop_typed_rel, zeros_rel}
 use Rattle.index_remap.proofs.FramesBetween.{pop_pushed, frames, again}
 
-func_type_self : (t : FuncType) → same_func_type t t ≡ true
+pub func_type_self : (t : FuncType) → same_func_type t t ≡ true
 func_type_self t =
     let self = each_same_self same_type (λ a. grind arith) in and_from (same_types t.params t.params) (same_types t.results t.results) (self t.params) (self t.results)
+
+pub func_type_is : (s t : FuncType) → same_func_type s t ≡ true → s ≡ t
+func_type_is s t h =
+    let b = and_parts (same_types s.params t.params) (same_types s.results t.results) h in
+    let is = each_same_is same_type (λ a b e. grind arith) in
+    ap₂ {A = List ValType} {B = List ValType} {C = FuncType} (λ x y. record { params = x; results = y }) (is s.params t.params b.0) (is s.results t.results b.1)
 
 -- ---- the two instructions ----
 
 -- the second calls the function in the slot with what is below the slot's number
-slot_act : (t : Store) (g : Frame) (m : Level) (ms : List Level) (u : FuncType) (ty table : ℕ) (slot : ℤ) (c : ℕ) → InSlot t g.inst u ty table slot c → (more : List Val) (d : List Instr) →
+pub slot_act : (t : Store) (g : Frame) (m : Level) (ms : List Level) (u : FuncType) (ty table : ℕ) (slot : ℤ) (c : ℕ) → InSlot t g.inst u ty table slot c → (more : List Val) (d : List Instr) →
     act t (at_code g m ms (Num W32 (wrapped 32 slot) ∷ more) (CallIndirect ty table ∷ d)) ≡ Gives (Calls c more (record { locals = g.locals; values = Num W32 (wrapped 32 slot) ∷ more; rest = d; gives = m.gives; takes = m.takes; back = m.back; outer = ms }))
 unfolding out-Instr denote.Hole.Carrier.out
 slot_act t g m ms u ty table slot c h more d =
@@ -97,16 +103,27 @@ module _ (R : Pairing) where
   values_on_top : {l m : Level} {ls ms : List Level} {i j : Inst} → ListRel (LevelRel R i j) (l ∷ ls) (m ∷ ms) → LevelRel R i j l m × ListRel (LevelRel R i j) ls ms
   values_on_top (cons l ls) = (l, ls)
 
-  pub calls_agree : (s t : Store) (es fs : List Entry) → StoreRel R s t → (f g : Frame) (o m : Level) (os ms : List Level) (c d : List Instr) → WithPassing R (Running (at_code f o os o.values c) ∷ es) (Running (at_code g m ms m.values d) ∷ fs) →
-      (u : FuncType) (n ty table : ℕ) (slot : ℤ) (a b : ℕ) → slice_get f.inst.funcs n ≡ Some a → InSlot t g.inst u ty table slot b → CodeAt R s t u a b →
-      ResRel (NextRel R (FramesBetween R)) (step s (Running (at_code f o os o.values (Call n ∷ c)) ∷ es)) (go_on 2 (Gives (Ran t (Running (at_code g m ms m.values (slot_call ty table slot ++ d)) ∷ fs))))
-  calls_agree s t es fs h f g o m os ms c d below u n ty table slot a b named held k =
+  -- both pop arguments of these types, and enter functions with related code over the frames that go on
+  enters_over : (s t : Store) (es fs : List Entry) → StoreRel R s t → (f g : Frame) (o m : Level) (os ms : List Level) (c d : List Instr) → WithPassing R (Running (at_code f o os o.values c) ∷ es) (Running (at_code g m ms m.values d) ∷ fs) → (u : FuncType) (a b : ℕ) → CodeAt R s t u a b →
+      ResRel (NextRel R (FramesBetween R)) (bind (pop_typed u.params o.values) (λ p. enter_at s a p.0 (Running (at_code f o os p.1 c) ∷ es))) (bind (pop_typed u.params m.values) (λ p. enter_at t b p.0 (Running (at_code g m ms p.1 d) ∷ fs)))
+  enters_over s t es fs h f g o m os ms c d below u a b k =
       let top = frames R below in
       let levels = values_on_top top.levels in
-      rw (direct_call s f o os u n a k.first_inst k.locals k.first_code c o.values es named k.first, slot_calls t g m ms u ty table slot b held m.values d fs)
-      (bind_rel (pop_typed_rel R u.params levels.0.values) (λ p q z. both p q z.first
-      (again R below refl (record { locals = top.locals; results = top.results; levels = cons (record { values = z.second; code = levels.0.code; gives = levels.0.gives; takes = levels.0.takes; back = levels.0.back }) levels.1 }))))
+      bind_rel (pop_typed_rel R u.params levels.0.values) (λ p q z. both p q z.first
+      (again R below refl (record { locals = top.locals; results = top.results; levels = cons (record { values = z.second; code = levels.0.code; gives = levels.0.gives; takes = levels.0.takes; back = levels.0.back }) levels.1 })))
     where
       both : (p q : List Val × List Val) → ListRel (ValRel R) p.0 q.0 → WithPassing R (Running (at_code f o os p.1 c) ∷ es) (Running (at_code g m ms q.1 d) ∷ fs) →
           ResRel (NextRel R (FramesBetween R)) (enter_at s a p.0 (Running (at_code f o os p.1 c) ∷ es)) (enter_at t b q.0 (Running (at_code g m ms q.1 d) ∷ fs))
       both p q v w = rw (k.first, k.second) (done (ran h (between.WithPassing.cons (running (entered k v)) w)))
+
+  pub calls_agree : (s t : Store) (es fs : List Entry) → StoreRel R s t → (f g : Frame) (o m : Level) (os ms : List Level) (c d : List Instr) → WithPassing R (Running (at_code f o os o.values c) ∷ es) (Running (at_code g m ms m.values d) ∷ fs) →
+      (u : FuncType) (n ty table : ℕ) (slot : ℤ) (a b : ℕ) → slice_get f.inst.funcs n ≡ Some a → InSlot t g.inst u ty table slot b → CodeAt R s t u a b →
+      ResRel (NextRel R (FramesBetween R)) (step s (Running (at_code f o os o.values (Call n ∷ c)) ∷ es)) (go_on 2 (Gives (Ran t (Running (at_code g m ms m.values (slot_call ty table slot ++ d)) ∷ fs))))
+  calls_agree s t es fs h f g o m os ms c d below u n ty table slot a b named held k =
+      rw (direct_call s f o os u n a k.first_inst k.locals k.first_code c o.values es named k.first, slot_calls t g m ms u ty table slot b held m.values d fs) (enters_over s t es fs h f g o m os ms c d below u a b k)
+
+  pub direct_calls_agree : (s t : Store) (es fs : List Entry) → StoreRel R s t → (f g : Frame) (o m : Level) (os ms : List Level) (c d : List Instr) → WithPassing R (Running (at_code f o os o.values c) ∷ es) (Running (at_code g m ms m.values d) ∷ fs) →
+      (u : FuncType) (n k a b : ℕ) → slice_get f.inst.funcs n ≡ Some a → slice_get g.inst.funcs k ≡ Some b → CodeAt R s t u a b →
+      ResRel (NextRel R (FramesBetween R)) (step s (Running (at_code f o os o.values (Call n ∷ c)) ∷ es)) (step t (Running (at_code g m ms m.values (Call k ∷ d)) ∷ fs))
+  direct_calls_agree s t es fs h f g o m os ms c d below u n k a b named other held =
+      rw (direct_call s f o os u n a held.first_inst held.locals held.first_code c o.values es named held.first, direct_call t g m ms u k b held.second_inst held.locals held.second_code d m.values fs other held.second) (enters_over s t es fs h f g o m os ms c d below u a b held)

@@ -24,7 +24,7 @@ use Rattle.index_remap.proofs.MemoryGroup.{memories_agree}
 use Rattle.index_remap.proofs.ControlGroup.{control_agrees}
 
 -- the laws of the three groups, joined
-each_group : (g : Group) → GroupAgrees g
+pub each_group : (g : Group) → GroupAgrees g
 each_group Values = values_agree
 each_group Memories = memories_agree
 each_group Control = control_agrees
@@ -43,7 +43,7 @@ module _ (R : Pairing) (off : Unknowns) (ev ew : Env) (st : StoreRelOff R off ev
   step_code_rel : {h k : Body} {c d : List Instr} → BodyRel R ev.inst ew.inst h k → CodeRel R ev.inst ew.inst c d → ((x : Act) → step_code ev h c ≡ Gives x → NotListed R x) → NextKnown R ev.inst ew.inst c d → ReadsKnown off (read_next ev h.values c) → ResRel (ActOff R off ev.inst ew.inst) (step_code ev h c) (step_code ew k d)
   step_code_rel r end f u reads = end_level_rel R off ev ew st r
   step_code_rel r (then o c) f u reads = exec_rel (record { locals = r.locals; values = r.values; rest = c; gives = r.gives; takes = r.takes; back = r.back; outer = r.outer }) (u o) reads
-  step_code_rel {h} r (instead {a = a} {c = c} x p e l _) f u reads =
+  step_code_rel {h} r (instead {a = a} {c = c} x p e l _ _) f u reads =
       let called : Body = record h { rest = c } in
       absurd (f (Calls a h.values called) (ap (λ o. exec o ev called) p ∙ ap (λ found. bind (or_ill_typed found) (call_address called)) e) l)
 

@@ -19,13 +19,21 @@ use Rattle.index_remap.specs.Renumbered.{renumbered_all}
 use Rattle.index_remap.specs.CodeNames.{LayerNames}
 use Rattle.wasm_tree.specs.Layers.{ListLayers}
 use Rattle.index_remap.specs.Agreement.{SameFrame}
-use Rattle.index_remap.specs.Replaced.{Labels, Codes, Replaced, OthersAgree, OthersNamed, CodesHaveTypes}
+use Rattle.index_remap.specs.Replaced.{Labels, Codes, Replaced, OthersAgree, OthersNamed, CodesStand, CodesHaveTypes}
 use Rattle.index_remap.specs.Related.{CodeRel, Pairing, OneToOne, OneToOneWhereWritten, ResRel, ListRel, ValRel, StoreRel, EntryRel, NextRel, TopSkips, TopKnown}
 
+-- the code that may stand in place of a call, over an instance: that which passes a test
+abbrev pub Test : Type 0
+Test = Inst → (function : ℕ) → List Instr → Bool
+
 -- the addresses that pass the first test are related, and code may name as one those that pass the second; of the functions of a list only the types are known
--- and whose they are, and other code may stand in place of calls of them
+-- and whose they are, and code that passes the last test may stand in place of calls of them
+abbrev pub passed_with : (of named : Space → ℕ → ℕ → Bool) → List ℕ → Test → Pairing
+passed_with of named l stands = record { of = λ k a b. IsTrue (of k a b); named = λ k a b. IsTrue (named k a b); listed = λ a. IsTrue (list_any (nat_eq a) l); stands = λ j a e. IsTrue (stands j a e) }
+
+-- whatever code stands there
 abbrev pub passed : (of named : Space → ℕ → ℕ → Bool) → List ℕ → Pairing
-passed of named l = record { of = λ k a b. IsTrue (of k a b); named = λ k a b. IsTrue (named k a b); listed = λ a. IsTrue (list_any (nat_eq a) l) }
+passed of named l = passed_with of named l (λ j a e. true)
 
 -- related entry by entry above what need not be related
 pub record Above (R : Pairing) (cs ds : List Entry) (s t : Store) (es fs : List Entry) : Type 0 where
@@ -101,11 +109,11 @@ TypingIsKept =
     Replaced c.types m listed codes c.labels is js → WellTyped c is ps rs → WellTyped d js ps rs
 
 -- Such code is related to the body, where each index that the other instructions name and its entry stand for addresses that code may name as one, or for equal types,
--- or neither is there, and each function whose call is replaced is at an address of the list.
+-- or neither is there, and each function whose call is replaced is at an address of the list, in place of whose calls its codes may stand.
 abbrev pub ReplacedCodeIsRelated : Type 0
 ReplacedCodeIsRelated =
-    (of named : Space → ℕ → ℕ → Bool) (l : List ℕ) (m : Remap) (i j : Inst) (types : List FuncType) (labels : Labels) (listed : List ℕ) (codes : Codes) (is js : List Instr) → ListLayers (OthersNamed (passed of named l) m listed i j) is →
-    Replaced types m listed codes labels is js → CodeRel (passed of named l) i j is js
+    (of named : Space → ℕ → ℕ → Bool) (l : List ℕ) (stands : Test) (m : Remap) (i j : Inst) (types : List FuncType) (labels : Labels) (listed : List ℕ) (codes : Codes) (is js : List Instr) →
+    CodesStand (passed_with of named l stands) listed codes i j → ListLayers (OthersNamed (passed_with of named l stands) m listed i j) is → Replaced types m listed codes labels is js → CodeRel (passed_with of named l stands) i j is js
 
 -- With no function on the list the body with other indices is such code.
 abbrev pub UnlistedAreRenumbered : Type 0

@@ -9,4 +9,5 @@ pub mod Replaced
 pub mod Laws
 pub mod ListedRuns
 pub mod Trampolines
+pub mod Wider
 pub mod Unknown

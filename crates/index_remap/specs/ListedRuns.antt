@@ -1,14 +1,15 @@
 -- Runs over a list of functions of which only the types are known: which steps begin a call of one of them, and what every other step shows and leaves.
-use Rattle.std.proofs.Common.{◌≡◌, ℕ, List, [], ◌∷◌, Some, Bool, slice_get}
+use Rattle.std.proofs.Common.{◌≡◌, ℕ, List, [], ◌∷◌, Some, Bool, true, false, slice_get}
 use Rattle.wasm_tree.specs.declared.space.Space.{Space}
 use Rattle.base_lists.specs.Options.{◌>>=◌}
-use Rattle.wasm_meaning.specs.State.{Text, Store, Entry, Opening, Waiting}
+use Rattle.wasm_meaning.specs.Outcomes.{Gives}
+use Rattle.wasm_meaning.specs.State.{Text, Store, Entry, Opening, Waiting, CallsPlaceholder}
 use Rattle.wasm_meaning.specs.Linking.{same_text}
 use Rattle.wasm_meaning.specs.Environment.{Thing, look_up, func_of}
-use Rattle.wasm_meaning.specs.Run.{Move, Call, Invoke, Opened, Run, Out, tick}
+use Rattle.wasm_meaning.specs.Run.{Move, Call, Invoke, Opened, Run, Out, Transition, Steps, tick}
 use Rattle.index_remap.specs.Related.{Pairing, OneToOne, TopSkips}
 use Rattle.index_remap.specs.RelatedRuns.{OutRel, turned, KeepsOthers, IsBegun}
-use Rattle.index_remap.specs.Laws.{passed, EntriesKnown, EntryByEntry, RelatedRuns}
+use Rattle.index_remap.specs.Laws.{Test, passed_with, EntriesKnown, EntryByEntry, RelatedRuns}
 
 -- ---- steps that begin no call of a function of the list ----
 
@@ -29,6 +30,11 @@ TickSkips R r (Waiting ts ∷ es) = NextMoveSkips R r.view r.shown r.moves
 TickSkips R r (Opening (a ∷ starts) ∷ es) = ¬ R.listed a
 TickSkips R r es = TopSkips R r.store es
 
+-- the step calls the placeholder of a slot
+abbrev pub calls_placeholder : Transition → Bool
+calls_placeholder (Steps r (Gives (CallsPlaceholder slot vs s es))) = true
+calls_placeholder _ = false
+
 -- ---- what such a step leaves ----
 
 -- Both show the same and are related again, their stacks by B. Once they are instantiated, what stands at addresses without a partner in either store is as it was.
@@ -42,5 +48,5 @@ pub record RunsStepTogether (R : Pairing) (B : Store → Store → List Entry �
 -- Of related runs, one step of each that begins no call of a function of the list, where the next instructions name related addresses.
 abbrev pub ListedRunsAgree : Type 0
 ListedRunsAgree =
-    (of named : Space → ℕ → ℕ → Bool) (l : List ℕ) → OneToOne (passed of named l) → (r q : Run) → RelatedRuns (passed of named l) r q →
-    TickSkips (passed of named l) r r.entries → EntriesKnown (passed of named l) r.entries q.entries → RunsStepTogether (passed of named l) (EntryByEntry (passed of named l)) r q (tick r) (tick q)
+    (of named : Space → ℕ → ℕ → Bool) (l : List ℕ) (stands : Test) → OneToOne (passed_with of named l stands) → (r q : Run) → RelatedRuns (passed_with of named l stands) r q →
+    TickSkips (passed_with of named l stands) r r.entries → EntriesKnown (passed_with of named l stands) r.entries q.entries → RunsStepTogether (passed_with of named l stands) (EntryByEntry (passed_with of named l stands)) r q (tick r) (tick q)

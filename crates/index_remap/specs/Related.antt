@@ -21,13 +21,14 @@ use Rattle.wasm_meaning.specs.State.{Pair, RefVal, FuncRef, ExternRef, Val, Num,
 use Rattle.wasm_meaning.specs.Control.{type_at, own_at}
 use Rattle.wasm_meaning.specs.Step.{act}
 
--- related addresses, addresses that code may name as one, and the functions of a list, of which only the type is known and whose they are, and in place of whose
--- calls other code may stand
+-- related addresses, addresses that code may name as one, and the functions of a list, of which only the type is known and whose they are; and the code that may stand
+-- in place of a call of one of them, over an instance of the second
 pub record Pairing : Type 1 where
   pub of : Space → ℕ → ℕ → Type 0
   -- addresses that code may name as one: of those that are not related nothing is known
   pub named : Space → ℕ → ℕ → Type 0
   pub listed : ℕ → Type 0
+  pub stands : Inst → (function : ℕ) → List Instr → Type 0
 
 -- by which relation an index is read: what comes next by the related addresses, other code by the named ones
 abbrev pub by : Pairing → Bool → Space → ℕ → ℕ → Type 0
@@ -142,8 +143,8 @@ mutual
   pub data CodeRel (R : Pairing) (i j : Inst) : List Instr → List Instr → Type 0 where
     end : CodeRel R i j [] []
     then : {o p : Instr} {c d : List Instr} → OpRel R i j false (out-Instr o) (out-Instr p) → CodeRel R i j c d → CodeRel R i j (o ∷ c) (p ∷ d)
-    -- in place of a call of a function of the list stands other code
-    instead : {o : Instr} {n a : ℕ} {c d : List Instr} (e : List Instr) → out-Instr o ≡ Instr-F.Call n → slice_get i.funcs n ≡ Some a → R.listed a → CodeRel R i j c d → CodeRel R i j (o ∷ c) (e ++ d)
+    -- in place of a call of a function of the list stands other code, such as may stand there
+    instead : {o : Instr} {n a : ℕ} {c d : List Instr} (e : List Instr) → out-Instr o ≡ Instr-F.Call n → slice_get i.funcs n ≡ Some a → R.listed a → R.stands j a e → CodeRel R i j c d → CodeRel R i j (o ∷ c) (e ++ d)
 
 pub data FuncRel (R : Pairing) : Func → Func → Type 0 where
   defined : {t : FuncType} {i j : Inst} {ls : List ValType} {c d : List Instr} → CodeRel R i j c d → FuncRel R (Code t i ls c) (Code t j ls d)

@@ -53,7 +53,7 @@ pub record OutRel (R : Pairing) (B F : Store → Store → List Entry → List E
 
 -- the same addresses, read from the second store to the first
 abbrev pub turned : Pairing → Pairing
-turned R = record { of = λ k a b. R.of k b a; named = λ k a b. R.named k b a; listed = λ a. ⊥ }
+turned R = record { of = λ k a b. R.of k b a; named = λ k a b. R.named k b a; listed = λ a. ⊥; stands = λ j a e. ⊥ }
 
 -- Nothing is related to this address of the second store. (For one of the first read it `turned`.)
 abbrev pub HasNoPartner : Pairing → Space → ℕ → Type 0

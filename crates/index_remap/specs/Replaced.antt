@@ -123,6 +123,10 @@ OtherNamed R m false i j space x = EntryNames R m i j space x
 abbrev pub OthersNamed : Pairing → Remap → List ℕ → Inst → Inst → Instr-F Instr → Type 0
 OthersNamed R m listed i j layer = Every (λ o. OtherNamed R m (is_listed_call listed o) i j o.space o.index) (operands layer)
 
+-- each code that may stand for a call of a function on the list is such as may stand in place of one, over the second instance
+abbrev pub CodesStand : Pairing → List ℕ → Codes → Inst → Inst → Type 0
+CodesStand R listed codes i j = (labels : Labels) (f a : ℕ) (code : List Instr) → IsTrue (is_among listed f) → Contains (codes labels f) code → slice_get i.funcs f ≡ Some a → R.stands j a code
+
 -- ---- what it needs to stay well typed ----
 
 -- under these labels the code has in d the type that the function has in c

@@ -1,6 +1,6 @@
 -- Calls through slots of a table. A trampoline is a function whose body passes its parameters on to the function in a slot; the same two last instructions may stand in
 -- place of a direct call. A frame of a trampoline between two others only passes results on.
-use Rattle.std.proofs.Common.{◌≡◌, ℕ, suc, ◌+◌, ◌≤◌, List, [], ◌∷◌, ◌++◌, length, Some, Bool, slice_get}
+use Rattle.std.proofs.Common.{◌≡◌, ℕ, suc, ◌+◌, ◌≤◌, List, [], ◌∷◌, ◌++◌, length, Some, Bool, false, slice_get}
 use Rattle.std.specs.Prelude.{ℤ}
 use Rattle.wasm_tree.specs.declared.space.Space.{Space}
 use Rattle.wasm_tree.specs.declared.types.ValType.{ValType}
@@ -14,11 +14,11 @@ use Rattle.wasm_meaning.specs.State.{FuncRef, Val, Inst, Func, Code, Table, Stor
 use Rattle.wasm_meaning.specs.Values.{typed, pop_typed}
 use Rattle.wasm_meaning.specs.Control.{type_of_func}
 use Rattle.wasm_meaning.specs.Step.{enter_at, step}
-use Rattle.wasm_meaning.specs.Run.{Run, tick}
+use Rattle.wasm_meaning.specs.Run.{Run, transition, tick}
 use Rattle.index_remap.specs.Related.{Pairing, OneToOne, ResRel, ListRel, ValRel, CodeRel, StoreRel, FrameRel, EntryRel, NextRel}
 use Rattle.index_remap.specs.RelatedRuns.{turned, KeepsOthers, IsBegun, RunRel}
-use Rattle.index_remap.specs.Laws.{passed, EntriesKnown}
-use Rattle.index_remap.specs.ListedRuns.{TickSkips}
+use Rattle.index_remap.specs.Laws.{Test, passed_with, EntriesKnown}
+use Rattle.index_remap.specs.ListedRuns.{TickSkips, calls_placeholder}
 
 -- ---- frames between ----
 
@@ -35,21 +35,22 @@ pub data WithPassing (R : Pairing) : List Entry → List Entry → Type 0 where
 abbrev pub FramesBetween : Pairing → Store → Store → List Entry → List Entry → Type 0
 FramesBetween R s t = WithPassing R
 
--- Steps of the second answer one of the first, one or two, of which one is silent where there are two: they show what it shows and lead to related runs. Once both are
--- instantiated, what stands at addresses without a partner in either store is as it was.
+-- Steps of the second answer one of the first, one or two, of which one is silent where there are two: they show what it shows and lead to related runs, and where it calls no
+-- placeholder neither do they. Once both are instantiated, what stands at addresses without a partner in either store is as it was.
 pub record AnsweredInTwo (R : Pairing) (r q : Run) : Type 0 where
   pub further : ℕ
   pub bound : suc further ≤ 2
   pub shown : events_of tick q (suc further) ≡ events_of tick r 1
   pub run : RunRel R (FramesBetween R) (FramesBetween R) (tick r).0 (state_after tick q (suc further))
+  pub plain : calls_placeholder (transition r) ≡ false → (k : ℕ) → k ≤ further → calls_placeholder (transition (state_after tick q k)) ≡ false
   pub first : IsBegun r.phase → KeepsOthers (turned R) r.store (tick r).0.store
   pub second : IsBegun r.phase → KeepsOthers R q.store (state_after tick q (suc further)).store
 
 -- A step of the first that begins no call of a function of the list, where the next instructions name related addresses.
 abbrev pub FramesBetweenAreNotSeen : Type 0
 FramesBetweenAreNotSeen =
-    (of named : Space → ℕ → ℕ → Bool) (l : List ℕ) → OneToOne (passed of named l) → (r q : Run) → RunRel (passed of named l) (FramesBetween (passed of named l)) (FramesBetween (passed of named l)) r q →
-    TickSkips (passed of named l) r r.entries → EntriesKnown (passed of named l) r.entries q.entries → AnsweredInTwo (passed of named l) r q
+    (of named : Space → ℕ → ℕ → Bool) (l : List ℕ) (stands : Test) → OneToOne (passed_with of named l stands) → (r q : Run) → RunRel (passed_with of named l stands) (FramesBetween (passed_with of named l stands)) (FramesBetween (passed_with of named l stands)) r q →
+    TickSkips (passed_with of named l stands) r r.entries → EntriesKnown (passed_with of named l stands) r.entries q.entries → AnsweredInTwo (passed_with of named l stands) r q
 
 -- ---- calls through a slot ----
 
@@ -122,16 +123,24 @@ pub record CodeAt (R : Pairing) (s t : Store) (u : FuncType) (a c : ℕ) : Type 
 -- Then the stacks are related, with the trampoline's frame between.
 abbrev pub TrampolineCallsAgree : Type 0
 TrampolineCallsAgree =
-    (of named : Space → ℕ → ℕ → Bool) (l : List ℕ) (s t : Store) (es fs : List Entry) → StoreRel (passed of named l) s t → WithPassing (passed of named l) es fs →
-    (inst : Inst) (u : FuncType) (ty table : ℕ) (slot : ℤ) (a b c : ℕ) → slice_get t.funcs b ≡ Some (trampoline inst u ty table slot) → InSlot t inst u ty table slot c → CodeAt (passed of named l) s t u a c →
-    (vs ws : List Val) → ListRel (ValRel (passed of named l)) vs ws → HaveTypes u.params ws →
-    ResRel (NextRel (passed of named l) (FramesBetween (passed of named l))) (enter_at s a vs es) (go_on (length u.params + 2) (enter_at t b ws fs))
+    (of named : Space → ℕ → ℕ → Bool) (l : List ℕ) (stands : Test) (s t : Store) (es fs : List Entry) → StoreRel (passed_with of named l stands) s t → WithPassing (passed_with of named l stands) es fs →
+    (inst : Inst) (u : FuncType) (ty table : ℕ) (slot : ℤ) (a b c : ℕ) → slice_get t.funcs b ≡ Some (trampoline inst u ty table slot) → InSlot t inst u ty table slot c → CodeAt (passed_with of named l stands) s t u a c →
+    (vs ws : List Val) → ListRel (ValRel (passed_with of named l stands)) vs ws → HaveTypes u.params ws →
+    ResRel (NextRel (passed_with of named l stands) (FramesBetween (passed_with of named l stands))) (enter_at s a vs es) (go_on (length u.params + 2) (enter_at t b ws fs))
 
 -- From related stores and stacks: a direct call in the first, and in the second the two instructions, through whose slot a function with related code is called. The one
 -- step and the two come to related stacks, or both are ill typed.
 abbrev pub SlotCallsAgree : Type 0
 SlotCallsAgree =
-    (of named : Space → ℕ → ℕ → Bool) (l : List ℕ) (s t : Store) (es fs : List Entry) → StoreRel (passed of named l) s t →
-    (f g : Frame) (o m : Level) (os ms : List Level) (c d : List Instr) → WithPassing (passed of named l) (Running (at_code f o os o.values c) ∷ es) (Running (at_code g m ms m.values d) ∷ fs) →
-    (u : FuncType) (n ty table : ℕ) (slot : ℤ) (a b : ℕ) → slice_get f.inst.funcs n ≡ Some a → InSlot t g.inst u ty table slot b → CodeAt (passed of named l) s t u a b →
-    ResRel (NextRel (passed of named l) (FramesBetween (passed of named l))) (step s (Running (at_code f o os o.values (Call n ∷ c)) ∷ es)) (go_on 2 (Gives (Ran t (Running (at_code g m ms m.values (slot_call ty table slot ++ d)) ∷ fs))))
+    (of named : Space → ℕ → ℕ → Bool) (l : List ℕ) (stands : Test) (s t : Store) (es fs : List Entry) → StoreRel (passed_with of named l stands) s t →
+    (f g : Frame) (o m : Level) (os ms : List Level) (c d : List Instr) → WithPassing (passed_with of named l stands) (Running (at_code f o os o.values c) ∷ es) (Running (at_code g m ms m.values d) ∷ fs) →
+    (u : FuncType) (n ty table : ℕ) (slot : ℤ) (a b : ℕ) → slice_get f.inst.funcs n ≡ Some a → InSlot t g.inst u ty table slot b → CodeAt (passed_with of named l stands) s t u a b →
+    ResRel (NextRel (passed_with of named l stands) (FramesBetween (passed_with of named l stands))) (step s (Running (at_code f o os o.values (Call n ∷ c)) ∷ es)) (go_on 2 (Gives (Ran t (Running (at_code g m ms m.values (slot_call ty table slot ++ d)) ∷ fs))))
+
+-- From related stores and stacks: direct calls in both, of functions with related code, as where a function that moved calls another one that moved.
+abbrev pub DirectCallsAgree : Type 0
+DirectCallsAgree =
+    (of named : Space → ℕ → ℕ → Bool) (l : List ℕ) (stands : Test) (s t : Store) (es fs : List Entry) → StoreRel (passed_with of named l stands) s t →
+    (f g : Frame) (o m : Level) (os ms : List Level) (c d : List Instr) → WithPassing (passed_with of named l stands) (Running (at_code f o os o.values c) ∷ es) (Running (at_code g m ms m.values d) ∷ fs) →
+    (u : FuncType) (n k a b : ℕ) → slice_get f.inst.funcs n ≡ Some a → slice_get g.inst.funcs k ≡ Some b → CodeAt (passed_with of named l stands) s t u a b →
+    ResRel (NextRel (passed_with of named l stands) (FramesBetween (passed_with of named l stands))) (step s (Running (at_code f o os o.values (Call n ∷ c)) ∷ es)) (step t (Running (at_code g m ms m.values (Call k ∷ d)) ∷ fs))

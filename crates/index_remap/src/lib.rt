@@ -10,12 +10,14 @@ mod renumbering;
 ghost use Rattle.index_remap.specs.Laws.{CodeIsRelatedToItself, NamedAreKnown, OthersStay, RelatedRunsShowTheSame, RelatedTicksAgree, RenumberedCodeIsRelated, ReplacedCodeIsRelated, ShownAgree, StepsAgree, TrapsAgree, TypingIsKept, UnlistedAreRenumbered};
 ghost use Rattle.index_remap.specs.ListedRuns.{ListedRunsAgree};
 ghost use Rattle.index_remap.specs.Trampolines.{
+  DirectCallsAgree,
   FramesBetweenAreNotSeen,
   SlotCallsAgree,
   SlotCallsEnterSlots,
   TrampolineCallsAgree,
   TrampolinesEnterSlots,
 };
+ghost use Rattle.index_remap.specs.Wider.{CodeStaysRelated, RunsStayRelated, StoresStayRelated};
 ghost use Rattle.index_remap.specs.Unknown.{NothingUnknown, RunsAgreeOff, SetGlobalsAreKnown, StepsAgreeOff};
 
 pub use declaring::declare_refs;
@@ -67,13 +69,22 @@ pub fn related_runs_show_the_same()
 /// only pass results on, a step of the first that begins no call of a function of the list is answered by one or two of the second (`between`). A trampoline that is
 /// entered has, after a step for each parameter and two more, entered what stands in its slot, with the same values (`trampolines`); so have, after two steps, the two
 /// instructions `i32.const` and `call_indirect` (WebAssembly Core 2.0, section 4.4.8, `slots`). Where that has related code, these come to what the direct call comes to:
-/// with the trampoline's frame between (`through`), and with none (`instead`).
+/// with the trampoline's frame between (`through`), and with none (`instead`). So do a direct call in both, where in the second the function with related code is called (`direct`).
 pub fn calls_through_slots_agree()
     ensures between { FramesBetweenAreNotSeen }
     ensures trampolines { TrampolinesEnterSlots }
     ensures slots { SlotCallsEnterSlots }
     ensures through { TrampolineCallsAgree }
     ensures instead { SlotCallsAgree }
+    ensures direct { DirectCallsAgree }
+{}
+
+/// Where more code may stand in place of calls of functions that are set apart, as when another module is there whose code calls them otherwise, what was related stays so: code
+/// (`code`), stores (`stores`), and runs of which the second has frames of trampolines between (`runs`).
+pub fn more_code_may_stand()
+    ensures code { CodeStaysRelated }
+    ensures stores { StoresStayRelated }
+    ensures runs { RunsStayRelated }
 {}
 
 /// Of stores that correspond but for places of which nothing is known: where there are no such places, they correspond (`nothing`); a related global that is set to

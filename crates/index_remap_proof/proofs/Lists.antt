@@ -13,6 +13,11 @@ use Rattle.base_lists.proofs.Places.{slice_get_there}
 use Rattle.index_remap.specs.References.{is_among}
 use Rattle.wasm_valid.specs.Named.{named_from}
 use Rattle.index_remap.specs.Agreement.{Keeps}
+use Rattle.base_lists.proofs.Same.{each_same_is, each_same_self}
+use Rattle.wasm_meaning.specs.State.{Text}
+use Rattle.wasm_meaning.specs.Linking.{same_text}
+use Rattle.base_lists.specs.Options.{all_there}
+use Rattle.base_lists.proofs.Options.{all_there_at, all_there_length}
 
 pub both_true : (a b : Bool) → a ≡ true → b ≡ true → a && b ≡ true
 both_true a b g h = ap (λ z. z && b) g ∙ h
@@ -120,3 +125,21 @@ is_marked refs n x h =
     let e : 0 + x ≡ x = omega arith in
     let k = sym (named_get refs 0 n x lt ∙ ap (λ z. Some (is_among refs z)) e) ∙ h in
     cc
+
+-- ---- texts ----
+
+pub text_is : (x y : Text) → same_text x y ≡ true → x ≡ y
+text_is = each_same_is nat_eq same_number
+
+pub text_self : (x : Text) → same_text x x ≡ true
+text_self = each_same_self nat_eq (λ n. eq-eqb n n refl)
+
+-- ---- what is there for each ----
+
+pub all_there_back : {A B : Type 0} (f : A → Option B) (xs : List A) (ys : List B) → all_there f xs ≡ Some ys → (n : ℕ) (y : B) → slice_get ys n ≡ Some y → (x : A) × (slice_get xs n ≡ Some x) × (f x ≡ Some y)
+all_there_back f xs ys h n y at =
+    let many = all_there_length f xs ys h in
+    let within = slice_get_within ys n y at in
+    let x = slice_get_there xs n (omega (arith, many, within)) in
+    let z = all_there_at f xs ys h n x.0 x.1 in
+    (x.0, x.1, z.1 ∙ sym z.2 ∙ at)

@@ -20,7 +20,7 @@ use Rattle.index_remap.specs.RelatedRuns.{ThingRel, a_func, a_table, a_memory, a
 use Rattle.index_remap.proofs.Rel.{length_rel, same_there, there}
 use Rattle.world_simulation.proofs.Places.{then_eq}
 use Rattle.merge_spec.specs.Faults.{External, FuncOf, TableOf, MemoryOf, GlobalOf, asked, asked_at, same_but_limits, meets_limits}
-use Rattle.merge_spec.proofs.FirstAppearances.{func_type_is}
+use Rattle.index_remap.proofs.SlotCalls.{func_type_is}
 use Rattle.merge_valid_proof.proofs.Linked.{import_site}
 use Rattle.merge_valid_proof.proofs.Same.{type_is, ref_is, bool_is}
 use Rattle.base_lists.proofs.Options.{and_then_is, unwrap_or_false_is}

@@ -17,7 +17,7 @@ use Rattle.merge_names.specs.declared.mode.Mode.{Mode}
 use Rattle.merge_spec.specs.Faults.{link_fault, External, FuncOf, asked, asked_at, same_but_limits}
 use Rattle.merge_spec.specs.Merged.{map_of, new_index, start_of, starts, start_among, staying_of, by_part_from, start_calls, defined_funcs, nullary, place_of_type}
 use Rattle.merge_spec.specs.Joined.{joined_module}
-use Rattle.merge_spec.proofs.FirstAppearances.{func_type_is}
+use Rattle.index_remap.proofs.SlotCalls.{func_type_is}
 use Rattle.merge_valid_proof.proofs.Starts.{start_is, funcs_are}
 use Rattle.merge_valid_proof.specs.Ended.{added_count}
 use Rattle.world_simulation.specs.Alone.{one, site}

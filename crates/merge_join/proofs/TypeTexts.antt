@@ -9,7 +9,7 @@ use Rattle.wasm_tree.specs.declared.types.ValType.TheVariants as valt
 use Rattle.wasm_tree.specs.declared.types.FuncType.{FuncType}
 use Rattle.wasm_tree.specs.SameTypes.{same_func_type}
 use Rattle.merge_join.specs.Texts.{letter_of, text_of_type}
-use Rattle.merge_spec.proofs.FirstAppearances.{func_type_is, func_type_self}
+use Rattle.index_remap.proofs.SlotCalls.{func_type_is, func_type_self}
 
 letters_differ : (s t : ValType) → letter_of s ≡ letter_of t → s ≡ t
 letters_differ valt.I32 valt.I32 e = refl

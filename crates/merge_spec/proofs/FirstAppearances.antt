@@ -17,18 +17,9 @@ use Rattle.merge_names.specs.Names.{new_names}
 use Rattle.merge_spec.specs.Merged.{merged, merged_types, with_type, with_types, export_names}
 use Rattle.merge_spec.specs.Joined.{joined_module}
 use Rattle.merge_spec.specs.Types.{AreFirstAppearances, MergedTypesAreDistinct, part_types}
+use Rattle.index_remap.proofs.SlotCalls.{func_type_is, func_type_self}
 
 -- ---- equal types ----
-
-pub func_type_is : (s t : FuncType) → same_func_type s t ≡ true → s ≡ t
-func_type_is s t h =
-    let b = and_parts (same_types s.params t.params) (same_types s.results t.results) h in
-    let is = each_same_is same_type (λ a b e. grind arith) in
-    ap₂ {A = List ValType} {B = List ValType} {C = FuncType} (λ x y. record { params = x; results = y }) (is s.params t.params b.0) (is s.results t.results b.1)
-
-pub func_type_self : (t : FuncType) → same_func_type t t ≡ true
-func_type_self t =
-    let self = each_same_self same_type (λ a. grind arith) in and_from (same_types t.params t.params) (same_types t.results t.results) (self t.params) (self t.results)
 
 -- ---- what is among types ----
 

@@ -18,7 +18,7 @@ use Rattle.wasm_meaning.specs.Linking.{Part, Site, End, Defined, Outside, Entity
 use Rattle.wasm_tree.specs.Spaces.{index_of_export, space_of_import}
 use Rattle.merge_spec.specs.Faults.{External, FuncOf, TableOf, MemoryOf, GlobalOf, asked_at, found, suits, external_of, same_but_limits, meets_limits, stays}
 use Rattle.merge_spec.specs.Merged.{merged, start_calls, starts, by_part}
-use Rattle.merge_spec.proofs.FirstAppearances.{func_type_self}
+use Rattle.index_remap.proofs.SlotCalls.{func_type_self}
 use Rattle.merge_valid_proof.specs.Ended.{EndsInside, EndsOutside, Ended, inside, outside, added_count, LinkedImportsEnd, StayingImportsEndThere, SitesAreImports, StayingImportsHavePlaces, NewIndicesArePlaces, DefinedEntitiesHavePlaces, TypesHavePlaces, MergedModulesDefineAll}
 use Rattle.merge_valid_proof.proofs.Same.{ref_same, type_same, kind_is}
 use Rattle.merge_valid_proof.proofs.Entities.{entry_external, own, imported, space, own_many, kind_of, bare, type_of}

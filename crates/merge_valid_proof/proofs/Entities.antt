@@ -21,7 +21,7 @@ use Rattle.wasm_meaning.specs.Values.{same_type}
 use Rattle.wasm_meaning.specs.World.{same_bool, defined_count}
 use Rattle.wasm_meaning.specs.Linking.{has_kind}
 use Rattle.merge_spec.specs.Faults.{External, FuncOf, TableOf, MemoryOf, GlobalOf, asked, external_of, same_but_limits}
-use Rattle.merge_spec.proofs.FirstAppearances.{func_type_is}
+use Rattle.index_remap.proofs.SlotCalls.{func_type_is}
 use Rattle.merge_valid_proof.specs.Ended.{is_external}
 use Rattle.merge_valid_proof.proofs.Same.{ref_is, type_is, bool_is}
 use Rattle.base_lists.proofs.Options.{and_then_is}

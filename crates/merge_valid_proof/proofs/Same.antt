@@ -10,6 +10,7 @@ use Rattle.wasm_meaning.specs.State.{Text, Pair}
 use Rattle.wasm_meaning.specs.Values.{same_ref, same_type}
 use Rattle.wasm_meaning.specs.World.{same_bool}
 use Rattle.wasm_meaning.specs.Linking.{Site, same_text, same_pair, same_site}
+use Rattle.index_remap_proof.proofs.Lists.{text_is, text_self}
 
 pub ref_is : (r s : RefType) → same_ref r s ≡ true → r ≡ s
 ref_is r s h = grind arith
@@ -26,17 +27,11 @@ type_same t = grind arith
 pub bool_is : (a b : Bool) → same_bool a b ≡ true → a ≡ b
 bool_is a b h = grind arith
 
-pub text_is : (x y : Text) → same_text x y ≡ true → x ≡ y
-text_is = each_same_is nat_eq eqb-true
-
-pub text_same : (x : Text) → same_text x x ≡ true
-text_same = each_same_self nat_eq (λ n. eq-eqb n n refl)
-
 pub pair_is : (p q : Pair) → same_pair p q ≡ true → p ≡ q
 pair_is p q h = let b = and_parts (same_text p.0 q.0) (same_text p.1 q.1) h in ap₂ (λ x y. (x, y)) (text_is p.0 q.0 b.0) (text_is p.1 q.1 b.1)
 
 pub pair_same : (p : Pair) → same_pair p p ≡ true
-pair_same p = and_from (same_text p.0 p.0) (same_text p.1 p.1) (text_same p.0) (text_same p.1)
+pair_same p = and_from (same_text p.0 p.0) (same_text p.1 p.1) (text_self p.0) (text_self p.1)
 
 pub site_is : (s t : Site) → same_site s t ≡ true → s ≡ t
 site_is s t h =

@@ -7,7 +7,7 @@ use Rattle.wasm_tree.specs.declared.module.Module.{Module}
 use Rattle.wasm_meaning.specs.Values.{same_func_type}
 use Rattle.wasm_meaning.specs.Linking.{Part, module_at, first_place}
 use Rattle.merge_spec.specs.Merged.{with_type, with_types, merged_types, place_of_type, map_of}
-use Rattle.merge_spec.proofs.FirstAppearances.{func_type_is, func_type_self}
+use Rattle.index_remap.proofs.SlotCalls.{func_type_is, func_type_self}
 use Rattle.base_lists.proofs.Places.{slice_index_is, map_at, has_left, has_right, Has}
 use Rattle.base_lists.proofs.Filtered.{first_at}
 use Rattle.base_lists.proofs.Each.{list_any_there}

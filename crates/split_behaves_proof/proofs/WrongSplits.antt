@@ -1,5 +1,5 @@
 -- Splits that are wrong, and a view that is: what is seen of them is not seen of the module, by computation.
-use Rattle.std.proofs.Common.{◌≡◌, refl, ap, ℕ, zero, List, [], ◌∷◌, Bool, true, false}
+use Rattle.std.proofs.Common.{◌≡◌, refl, sym, ap, subst, ℕ, zero, ◌+◌, ◌*◌, arith, List, [], ◌∷◌, Bool, true, false}
 use Rattle.std.specs.Prelude.{pos, nat_eq}
 use Rattle.wasm_tree.specs.declared.instr.Instr.{out-Instr}
 use Rattle.wasm_tree.specs.declared.instr.Instr.TheVariants as i
@@ -12,9 +12,9 @@ use Rattle.wasm_tree.specs.declared.module.ImportDesc.TheVariants as im
 use Rattle.wasm_tree.specs.declared.module.Module.{Module}
 use Rattle.wasm_num.specs.Operations.{wrapped, un_from, un_to, un_value, bin_from, bin_to, bin_value}
 use Rattle.index_remap.specs.References.{declaring}
-use Rattle.wasm_meaning.specs.Environment.{Number, Function}
+use Rattle.wasm_meaning.specs.Environment.{Null, Number, Function}
 use Rattle.wasm_meaning.specs.World.{alone}
-use Rattle.wasm_meaning.specs.Run.{Event, Linked, Returned, Got, BadMove, Move, Call, Take, Size, Named, IsPrefix, events}
+use Rattle.wasm_meaning.specs.Run.{Event, Linked, Returned, Got, BadMove, Move, Call, Take, Get, Size, Named, IsPrefix, events}
 use Rattle.wasm_meaning.specs.Loader.{LoaderWorld, events_loaded}
 use Rattle.split_spec.proofs.Rows.{placeholder_word, primary_word, slots_word, shared_word, empty, func, import, export, table, segment, gives_number, takes_two, slots_import}
 use Rattle.split_behaves_proof.specs.Worlds.{in_place_of}
@@ -25,6 +25,12 @@ use Rattle.split_behaves_proof.proofs.SmallRuns.{f, g, number, one_slot, two_slo
 refused : (m : Module) (w : LoaderWorld) (most : ℕ) (moves : List Move) (n : ℕ) (xs ys : List Event) →
     events_loaded w [] moves n ≡ xs → events (alone m) [] moves n ≡ ys → (IsPrefix xs ys → ⊥) → BehavesAs m w most → ⊥
 refused m w most moves n xs ys seen shown apart same = apart (rw (← seen) (rw (← shown) (same [] refl tt moves n).1))
+
+-- nor where what is seen of the module in so many steps does not begin what is seen of the world in as many as the law has
+refused_later : (m : Module) (w : LoaderWorld) (most : ℕ) (moves : List Move) (n k : ℕ) (xs ys : List Event) → k ≡ (most + 8) * (n + 1) →
+    events (alone m) [] moves n ≡ xs → events_loaded w [] moves k ≡ ys → (IsPrefix xs ys → ⊥) → BehavesAs m w most → ⊥
+refused_later m w most moves n k xs ys steps seen shown apart same =
+    apart (rw (← seen) (rw (← shown) (subst (λ j. IsPrefix (events (alone m) [] moves n) (events_loaded w [] moves j)) (sym steps) (same [] refl tt moves n).0)))
 
 -- the second event gives this number
 abbrev gives_second : ℕ → List Event → Bool
@@ -151,3 +157,79 @@ gives_first es = false
 
 a_secondary_that_names_its_own_is_refused : BehavesAs referring (naming 1) 0 → ⊥
 a_secondary_that_names_its_own_is_refused = refused referring (naming 1) 0 taken_and_called 20 _ _ two_functions_are_shown one_function_is_shown (λ p. let k : gives_first (Linked ∷ (Got (Function 0) ∷ (Returned (Function 1 ∷ []) ∷ p.0))) ≡ true = ap gives_first p.1 in cc)
+
+-- ---- a function that never ends ----
+
+-- f gives 7, and moves
+abbrev pub giving : Module
+giving = record empty { types = gives_number ∷ []; funcs = func 0 (i.I32Const (pos 7) ∷ []) ∷ []; exports = export f (ex.Func 0) ∷ [] }
+
+-- the secondary module's function calls itself
+abbrev pub endless : LoaderWorld
+endless = in_place_of giving
+    (record giving {
+      imports = import placeholder_word (48 ∷ []) (im.Func 0) ∷ [];
+      funcs = func 0 (i.I32Const (pos 0) ∷ i.CallIndirect 0 0 ∷ []) ∷ [];
+      tables = table 1 ∷ [];
+      exports = export f (ex.Func 1) ∷ export slots_word (ex.Table 0) ∷ [];
+      elems = segment 0 0 (const.Func 0 ∷ []) ∷ [];
+    })
+    (one_slot gives_number (record empty { types = gives_number ∷ []; imports = slots_import 1 ∷ []; funcs = func 0 (i.Call 0 ∷ []) ∷ []; elems = segment 0 0 (const.Func 0 ∷ []) ∷ [] }))
+
+it_gives_seven : events (alone giving) [] (Call f [] ∷ []) 5 ≡ Linked ∷ (number 7 ∷ [])
+unfolding out-Instr denote.Hole.Carrier.out wrapped
+it_gives_seven = refl
+
+it_gives_nothing : events_loaded endless [] (Call f [] ∷ []) 48 ≡ Linked ∷ []
+unfolding out-Instr denote.Hole.Carrier.out wrapped
+it_gives_nothing = refl
+
+-- What is seen of it begins what is seen of the module, in whatever number of steps; but it has to show what the module shows as well.
+pub an_endless_function_is_refused : BehavesAs giving endless 0 → ⊥
+an_endless_function_is_refused = refused_later giving endless 0 (Call f [] ∷ []) 5 48 _ _ (omega arith) it_gives_seven it_gives_nothing (λ p. let k = p.1 in cc)
+
+-- ---- slots in a table of the module ----
+
+-- f gives 7, and moves; g is a table with one entry, which is null
+abbrev pub holding : Module
+holding = record giving { tables = table 1 ∷ []; exports = export f (ex.Func 0) ∷ export g (ex.Table 0) ∷ [] }
+
+-- the slot is the first entry of that table, which has so many
+abbrev pub in_own_table : ℕ → LoaderWorld
+in_own_table count = record (in_place_of holding
+    (record holding {
+      imports = import placeholder_word (48 ∷ []) (im.Func 0) ∷ [];
+      funcs = func 0 (i.I32Const (pos 0) ∷ i.CallIndirect 0 0 ∷ []) ∷ [];
+      tables = table count ∷ [];
+      exports = export f (ex.Func 1) ∷ export g (ex.Table 0) ∷ export slots_word (ex.Table 0) ∷ [];
+      elems = segment 0 0 (const.Func 0 ∷ []) ∷ [];
+    })
+    (one_slot gives_number (record empty { types = gives_number ∷ []; imports = slots_import count ∷ []; funcs = holding.funcs; elems = segment 0 0 (const.Func 0 ∷ []) ∷ [] }))) { slot_table = 0 }
+
+null_is_got : events (alone holding) [] (Get (Named g) 0 ∷ []) 20 ≡ Linked ∷ (Got Null ∷ [])
+unfolding out-Instr denote.Hole.Carrier.out wrapped
+null_is_got = refl
+
+a_placeholder_is_got : events_loaded (in_own_table 1) [] (Get (Named g) 0 ∷ []) 20 ≡ Linked ∷ (Got (Function 0) ∷ [])
+unfolding out-Instr denote.Hole.Carrier.out wrapped
+a_placeholder_is_got = refl
+
+pub slots_in_place_of_entries_are_refused : BehavesAs holding (in_own_table 1) 0 → ⊥
+slots_in_place_of_entries_are_refused = refused holding (in_own_table 1) 0 (Get (Named g) 0 ∷ []) 20 _ _ a_placeholder_is_got null_is_got (λ p. let k = p.1 in cc)
+
+one_entry_is_counted : events (alone holding) [] (Size (Named g) ∷ []) 20 ≡ Linked ∷ (Got (Number 1) ∷ [])
+unfolding out-Instr denote.Hole.Carrier.out wrapped
+one_entry_is_counted = refl
+
+two_entries_are_counted : events_loaded (in_own_table 2) [] (Size (Named g) ∷ []) 20 ≡ Linked ∷ (Got (Number 2) ∷ [])
+unfolding out-Instr denote.Hole.Carrier.out wrapped
+two_entries_are_counted = refl
+
+-- the second event gives this number of entries
+abbrev counts_second : ℕ → List Event → Bool
+counts_second n (e ∷ (Got (Number k) ∷ es)) = nat_eq n k
+counts_second n es = false
+
+pub more_entries_are_refused : BehavesAs holding (in_own_table 2) 0 → ⊥
+more_entries_are_refused =
+    refused holding (in_own_table 2) 0 (Size (Named g) ∷ []) 20 _ _ two_entries_are_counted one_entry_is_counted (λ p. let k : counts_second 1 (Linked ∷ (Got (Number 2) ∷ p.0)) ≡ true = ap (counts_second 1) p.1 in cc)

@@ -29,8 +29,9 @@ pub record CanBeSplit (namespace : ℕ → List ℕ) (names : SplitNames) (m : M
   -- none moves twice
   pub once : (i j func : ℕ) → slice_get moved i ≡ Some func → slice_get moved j ≡ Some func → i ≡ j
   pub lists : flat_map (λ own. own) owns ≡ moved
-  -- nothing is imported from a namespace of placeholders, and no name is added that is there
+  -- nothing is imported from a namespace of placeholders
   pub namespaces : (slot : ℕ) → slot < length moved → namespace_taken (namespace slot) m ≡ None
+  -- no added name is that of an export
   pub names_free : prefix_taken names.export_prefix m moved ≡ None
 
 -- ---- what is promised ----
@@ -55,13 +56,13 @@ pub record CanBeLoaded (w : LoaderWorld) (q : LoaderRun) (secondary : ℕ) (s : 
   pub links : secondary_added w inst loads.«module» s ≡ Some added
   pub fills : added.filled.trapped ≡ false
 
--- a step of this run calls a placeholder of a secondary module that was not loaded before, which can be loaded then
+-- where the next step of this run calls a placeholder of a secondary module that was not loaded before, that module can be loaded then
 abbrev pub LoadsWhereAsked : LoaderWorld → LoaderRun → Type 0
 LoadsWhereAsked w q =
     (r : Run) (slot : ℕ) (vs : List Val) (s : Store) (es : List Entry) → transition q.run ≡ Steps r (Gives (CallsPlaceholder slot vs s es)) →
     (j : ℕ) → secondary_of w.secondaries slot ≡ Some j → slice_get q.loaded j ≡ Some false → CanBeLoaded w q j s
 
--- so in each run, whichever step it is
+-- so it is before each step of each run
 abbrev pub AlwaysLoads : LoaderWorld → Type 0
 AlwaysLoads w = (env : Environment) → IsTrue (is_environment env) → (moves : List Move) (n : ℕ) → LoadsWhereAsked w (state_after (tick_loader w) (fresh_loader env w moves) n)
 

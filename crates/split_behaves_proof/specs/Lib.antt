@@ -1,2 +1,9 @@
 pub mod Worlds
+pub mod Addresses
+pub mod Loads
 pub mod Laws
+pub mod LoadedCode
+pub mod ListedCalls
+pub mod Begins
+pub mod States
+pub mod Answered

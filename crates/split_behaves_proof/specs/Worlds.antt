@@ -48,3 +48,7 @@ split_world namespace names m moved owns = in_place_of m (primary_with namespace
 -- with one secondary module, which has all of them, and one namespace
 abbrev pub pair_world : SplitNames → Module → (moved : List ℕ) → LoaderWorld
 pair_world names m moved = split_world (λ slot. names.placeholder_namespace) names m moved (moved ∷ [])
+
+-- these two modules in place of the module: the placeholders of all slots are of the second
+abbrev pub pair_in_place : SplitNames → Module → (moved : List ℕ) → (primary secondary : Module) → LoaderWorld
+pair_in_place names m moved primary secondary = in_place_of m primary (record { «module» = secondary; placeholders = placeholders_for (λ slot. names.placeholder_namespace) m 0 moved } ∷ [])

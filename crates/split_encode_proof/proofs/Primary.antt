@@ -36,7 +36,8 @@ use Rattle.split_proof.proofs.SharedFuncs.{shared_within}
 use Rattle.split_encode_proof.proofs.Calls.{calls_numbers, slot_below, through_slot_numbers, trampoline_numbers}
 use Rattle.split_encode_proof.proofs.Names.{decimal_in, name_in, slots_name_in}
 use Rattle.split_encode_proof.proofs.Shared.{entities_few, slot_limits_in, slots_from}
-use Rattle.split_encode_proof.proofs.Trees.{every_place, numbers_of_range, renumbered_numbers}
+use Rattle.split_encode_proof.proofs.Trees.{numbers_of_range, renumbered_numbers}
+use Rattle.split_proof.proofs.Lists.{every_from}
 
 -- ---- parameters ----
 
@@ -88,7 +89,7 @@ module _ (namespace : ℕ → List ℕ) (prefix : List ℕ) (m : Module) (moved 
     marks = drop (length (imported_funcs m.imports)) (left_marks m moved)
 
     left_in : Every FuncNumbersInRange all_funcs → Every FuncNumbersInRange (kept marks all_funcs)
-    left_in h = every_place FuncNumbersInRange (kept marks all_funcs) (λ n f at. let k = kept_from marks all_funcs n f at in every_at FuncNumbersInRange all_funcs k.place f h k.is)
+    left_in h = every_from FuncNumbersInRange (kept marks all_funcs) (λ n f at. let k = kept_from marks all_funcs n f at in every_at FuncNumbersInRange all_funcs k.place f h k.is)
 
     -- ---- exports ----
 
@@ -100,7 +101,7 @@ module _ (namespace : ℕ → List ℕ) (prefix : List ℕ) (m : Module) (moved 
         let indices = from_primary m moved moved space in
         let count = entities_few m few space in
         every_map (λ (i : ℕ). i < 2 ^ 32) Named (λ i. record { name = name_from_primary prefix space i; desc = desc i }) (name_in prefix utf8 space) indices
-        (every_place (λ (i : ℕ). i < 2 ^ 32) indices (λ n i at. let within = (shared_within m moved moved space n i at).0 in omega (arith, within, count)))
+        (every_from (λ (i : ℕ). i < 2 ^ 32) indices (λ n i at. let within = (shared_within m moved moved space n i at).0 in omega (arith, within, count)))
 
     added_in : Every Named (added_exports prefix m moved)
     added_in =

@@ -26,19 +26,15 @@ use Rattle.wasm_write_proof.proofs.Parts.{every_of, every_with}
 use Rattle.merge_encode_proof.proofs.Numbers.{ConstNumberInRange, DataOffsetInRange, ElemNumbersInRange, ElemOffsetInRange, FuncNumbersInRange, ImportLimitsInRange, ImportNumbersInRange, NumbersInRange}
 use Rattle.merge_encode_proof.proofs.Bodies.{NumbersStay}
 use Rattle.merge_encode_proof.proofs.Consts.{new_number, number_of}
-use Rattle.merge_encode_proof.proofs.ItemRanges.{every_from}
+use Rattle.split_proof.proofs.Lists.{every_from}
 use Rattle.merge_encode_proof.proofs.Lists.{every_map}
 use Rattle.std.proofs.Common.{◌∙◌}
 
 -- ---- lists ----
 
--- what is so at each place is so of every element
-pub every_place : {A : Type 0} (P : A → Type 0) (xs : List A) → ((n : ℕ) (x : A) → slice_get xs n ≡ Some x → P x) → Every P xs
-every_place P xs h = every_from (λ x. Unit {0}) P xs (every_of (λ x. Unit {0}) xs (λ x. tt)) (λ n x at u. h n x at)
-
 -- what is chosen of such elements
 pub every_chosen : {A B : Type 0} (P : A → Type 0) (Q : B → Type 0) (f : A → Option B) → ((x : A) (y : B) → P x → f x ≡ Some y → Q y) → (xs : List A) → Every P xs → Every Q (filter_map f xs)
-every_chosen P Q f keep xs h = every_place Q (filter_map f xs) (λ n y at. let c = chosen_from f xs n y at in keep c.0 y (every_at P xs c.1.0 c.0 h c.1.1) c.2)
+every_chosen P Q f keep xs h = every_from Q (filter_map f xs) (λ n y at. let c = chosen_from f xs n y at in keep c.0 y (every_at P xs c.1.0 c.0 h c.1.1) c.2)
 
 -- ---- a module in range ----
 

@@ -2,9 +2,8 @@
 use Rattle.std.specs.Prelude.{◌≡◌, ℕ, ◌<◌, ◌==◌, List, [], ◌∷◌, Bool, true, false, not, unwrap_or, Option, Some, None, option_map, slice_get, length}
 use Rattle.std.specs.Option.{option_map_or}
 use Rattle.std.specs.List.{list_any}
-use Rattle.std.specs.Ordering.{nat_cmp}
-use Rattle.std.specs.BTreeMap.{BTreeMap, get_by}
-use Rattle.std.specs.Cmp.Lexicographic.{slice_cmp}
+use Rattle.std.specs.HashMap.{HashMap, get_by}
+use Rattle.std.specs.Str.{bytes_eq}
 use Rattle.std.specs.Borrow.{Bor}
 use Rattle.wasm_tree.specs.declared.module.Module.{Module}
 use Rattle.wasm_names.specs.declared.func_name.FuncName.{FuncName}
@@ -31,8 +30,8 @@ abbrev pub entry_of : Module → List FuncName → List ℕ → Option Named
 entry_of m names word = entered (bearers m names word) (exported_among m m.exports word)
 
 -- what a table holds of a word
-abbrev pub held_of : BTreeMap (Bor (List ℕ)) Named → List ℕ → Option Named
-held_of table word = get_by (λ k. slice_cmp nat_cmp word k.now) table
+abbrev pub held_of : {S : Type 0} → HashMap (Bor (List ℕ)) Named S → List ℕ → Option Named
+held_of table word = get_by (λ k. bytes_eq word k.now) table
 
 -- the function that an entry tells, and the fault
 abbrev pub func_in : Option Named → Option ℕ

@@ -8,14 +8,14 @@ ghost use Rattle.split_plan.specs.Plans.{first_given, kept_fault};
 use crate::fault::PlanFault;
 use crate::named::Named;
 use std::alloc::{AllocError, Global};
-use std::collections::BTreeMap;
+use std::collections::HashMap;
 use wasm_bytes::Name;
 use wasm_valid::mark;
 
 // The function that the word names.
 fn function_named(
     alloc: Global,
-    table: &BTreeMap<&str, Named>,
+    table: &HashMap<&str, Named>,
     word: &Name,
 ) -> Result<u32, PlanFault>
     ensures func { IfOk result (λ func. func_in (held_of table.now word.now) ≡ Some func) }
@@ -36,7 +36,7 @@ fn function_named(
 /// For each of so many functions, whether one of the words names it; or the fault of the first word that has one.
 pub fn marked(
     alloc: Global,
-    table: &BTreeMap<&str, Named>,
+    table: &HashMap<&str, Named>,
     words: &[Name],
     count: usize,
 ) -> Result<Vec<bool>, PlanFault>
@@ -61,7 +61,7 @@ fn is_marked(marks: &[bool], func: u32) -> bool
 // Refuses the word where its function is marked as one to be kept.
 fn refuse_one(
     alloc: Global,
-    table: &BTreeMap<&str, Named>,
+    table: &HashMap<&str, Named>,
     kept: &[bool],
     word: &Name,
 ) -> Result<(), PlanFault>
@@ -85,7 +85,7 @@ fn refuse_one(
 /// Refuses the first word whose function is marked as one to be kept.
 pub fn refuse_kept(
     alloc: Global,
-    table: &BTreeMap<&str, Named>,
+    table: &HashMap<&str, Named>,
     kept: &[bool],
     words: &[Name],
 ) -> Result<(), PlanFault>

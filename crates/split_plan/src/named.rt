@@ -10,7 +10,7 @@ ghost use Rattle.split_plan.specs.Looking.{entry_of, held_of, func_in, once_more
 ghost use Rattle.split_plan.specs.declared.named.Named.TheVariants.{Exported as IsExported};
 
 use std::alloc::Global;
-use std::collections::BTreeMap;
+use std::collections::HashMap;
 use wasm_bytes::NoMemory;
 use wasm_names::FuncName;
 use wasm_tree::{Export, Module, Space};
@@ -64,13 +64,13 @@ fn exported<'a>(
     alloc: Global,
     module: &'a Module,
     defined: Defined,
-) -> Result<BTreeMap<&'a str, Named>, NoMemory>
+) -> Result<HashMap<&'a str, Named>, NoMemory>
     requires first { defined.first ≡ length (imported_funcs «module».now.imports) }
     requires end { defined.end ≡ length (funcs_of «module».now) }
     ensures { IfOk result (λ table. (word : List ℕ) → held_of table word ≡ option_map IsExported (exported_among «module».now «module».now.exports word)) }
 {
     let exports = module.exports.as_slice();
-    let mut table = BTreeMap::new(alloc);
+    let mut table = HashMap::new(alloc);
     for at in (0..exports.len()).rev() {
         let export = &exports[at];
         if defined.has_export(export) {
@@ -91,7 +91,7 @@ fn once_more(entry: Option<Named>, func: u32) -> Named
 }
 
 // One function more bears the name.
-fn enter<'a>(table: &mut BTreeMap<&'a str, Named>, name: &'a str, func: u32) -> Result<(), NoMemory>
+fn enter<'a>(table: &mut HashMap<&'a str, Named>, name: &'a str, func: u32) -> Result<(), NoMemory>
     ensures { OnOk result ((word : List ℕ) → held_of table.new word ≡ cond (bytes_eq name.now word) (once_more func (held_of table.old word)) (held_of table.old word)) }
 {
     let new = once_more(table.get(name).copied(), func);
@@ -104,7 +104,7 @@ pub fn named_functions<'a>(
     alloc: Global,
     module: &'a Module,
     names: &'a [FuncName],
-) -> Result<BTreeMap<&'a str, Named>, NoMemory>
+) -> Result<HashMap<&'a str, Named>, NoMemory>
     ensures { IfOk result (λ table. (word : List ℕ) → held_of table word ≡ entry_of «module».now names.now word) }
 {
     let defined = Defined {

@@ -1,25 +1,9 @@
 // Code that names segments.
 
 ghost use Rattle.std.specs.Prelude.{◌≡◌};
-ghost use Rattle.std.specs.List.{list_any};
-ghost use Rattle.wasm_tree.specs.Operands.{operands_of};
-ghost use Rattle.split_plan.specs.Segments.{names_segment, uses_segment, uses_segment_in};
+ghost use Rattle.split_plan.specs.Segments.{uses_segment, uses_segment_in};
 
-use wasm_tree::{Instr, Operand, Space, operands_pass_layer_by_layer};
-
-fn names_segment(operand: Operand) -> bool
-    ensures { result ≡ names_segment operand }
-{
-    operand.space == Space::DataSegments || operand.space == Space::ElementSegments
-}
-
-// Whether the instruction itself names a segment.
-fn names_one(instr: &Instr) -> bool
-    ensures { result ≡ list_any names_segment (operands_of instr.now) }
-{
-    let operands = instr.operands();
-    operands.first.is_some_and(names_segment) || operands.second.is_some_and(names_segment)
-}
+use wasm_tree::{Instr, operands_pass_layer_by_layer};
 
 // Whether the instruction names a segment, or one inside it does.
 #[cycle(uses)]
@@ -39,7 +23,11 @@ fn uses_in(instr: &Instr) -> bool
             operands_pass_layer_by_layer();
             uses_segments(body.as_slice()) || uses_segments(other.as_slice())
         }
-        _ => names_one(instr),
+        Instr::MemoryInit { .. }
+        | Instr::DataDrop(_)
+        | Instr::TableInit { .. }
+        | Instr::ElemDrop(_) => true,
+        _ => false,
     }
 }
 

@@ -45,7 +45,7 @@ pub record BodyLaws : Type 0 where
   pub typed : TypingIsKept
   pub replaced : CallsAreReplaced
 
-the_one : {A : Type 0} (x y : A) → Contains (x ∷ []) y → x ≡ y
+pub the_one : {A : Type 0} (x y : A) → Contains (x ∷ []) y → x ≡ y
 the_one x y (zero, h, e) = e
 the_one x y (suc k, h, e) = absurd (omega (arith, h))
 

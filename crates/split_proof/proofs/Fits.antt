@@ -107,7 +107,7 @@ module _ (entries_there : EntriesAreThere) (m : Module) (valid : IsValid m) (hol
     datas = numbers 0 (length m.datas);
   }
 
-  covers_exact : Covers exact m
+  pub covers_exact : Covers exact m
   covers_exact =
       let types = length-numbers 0 (length m.types) in
       let funcs = length-numbers 0 (length (funcs_of m)) in

@@ -11,6 +11,7 @@ use Rattle.base_kept.specs.Kept.{is_marked, kept, kept_before}
 use Rattle.base_kept.proofs.Laws.{kept_map}
 use Rattle.index_remap.specs.References.{is_among}
 use Rattle.index_remap_proof.proofs.Lists.{left_either, right_either, same_number}
+use Rattle.base_lists.specs.Every.{Every}
 
 -- ---- what is chosen at marked places ----
 
@@ -142,3 +143,9 @@ contains_there xs x (k, lt, e) =
 
 pub there_contains : {A : Type 0} (xs : List A) (p : ℕ) (x : A) → slice_get xs p ≡ Some x → Contains xs x
 there_contains xs p x at = (p, slice_get_within xs p x at, get_or_from_slice_get xs p x x at)
+
+-- ---- what holds of each element ----
+
+pub every_from : {A : Type 0} (P : A → Type 0) (xs : List A) → ((n : ℕ) (x : A) → slice_get xs n ≡ Some x → P x) → Every P xs
+every_from P [] h = tt
+every_from P (x ∷ xs) h = (h 0 x refl, every_from P xs (λ n. h (suc n)))

@@ -84,17 +84,17 @@ module _ (laws : BodyLaws) (namespace : ℕ → List ℕ) (prefix : List ℕ) (m
   named_left : (f : ℕ) → slice_get (named_of m) f ≡ Some true → is_left m moved f ≡ true
   named_left f h = refs_left f (is_marked (refs_of m) (length (funcs_of m)) f h)
 
-  start_left : (f : ℕ) → m.start ≡ Some f → is_left m moved f ≡ true
+  pub start_left : (f : ℕ) → m.start ≡ Some f → is_left m moved f ≡ true
   start_left f e =
       needed_left f (among_right (refs_of m) (cons_option m.start [] ++ body_refs m.funcs) f (among_left (cons_option m.start []) (body_refs m.funcs) f (
       ap (λ o. is_among (cons_option o []) f) e ∙ there_among (f ∷ []) 0 f refl)))
 
-  item_left : (j p : ℕ) (s : ElemSeg) (e : ConstExpr) → slice_get m.elems j ≡ Some s → slice_get s.items p ≡ Some e → (f : ℕ) → const_func e ≡ Some f → is_left m moved f ≡ true
+  pub item_left : (j p : ℕ) (s : ElemSeg) (e : ConstExpr) → slice_get m.elems j ≡ Some s → slice_get s.items p ≡ Some e → (f : ℕ) → const_func e ≡ Some f → is_left m moved f ≡ true
   item_left j p s e at got f is =
       let c = has_chosen const_func s.items p e f got is in
       refs_left f (among_left (elem_refs m.elems) (global_refs m.globals ++ export_refs m.exports) f (among_joined (λ s. filter_map const_func s.items) m.elems j s f at (there_among (filter_map const_func s.items) c.0 f c.1)))
 
-  init_left : (j : ℕ) (g : GlobalDef) → slice_get m.globals j ≡ Some g → (f : ℕ) → const_func g.init ≡ Some f → is_left m moved f ≡ true
+  pub init_left : (j : ℕ) (g : GlobalDef) → slice_get m.globals j ≡ Some g → (f : ℕ) → const_func g.init ≡ Some f → is_left m moved f ≡ true
   init_left j g at f is =
       let c = has_chosen (λ g. const_func g.init) m.globals j g f at is in
       refs_left f (among_right (elem_refs m.elems) (global_refs m.globals ++ export_refs m.exports) f (among_left (global_refs m.globals) (export_refs m.exports) f (there_among (global_refs m.globals) c.0 f c.1)))
@@ -116,7 +116,7 @@ module _ (laws : BodyLaws) (namespace : ℕ → List ℕ) (prefix : List ℕ) (m
       ∙ ap₂ (λ gs is. option_and_then (λ x. only (nat_lt g (length is) && not x.mutable) (Some x.ty)) (slice_get gs g)) (spaces.globals_are namespace prefix m holds moved can) (spaces.imported_globals_are namespace prefix m holds moved can) ∙ h
 
   -- an offset names no function
-  no_func : (e : ConstExpr) → const_type m e ≡ Some I32 → (f : ℕ) → const_func e ≡ Some f → is_left m moved f ≡ true
+  pub no_func : (e : ConstExpr) → const_type m e ≡ Some I32 → (f : ℕ) → const_func e ≡ Some f → is_left m moved f ≡ true
   no_func (const.I32 v) h f is = absurd (let z = is in cc)
   no_func (const.I64 v) h f is = absurd (let z = is in cc)
   no_func (const.Null q) h f is = absurd (let z = is in cc)

@@ -79,7 +79,7 @@ module _ (namespace : ℕ → List ℕ) (prefix : List ℕ) (m : Module) (holds 
       let e : 0 + i ≡ i = omega arith in
       map_at (is_left m moved) (numbers 0 (length (funcs_of m))) i (0 + i) (numbers_at 0 (length (funcs_of m)) i lt) ∙ ap (λ n. Some (is_left m moved n)) e
 
-  imported_left : (i : ℕ) → i < k → is_marked left i ≡ true
+  pub imported_left : (i : ℕ) → i < k → is_marked left i ≡ true
   imported_left i lt =
       let all = length-append (imported_funcs m.imports) (map (λ f. f.ty) m.funcs) in
       get_or_from_slice_get left i true false (left_at i (omega (arith, lt, all)) ∙ ap Some (left_either (not (is_among moved i)) (is_needed m i) (ap not (not_imported i lt))))
@@ -114,7 +114,7 @@ module _ (namespace : ℕ → List ℕ) (prefix : List ℕ) (m : Module) (holds 
   none_added h e slot [] = refl
   none_added h e slot (f ∷ fs) = ap₂ cons_option (e (type_index m f)) (none_added h e (suc slot) fs)
 
-  imported_funcs_are : imported_funcs u.imports ≡ imported_funcs m.imports ++ map (type_index m) moved
+  pub imported_funcs_are : imported_funcs u.imports ≡ imported_funcs m.imports ++ map (type_index m) moved
   imported_funcs_are = ap imported_funcs imports_stay ∙ filter_map-append (λ i. func_of i.desc) m.imports (placeholder_imports namespace m 0 moved) ∙ ap (λ ts. imported_funcs m.imports ++ ts) (funcs_added 0 moved)
 
   others_stay : {B : Type 0} (h : ImportDesc → Option B) → ((ty : ℕ) → h (im.Func ty) ≡ None) → filter_map (λ i. h i.desc) u.imports ≡ filter_map (λ i. h i.desc) m.imports
@@ -180,17 +180,19 @@ module _ (namespace : ℕ → List ℕ) (prefix : List ℕ) (m : Module) (holds 
   funcs_are = ap₂ (λ xs ys. xs ++ ys) imported_funcs_are func_types ∙ append_assoc (imported_funcs m.imports) (map (type_index m) moved) (kept (drop k left) defined_types)
 
   -- where an imported function stays, and one that is defined goes behind the placeholders
+  pub imported_index : (i : ℕ) → i < k → slice_index r.funcs i ≡ i
+  imported_index i lt =
+      let many = length-numbers 0 k in
+      index_left (numbers 0 k) (map (λ place. length moved + place) (drop k (new_places left)) ++ numbers k (length moved)) i (omega (arith, lt, many)) ∙ numbers_index k i lt
+
   imported_entry : (i ty : ℕ) → slice_get (imported_funcs m.imports) i ≡ Some ty → slice_get (funcs_of u) (slice_index r.funcs i) ≡ Some ty
   imported_entry i ty at =
-      let lt = slice_get_within (imported_funcs m.imports) i ty at in
-      let many = length-numbers 0 k in
-      let entry : slice_index r.funcs i ≡ i = index_left (numbers 0 k) (map (λ place. length moved + place) (drop k (new_places left)) ++ numbers k (length moved)) i (omega (arith, lt, many)) ∙ numbers_index k i lt in
-      ap (slice_get (funcs_of u)) entry ∙ ap (λ fs. slice_get fs i) funcs_are ∙ append_at_left (imported_funcs m.imports) (map (type_index m) moved ++ kept (drop k left) defined_types) i ty at
+      ap (slice_get (funcs_of u)) (imported_index i (slice_get_within (imported_funcs m.imports) i ty at)) ∙ ap (λ fs. slice_get fs i) funcs_are ∙ append_at_left (imported_funcs m.imports) (map (type_index m) moved ++ kept (drop k left) defined_types) i ty at
 
   abbrev place_of : ℕ → ℕ
   place_of j = kept_before (drop k left) j
 
-  defined_index : (j : ℕ) → k + j < length (funcs_of m) → slice_index r.funcs (k + j) ≡ length moved + (k + place_of j)
+  pub defined_index : (j : ℕ) → k + j < length (funcs_of m) → slice_index r.funcs (k + j) ≡ length moved + (k + place_of j)
   defined_index j lt =
       let e : 0 + (k + j) ≡ k + j = omega arith in
       let many = left_many in
@@ -200,12 +202,15 @@ module _ (namespace : ℕ → List ℕ) (prefix : List ℕ) (m : Module) (holds 
       (append_at_left (map (λ place. length moved + place) (drop k (new_places left))) (numbers k (length moved)) j (length moved + (k + place_of j))
       (map_at (λ place. length moved + place) (drop k (new_places left)) j (k + place_of j) (drop_at (new_places left) k j ∙ old)))
 
+  pub left_marked : (j : ℕ) → k + j < length (funcs_of m) → is_left m moved (k + j) ≡ true → is_marked (drop k left) j ≡ true
+  left_marked j lt h = get_or_from_slice_get (drop k left) j true false (drop_at left k j ∙ left_at (k + j) lt ∙ ap Some h)
+
   defined_entry : (j ty : ℕ) → is_left m moved (k + j) ≡ true → slice_get defined_types j ≡ Some ty → slice_get (funcs_of u) (slice_index r.funcs (k + j)) ≡ Some ty
   defined_entry j ty h at =
       let all = length-append (imported_funcs m.imports) defined_types in
       let within = slice_get_within defined_types j ty at in
       let lt : k + j < length (funcs_of m) = omega (arith, all, within) in
-      let mark : is_marked (drop k left) j ≡ true = get_or_from_slice_get (drop k left) j true false (drop_at left k j ∙ left_at (k + j) lt ∙ ap Some h) in
+      let mark = left_marked j lt h in
       let n = length-map moved (type_index m) in
       let e : length moved + (k + place_of j) ≡ k + (length (map (type_index m) moved) + place_of j) = omega (arith, n) in
       ap (slice_get (funcs_of u)) (defined_index j lt ∙ e) ∙ ap (λ fs. slice_get fs (k + (length (map (type_index m) moved) + place_of j))) funcs_are

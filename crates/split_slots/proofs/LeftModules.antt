@@ -61,7 +61,7 @@ module _ (m : Module) (moved : List ℕ) (can : CanMove m moved) (c : Calls) (sl
       let i = place_is f moved 0 slot place in
       let there = every_at (λ g. g < length (funcs_of m)) moved i.0 f (all_there m moved can) i.2 in
       let many = ap length types in
-      (omega (arith, few, less), omega (arith, few, less, base), omega (arith, there, many))
+      (omega (arith, few, less), omega (arith, few, less, base), omega (arith, there, many), omega (arith, there, base))
 
   tells : Tells c (length (imported_funcs m.imports)) moved
   tells f le = ap is_some (slot_is f) ∙ has_place moved f 0

@@ -23,3 +23,4 @@ mod ImportedMore
 mod MarkCounts
 mod TakenNames
 mod MapsOfSplit
+mod Behaving

@@ -1,34 +1,47 @@
 -- Code in which other code stands in place of calls, made instruction by instruction.
-use Rattle.std.proofs.Common.{◌≡◌, ℕ, zero, suc, ◌≤◌, arith, length, Bool, true, false, ◌||◌, List, [], ◌∷◌, ◌++◌, append_assoc, map, reverse, Option, Some, None, is_some, refl, sym, ap, ap₂, ◌∙◌, subst, rules}
-use Rattle.std.specs.List.{flat_map, list_any}
-use Rattle.std.proofs.lemmas.Grind.{flat_map-append}
-use Rattle.std.proofs.lemmas.List.{append-nil, reverse-append}
+use Rattle.std.proofs.Common.{◌≡◌, ℕ, zero, suc, ◌+◌, ◌-◌, ◌<◌, ◌≤◌, arith, length, Bool, true, false, ◌&&◌, cond, List, [], ◌∷◌, ◌++◌, map, take, drop, Option, Some, None, ◌⊎◌, inl, inr, refl, sym, ap, ap₂, ◌∙◌, subst, slice_get, slice_index, append_assoc, add-one, rules}
+use Rattle.std.specs.Prelude.{nat_le, nat_lt}
+use Rattle.std.specs.List.{flat_map}
 use Rattle.wasm_tree.specs.declared.types.BlockType.{BlockType}
 use Rattle.wasm_tree.specs.declared.instr.Instr.{Instr, out-Instr, fold_out-Instr, items-the_row-Instr, the_lemmas}
 use Rattle.wasm_tree.specs.declared.instr.Instr.TheVariants.{Block, Block', Loop, Loop', If, If', Call, outs-Block, outs-Loop, outs-If}
-use Rattle.base_lists.proofs.Walk.{part}
+use Rattle.base_lists.proofs.Walk.{part, part_at}
+use Rattle.std.proofs.lemmas.Bool.{cases_lt}
+use Rattle.std.proofs.lemmas.List.{append-nil}
 use Rattle.index_remap.proofs.Rows.{block_is, loop_is, if_is}
 use Rattle.split_spec.specs.Calls.{calls_in, calls_step, with_calls}
 use Rattle.split_slots.specs.Looking.{slot_at}
 use Rattle.split_slots.specs.declared.calls.Calls.{Calls}
-use Rattle.split_slots.specs.Replacing.{code_here, code_of_call, inside, is_replaced, layer_code, layer_inside, target_code, target_of}
+use Rattle.split_slots.specs.declared.calls.Target.{Target}
+use Rattle.split_slots.specs.declared.calls.Target.TheVariants as target
+use Rattle.split_slots.specs.Replacing.{FewSlots, code_here, code_of_call, is_slot, is_spread, layer_code, layer_settled, settled, settled_by, target_code, target_of}
 
--- ---- lists that are taken from the back ----
+-- ---- calls ----
 
-pub reverse_push : {A : Type 0} (xs : List A) (x : A) → reverse (xs ++ x ∷ []) ≡ x ∷ reverse xs
-reverse_push xs x = reverse-append xs (x ∷ [])
+-- a function of the module's own has no slot by its own index
+no_slot : (c : Calls) → FewSlots c → (k : ℕ) → slot_at c.slots.now (c.base + k) ≡ None
+no_slot c few k = of (slot_at c.slots.now (c.base + k)) refl
+  where
+    of : (o : Option ℕ) → slot_at c.slots.now (c.base + k) ≡ o → o ≡ None
+    of None e = refl
+    of (Some slot) e = absurd (omega (arith, (few (c.base + k) slot e).3))
 
--- one is taken from the back, and what f gives for it goes before what is there
-pub one_back : {A B : Type 0} (f : A → List B) (old new : List A) (x : A) (back more all : List B) → old ≡ new ++ x ∷ [] → more ≡ f x ++ back → flat_map f old ++ back ≡ all → flat_map f new ++ more ≡ all
-one_back f old new x back more all taken put is =
-    ap (λ ys. flat_map f new ++ ys) put ∙ sym (append_assoc (flat_map f new) (f x) back)
-    ∙ ap (λ ys. (flat_map f new ++ ys) ++ back) (sym (append-nil (f x)))
-    ∙ ap (λ ys. ys ++ back) (sym (flat_map-append f new (x ∷ [])) ∙ ap (flat_map f) (sym taken)) ∙ is
+-- what stands in place of a call stands in place of it once it names the function of the module's own, too
+settled_code : (c : Calls) → FewSlots c → (f : ℕ) (o : Option ℕ) → slot_at c.slots.now f ≡ o → code_of_call c (settled_by f (target_of c f o)) ≡ target_code c.table (target_of c f o)
+settled_code c few f None at = ap (λ o. target_code c.table (target_of c f o)) at
+settled_code c few f (Some slot) at = of (nat_le c.first slot && nat_lt slot c.end) refl
+  where
+    target_if : Bool → Target
+    target_if b = cond b (target.Func (c.base + (slot - c.first))) (target.Slot (slice_index c.types.now f) slot)
 
--- the last of what is there goes behind the others
-pub one_refilled : {A : Type 0} (old new xs ys : List A) (x : A) (all : List A) → old ≡ new ++ x ∷ [] → ys ≡ xs ++ x ∷ [] → xs ++ reverse old ≡ all → ys ++ reverse new ≡ all
-one_refilled old new xs ys x all taken put is =
-    ap (λ zs. zs ++ reverse new) put ∙ append_assoc xs (x ∷ []) (reverse new) ∙ ap (λ zs. xs ++ zs) (sym (reverse_push new x) ∙ ap reverse (sym taken)) ∙ is
+    of : (b : Bool) → (nat_le c.first slot && nat_lt slot c.end) ≡ b → code_of_call c (settled_by f (target_if b)) ≡ target_code c.table (target_if b)
+    of true e = ap (λ o. target_code c.table (target_of c (c.base + (slot - c.first)) o)) (no_slot c few (slot - c.first))
+    of false e = ap (λ o. target_code c.table (target_of c f o)) at ∙ ap (λ b. target_code c.table (target_if b)) e
+
+-- one that is not through a slot stays one
+one_call : (table f : ℕ) (t : Target) → is_slot t ≡ false → target_code table t ≡ Call (settled_by f t) ∷ []
+one_call table f (target.Func own) e = refl
+one_call table f (target.Slot ty slot) e = cc
 
 -- ---- blocks ----
 
@@ -46,74 +59,80 @@ module _ (code : ℕ → List Instr) where
   of_if : (ty : BlockType) (body other : List Instr) → calls_in code (If ty body other) ≡ If ty (flat_map (λ is. is) (map (calls_in code) body)) (flat_map (λ is. is) (map (calls_in code) other)) ∷ []
   of_if ty body other = search (rules, the_lemmas)
 
-  pub block_inside : (ty : BlockType) (body : List Instr) → inside code (Block ty body) ≡ Block ty (with_calls code body)
-  block_inside ty body = ap (λ l. layer_inside code l (Block ty body)) (outs-Block ty body)
+-- ---- one instruction ----
 
-  pub loop_inside : (ty : BlockType) (body : List Instr) → inside code (Loop ty body) ≡ Loop ty (with_calls code body)
-  loop_inside ty body = ap (λ l. layer_inside code l (Loop ty body)) (outs-Loop ty body)
+module _ (c : Calls) (few : FewSlots c) where
+  abbrev code : ℕ → List Instr
+  code = code_of_call c
 
-  pub if_inside : (ty : BlockType) (body other : List Instr) → inside code (If ty body other) ≡ If ty (with_calls code body) (with_calls code other)
-  if_inside ty body other = ap (λ l. layer_inside code l (If ty body other)) (outs-If ty body other)
+  pub block_settled : (ty : BlockType) (body : List Instr) → settled c (Block ty body) ≡ Block ty (with_calls code body)
+  block_settled ty body = ap (λ l. layer_settled c l (Block ty body)) (outs-Block ty body)
 
-  block_here : (ty : BlockType) (body : List Instr) → code_here code (inside code (Block ty body)) ≡ calls_in code (Block ty body)
-  block_here ty body =
+  pub loop_settled : (ty : BlockType) (body : List Instr) → settled c (Loop ty body) ≡ Loop ty (with_calls code body)
+  loop_settled ty body = ap (λ l. layer_settled c l (Loop ty body)) (outs-Loop ty body)
+
+  pub if_settled : (ty : BlockType) (body other : List Instr) → settled c (If ty body other) ≡ If ty (with_calls code body) (with_calls code other)
+  if_settled ty body other = ap (λ l. layer_settled c l (If ty body other)) (outs-If ty body other)
+
+  -- a block is one instruction
+  one_block : (ty : BlockType) (body : List Instr) → (code_here code (settled c (Block ty body)) ≡ settled c (Block ty body) ∷ []) × (code_here code (settled c (Block ty body)) ≡ calls_in code (Block ty body))
+  one_block ty body =
       let held = with_calls code body in
-      ap (code_here code) (block_inside ty body) ∙ ap (λ l. layer_code code l (Block ty held)) (outs-Block ty held) ∙ sym (of_block ty body ∙ ap (λ is. Block ty is ∷ []) (joined_map (calls_in code) body))
+      let is = ap (code_here code) (block_settled ty body) ∙ ap (λ l. layer_code code l (Block ty held)) (outs-Block ty held) in
+      (is ∙ ap (λ i. i ∷ []) (sym (block_settled ty body)), is ∙ sym (of_block code ty body ∙ ap (λ is. Block ty is ∷ []) (joined_map (calls_in code) body)))
 
-  loop_here : (ty : BlockType) (body : List Instr) → code_here code (inside code (Loop ty body)) ≡ calls_in code (Loop ty body)
-  loop_here ty body =
+  one_loop : (ty : BlockType) (body : List Instr) → (code_here code (settled c (Loop ty body)) ≡ settled c (Loop ty body) ∷ []) × (code_here code (settled c (Loop ty body)) ≡ calls_in code (Loop ty body))
+  one_loop ty body =
       let held = with_calls code body in
-      ap (code_here code) (loop_inside ty body) ∙ ap (λ l. layer_code code l (Loop ty held)) (outs-Loop ty held) ∙ sym (of_loop ty body ∙ ap (λ is. Loop ty is ∷ []) (joined_map (calls_in code) body))
+      let is = ap (code_here code) (loop_settled ty body) ∙ ap (λ l. layer_code code l (Loop ty held)) (outs-Loop ty held) in
+      (is ∙ ap (λ i. i ∷ []) (sym (loop_settled ty body)), is ∙ sym (of_loop code ty body ∙ ap (λ is. Loop ty is ∷ []) (joined_map (calls_in code) body)))
 
-  if_here : (ty : BlockType) (body other : List Instr) → code_here code (inside code (If ty body other)) ≡ calls_in code (If ty body other)
-  if_here ty body other =
+  one_if : (ty : BlockType) (body other : List Instr) → (code_here code (settled c (If ty body other)) ≡ settled c (If ty body other) ∷ []) × (code_here code (settled c (If ty body other)) ≡ calls_in code (If ty body other))
+  one_if ty body other =
       let held = with_calls code body in
       let rest = with_calls code other in
-      ap (code_here code) (if_inside ty body other) ∙ ap (λ l. layer_code code l (If ty held rest)) (outs-If ty held rest)
-      ∙ sym (of_if ty body other ∙ ap₂ (λ is os. If ty is os ∷ []) (joined_map (calls_in code) body) (joined_map (calls_in code) other))
+      let is = ap (code_here code) (if_settled ty body other) ∙ ap (λ l. layer_code code l (If ty held rest)) (outs-If ty held rest) in
+      (is ∙ ap (λ i. i ∷ []) (sym (if_settled ty body other)), is ∙ sym (of_if code ty body other ∙ ap₂ (λ is os. If ty is os ∷ []) (joined_map (calls_in code) body) (joined_map (calls_in code) other)))
 
-  -- what stands in place of an instruction is that of it with what stands inside
-  here : (i : Instr) → code_here code (inside code i) ≡ calls_in code i
+  -- what stands in place of an instruction stands in place of the settled one
+  here : (i : Instr) → code_here code (settled c i) ≡ calls_in code i
   unfolding out-Instr denote.Hole.Carrier.out
-  here (Block' ty n body) = subst (λ z. code_here code (inside code z) ≡ calls_in code z) (sym (block_is ty n body)) (block_here ty (items-the_row-Instr _ body))
-  here (Loop' ty n body) = subst (λ z. code_here code (inside code z) ≡ calls_in code z) (sym (loop_is ty n body)) (loop_here ty (items-the_row-Instr _ body))
-  here (If' ty n body k other) = subst (λ z. code_here code (inside code z) ≡ calls_in code z) (sym (if_is ty n body k other)) (if_here ty (items-the_row-Instr _ body) (items-the_row-Instr _ other))
+  here (Block' ty n body) = subst (λ z. code_here code (settled c z) ≡ calls_in code z) (sym (block_is ty n body)) (one_block ty (items-the_row-Instr _ body)).1
+  here (Loop' ty n body) = subst (λ z. code_here code (settled c z) ≡ calls_in code z) (sym (loop_is ty n body)) (one_loop ty (items-the_row-Instr _ body)).1
+  here (If' ty n body k other) = subst (λ z. code_here code (settled c z) ≡ calls_in code z) (sym (if_is ty n body k other)) (one_if ty (items-the_row-Instr _ body) (items-the_row-Instr _ other)).1
+  here (Call f) = settled_code c few f (slot_at c.slots.now f) refl ∙ sym (fold_out-Instr (List Instr) (calls_step code) (Call f))
   here i = sym (fold_out-Instr (List Instr) (calls_step code) i)
 
-  pub with_calls_inside : (is : List Instr) → flat_map (code_here code) (map (inside code) is) ≡ with_calls code is
-  with_calls_inside [] = refl
-  with_calls_inside (i ∷ is) = ap₂ (λ c d. c ++ d) (here i) (with_calls_inside is)
-
--- ---- code without calls that are replaced ----
-
-module _ (code : ℕ → List Instr) (slots : List (Option ℕ)) (others : (f : ℕ) → is_some (slot_at slots f) ≡ false → code f ≡ Call f ∷ []) where
-  stays : (i : Instr) → is_replaced slots i ≡ false → code_here code i ≡ i ∷ []
+  -- and is that one, unless that is a call through a slot
+  one_stays : (i : Instr) → is_spread c i ≡ false → code_here code (settled c i) ≡ settled c i ∷ []
   unfolding out-Instr denote.Hole.Carrier.out
-  stays (Call f) e = others f e
-  stays (Block' ty n body) e = refl
-  stays (Loop' ty n body) e = refl
-  stays (If' ty n body k other) e = refl
-  stays i e = refl
+  one_stays (Block' ty n body) e = subst (λ z. code_here code (settled c z) ≡ settled c z ∷ []) (sym (block_is ty n body)) (one_block ty (items-the_row-Instr _ body)).0
+  one_stays (Loop' ty n body) e = subst (λ z. code_here code (settled c z) ≡ settled c z ∷ []) (sym (loop_is ty n body)) (one_loop ty (items-the_row-Instr _ body)).0
+  one_stays (If' ty n body k other) e = subst (λ z. code_here code (settled c z) ≡ settled c z ∷ []) (sym (if_is ty n body k other)) (one_if ty (items-the_row-Instr _ body) (items-the_row-Instr _ other)).0
+  one_stays (Call f) e = settled_code c few f (slot_at c.slots.now f) refl ∙ one_call c.table f (target_of c f (slot_at c.slots.now f)) e
+  one_stays i e = refl
 
-  first_false : (a b : Bool) → (a || b) ≡ false → (a ≡ false) × (b ≡ false)
-  first_false true b e = cc
-  first_false false b e = (refl, e)
+  -- ---- a body ----
 
-  pub all_stay : (is : List Instr) → list_any (is_replaced slots) is ≡ false → flat_map (code_here code) is ≡ is
-  all_stay [] e = refl
-  all_stay (i ∷ is) e =
-      let (here, later) = first_false (is_replaced slots i) (list_any (is_replaced slots) is) e in
-      ap₂ (λ c d. c ++ d) (stays i here) (all_stay is later)
+  spread_all : (is : List Instr) → flat_map (code_here code) (map (settled c) is) ≡ with_calls code is
+  spread_all [] = refl
+  spread_all (i ∷ is) = ap₂ (λ x y. x ++ y) (here i) (spread_all is)
 
--- a call of a function without a slot stays
-pub others_are_called : (c : Calls) (f : ℕ) → is_some (slot_at c.slots.now f) ≡ false → code_of_call c f ≡ Call f ∷ []
-others_are_called c f = split (slot_at c.slots.now f)
-  where
-    split : (o : Option ℕ) → is_some o ≡ false → target_code c.table (target_of c f o) ≡ Call f ∷ []
-    split None e = refl
-    split (Some slot) e = cc
+  -- nothing before the place is spread
+  abbrev pub NoneBefore : List Instr → ℕ → Type 0
+  NoneBefore is n = (k : ℕ) (i : Instr) → k < n → slice_get is k ≡ Some i → is_spread c i ≡ false
 
--- ---- the end of a walk ----
+  -- the settled code up to such a place, and from there on what stands in its place
+  pub spread_behind : (is : List Instr) (n : ℕ) → NoneBefore is n → take n (map (settled c) is) ++ flat_map (code_here code) (drop n (map (settled c) is)) ≡ with_calls code is
+  spread_behind is zero none = spread_all is
+  spread_behind [] (suc n) none = refl
+  spread_behind (i ∷ is) (suc n) none = ap₂ (λ x y. x ++ y) (sym (one_stays i (none 0 i (omega arith) refl)) ∙ here i) (spread_behind is n (λ k j lt at. none (suc k) j (omega (arith, lt)) at))
+
+  pub all_settled : (is : List Instr) → NoneBefore is (length is) → map (settled c) is ≡ with_calls code is
+  all_settled [] none = refl
+  all_settled (i ∷ is) none = ap₂ (λ x y. x ++ y) (sym (one_stays i (none 0 i (omega arith) refl)) ∙ here i) (all_settled is (λ k j lt at. none (suc k) j (omega (arith, lt)) at))
+
+-- ---- the walk over a body ----
 
 pub part_all : {A : Type 0} (f : A → A) (xs : List A) (n : ℕ) → length xs ≤ n → part f xs n ≡ map f xs
 part_all f [] zero le = refl
@@ -121,5 +140,27 @@ part_all f [] (suc n) le = refl
 part_all f (x ∷ xs) zero le = absurd (omega (arith, le))
 part_all f (x ∷ xs) (suc n) le = let less : length xs ≤ n = omega (arith, le) in ap (λ ys. f x ∷ ys) (part_all f xs n less)
 
-pub all_inside : (c : Calls) (old body : List Instr) (n : ℕ) → body ≡ part (inside (code_of_call c)) old n → length old ≤ n → flat_map (code_here (code_of_call c)) body ≡ with_calls (code_of_call c) old
-all_inside c old body n is le = ap (flat_map (code_here (code_of_call c))) (is ∙ part_all (inside (code_of_call c)) old n le) ∙ with_calls_inside (code_of_call c) old
+-- what holds of none before two places holds of none before the next, where an item of which it holds makes the first place no later
+pub none_more : {A : Type 0} (f : A → Bool) (xs : List A) (at first next : ℕ) (x : A) → Some x ≡ slice_get xs at → next ≤ first → (f x ≡ true → next ≤ at) →
+    ((k : ℕ) (y : A) → k < first → k < at → slice_get xs k ≡ Some y → f y ≡ false) → (k : ℕ) (y : A) → k < next → k < at + 1 → slice_get xs k ≡ Some y → f y ≡ false
+none_more {A = A} f xs at first next x is le reached none k y lt less e = by (cases_lt k at)
+  where
+    held : Some x ≡ slice_get xs k → k ≡ at → (b : Bool) → f y ≡ b → b ≡ false
+    held same i false holds = refl
+    held same i true holds = let x_is : x ≡ y = cc in absurd (omega (arith, reached (ap f x_is ∙ holds), i, lt))
+
+    by : (k < at) ⊎ (at ≤ k) → f y ≡ false
+    by (inl before) = none k y (omega (arith, lt, le)) before e
+    by (inr behind) = let i : k ≡ at = omega (arith, behind, less) in held (is ∙ ap (slice_get xs) (sym i)) i (f y) refl
+
+pub part_item : {A : Type 0} (f : A → A) (xs : List A) (n : ℕ) (x : A) (old : List A) → old ≡ part f xs n → Some x ≡ slice_get old n → Some x ≡ slice_get xs n
+part_item f xs n x old is at = at ∙ ap (λ ys. slice_get ys n) is ∙ part_at f xs n
+
+-- what is given for one item more goes behind what is given for those before
+pub given_more : {A B : Type 0} (f : A → List B) (xs : List A) (n : ℕ) (x : A) (ys : List B) → Some x ≡ slice_get xs n → (ys ++ flat_map f (take n xs)) ++ f x ≡ ys ++ flat_map f (take (n + 1) xs)
+given_more f xs n x ys is = append_assoc ys (flat_map f (take n xs)) (f x) ∙ ap (λ zs. ys ++ zs) (rw add-one (given f xs n x is))
+  where
+    given : {A B : Type 0} (f : A → List B) (xs : List A) (n : ℕ) (x : A) → Some x ≡ slice_get xs n → flat_map f (take n xs) ++ f x ≡ flat_map f (take (suc n) xs)
+    given f [] n x is = cc
+    given f (y ∷ ys) zero x is = let same : x ≡ y = cc in ap f same ∙ sym (append-nil (f y))
+    given f (y ∷ ys) (suc n) x is = append_assoc (f y) (flat_map f (take n ys)) (f x) ∙ ap (λ zs. f y ++ zs) (given f ys n x is)

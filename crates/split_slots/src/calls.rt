@@ -1,7 +1,7 @@
 // Code in which other code stands in place of calls of functions that move.
 
-ghost use Rattle.std.specs.Prelude.{◌≡◌, ℕ, [], ◌++◌, ◌<◌, ◌^◌, reverse, IfOk, OnOk};
-ghost use Rattle.std.specs.List.{flat_map, list_any};
+ghost use Rattle.std.specs.Prelude.{◌≡◌, ℕ, ◌++◌, ◌<◌, ◌≤◌, ◌^◌, drop, length, take, true, IfOk, OnOk};
+ghost use Rattle.std.specs.List.{flat_map};
 ghost use Rattle.split_spec.specs.Calls.{with_calls};
 ghost use Rattle.split_slots.specs.Looking.{slot_at};
 ghost use Rattle.split_slots.specs.declared.calls.Target.TheVariants as targets;
@@ -10,6 +10,7 @@ ghost use Rattle.split_slots.specs.Replacing as replacing;
 
 use crate::slots::slot_at;
 use std::alloc::Global;
+use std::mem;
 use wasm_bytes::{Items, NoMemory};
 use wasm_tree::Instr;
 
@@ -56,107 +57,104 @@ impl Calls<'_> {
     }
 }
 
-// Appends what stands in place of a call, the last first.
-#[tactic(auto, using(crate::proofs::Replaced::reverse_push))]
-fn put_target(back: &mut Items<Instr>, table: u32, target: Target) -> Result<(), NoMemory>
+// Appends what stands in place of a call.
+#[tactic(auto, using(crate::proofs::Trampolining::push_two))]
+fn put_target(body: &mut Items<Instr>, table: u32, target: Target) -> Result<(), NoMemory>
     requires few { (ty slot : ℕ) → target ≡ targets.Slot ty slot → slot < 2 ^ 31 }
-    ensures { OnOk result (reverse back.new ≡ replacing.target_code table target ++ reverse back.old) }
+    ensures { OnOk result (body.new ≡ body.old ++ replacing.target_code table target) }
 {
     match target {
-        Target::Func(func) => back.keep(Instr::Call(func)),
+        Target::Func(func) => body.keep(Instr::Call(func)),
         Target::Slot { ty, slot } => {
-            back.keep(Instr::CallIndirect { ty, table })?;
-            back.keep(Instr::I32Const(slot as i32))
+            body.keep(Instr::I32Const(slot as i32))?;
+            body.keep(Instr::CallIndirect { ty, table })
         }
     }
 }
 
-// Appends what stands in place of the instruction, the last first.
-#[tactic(auto, using(crate::proofs::Replaced::reverse_push))]
-fn put_backward(back: &mut Items<Instr>, instr: Instr, calls: &Calls<'_>) -> Result<(), NoMemory>
+// Appends what stands in place of the instruction.
+fn put_instr(body: &mut Items<Instr>, instr: Instr, calls: &Calls<'_>) -> Result<(), NoMemory>
     requires few { FewSlots calls.now }
-    ensures { OnOk result (reverse back.new ≡ replacing.code_here (replacing.code_of_call calls.now) instr ++ reverse back.old) }
+    ensures { OnOk result (body.new ≡ body.old ++ replacing.code_here (replacing.code_of_call calls.now) instr) }
 {
     match instr {
-        Instr::Call(func) => put_target(back, calls.table, calls.target(func)),
-        other => back.keep(other),
+        Instr::Call(func) => put_target(body, calls.table, calls.target(func)),
+        other => body.keep(other),
     }
 }
 
-// What stands for the code, the last first. It leaves none.
-fn replaced_backward(
-    alloc: Global,
+// Appends what stands in place of the instructions, which are taken out of their places.
+fn put_each(
     body: &mut Items<Instr>,
+    from: &mut Items<Instr>,
     calls: &Calls<'_>,
-) -> Result<Items<Instr>, NoMemory>
+) -> Result<(), NoMemory>
     requires few { FewSlots calls.now }
-    ensures back { IfOk result (λ back. reverse back ≡ flat_map (replacing.code_here (replacing.code_of_call calls.now)) body.old) }
-    ensures left { OnOk result (body.new ≡ []) }
+    ensures { OnOk result (body.new ≡ body.old ++ flat_map (replacing.code_here (replacing.code_of_call calls.now)) from.old) }
 {
-    let mut back = Items::new(alloc);
-    while let Some(instr) = body.pop() {
-        put_backward(&mut back, instr, calls)?;
-    }
-    Ok(back)
-}
-
-// Moves the instructions behind the body, the last first.
-fn refill(body: &mut Items<Instr>, back: Items<Instr>) -> Result<(), NoMemory>
-    ensures { OnOk result (body.new ≡ body.old ++ reverse back) }
-{
-    let mut back = back;
-    while let Some(instr) = back.pop() {
-        body.keep(instr)?;
+    for at in 0..from.len() {
+        if let Some(instr) = from.get_mut(at) {
+            let taken = mem::replace(instr, Instr::Nop);
+            put_instr(body, taken, calls)?;
+        }
     }
     Ok(())
 }
 
-// Puts what stands for them in place of the calls, but not in blocks.
-fn replace_here(alloc: Global, body: &mut Items<Instr>, calls: &Calls<'_>) -> Result<(), NoMemory>
+// Puts what stands for them in place of the calls from this place on, but not in blocks.
+fn spread_from(body: &mut Items<Instr>, at: usize, calls: &Calls<'_>) -> Result<(), NoMemory>
     requires few { FewSlots calls.now }
-    ensures { OnOk result (body.new ≡ flat_map (replacing.code_here (replacing.code_of_call calls.now)) body.old) }
+    requires there { at ≤ length body.old }
+    ensures { OnOk result (body.new ≡ take at body.old ++ flat_map (replacing.code_here (replacing.code_of_call calls.now)) (drop at body.old)) }
 {
-    let back = replaced_backward(alloc, body, calls)?;
-    refill(body, back)
+    let mut rest = body.split_off(at)?;
+    put_each(body, &mut rest, calls)
 }
 
-fn is_replaced(instr: &Instr, slots: &[Option<u32>]) -> bool
-    ensures { result ≡ replacing.is_replaced slots.now instr.now }
+// Lets a call name the function of the module's own that it is of. Whether it is a call through a slot, which stays.
+fn settle_call(func: &mut u32, calls: &Calls<'_>) -> bool
+    requires few { FewSlots calls.now }
+    ensures settled { func.new ≡ replacing.settled_call calls.now func.old }
+    ensures spread { result ≡ replacing.is_through_slot calls.now func.old }
 {
-    match instr {
-        Instr::Call(func) => slot_at(slots, *func).is_some(),
-        _ => false,
-    }
-}
-
-fn has_replaced(body: &[Instr], slots: &[Option<u32>]) -> bool
-    ensures { result ≡ list_any (replacing.is_replaced slots.now) body.now }
-{
-    for instr in body {
-        if is_replaced(instr, slots) {
-            return true;
+    match calls.target(*func) {
+        Target::Func(own) => {
+            *func = own;
+            false
         }
+        Target::Slot { .. } => true,
     }
-    false
 }
 
+// Puts what stands for them in place of the calls in the instruction, unless it is a call through a slot itself, which stays: whether it is one.
 #[cycle(replace)]
-fn replace_inside(alloc: Global, instr: &mut Instr, calls: &Calls<'_>) -> Result<(), NoMemory>
+fn settle(alloc: Global, instr: &mut Instr, calls: &Calls<'_>) -> Result<bool, NoMemory>
     requires few { FewSlots calls.now }
-    ensures { OnOk result (instr.new ≡ replacing.inside (replacing.code_of_call calls.now) instr.old) }
+    ensures settled { OnOk result (instr.new ≡ replacing.settled calls.now instr.old) }
+    ensures spread { IfOk result (λ spread. spread ≡ replacing.is_spread calls.now instr.old) }
 {
     match instr {
-        Instr::Block(_, body) => replace_calls(alloc, body, calls),
-        Instr::Loop(_, body) => replace_calls(alloc, body, calls),
+        Instr::Call(func) => return Ok(settle_call(func, calls)),
+        Instr::Block(_, body) => replace_calls(alloc, body, calls)?,
+        Instr::Loop(_, body) => replace_calls(alloc, body, calls)?,
         Instr::If(_, body, other) => {
             replace_calls(alloc, body, calls)?;
-            replace_calls(alloc, other, calls)
+            replace_calls(alloc, other, calls)?;
         }
-        _ => Ok(()),
+        _ => (),
     }
+    Ok(false)
 }
 
-/// Puts what stands for them in place of calls of functions that move, in blocks as well. Nothing is copied, and code without such calls stays where it is.
+// The earlier of the two places, where the second counts.
+fn earlier(first: usize, at: usize, counts: bool) -> usize
+    ensures first { result ≤ first }
+    ensures at { counts ≡ true → result ≤ at }
+{
+    if counts && at < first { at } else { first }
+}
+
+/// Puts what stands for them in place of calls of functions that move, in blocks as well. Nothing is copied, and code before the first call through a slot stays where it is.
 #[cycle(replace)]
 pub(crate) fn replace_calls(
     alloc: Global,
@@ -166,13 +164,15 @@ pub(crate) fn replace_calls(
     requires few { FewSlots calls.now }
     ensures { OnOk result (body.new ≡ with_calls (replacing.code_of_call calls.now) body.old) }
 {
+    let mut first = body.len();
     for at in 0..body.len() {
         if let Some(instr) = body.get_mut(at) {
-            replace_inside(alloc, instr, calls)?;
+            let spread = settle(alloc, instr, calls)?;
+            first = earlier(first, at, spread);
         }
     }
-    if has_replaced(body.as_slice(), calls.slots) {
-        replace_here(alloc, body, calls)?;
+    if first < body.len() {
+        spread_from(body, first, calls)?;
     }
     Ok(())
 }

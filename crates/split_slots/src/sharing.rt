@@ -1,6 +1,6 @@
 // What functions name, except functions that move and that they only call.
 
-ghost use Rattle.std.specs.Prelude.{◌≡◌, ◌≤◌, ◌<◌, ◌-◌, ◌&&◌, ◌∷◌, [], false, length, nat_eq, replicate, slice_get, slice_index, IfOk};
+ghost use Rattle.std.specs.Prelude.{◌≡◌, ◌≤◌, ◌<◌, ◌-◌, ◌&&◌, ◌∷◌, [], ℕ, List, Option, true, false, length, nat_eq, replicate, slice_get, slice_index, IfOk};
 ghost use Rattle.std.specs.List.{cons_option, list_any};
 ghost use Rattle.wasm_tree.specs.Operands.{listed, same_space};
 ghost use Rattle.base_lists.specs.Every.{Every};
@@ -75,10 +75,24 @@ fn note_inside(marks: &mut Marks, instr: &Instr, slots: &[Option<u32>])
     }
 }
 
+// Whether it is one of the most frequent instructions that name nothing.
+fn names_nothing(instr: &Instr) -> bool
+    ensures { result ≡ true → (slots : List (Option ℕ)) → (space : Spaces) → (index : ℕ) → body_names slots (instr.now ∷ []) space index ≡ false }
+{
+    match instr {
+        Instr::LocalGet(_) | Instr::LocalSet(_) | Instr::LocalTee(_) => true,
+        Instr::I32Const(_) | Instr::I64Const(_) | Instr::Un(_) | Instr::Bin(_) => true,
+        _ => false,
+    }
+}
+
 #[cycle(named)]
 fn note_instr(marks: &mut Marks, instr: &Instr, slots: &[Option<u32>])
     ensures { Notes (body_names slots.now (instr.now ∷ [])) marks.old marks.new }
 {
+    if names_nothing(instr) {
+        return;
+    }
     operands_pass_layer_by_layer();
     note_operands(marks, instr.operands(), slots);
     note_inside(marks, instr, slots);

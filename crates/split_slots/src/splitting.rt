@@ -8,6 +8,8 @@ ghost use Rattle.wasm_valid.specs.Validity.{IsValid};
 ghost use Rattle.module_limits.specs.Counts as counts;
 ghost use Rattle.split_plan.specs.Plans.{IsPlan};
 ghost use Rattle.split_proof.specs.Premises.{CanMove};
+ghost use Rattle.split_behaves_proof.specs.Laws.{AlwaysLoads, BehavesAs, most_params};
+ghost use Rattle.split_behaves_proof.specs.Worlds.{pair_in_place};
 ghost use Rattle.split_spec.specs.declared.faults.SplitFault.{SplitFault as Fault};
 ghost use Rattle.split_spec.specs.declared.faults.SplitFault.TheVariants.{NoMemory as OutOfMemory, TooMany};
 ghost use Rattle.split_spec.specs.Faults.{split_fault};
@@ -20,6 +22,7 @@ use crate::exports::added_exports;
 use crate::finishing::finished;
 use crate::refusing::refuse;
 use crate::surveying::surveyed;
+use split_behaves_proof::{secondary_modules_load, split_modules_show_the_same};
 use split_plan::Plan;
 use split_proof::{maps_of_a_split_fit, primary_modules_are_valid, secondary_modules_are_valid};
 use split_spec::{SplitFault, SplitNames};
@@ -100,11 +103,15 @@ fn pair_of(
     ensures secondary { IfOk result (λ pair. pair.secondary ≡ secondary_of names.now «module» moved.now) }
     ensures none { IsOk result → split_fault names.now «module» moved.now ≡ None }
     ensures fault { IfErr result (λ e. (e ≡ OutOfMemory) ⊎ (split_fault names.now «module» moved.now ≡ Some e)) }
+    ensures same { IfOk result (λ pair. BehavesAs «module» (pair_in_place names.now «module» moved.now pair.primary pair.secondary) (most_params «module» moved.now)) }
+    ensures loads { IfOk result (λ pair. AlwaysLoads (pair_in_place names.now «module» moved.now pair.primary pair.secondary)) }
 {
     valid_where_items_hold();
     maps_of_a_split_fit();
     primary_modules_are_valid();
     secondary_modules_are_valid();
+    split_modules_show_the_same();
+    secondary_modules_load();
     let drafts = drafts_of(alloc, module, moved, names)?;
     finish_both(alloc, drafts)
 }
@@ -115,6 +122,10 @@ fn pair_of(
 /// anything but a call names one, a trampoline stands in its place. Its slots hold imports of the placeholder namespace. The secondary module has the functions that move,
 /// imports from the primary one, under names with the prefix, what they name, and puts them into their slots when it is instantiated. The definitions are those of
 /// `split_spec` (WebAssembly Core 2.0, sections 2.5 and 4.5.4). Functions that move are moved, and calls are replaced where they stand: nothing else is copied but types.
+///
+/// What an embedder that uses the exports of the input sees of the two modules is what it sees of the input, in every environment, where a loader instantiates the secondary
+/// module at the first call of a placeholder and answers each call of one by what is then in its slot (`same`, which says in how many steps); and there this instantiation
+/// links and never traps (`loads`).
 ///
 /// `NamespaceTaken` comes exactly where an import of the input has the namespace of the placeholders; else `PrefixTaken` exactly where an export has the name of one that
 /// is added; else `TooMany` exactly where the parameters of the functions that move are more than trampolines may have together, or a count of the primary module is above
@@ -128,6 +139,8 @@ pub fn split(
     requires plan { IsPlan input plan.now }
     ensures primary { IfOk result (λ pair. pair.primary ≡ primary_of names.now input plan.now.moved) }
     ensures secondary { IfOk result (λ pair. pair.secondary ≡ secondary_of names.now input plan.now.moved) }
+    ensures same { IfOk result (λ pair. BehavesAs input (pair_in_place names.now input plan.now.moved pair.primary pair.secondary) (most_params input plan.now.moved)) }
+    ensures loads { IfOk result (λ pair. AlwaysLoads (pair_in_place names.now input plan.now.moved pair.primary pair.secondary)) }
     ensures none { IsOk result → split_fault names.now input plan.now.moved ≡ None }
     ensures fault { IfErr result (λ e. (e ≡ OutOfMemory) ⊎ (split_fault names.now input plan.now.moved ≡ Some e)) }
     ensures first { (e : Fault) → split_fault names.now input plan.now.moved ≡ Some e → (result ≡ Err e) ⊎ (result ≡ Err OutOfMemory) }

@@ -31,6 +31,8 @@ use Rattle.split_spec.specs.Faults.{namespace_taken, prefix_taken, moved_params,
 use Rattle.split_spec.specs.Primary.{primary, primary_with}
 use Rattle.split_spec.specs.Secondary.{secondary, secondary_with}
 use Rattle.split_proof.specs.Premises.{CanMove}
+use Rattle.split_behaves_proof.specs.Laws.{SecondariesAlwaysLoad, SplitModulesShowTheSame}
+use Rattle.split_behaves_proof.proofs.Pairs.{pair_can_be_split}
 use Rattle.base_lists.proofs.Places.{map_twice}
 use Rattle.wasm_tree.specs.declared.module.Module.{Module}
 use Rattle.wasm_tree.specs.Bounds.{IsBounded}
@@ -98,6 +100,8 @@ pub record Respelled : Type 0 where
       → IsValid (primary_with namespace prefix m moved) → IsSingle (primary_with namespace prefix m moved) → IsBounded (primary_with namespace prefix m moved) → InRange (primary_with namespace prefix m moved)
   pub primary_memory : (namespace : ℕ → Text) (prefix : Text) (m : Module) (moved : List ℕ) → IsValid (primary_with namespace prefix m moved) → IsSingle (primary_with namespace prefix m moved) → IsBounded (primary_with namespace prefix m moved)
       → IsTrue (memory_zero_funcs (primary_with namespace prefix m moved).funcs)
+  pub pair_same : SplitModulesShowTheSame
+  pub pair_loads : SecondariesAlwaysLoad
   pub secondary_valid : (names : SplitNames) (m : Module) (moved own : List ℕ) (before : ℕ) → IsValid m → CanMove m own → IsValid (secondary_with names m moved own before)
   pub secondary_single : (names : SplitNames) (m : Module) (moved own : List ℕ) (before : ℕ) → IsValid m → CanMove m own → IsSingle m → IsSingle (secondary_with names m moved own before)
   pub secondary_sizes : (names : SplitNames) (m : Module) (moved own : List ℕ) (before : ℕ) → IsValid m → IsBounded m → CanMove m own → over_limit (secondary_with names m moved own before) ≡ None → IsBounded (secondary_with names m moved own before)
@@ -220,7 +224,7 @@ pub record MakesSoundly (task : Task) (trees : List Module) (contents : List Tex
   pub names : map (λ (o : Output). o.name) outputs ≡ output_names task contents
   pub each : Every (IsSoundOutput (many_of task)) outputs
   pub behaves : IfSome (equivalence task found trees (output_trees outputs)) Holds
-  pub also : Also task trees
+  pub also : Also task found trees (output_trees outputs)
 
 abbrev IsSoundDecision : (task : Task) → (trees : List Module) → (contents : List Text) → Decision → Type 0
 IsSoundDecision task trees contents (Refuses text) = Unit {0}
@@ -310,9 +314,12 @@ none_above n which rest e = by (nat_lt (limit which) n) e
     by true e = absurd (cc)
     by false e = e
 
--- no added name is taken, and no count of either module is above its limit
-abbrev HasNoFault : SplitNames → Module → List ℕ → Type 0
-HasNoFault names m moved = (prefix_taken names.export_prefix m moved ≡ None) × (over_limit (primary names m moved) ≡ None) × (over_limit (secondary names m moved) ≡ None)
+-- neither the namespace nor an added name is taken, and no count of either module is above its limit
+record HasNoFault (names : SplitNames) (m : Module) (moved : List ℕ) : Type 0 where
+  pub namespace : namespace_taken names.placeholder_namespace m ≡ None
+  pub prefix : prefix_taken names.export_prefix m moved ≡ None
+  pub primary_fits : over_limit (primary names m moved) ≡ None
+  pub secondary_fits : over_limit (secondary names m moved) ≡ None
 
 no_fault : (names : SplitNames) (m : Module) (moved : List ℕ) → split_fault names m moved ≡ None → HasNoFault names m moved
 no_fault names m moved e =
@@ -320,17 +327,17 @@ no_fault names m moved e =
     let second = none_of_both (option_map PrefixTaken (prefix_taken names.export_prefix m moved)) (option_map TooMany (too_many names m moved)) first.1 in
     let counts = none_above (moved_params m moved) Trampolines (option_or (over_limit (primary names m moved)) (over_limit (secondary names m moved))) (none_from TooMany (too_many names m moved) second.1) in
     let both = none_of_both (over_limit (primary names m moved)) (over_limit (secondary names m moved)) counts in
-    (none_from PrefixTaken (prefix_taken names.export_prefix m moved) second.0, both.0, both.1)
+    record { namespace = none_from NamespaceTaken (namespace_taken names.placeholder_namespace m) first.0; prefix = none_from PrefixTaken (prefix_taken names.export_prefix m moved) second.0; primary_fits = both.0; secondary_fits = both.1 }
 
 -- functions that words tell can move
-can_move : (split : SplitTask) (tree : Module) (names : List FuncName) → CanMove tree (words_plan split tree names).moved
-can_move split tree names = shaped.moved
+plan_shaped : (split : SplitTask) (tree : Module) (names : List FuncName) → IsPlan tree (words_plan split tree names)
+plan_shaped split tree names = result_shaped tree (is_wanted tree names split.words.split split.words.keep) ok refl
   where
     ok : Result Plan (Unit {0})
     ok = Ok (words_plan split tree names)
 
-    shaped : IsPlan tree (words_plan split tree names)
-    shaped = result_shaped tree (is_wanted tree names split.words.split split.words.keep) ok refl
+can_move : (split : SplitTask) (tree : Module) (names : List FuncName) → CanMove tree (words_plan split tree names).moved
+can_move split tree names = (plan_shaped split tree names).moved
 
 pair_is_sound : Respelled → (names : SplitNames) (bytes : Text) (tree : Module) (moved : List ℕ) → AreTexts names → IsRead false bytes tree → IsAccepted false tree → CanMove tree moved → HasNoFault names tree moved
     → (IsAccepted false (secondary names tree moved) × IsWritable (secondary names tree moved)) × (IsAccepted false (primary names tree moved) × IsWritable (primary names tree moved))
@@ -340,14 +347,14 @@ pair_is_sound k names bytes tree moved text read accepted can none =
     let bounded = k.bounded bytes tree read.spelled read.within in
     let ranges = k.ranges bytes tree read.spelled in
     let single = accepted.single refl in
-    let below = k.few_move namespace prefix tree moved none.1 in
+    let below = k.few_move namespace prefix tree moved none.primary_fits in
     let few : length moved ≤ 2 ^ 31 = omega arith in
     let first_valid = k.secondary_valid names tree moved moved 0 accepted.valid can in
     let first_single = k.secondary_single names tree moved moved 0 accepted.valid can single in
-    let first_sizes = k.secondary_sizes names tree moved moved 0 accepted.valid bounded can none.2 in
-    let second_valid = k.primary_valid namespace prefix tree moved accepted.valid bounded can none.0 in
+    let first_sizes = k.secondary_sizes names tree moved moved 0 accepted.valid bounded can none.secondary_fits in
+    let second_valid = k.primary_valid namespace prefix tree moved accepted.valid bounded can none.prefix in
     let second_single = k.primary_single namespace prefix tree moved accepted.valid can single in
-    let second_sizes = k.primary_sizes namespace prefix tree moved accepted.valid bounded can none.1 in (
+    let second_sizes = k.primary_sizes namespace prefix tree moved accepted.valid bounded can none.primary_fits in (
       (
         record { valid = first_valid; single = λ e. first_single },
         (k.secondary_in_range names tree moved moved 0 text.0 text.2 ranges bounded few (omega arith) first_valid first_single first_sizes, k.secondary_memory names tree moved moved 0 first_valid first_single first_sizes),
@@ -365,14 +372,17 @@ splitting_is_sound k split file tree decision text loads (not_parted names fault
 splitting_is_sound k split file tree decision text loads (parted names given none) =
     let loaded = loaded_is false file.0 file.1 (Ok tree) loads in
     let moved = (words_plan split tree names).moved in
-    let sound = pair_is_sound k split.names file.1 tree moved text loaded.0 loaded.1 (can_move split tree names) (no_fault split.names tree moved none) in
+    let free = no_fault split.names tree moved none in
+    let sound = pair_is_sound k split.names file.1 tree moved text loaded.0 loaded.1 (can_move split tree names) free in
+    let namespace : ℕ → Text = λ slot. split.names.placeholder_namespace in
+    let can = pair_can_be_split split.names tree moved loaded.1.valid (k.bounded file.1 tree loaded.0.spelled loaded.0.within) (can_move split tree names) (plan_shaped split tree names).moved_ascend free.namespace free.prefix in
     record {
       found = names;
       made = (given, none, refl, refl);
       names = refl;
       each = ((sound.0.0, sound.0.1, refl), ((sound.1.0, sound.1.1, refl), tt));
-      behaves = tt;
-      also = tt;
+      behaves = λ env is named moves n. k.pair_same namespace split.names tree moved (moved ∷ []) can env is tt moves n;
+      also = k.pair_loads namespace split.names tree moved (moved ∷ []) can;
     }
 
 split_is_sound : Respelled → (split : SplitTask) (files : List Entry) (trees : List Module) (decision : Decision) → AreTexts split.names → AllLoad false (module_files (Split split) files) trees → Decides (Split split) trees (contents_of files) decision

@@ -1,5 +1,5 @@
 -- What a command that is done has kept of what it read: said once for all commands, with a case for each where they differ.
-use Rattle.std.specs.Prelude.{◌≡◌, ℕ, ◌+◌, Bool, true, List, [], ◌∷◌, drop, length, map, Option, Some, None, Ok, IfSome, IsTrue, IsUtf8}
+use Rattle.std.specs.Prelude.{◌≡◌, ℕ, ◌+◌, ◌*◌, Bool, true, List, [], ◌∷◌, drop, length, map, Option, Some, None, Ok, IfSome, IsTrue, IsUtf8}
 use Rattle.std.specs.FinMap.{get}
 use Rattle.tool_io.specs.FilesAndSinks.{Contents}
 use Rattle.base_lists.specs.Every.{Every}
@@ -10,6 +10,7 @@ use Rattle.wasm_read_spec.specs.Files.{Spells}
 use Rattle.wasm_meaning.specs.Environment.{Environment}
 use Rattle.wasm_meaning.specs.World.{alone, links}
 use Rattle.wasm_meaning.specs.Run.{Event, Move, Same, events}
+use Rattle.wasm_meaning.specs.Loader.{LoaderWorld, events_loaded}
 use Rattle.merge_spec.specs.View.{linked_world}
 use Rattle.dce_graph.specs.declared.graph.Graph.{Graph}
 use Rattle.dce_graph.specs.declared.marks.Reached.{Reached}
@@ -20,6 +21,8 @@ use Rattle.wasm_names.specs.declared.func_name.FuncName.{FuncName}
 use Rattle.split_spec.specs.Faults.{split_fault}
 use Rattle.split_spec.specs.Primary.{primary}
 use Rattle.split_spec.specs.Secondary.{secondary}
+use Rattle.split_behaves_proof.specs.Laws.{AlwaysLoads, most_params}
+use Rattle.split_behaves_proof.specs.Worlds.{pair_in_place}
 use Rattle.world_sequential_proof.specs.Laws.{MayComeInTurn}
 
 -- The file of this name spells this module.
@@ -85,10 +88,16 @@ pub record Equivalence : Type 0 where
 abbrev pub Holds : Equivalence → Type 0
 Holds claim = Same (λ env. IsTrue (claim.environments env)) claim.original_world claim.written_world claim.written_bound claim.original_bound
 
--- What is claimed of a task that made these outputs of these modules: none of a task of which nothing is claimed yet, and none where `AreMade` does not hold anyway.
+-- These secondary and primary modules in place of the module that a split reads, whose file gives functions these names: the functions that move have their placeholders.
+abbrev pub written_pair : SplitTask → Module → List FuncName → (first second : Module) → LoaderWorld
+written_pair split tree names first second = pair_in_place split.names tree (words_plan split tree names).moved second first
+
+-- What is claimed of a task that made these outputs of these modules; none where `AreMade` does not hold anyway.
 -- A merge: the parts, linked by their NAMEs, of which an embedder sees the exports under the names that the mode gives, and the output alone, in every environment; each
 -- shows in four steps more what the other shows. A metadce: the module, of which an embedder uses only the exports that are kept, and the output alone, in each
--- environment that links the module, step by step. A split: nothing yet.
+-- environment that links the module, step by step. A split: the module, and the primary one under the loader that instantiates the secondary one at the first call of a
+-- placeholder and answers each call of one by what is then in its slot, of which an embedder sees the exports of the module, in every environment; what the module shows in n steps these show in (p + 8) (n + 1), where p is the
+-- most parameters of a function that moves, and what these show in n steps it shows in n.
 abbrev pub equivalence : (task : Task) → Findings task → (trees outputs : List Module) → Option Equivalence
 equivalence (Merge merge) found trees (tree ∷ []) = Some (record {
   original_world = events (linked_world (parts_of merge.sources trees) merge.mode);
@@ -106,13 +115,22 @@ equivalence (Metadce metadce) marks (tree ∷ []) (left ∷ []) = Some (record {
   environments = λ env. links env (unswept (marks_of marks) tree);
 })
 equivalence (Metadce metadce) marks _ _ = None
+equivalence (Split split) names (tree ∷ []) (first ∷ second ∷ []) = Some (record {
+  original_world = events (alone tree);
+  written_world = events_loaded (written_pair split tree names first second);
+  written_bound = λ n. (most_params tree (words_plan split tree names).moved + 8) * (n + 1);
+  original_bound = λ n. n;
+  environments = λ env. true;
+})
 equivalence (Split split) names _ _ = None
 
--- What is kept besides. A merge: where the law of world_sequential_proof lets them, the parts may be instantiated one after the other.
-abbrev pub Also : (task : Task) → (trees : List Module) → Type 0
-Also (Merge merge) trees = MayComeInTurn (linked_world (parts_of merge.sources trees) merge.mode)
-Also (Metadce metadce) trees = Unit {0}
-Also (Split split) trees = Unit {0}
+-- What is kept besides. A merge: where the law of world_sequential_proof lets them, the parts may be instantiated one after the other. A split: wherever the loader
+-- instantiates the secondary module, it links, and none of its segments traps.
+abbrev pub Also : (task : Task) → Findings task → (trees outputs : List Module) → Type 0
+Also (Merge merge) found trees outputs = MayComeInTurn (linked_world (parts_of merge.sources trees) merge.mode)
+Also (Metadce metadce) marks trees outputs = Unit {0}
+Also (Split split) names (tree ∷ []) (first ∷ second ∷ []) = AlwaysLoads (written_pair split tree names first second)
+Also (Split split) names _ _ = Unit {0}
 
 -- ---- what is kept ----
 
@@ -129,7 +147,7 @@ pub record TaskKeeps (task : Task) (before after : Contents) : Type 0 where
   pub written : HoldModules (many_of task) after (output_names task contents) outputs
   pub accepted : Every (IsAccepted (many_of task)) outputs
   pub behaves : IfSome (equivalence task found trees outputs) Holds
-  pub also : Also task trees
+  pub also : Also task found trees outputs
 
 -- Words that ask for a split are text: the names that it adds come from them, and no bytes spell a module whose names are no text. Of other tasks nothing is asked.
 abbrev pub SplitWordsAreText : List Text → Type 0

@@ -13,6 +13,7 @@ use dce_sweep_proof::swept_modules_are_valid;
 use merge_behaves_proof::merged_modules_show_the_same;
 use merge_encode_proof::merged_modules_are_in_range;
 use merge_valid_proof::merged_modules_are_valid;
+use split_behaves_proof::{secondary_modules_load, split_modules_show_the_same};
 use split_encode_proof::split_modules_are_in_range;
 use split_plan::plan_faults_have_causes;
 use split_proof::{primary_modules_are_valid, secondary_modules_are_valid};
@@ -46,7 +47,8 @@ pub fn command_lines_have_jobs()
 
 /// A job that is done keeps the modules that it read. Of a merge the output spells the module that they are merged into, it is valid, and it behaves as they do where
 /// they are linked by name. Of a metadce it spells what is left of the module by what is reached, it is valid, and it behaves as the whole does through the exports
-/// that are kept. Of a split, whose words are UTF-8, the outputs spell the secondary and the primary module, and both are valid.
+/// that are kept. Of a split, whose words are UTF-8, the outputs spell the secondary and the primary module, both are valid, and they behave as the module does,
+/// under the loader of the secondary one; and wherever it is loaded, it links, and none of its segments traps.
 pub fn done_jobs_keep_the_modules()
     ensures { (words : List (List ℕ)) (before : Contents) (writes : List Entry) (lines : List ℕ) → SplitWordsAreText words → HasJob words before (Done writes lines) → Keeps words before (made writes before) }
 {
@@ -65,4 +67,6 @@ pub fn done_jobs_keep_the_modules()
     primary_modules_are_valid();
     secondary_modules_are_valid();
     split_modules_are_in_range();
+    split_modules_show_the_same();
+    secondary_modules_load();
 }

@@ -39,7 +39,7 @@ pub fn run<F: Files, O: Sink, E: Sink>(
     ensures done { result ≡ Status.Done → IfSome (F.contents files.old) (λ a. EndsDone (map string_bytes words.now) a (F.contents files.new) (O.bytes out.old) (O.bytes out.new)) × IsSame (E.bytes err.old) (E.bytes err.new) }
     // Where it is done and the files tell what they hold, each output is a valid module: of a merge the one that the modules are merged into which the files held, and it
     // behaves as these do, linked by name; of a metadce what is left of the module which the file held, by what is reached, and it behaves as this does; of a split the
-    // secondary and the primary module of the one which the file held.
+    // secondary and the primary module of the one which the file held, and these behave as it does, under the loader of the secondary one.
     ensures kept { result ≡ Status.Done → IfSome (F.contents files.old) (λ a. EndsKept (map string_bytes words.now) a (F.contents files.new)) }
     ensures refused { result ≡ Status.Refused → IfSome (F.contents files.old) (λ a. EndsRefused (map string_bytes words.now) a (E.bytes err.old) (E.bytes err.new)) × IsSame (F.contents files.old) (F.contents files.new) × IsSame (O.bytes out.old) (O.bytes out.new) }
     ensures usage { result ≡ Status.Usage → (task_of (map string_bytes words.now) ≡ None) × Gains (usage_line (map string_bytes words.now)) (E.bytes err.old) (E.bytes err.new) × IsSame (F.contents files.old) (F.contents files.new) × IsSame (O.bytes out.old) (O.bytes out.new) }

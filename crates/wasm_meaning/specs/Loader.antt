@@ -28,7 +28,7 @@ pub record Secondary : Type 0 where
 
 pub record LoaderWorld : Type 0 where
   pub primary : Module
-  -- they have their slots one run_after the other
+  -- they have their slots one after the other
   pub secondaries : List Secondary
   -- the table of slots, by its index in the primary
   pub slot_table : ℕ
@@ -52,7 +52,7 @@ abbrev pub placeholders_from : ℕ → List (Pair × FuncType) → List Func
 placeholders_from n [] = []
 placeholders_from n (p ∷ ps) = Placeholder n p.1 ∷ placeholders_from (suc n) ps
 
--- the environment's own entities, and the placeholders run_after its functions
+-- the environment's own entities, and the placeholders after its functions
 abbrev pub store_under : Environment → LoaderWorld → Store
 store_under env w = let s = own_store env in record s { funcs = s.funcs ++ placeholders_from 0 (placeholders_of w) }
 
@@ -84,7 +84,7 @@ begun_under env w = primary_added env w >>= (begun_of env w)
 abbrev pub secondary_added : LoaderWorld → Inst → Module → Store → Option Added
 secondary_added w i m s = added_with (λ x. export_named w.primary.exports x.field >>= (address_in i)) s m
 
--- The store in which a placeholder's call goes on, run_after the segments of the secondary. Its start, if it has one, is not made.
+-- The store in which a placeholder's call goes on, after the segments of the secondary. Its start, if it has one, is not made.
 abbrev pub store_loaded : LoaderWorld → Inst → Module → (is_loaded : Bool) → Store → Filled
 store_loaded w i m true s = record { store = s; trapped = false }
 store_loaded w i m false s = or_trapped s (secondary_added w i m s >>= λ a. Some a.filled)

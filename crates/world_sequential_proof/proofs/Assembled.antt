@@ -17,6 +17,7 @@ use Rattle.wasm_meaning.specs.Below.{BelowIsNotSeen}
 use Rattle.wasm_meaning.specs.InTurn.{events_in_turn}
 use Rattle.index_remap.specs.Laws.{CodeIsRelatedToItself, RelatedTicksAgree, OthersStay}
 use Rattle.world_simulation.specs.Owned.{OwnEntitiesCorrespond}
+use Rattle.world_extension_proof.specs.Extends.{StepsExtend}
 use Rattle.world_sequential_proof.specs.Laws.{TurnsAreNotSeen}
 use Rattle.world_sequential_proof.proofs.Making.{nothing_to_nothing}
 use Rattle.world_sequential_proof.proofs.Given.{IsGiven}
@@ -28,8 +29,7 @@ use Rattle.world_sequential_proof.proofs.FillValid.{valid_constants, valid_expor
 use Rattle.world_sequential_proof.proofs.FillWorld.{fill_laws}
 use Rattle.base_lists.proofs.Options.{and_then_is}
 use Rattle.std.proofs.lemmas.Option.{same_Some}
-use Rattle.wasm_meaning.specs.Touched.{StepsWriteWhatTheyTouch}
-use Rattle.merge_spec.proofs.FirstAppearances.{func_type_is}
+use Rattle.index_remap.proofs.SlotCalls.{func_type_is}
 
 insts_size : (env : Environment) (all : List Part) (p : ℕ) (ps : List Part) (is : List Inst) → insts_from env all p ps ≡ Some is → length is ≡ length ps
 insts_size env all p [] is h = ap length (sym (same_Some _ _ h))
@@ -65,7 +65,7 @@ instantiated env w b h =
     go insts allocated view a s v true m e = record { insts = insts; allocated = allocated; view = view; are = a; stores_are = s; view_is = v; matched = m; is = same_Some _ _ e }
     go insts allocated view a s v false m e = cc
 
-module _ (items : (m : Module) → IsValid m ↔ ((k : ItemKind) (i : ℕ) → i < count_of m true k → HoldsAt m k i)) (below : BelowIsNotSeen) (writes : StepsWriteWhatTheyTouch) (itself : CodeIsRelatedToItself) (ticks : RelatedTicksAgree) (others : OthersStay) (own : OwnEntitiesCorrespond) where
+module _ (items : (m : Module) → IsValid m ↔ ((k : ItemKind) (i : ℕ) → i < count_of m true k → HoldsAt m k i)) (below : BelowIsNotSeen) (extend : StepsExtend) (itself : CodeIsRelatedToItself) (ticks : RelatedTicksAgree) (others : OthersStay) (own : OwnEntitiesCorrespond) where
   -- the start of a valid module
   start_type : (m : Module) (x : ℕ) → IsValid m → m.start ≡ Some x → type_of_func m x ≡ Some nothing_to_nothing
   start_type m x valid e =
@@ -97,7 +97,7 @@ module _ (items : (m : Module) → IsValid m ↔ ((k : ItemKind) (i : ℕ) → i
         store_is = λ p m i t is_part at_inst holds. store_same env w.parts k.insts k.are k.allocated k.stores_are k.matched size exports earlier p m i t (valid_constants items m (valid p m is_part)) is_part at_inst holds;
         no_segments = none_active;
       } in
-      let laws = fill_laws env w k.insts k.allocated given k.stores_are fine (λ p m is_part. valid_constants items m (valid p m is_part)) itself below writes ticks others k.view k.view_is in
-      let seen = seen_the_same env w k.insts k.allocated given itself below writes ticks others k.view k.view_is (FilledUpto env w.parts k.insts k.allocated) laws fine moves some n in
+      let laws = fill_laws env w k.insts k.allocated given k.stores_are fine (λ p m is_part. valid_constants items m (valid p m is_part)) itself below extend ticks others k.view k.view_is in
+      let seen = seen_the_same env w k.insts k.allocated given itself below extend ticks others k.view k.view_is (FilledUpto env w.parts k.insts k.allocated) laws fine moves some n in
       let at_once = λ (n : ℕ). ap (λ o. events_of tick (fresh_run env o moves) n) (begins.1 ∙ ap Some (sym k.is)) in
       (subst (λ l. IsPrefix l (events_in_turn w env moves (n + 4 * length w.parts))) (sym (at_once n)) seen.0, subst (λ l. IsPrefix (events_in_turn w env moves n) l) (sym (at_once (n + 4 * length w.parts))) seen.1)

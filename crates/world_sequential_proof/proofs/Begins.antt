@@ -16,8 +16,9 @@ use Rattle.index_remap.specs.Related as to
 use Rattle.index_remap.specs.Laws.{CodeIsRelatedToItself, RelatedTicksAgree, OthersStay}
 use Rattle.index_remap.proofs.Rel.{append_rel}
 use Rattle.world_simulation.specs.Owned.{OwnCorrespond}
-use Rattle.world_sequential_proof.proofs.Extends.{TableExtends, MemoryExtends, GlobalExtends, EachExtends, Extends, stays}
-use Rattle.world_sequential_proof.proofs.Extends as extends
+use Rattle.world_extension_proof.specs.Extends.{TableExtends, MemoryExtends, GlobalExtends, EachExtends, Extends, StepsExtend}
+use Rattle.world_extension_proof.proofs.Extends.{stays}
+use Rattle.world_extension_proof.proofs.Extends as extends
 use Rattle.world_sequential_proof.proofs.Joined.{made_upto}
 use Rattle.world_sequential_proof.proofs.Reached.{is_reached, reaching, shares_own}
 use Rattle.world_sequential_proof.proofs.Turn.{Sized, Holds}
@@ -28,7 +29,6 @@ use Rattle.world_sequential_proof.proofs.Given.{IsGiven, IsTurn, starts_from, fi
 use Rattle.world_sequential_proof.proofs.Waiting.{within, adds_closed, adds_sound}
 use Rattle.std.proofs.lemmas.List.{length-append}
 use Rattle.base_lists.proofs.Places.{append_left, append_right}
-use Rattle.wasm_meaning.specs.Touched.{StepsWriteWhatTheyTouch}
 
 -- ---- joined stores ----
 
@@ -74,7 +74,7 @@ own_sound env parts p (o ∷ os) a f e = in_offer o.funcs a e (λ a e. own_sound
         gives_is e = cc
     in_offer (t ∷ ts) (suc a) e later = in_offer ts a e later
 
-module _ (env : Environment) (w : World) (insts : List Inst) (allocated : Store) (g : IsGiven env w insts allocated) (itself : CodeIsRelatedToItself) (below : BelowIsNotSeen) (writes : StepsWriteWhatTheyTouch) (ticks : RelatedTicksAgree) (others : OthersStay) (view : List (Text × Thing)) (view_is : all_there (seen_as insts) w.view ≡ Some view) (IsFilled : ℕ → Store → Type 0) where
+module _ (env : Environment) (w : World) (insts : List Inst) (allocated : Store) (g : IsGiven env w insts allocated) (itself : CodeIsRelatedToItself) (below : BelowIsNotSeen) (extend : StepsExtend) (ticks : RelatedTicksAgree) (others : OthersStay) (view : List (Text × Thing)) (view_is : all_there (seen_as insts) w.view ≡ Some view) (IsFilled : ℕ → Store → Type 0) where
   abbrev after : Store
   after = (segments env w.parts insts allocated).store
 

@@ -166,5 +166,5 @@ module _ (law : CodeIsRelatedToItself) (env : Environment) (parts : List Part) (
       let fs = and_then_is (all_there (new_func i) m.funcs) _ t h in
       let g = and_then_is (all_there (global_with (const_value globals i)) m.globals) _ t fs.2 in
       let es = and_then_is (all_there (elem_with (const_value globals i)) m.elems) _ t g.2 in
-      let b = Rattle.world_sequential_proof.proofs.Low.all_back (new_func i) m.funcs fs.0 fs.1 n f (ap (λ t. slice_get t.funcs n) (same_Some _ _ es.2) ∙ e) in
+      let b = Rattle.index_remap_proof.proofs.Lists.all_there_back (new_func i) m.funcs fs.0 fs.1 n f (ap (λ t. slice_get t.funcs n) (same_Some _ _ es.2) ∙ e) in
       new_sound b.0 f b.2

@@ -16,7 +16,8 @@ use Rattle.world_simulation.proofs.Defined.{defined_at}
 use Rattle.world_sequential_proof.proofs.Things.{space_in, in_space, space_is, held_external}
 use Rattle.world_sequential_proof.proofs.Joined.{ExportsThere}
 use Rattle.world_sequential_proof.proofs.Reached.{defined_more}
-use Rattle.world_sequential_proof.proofs.Low.{append_back, all_back, same_thing}
+use Rattle.world_sequential_proof.proofs.Low.{append_back, same_thing}
+use Rattle.index_remap_proof.proofs.Lists.{all_there_back}
 use Rattle.world_sequential_proof.proofs.FillOwned.{kind_of_key, own_at}
 use Rattle.world_sequential_proof.proofs.FillPaths.{LowInside, Low, inside, outside, ends_low}
 use Rattle.base_lists.proofs.Options.{and_then_is, all_there_at}
@@ -150,7 +151,7 @@ module _ (env : Environment) (parts : List Part) where
       where
         go : (l : List ℕ) → all_there (λ n. option_and_then (address_of k) (imported_thing env parts (record { part = p; import = n }))) (imports_of k m) ≡ Some l → (slice_get l x ≡ Some a) ⊎ ((j : ℕ) × (slice_get (numbers (base env parts k p) (defined_count k m)) j ≡ Some a)) → a < base env parts k (suc p)
         go l all (inl h) =
-            let n = all_back _ (imports_of k m) l all x a h in
+            let n = all_there_back _ (imports_of k m) l all x a h in
             let t = and_then_is (imported_thing env parts (record { part = p; import = n.0 })) (address_of k) a n.2 in
             let low = imported_low k (record { part = p; import = n.0 }) t.0 a t.1 t.2 in
             let next = base_next k p m is_part in

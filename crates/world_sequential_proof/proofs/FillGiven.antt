@@ -9,7 +9,9 @@ use Rattle.wasm_meaning.specs.Linking.{Part, Read, module_at, sites_in, sites_fr
 use Rattle.wasm_meaning.specs.Environment.{Environment, all_of}
 use Rattle.wasm_meaning.specs.World.{is_matched, insts_from, own_store, stores_from, part_store, joined_stores, store_with, const_value, value_of, segments}
 use Rattle.wasm_meaning.specs.InTurn.{JoinsEarlier}
-use Rattle.world_sequential_proof.proofs.Extends.{TableExtends, MemoryExtends, EachExtends, each_then, each_put, each_stays, table_stays, memory_stays, global_stays, overwritten_length}
+use Rattle.world_extension_proof.specs.Extends.{TableExtends, MemoryExtends, EachExtends}
+use Rattle.world_extension_proof.proofs.Extends.{each_then, each_put, each_stays, table_stays, memory_stays, global_stays}
+use Rattle.world_simulation.proofs.Copied.{overwritten_length}
 use Rattle.world_sequential_proof.proofs.Joined.{ExportsThere}
 use Rattle.world_sequential_proof.proofs.Turn.{Sized, Holds, SitesThere}
 use Rattle.world_sequential_proof.proofs.Beside.{Laid}

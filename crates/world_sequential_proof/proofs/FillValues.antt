@@ -20,7 +20,7 @@ use Rattle.wasm_meaning.specs.InTurn.{JoinsEarlier}
 use Rattle.world_sequential_proof.proofs.Things.{inst_at, walk_more, thing_has}
 use Rattle.world_sequential_proof.proofs.Joined.{ExportsThere}
 use Rattle.world_sequential_proof.proofs.FillAddresses.{AtDefined, AtOwn, HasAddress, import_address, imported_at, imported_low}
-use Rattle.world_sequential_proof.proofs.Low.{all_back}
+use Rattle.index_remap_proof.proofs.Lists.{all_there_back}
 use Rattle.world_sequential_proof.proofs.FillStores.{adds, rest_from, rest_next, first_stores, part_adds, inst_there, allocated_whole, first_parts}
 use Rattle.std.proofs.lemmas.Option.{slice_get_within, same_Some}
 use Rattle.base_lists.proofs.Places.{append_left, append_right}
@@ -145,7 +145,7 @@ module _ (env : Environment) (parts : List Part) (insts : List Inst) (are : inst
         let f = and_then_is (all_there (new_func t.1) m.funcs) _ a.0 a.1 in
         let gs = and_then_is (all_there (global_with (value_of env parts insts p)) m.globals) _ a.0 f.2 in
         let es = and_then_is (all_there (elem_with (value_of env parts insts p)) m.elems) _ a.0 gs.2 in
-        let back = all_back (global_with (value_of env parts insts p)) m.globals gs.0 gs.1 j g (ap (λ s. slice_get s.globals j) (same_Some _ _ es.2) ∙ here) in
+        let back = all_there_back (global_with (value_of env parts insts p)) m.globals gs.0 gs.1 j g (ap (λ s. slice_get s.globals j) (same_Some _ _ es.2) ∙ here) in
         let v = and_then_is (value_of env parts insts p back.0.init) _ g back.2 in
         (back.0.init, ap (λ o. option_and_then (λ d. Some d.init) o) back.1, v.1 ∙ ap (λ g. Some g.value) (same_Some _ _ v.2))
 

@@ -8,6 +8,7 @@ use Rattle.wasm_meaning.specs.World.{World, own_store, stores_from, const_value,
 use Rattle.wasm_meaning.specs.Below.{BelowIsNotSeen}
 use Rattle.wasm_meaning.specs.InTurn.{own_segments, HasNoActive}
 use Rattle.index_remap.specs.Laws.{CodeIsRelatedToItself, RelatedTicksAgree, OthersStay}
+use Rattle.world_extension_proof.specs.Extends.{StepsExtend}
 use Rattle.world_sequential_proof.proofs.Given.{IsGiven}
 use Rattle.world_sequential_proof.proofs.Begins.{FillLaws}
 use Rattle.world_sequential_proof.proofs.FillStores.{rest_from, rest_last, rest_next, inst_there}
@@ -16,7 +17,6 @@ use Rattle.world_sequential_proof.proofs.FillSegments
 use Rattle.world_sequential_proof.proofs.FillSegments.{FilledUpto}
 use Rattle.world_sequential_proof.proofs.FillNext
 use Rattle.world_sequential_proof.proofs.FillGiven
-use Rattle.wasm_meaning.specs.Touched.{StepsWriteWhatTheyTouch}
 
 module _ (env : Environment) (w : World) (insts : List Inst) (allocated : Store) (g : IsGiven env w insts allocated) (stores_are : stores_from env w.parts insts (own_store env) 0 w.parts insts ≡ Some allocated) (well : (segments env w.parts insts allocated).trapped ≡ false) (constants : (k : ℕ) (m : Module) → module_at w.parts k ≡ Some m → Constants m) where
   -- what the rest adds is the same, however the store is laid out
@@ -39,8 +39,8 @@ module _ (env : Environment) (w : World) (insts : List Inst) (allocated : Store)
       let n = FillNext.filled_next env w.parts insts g.are allocated stores_are g.matched g.size g.exports g.earlier k m i is_part is_inst t (g.laid.adds k) (g.laid.part_adds k m i is_part is_inst) h (constants k m is_part) well in
       (ap (λ f. f.trapped) n.is, subst (λ f. FilledUpto env w.parts insts allocated (suc k) f.store) (sym n.is) n.filled)
 
-  pub fill_laws : (itself : CodeIsRelatedToItself) (below : BelowIsNotSeen) (writes : StepsWriteWhatTheyTouch) (ticks : RelatedTicksAgree) (others : OthersStay) (view : List (Text × Thing)) (view_is : all_there (seen_as insts) w.view ≡ Some view) → FillLaws env w insts allocated g itself below writes ticks others view view_is (FilledUpto env w.parts insts allocated)
-  fill_laws itself below writes ticks others view view_is = record {
+  pub fill_laws : (itself : CodeIsRelatedToItself) (below : BelowIsNotSeen) (extend : StepsExtend) (ticks : RelatedTicksAgree) (others : OthersStay) (view : List (Text × Thing)) (view_is : all_there (seen_as insts) w.view ≡ Some view) → FillLaws env w insts allocated g itself below extend ticks others view view_is (FilledUpto env w.parts insts allocated)
+  fill_laws itself below extend ticks others view view_is = record {
     filled_none = FillSegments.filled_none env w.parts insts allocated stores_are g.size;
     filled_next = next_filled;
     filled_all = all_filled;

@@ -19,8 +19,10 @@ use Rattle.wasm_meaning.specs.World.{Filled, PlacedSegment, or_trapped, copy_slo
 use Rattle.wasm_meaning.specs.InTurn.{own_segments}
 use Rattle.index_remap.specs.Related.{OptRel, some, Pairing, ListRel, nil}
 use Rattle.index_remap.proofs.Rel.{put_rel, overwrite_rel, get_rel}
-use Rattle.world_sequential_proof.proofs.Extends
-use Rattle.world_sequential_proof.proofs.Extends.{TableExtends, MemoryExtends, Extends, stays, Extending, table, memory, elem_drops, data_drops, changed_extends, overwritten_length}
+use Rattle.world_extension_proof.proofs.Extends
+use Rattle.world_extension_proof.specs.Extends.{Extends}
+use Rattle.world_extension_proof.proofs.Extends.{stays, Extending, table, memory, elem_drops, data_drops, changed_extends}
+use Rattle.world_simulation.proofs.Copied.{overwritten_length}
 use Rattle.world_sequential_proof.proofs.Closed.{Closed}
 
 pub record Fills (R : Pairing) (s : Store) (f : Filled) : Type 0 where

@@ -1,6 +1,3 @@
-mod Extends
-mod StepExtends
-mod TickExtends
 mod Things
 mod Joined
 mod Reached

@@ -19,6 +19,7 @@ use Rattle.base_lists.proofs.Options.{and_then_is}
 use Rattle.std.proofs.lemmas.Option.{same_Some}
 use Rattle.world_simulation.proofs.Instancing.{inst_is}
 use Rattle.wasm_meaning.proofs.Counts.{defined_next}
+use Rattle.index_remap_proof.proofs.Lists.{all_there_back}
 
 -- ---- lists ----
 
@@ -31,17 +32,6 @@ pub numbers_back : (from count j a : ℕ) → slice_get (numbers from count) j �
 numbers_back from zero j a e = absurd (let k = e in cc)
 numbers_back from (suc count) zero a e = let s = same_Some _ _ e in (omega (arith, s), omega arith)
 numbers_back from (suc count) (suc j) a e = let r = numbers_back (suc from) count j a e in (omega (arith, r.0), omega (arith, r.1))
-
-pub all_back : {A B : Type 0} (f : A → Option B) (xs : List A) (ys : List B) → all_there f xs ≡ Some ys → (n : ℕ) (y : B) → slice_get ys n ≡ Some y → (x : A) × (slice_get xs n ≡ Some x) × (f x ≡ Some y)
-all_back f [] ys h n y e = absurd (let k = same_Some _ _ h in let p = ap (λ l. slice_get l n) k ∙ e in cc)
-all_back {A} {B} f (x ∷ xs) ys h n y e =
-    let a = and_then_is (f x) _ ys h in
-    let b = and_then_is (all_there f xs) _ ys a.2 in
-    go a.0 b.0 a.1 n (ap (λ l. slice_get l n) (same_Some _ _ b.2) ∙ e) (λ n e. all_back f xs b.0 b.1 n y e)
-  where
-    go : (z : B) (zs : List B) → f x ≡ Some z → (n : ℕ) → slice_get (z ∷ zs) n ≡ Some y → ((n : ℕ) → slice_get zs n ≡ Some y → (x : A) × (slice_get xs n ≡ Some x) × (f x ≡ Some y)) → (v : A) × (slice_get (x ∷ xs) n ≡ Some v) × (f v ≡ Some y)
-    go z zs is zero e more = (x, refl, is ∙ e)
-    go z zs is (suc n) e more = more n e
 
 -- ---- kinds ----
 
@@ -93,7 +83,7 @@ module _ (env : Environment) (parts : List Part) (insts : List Inst) (are : inst
       go : (l : List ℕ) → all_there (λ n. option_and_then (address_of k) (imported_thing env parts (record { part = p; import = n }))) (imports_of k m) ≡ Some l → Rattle.wasm_meaning.specs.World.defined_before k parts (suc p) ≡ Rattle.wasm_meaning.specs.World.defined_before k parts p + defined_count k m →
           (slice_get l n ≡ Some a) ⊎ ((j : ℕ) × (slice_get (numbers (base env parts k p) (defined_count k m)) j ≡ Some a)) → a < base env parts k (suc p)
       go l all next (inl e) =
-          let b = all_back (λ n. option_and_then (address_of k) (imported_thing env parts (record { part = p; import = n }))) (imports_of k m) l all n a e in
+          let b = all_there_back (λ n. option_and_then (address_of k) (imported_thing env parts (record { part = p; import = n }))) (imports_of k m) l all n a e in
           let x = and_then_is (imported_thing env parts (record { part = p; import = b.0 })) (address_of k) a b.2 in
           let r = low b.0 m x.0 is x.1 k a x.2 in
           omega (arith, r, next)

@@ -14,21 +14,20 @@ use Rattle.wasm_meaning.specs.Step.{enter}
 use Rattle.wasm_meaning.specs.Linking.{Part}
 use Rattle.wasm_meaning.specs.Environment.{Environment, Thing, owned_of, received_all}
 use Rattle.wasm_meaning.specs.World.{base}
-use Rattle.wasm_meaning.specs.Run.{Event, Asked, Phase, Fresh, Pending, Closed, Run, Out, Steps, made, nothing_in, or_closed, transition_at, tick}
+use Rattle.wasm_meaning.specs.Run.{Event, Asked, Phase, Pending, Closed, Run, Out, Steps, made, nothing_in, or_closed, transition_at, tick}
 use Rattle.wasm_meaning.specs.Below.{IsBottom, GivesNothing, a_frame, a_call, over, Unseen, goes_on, ended, trapped, BelowIsNotSeen}
 use Rattle.index_remap.specs.Related.{Pairing, ListRel, nil, cons, EntryRel, opening}
 use Rattle.index_remap.specs.Related as to
-use Rattle.index_remap.specs.RelatedRuns.{pending, RunRel, OutRel, KeepsOthers, HasNoPartner}
+use Rattle.index_remap.specs.RelatedRuns.{pending, RunRel, OutRel, KeepsOthers, HasNoPartner, IsBegun}
 use Rattle.index_remap.specs.Laws.{EntryByEntry, RelatedTicksAgree, OthersStay}
 use Rattle.index_remap.proofs.Rel.{length_rel}
-use Rattle.world_sequential_proof.proofs.Extends.{Extends, and_then}
-use Rattle.world_sequential_proof.proofs.TickExtends.{Kept, tick_extends}
+use Rattle.world_extension_proof.specs.Extends.{Extends, Kept, StepsExtend}
+use Rattle.world_extension_proof.proofs.Extends.{and_then}
 use Rattle.world_sequential_proof.proofs.Reached.{is_reached, reaching, reached_at, reached_is, one_to_one}
 use Rattle.world_sequential_proof.proofs.Turn.{Sized}
 use Rattle.world_sequential_proof.proofs.Closed.{Sound, own_func, code}
 use Rattle.world_sequential_proof.proofs.Beside.{Untouched, Beside}
 use Rattle.std.proofs.lemmas.List.{length-append}
-use Rattle.wasm_meaning.specs.Touched.{StepsWriteWhatTheyTouch}
 
 -- ---- the opening of a start ----
 
@@ -81,7 +80,7 @@ some_entries es (a_frame e) = omega arith
 some_entries es a_call = omega arith
 some_entries es (over e g) = omega arith
 
-module _ (below : BelowIsNotSeen) (writes : StepsWriteWhatTheyTouch) (ticks : RelatedTicksAgree) (others : OthersStay) (env : Environment) (parts : List Part) (allocated : Store) (p : ℕ) where
+module _ (below : BelowIsNotSeen) (extend : StepsExtend) (ticks : RelatedTicksAgree) (others : OthersStay) (env : Environment) (parts : List Part) (allocated : Store) (p : ℕ) where
   abbrev R : Pairing
   R = reaching env parts p
 
@@ -128,13 +127,13 @@ module _ (below : BelowIsNotSeen) (writes : StepsWriteWhatTheyTouch) (ticks : Re
   abreast_on es fs es' fs' r u r' u' h related kr ku k = record {
     related = related;
     beside = beside_on u.store r.store u'.store r'.store h.beside related.store ku.store kr.store k;
-    extends = Rattle.world_sequential_proof.proofs.Extends.and_then allocated r.store r'.store h.extends kr.store;
+    extends = Rattle.world_extension_proof.proofs.Extends.and_then allocated r.store r'.store h.extends kr.store;
     first_owned = kr.owned ∙ h.first_owned;
     second_owned = ku.owned ∙ h.second_owned;
   }
 
   kept_run : {r r' : Run} {e f : Option Event} → Kept r (r', e) → Kept r (r', f)
-  kept_run k = record { store = k.store; owned = k.owned }
+  kept_run k = record { store = k.store; owned = k.owned; begun = k.begun }
 
   module _ (cs : List Entry) (bottom : IsBottom cs) (view v : List (Text × Thing)) (es fs : List Entry) (g : GivesNothing es) (g' : GivesNothing fs) (r u : Run) (h : Abreast es fs r u) where
     abbrev ds : List Entry
@@ -168,10 +167,7 @@ module _ (below : BelowIsNotSeen) (writes : StepsWriteWhatTheyTouch) (ticks : Re
         (tick u) (tick (over_one u fs)) (subst (λ u'. Unseen (Opening [] ∷ []) (Opening [] ∷ []) (Pending v) (Pending []) u.store.funcs (tick u') (tick (over_one u fs))) (run_is u (fs ++ Opening [] ∷ []) (Pending v) c d) second)
         (ticks (is_reached env parts p) (one_to_one env parts p) (over_one u fs) (over_one r es) h.related)
         (others (is_reached env parts p) (one_to_one env parts p) (over_one u fs) (over_one r es) h.related tt).0
-        (tick_extends writes r (λ x e. fresh_not view x (sym b ∙ e))) (tick_extends writes u (λ x e. fresh_not v x (sym d ∙ e)))
-      where
-        fresh_not : (view : List (Text × Thing)) (x : _) → Pending view ≡ Fresh x → ⊥
-        fresh_not view x e = cc
+        (extend r (subst IsBegun (sym b) tt)) (extend u (subst IsBegun (sym d) tt))
 
   -- both open a start
   module _ (a : ℕ) (xs : List ℕ) (f : Func) (ty : type_of_func f ≡ nothing_to_nothing) (r u : Run) (h : Abreast [] [] r u) (there : slice_get u.store.funcs a ≡ Some f) (low : a < base env parts Functions p) (view v : List (Text × Thing)) where

@@ -15,6 +15,7 @@ use Rattle.index_remap.specs.Related.{ListRel, nil}
 use Rattle.index_remap.specs.RelatedRuns.{opened, RunRel, OutRel}
 use Rattle.index_remap.specs.Laws.{CodeIsRelatedToItself, EntryByEntry, RelatedTicksAgree, OthersStay}
 use Rattle.base_simulation.proofs.Led.{Leads, both, second}
+use Rattle.world_extension_proof.specs.Extends.{StepsExtend}
 use Rattle.world_sequential_proof.proofs.Things.{space_in}
 use Rattle.world_sequential_proof.proofs.Joined.{made_upto}
 use Rattle.world_sequential_proof.proofs.Reached.{is_reached, reaching, one_to_one, defined_more}
@@ -25,7 +26,6 @@ use Rattle.world_sequential_proof.proofs.Waiting.{holds_of, abreast_next, within
 use Rattle.world_sequential_proof.proofs.Over.{closed_stays, view_self}
 use Rattle.base_lists.proofs.Places.{slice_get_there}
 use Rattle.wasm_tree.specs.declared.space.Space.{Space}
-use Rattle.wasm_meaning.specs.Touched.{StepsWriteWhatTheyTouch}
 
 -- a start that is being made keeps its part's turn
 turn_runs : (q : InTurn) (es cs : List Entry) → GivesNothing es → q.run.entries ≡ es ++ cs → tick_in_turn q ≡ with_run q (tick q.run)
@@ -63,13 +63,13 @@ turn_opens q a e = ap (turn_at q q.rest) e ∙ go q.rest
 turn_last : (q : InTurn) → q.rest ≡ [] → tick_in_turn q ≡ with_run q (tick q.run)
 turn_last q e = ap (λ rest. turn_at q rest q.run.entries) e
 
-module _ (env : Environment) (w : World) (insts : List Inst) (allocated : Store) (g : IsGiven env w insts allocated) (itself : CodeIsRelatedToItself) (below : BelowIsNotSeen) (writes : StepsWriteWhatTheyTouch) (ticks : RelatedTicksAgree) (others : OthersStay) (view : List (Text × Thing)) (view_is : all_there (seen_as insts) w.view ≡ Some view) where
+module _ (env : Environment) (w : World) (insts : List Inst) (allocated : Store) (g : IsGiven env w insts allocated) (itself : CodeIsRelatedToItself) (below : BelowIsNotSeen) (extend : StepsExtend) (ticks : RelatedTicksAgree) (others : OthersStay) (view : List (Text × Thing)) (view_is : all_there (seen_as insts) w.view ≡ Some view) where
   abbrev Same : ℕ → Run → Run → Type 0
   Same k u r = RunRel (reaching env w.parts k) (EntryByEntry (reaching env w.parts k)) (EntryByEntry (reaching env w.parts k)) u r
 
   -- so many parts are there; of the last the start may still have to be made
   pub record Waits (k : ℕ) (ys : List ℕ) (r : Run) (q : InTurn) : Type 0 where
-    pub abreast : Abreast below writes ticks others env w.parts allocated k [] [] r q.run
+    pub abreast : Abreast below extend ticks others env w.parts allocated k [] [] r q.run
     pub first : r.entries ≡ Opening (ys ++ starts_from w insts k) ∷ []
     pub phase : r.phase ≡ Pending view
     pub second_entries : q.run.entries ≡ Opening ys ∷ []
@@ -80,7 +80,7 @@ module _ (env : Environment) (w : World) (insts : List Inst) (allocated : Store)
 
   -- a start is being made
   pub record Makes (k : ℕ) (es fs : List Entry) (r : Run) (q : InTurn) : Type 0 where
-    pub abreast : Abreast below writes ticks others env w.parts allocated k es fs r q.run
+    pub abreast : Abreast below extend ticks others env w.parts allocated k es fs r q.run
     pub gives : GivesNothing es
     pub second_gives : GivesNothing fs
     pub first : r.entries ≡ es ++ Opening (starts_from w insts k) ∷ []
@@ -146,7 +146,7 @@ module _ (env : Environment) (w : World) (insts : List Inst) (allocated : Store)
         let turn' = next_turn env w insts allocated g k part i at_part at_inst q (joined_stores t (g.laid.adds k)) h.turn in
         let low = within env w insts allocated g itself k part i at_part at_inst in
         let stage : Stage d r q' = added_stage d k part i r q' at_part at_inst (omega (arith, l)) refl (λ ys e. record {
-          abreast = abreast_next env w insts allocated g itself k part i at_part at_inst below writes ticks others r q h.abreast;
+          abreast = abreast_next env w insts allocated g itself k part i at_part at_inst below extend ticks others r q h.abreast;
           first = h.first ∙ ap (λ xs. Opening xs ∷ []) (starts_next w insts k part i at_part at_inst ∙ ap (λ ys. ys ++ starts_from w insts (suc k)) e);
           phase = h.phase;
           second_entries = ap (λ ys. Opening ys ∷ []) e;
@@ -193,7 +193,7 @@ module _ (env : Environment) (w : World) (insts : List Inst) (allocated : Store)
 
   -- the stage after a step of both within a start
   stepped : (d k : ℕ) (q : InTurn) (o p : Out) → length w.parts ≤ k + d → IsTurn w insts k q → ((p : ℕ) (m : Module) → k ≤ p → module_at w.parts p ≡ Some m → HasNoActive m) → k ≤ length w.parts →
-      Stepped below writes ticks others env w.parts allocated k (Opening (starts_from w insts k) ∷ []) view (view_over (made_upto k w.parts insts) w.view) o p → (o.1 ≡ p.1) × Stage d o.0 (record q { run = p.0 })
+      Stepped below extend ticks others env w.parts allocated k (Opening (starts_from w insts k) ∷ []) view (view_over (made_upto k w.parts insts) w.view) o p → (o.1 ≡ p.1) × Stage d o.0 (record q { run = p.0 })
   stepped d k q _ _ l turn quiet most (on es fs x y h a b c e) =
       (refl, makes l (record { abreast = h; gives = x; second_gives = y; first = a; phase = b; second_entries = c; second_phase = e; turn = record { made = turn.made; rest = turn.rest; view = turn.view }; quiet = quiet; most = most }))
   stepped d k q _ _ l turn quiet most (done h a b c e) =
@@ -216,11 +216,11 @@ module _ (env : Environment) (w : World) (insts : List Inst) (allocated : Store)
       go (inl low) = add d l low
       go (inr high) = let m = h.most in open_view k d r q (omega (arith, high, m)) h
   next d r q (opens {k = k} {a = a} l s h) =
-      let o = open_both below writes ticks others env w.parts allocated k a (starts_from w insts k) s.func s.type r q.run h.abreast s.there s.low view (view_over (made_upto k w.parts insts) w.view) h.first h.phase h.second_entries h.second_phase in
+      let o = open_both below extend ticks others env w.parts allocated k a (starts_from w insts k) s.func s.type r q.run h.abreast s.there s.low view (view_over (made_upto k w.parts insts) w.view) h.first h.phase h.second_entries h.second_phase in
       let n = stepped d k q (tick r) (tick q.run) l h.turn h.quiet h.most o in
       in_step d r q (turn_opens q a h.second_entries) n.0 n.1
   next d r q (makes {k = k} {es = es} {fs = fs} l h) =
-      let o = step below writes ticks others env w.parts allocated k (Opening (starts_from w insts k) ∷ []) (opening_bottom (starts_from w insts k)) view (view_over (made_upto k w.parts insts) w.view) es fs h.gives h.second_gives r q.run h.abreast h.first h.phase h.second_entries h.second_phase in
+      let o = step below extend ticks others env w.parts allocated k (Opening (starts_from w insts k) ∷ []) (opening_bottom (starts_from w insts k)) view (view_over (made_upto k w.parts insts) w.view) es fs h.gives h.second_gives r q.run h.abreast h.first h.phase h.second_entries h.second_phase in
       let n = stepped d k q (tick r) (tick q.run) l h.turn h.quiet h.most o in
       in_step d r q (turn_runs q fs (Opening [] ∷ []) h.second_gives h.second_entries) n.0 n.1
   next d r q (shut k same a b c e) =

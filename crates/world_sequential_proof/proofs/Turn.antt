@@ -15,7 +15,7 @@ use Rattle.wasm_meaning.specs.Environment.{Environment, Thing, FuncAt, TableAt, 
 use Rattle.wasm_meaning.specs.World.{defined_count, base, imported_thing, all_there, numbers, insts_from, is_match, is_matched, meets, meets_most, defined_before}
 use Rattle.wasm_meaning.specs.InTurn.{next_inst, all_match, thing_for, JoinsEarlier}
 use Rattle.world_simulation.specs.Owned.{OwnEntitiesCorrespond}
-use Rattle.world_sequential_proof.proofs.Extends.{TableExtends, MemoryExtends, GlobalExtends}
+use Rattle.world_extension_proof.specs.Extends.{TableExtends, MemoryExtends, GlobalExtends}
 use Rattle.world_sequential_proof.proofs.Things.{space_is, each_from, gathered}
 use Rattle.world_sequential_proof.proofs.Joined.{ExportsThere, made_upto, thing_same, inst_of_part}
 use Rattle.world_sequential_proof.proofs.Low.{thing_low}
@@ -23,6 +23,7 @@ use Rattle.base_lists.proofs.Options.{and_then_is}
 use Rattle.std.proofs.lemmas.Option.{same_Some}
 use Rattle.world_simulation.proofs.Instancing.{inst_is}
 use Rattle.world_simulation.proofs.Places.{all_each}
+use Rattle.world_extension_proof.proofs.Typed.{meets_more}
 
 -- as many as the environment and the first parts have
 pub record Sized (env : Environment) (parts : List Part) (p : ℕ) (t : Store) : Type 0 where
@@ -44,13 +45,6 @@ inst_eq : (i j : Inst) → i.types ≡ j.types → i.funcs ≡ j.funcs → i.tab
 inst_eq i j a b c d e f g = rw (← a, ← b, ← c, ← d, ← e, ← f, ← g) refl
 
 -- ---- matching ----
-
-meets_more : (n m : ℕ) (most : Option ℕ) (l : Limits) → n ≤ m → meets n most l ≡ true → meets m most l ≡ true
-meets_more n m most l le h = go (nat_le l.min n) refl h
-  where
-    go : (b : Bool) → nat_le l.min n ≡ b → b && meets_most most l.max ≡ true → meets m most l ≡ true
-    go false e h = cc
-    go true e h = let low = leb-true l.min n e in ap (λ b. b && meets_most most l.max) (le-leb l.min m (omega (arith, low, le))) ∙ h
 
 module _ (env : Environment) (parts : List Part) (p : ℕ) (s t : Store) (holds : Holds env parts p s t) (m : Module) where
   match_stays : (d : ImportDesc) (x : Thing) → ((a : ℕ) → x ≡ FuncAt a → a < base env parts Functions p) → ((a : ℕ) → x ≡ TableAt a → a < base env parts Tables p) → ((a : ℕ) → x ≡ MemoryAt a → a < base env parts Memories p) → ((a : ℕ) → x ≡ GlobalAt a → a < base env parts Globals p) →

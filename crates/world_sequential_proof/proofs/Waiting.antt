@@ -12,7 +12,7 @@ use Rattle.index_remap.specs.Related.{BothRel, both, none, some, RefRel, func, e
 use Rattle.index_remap.specs.RelatedRuns.{ThingRel, a_func, a_table, a_memory, a_global, KeyRel, pending}
 use Rattle.index_remap.specs.Laws.{CodeIsRelatedToItself, RelatedTicksAgree, OthersStay}
 use Rattle.index_remap.proofs.Rel.{length_rel}
-use Rattle.world_sequential_proof.proofs.Extends.{TableExtends, MemoryExtends, GlobalExtends, Extends}
+use Rattle.world_extension_proof.specs.Extends.{TableExtends, MemoryExtends, GlobalExtends, Extends, StepsExtend}
 use Rattle.world_sequential_proof.proofs.Joined.{inst_of_part}
 use Rattle.world_sequential_proof.proofs.Reached.{reaching, reached_at, reached_is}
 use Rattle.world_sequential_proof.proofs.Low.{inst_low, numbers_back}
@@ -21,7 +21,6 @@ use Rattle.world_sequential_proof.proofs.Closed.{val_more, Closed, Sound, Reache
 use Rattle.world_sequential_proof.proofs.Beside.{Beside, beside_next, more}
 use Rattle.world_sequential_proof.proofs.Making.{Abreast}
 use Rattle.world_sequential_proof.proofs.Given.{IsGiven}
-use Rattle.wasm_meaning.specs.Touched.{StepsWriteWhatTheyTouch}
 use Rattle.world_simulation.proofs.Instancing.{inst_is}
 use Rattle.wasm_meaning.proofs.Counts.{defined_next}
 
@@ -126,9 +125,9 @@ module _ (env : Environment) (w : World) (insts : List Inst) (allocated : Store)
       thing_more (a_memory {a = a} {b = b} h) = a_memory (more itself env w.parts insts allocated g.laid k part.«module» is_part within Memories a b h)
       thing_more (a_global {a = a} {b = b} h) = a_global (more itself env w.parts insts allocated g.laid k part.«module» is_part within Globals a b h)
 
-  module _ (below : BelowIsNotSeen) (writes : StepsWriteWhatTheyTouch) (ticks : RelatedTicksAgree) (others : OthersStay) where
+  module _ (below : BelowIsNotSeen) (extend : StepsExtend) (ticks : RelatedTicksAgree) (others : OthersStay) where
     -- the two runs are abreast again, with the part
-    pub abreast_next : (r : Run) (q : InTurn) → Abreast below writes ticks others env w.parts allocated k [] [] r q.run → Abreast below writes ticks others env w.parts allocated (suc k) [] [] r (goes_on q part (drop (suc k) w.parts) i (joined_stores q.run.store (g.laid.adds k))).run
+    pub abreast_next : (r : Run) (q : InTurn) → Abreast below extend ticks others env w.parts allocated k [] [] r q.run → Abreast below extend ticks others env w.parts allocated (suc k) [] [] r (goes_on q part (drop (suc k) w.parts) i (joined_stores q.run.store (g.laid.adds k))).run
     abreast_next r q h =
         let t = q.run.store in
         let holds = holds_of env w.parts k allocated t r.store h.beside h.extends in

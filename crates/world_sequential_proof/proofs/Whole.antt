@@ -14,7 +14,8 @@ use Rattle.index_remap.specs.Related.{nil, cons, opening}
 use Rattle.index_remap.specs.RelatedRuns.{pending}
 use Rattle.index_remap.specs.Laws.{CodeIsRelatedToItself, RelatedTicksAgree, OthersStay}
 use Rattle.base_simulation.proofs.Led.{Leads, both, second, led_show_the_same}
-use Rattle.world_sequential_proof.proofs.Extends.{Extends, stays}
+use Rattle.world_extension_proof.specs.Extends.{Extends, StepsExtend}
+use Rattle.world_extension_proof.proofs.Extends.{stays}
 use Rattle.world_sequential_proof.proofs.Joined.{made_upto}
 use Rattle.world_sequential_proof.proofs.Reached.{reaching}
 use Rattle.world_sequential_proof.proofs.Closed.{self_by, func_self}
@@ -25,14 +26,13 @@ use Rattle.world_sequential_proof.proofs.Stages.{Waits, Stage, added_stage}
 use Rattle.world_sequential_proof.proofs.Stages as stages
 use Rattle.world_sequential_proof.proofs.Begins.{FillLaws, Fills, Advances, advances, beside_after, own_related, own_sound}
 use Rattle.base_lists.proofs.Places.{slice_get_there}
-use Rattle.wasm_meaning.specs.Touched.{StepsWriteWhatTheyTouch}
 
 -- a view over no parts is empty
 no_view : (vs : List (Text × Entity)) → unwrap_or (all_there (seen_as []) vs) [] ≡ []
 no_view [] = refl
 no_view (v ∷ vs) = refl
 
-module _ (env : Environment) (w : World) (insts : List Inst) (allocated : Store) (g : IsGiven env w insts allocated) (itself : CodeIsRelatedToItself) (below : BelowIsNotSeen) (writes : StepsWriteWhatTheyTouch) (ticks : RelatedTicksAgree) (others : OthersStay) (view : List (Text × Thing)) (view_is : all_there (seen_as insts) w.view ≡ Some view) (IsFilled : ℕ → Store → Type 0) (laws : FillLaws env w insts allocated g itself below writes ticks others view view_is IsFilled) (fine : (segments env w.parts insts allocated).trapped ≡ false) (moves : List Move) where
+module _ (env : Environment) (w : World) (insts : List Inst) (allocated : Store) (g : IsGiven env w insts allocated) (itself : CodeIsRelatedToItself) (below : BelowIsNotSeen) (extend : StepsExtend) (ticks : RelatedTicksAgree) (others : OthersStay) (view : List (Text × Thing)) (view_is : all_there (seen_as insts) w.view ≡ Some view) (IsFilled : ℕ → Store → Type 0) (laws : FillLaws env w insts allocated g itself below extend ticks others view view_is IsFilled) (fine : (segments env w.parts insts allocated).trapped ≡ false) (moves : List Move) where
   abbrev after : Store
   after = (segments env w.parts insts allocated).store
 
@@ -43,10 +43,10 @@ module _ (env : Environment) (w : World) (insts : List Inst) (allocated : Store)
   at_once = record { store = after; entries = Opening (starts_of w.parts insts) ∷ []; phase = Pending view; shown = []; view = []; owned = owned_of env; moves = moves }
 
   abbrev Filling : ℕ → Run → InTurn → Type 0
-  Filling = Fills env w insts allocated g itself below writes ticks others view view_is IsFilled laws moves
+  Filling = Fills env w insts allocated g itself below extend ticks others view view_is IsFilled laws moves
 
   abbrev TheStage : ℕ → Run → InTurn → Type 0
-  TheStage = Stage env w insts allocated g itself below writes ticks others view view_is
+  TheStage = Stage env w insts allocated g itself below extend ticks others view view_is
 
   pub data Early (d : ℕ) (r : Run) (q : InTurn) : Type 0 where
     fresh : r ≡ fresh_run env (Some instance) moves → q ≡ before_turns env w moves → 0 < length w.parts → length w.parts ≤ suc d → Early d r q
@@ -54,7 +54,7 @@ module _ (env : Environment) (w : World) (insts : List Inst) (allocated : Store)
     later_on : TheStage d r q → Early d r q
 
   -- after the turn of a part before which there was no start
-  module _ (k d : ℕ) (part : Part) (i : Inst) (r : Run) (q : InTurn) (at_part : slice_get w.parts k ≡ Some part) (at_inst : slice_get insts k ≡ Some i) (h : Filling k r q) (a : Advances env w insts allocated g itself below writes ticks others view view_is IsFilled laws moves k part i q) (l : length w.parts ≤ suc k + d) where
+  module _ (k d : ℕ) (part : Part) (i : Inst) (r : Run) (q : InTurn) (at_part : slice_get w.parts k ≡ Some part) (at_inst : slice_get insts k ≡ Some i) (h : Filling k r q) (a : Advances env w insts allocated g itself below extend ticks others view view_is IsFilled laws moves k part i q) (l : length w.parts ≤ suc k + d) where
     abbrev next_state : InTurn
     next_state = goes_on q part (drop (suc k) w.parts) i a.next_store
 
@@ -71,21 +71,21 @@ module _ (env : Environment) (w : World) (insts : List Inst) (allocated : Store)
     starts_are = sym h.none_before ∙ starts_next w insts k part i at_part at_inst
 
     -- where no part after it has an active segment all segments were copied
-    waits_now : ((p : ℕ) (m : Module) → suc k ≤ p → module_at w.parts p ≡ Some m → HasNoActive m) → (ys : List ℕ) → start_in i part.«module».start ≡ ys → Waits env w insts allocated g itself below writes ticks others view view_is (suc k) ys r next_state
+    waits_now : ((p : ℕ) (m : Module) → suc k ≤ p → module_at w.parts p ≡ Some m → HasNoActive m) → (ys : List ℕ) → start_in i part.«module».start ≡ ys → Waits env w insts allocated g itself below extend ticks others view view_is (suc k) ys r next_state
     waits_now quiet ys e =
         let whole = laws.filled_all (suc k) a.next_store low a.filled quiet in
         let sized = laws.filled_sized (suc k) a.next_store low a.filled in
-        let beside = beside_after env w insts allocated g itself below writes ticks others view view_is IsFilled laws moves (suc k) a.next_store low whole sized a.extends a.closed a.sound in
+        let beside = beside_after env w insts allocated g itself below extend ticks others view view_is IsFilled laws moves (suc k) a.next_store low whole sized a.extends a.closed a.sound in
         record {
-          abreast = subst (λ r. Rattle.world_sequential_proof.proofs.Making.Abreast below writes ticks others env w.parts allocated (suc k) [] [] r next_state.run) (sym h.first)
-              (subst (λ u. Rattle.world_sequential_proof.proofs.Making.Abreast below writes ticks others env w.parts allocated (suc k) [] [] at_once (record u { store = a.next_store; entries = Opening (start_in i part.«module».start) ∷ []; phase = Pending (view_over next_state.made q.view) })) (sym h.second_run) (record {
+          abreast = subst (λ r. Rattle.world_sequential_proof.proofs.Making.Abreast below extend ticks others env w.parts allocated (suc k) [] [] r next_state.run) (sym h.first)
+              (subst (λ u. Rattle.world_sequential_proof.proofs.Making.Abreast below extend ticks others env w.parts allocated (suc k) [] [] at_once (record u { store = a.next_store; entries = Opening (start_in i part.«module».start) ∷ []; phase = Pending (view_over next_state.made q.view) })) (sym h.second_run) (record {
                 related = record {
                   store = beside.related;
                   entries = cons (opening nil) nil;
                   phase = pending nil;
                   shown = nil;
                   view = nil;
-                  owned = (own_related env w insts allocated g itself below writes ticks others view view_is IsFilled laws moves (suc k)).owned;
+                  owned = (own_related env w insts allocated g itself below extend ticks others view view_is IsFilled laws moves (suc k)).owned;
                   moves = refl;
                 };
                 beside = beside;
@@ -103,7 +103,7 @@ module _ (env : Environment) (w : World) (insts : List Inst) (allocated : Store)
         }
 
     stage_now : ((p : ℕ) (m : Module) → suc k ≤ p → module_at w.parts p ≡ Some m → HasNoActive m) → Early d r next_state
-    stage_now quiet = later_on (added_stage env w insts allocated g itself below writes ticks others view view_is d k part i r next_state at_part at_inst (omega (arith, l)) refl (waits_now quiet))
+    stage_now quiet = later_on (added_stage env w insts allocated g itself below extend ticks others view view_is d k part i r next_state at_part at_inst (omega (arith, l)) refl (waits_now quiet))
 
     -- it has no start, and is not the last
     fills_on : start_in i part.«module».start ≡ [] → suc k < length w.parts → Early d r next_state
@@ -149,7 +149,7 @@ module _ (env : Environment) (w : World) (insts : List Inst) (allocated : Store)
 
   nothing_yet : 0 < length w.parts → Filling 0 at_once (before_turns env w moves)
   nothing_yet some =
-      let own = own_related env w insts allocated g itself below writes ticks others view view_is IsFilled laws moves 0 in
+      let own = own_related env w insts allocated g itself below extend ticks others view view_is IsFilled laws moves 0 in
       let sound = own_sound env w.parts 0 env in
       record {
         store = own_store env;
@@ -174,7 +174,7 @@ module _ (env : Environment) (w : World) (insts : List Inst) (allocated : Store)
   step_of : (k d : ℕ) (r : Run) (q : InTurn) → (h : Filling k r q) → length w.parts ≤ suc k + d → (q' : InTurn) × (tick_in_turn q ≡ (q', None)) × Early d r q'
   step_of k d r q h l =
       let p = part_at k h.most in
-      let a = advances env w insts allocated g itself below writes ticks others view view_is IsFilled laws moves k p.0 p.1 r q p.2 p.3 h in
+      let a = advances env w insts allocated g itself below extend ticks others view view_is IsFilled laws moves k p.0 p.1 r q p.2 p.3 h in
       (goes_on q p.0 (drop (suc k) w.parts) p.1 a.next_store, a.is, after_turn k d p.0 p.1 r q p.2 p.3 h a l)
 
   next : (d : ℕ) (r : Run) (q : InTurn) → Early d r q → Next d r q
@@ -190,7 +190,7 @@ module _ (env : Environment) (w : World) (insts : List Inst) (allocated : Store)
       go (suc d) l =
           let s = step_of k d r q h (omega (arith, l)) in
           second (ap (λ o. o.1) s.1) (subst (λ o. Early d r o.0) (sym s.1) s.2)
-  next d r q (later_on h) = on (stages.next env w insts allocated g itself below writes ticks others view view_is d r q h)
+  next d r q (later_on h) = on (stages.next env w insts allocated g itself below extend ticks others view view_is d r q h)
     where
       on : {d : ℕ} → Leads tick tick_in_turn (λ d e r q. TheStage d r q) d 0 r q → Next d r q
       on (both p i) = both p (later_on i)

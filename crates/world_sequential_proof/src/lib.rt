@@ -4,8 +4,9 @@
 ghost use Rattle.world_sequential_proof.specs.Laws.{TurnsAreNotSeen};
 
 use index_remap::{related_runs_show_the_same, steps_agree};
-use wasm_meaning::{steps_write_what_they_touch, what_stands_below_is_not_seen};
+use wasm_meaning::what_stands_below_is_not_seen;
 use wasm_valid::valid_where_items_hold;
+use world_extension_proof::stores_are_extended;
 use world_simulation::own_entities_correspond;
 
 /// A world of at least one part, all valid, shows the same events at once and where its parts are instantiated one after the other, each with its segments and
@@ -16,7 +17,7 @@ pub fn turns_are_not_seen()
 {
     valid_where_items_hold();
     what_stands_below_is_not_seen();
-    steps_write_what_they_touch();
+    stores_are_extended();
     steps_agree();
     related_runs_show_the_same();
     own_entities_correspond();

@@ -27,7 +27,7 @@ use Rattle.world_simulation.proofs.Ordered.{in_first, in_second, first_apart, se
 
 -- ---- what is added comes behind ----
 
-right_is : {A B : Type 0} {P : A → B → Type 0} {o : Option A} {p : Option B} → BothRel P o p → (b : B) × (p ≡ Some b)
+pub right_is : {A B : Type 0} {P : A → B → Type 0} {o : Option A} {p : Option B} → BothRel P o p → (b : B) × (p ≡ Some b)
 right_is (both {b = b} r) = (b, refl)
 
 left_is : {A B : Type 0} {P : A → B → Type 0} {o : Option A} {p : Option B} → BothRel P o p → (a : A) × (o ≡ Some a)

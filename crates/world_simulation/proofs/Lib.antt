@@ -20,6 +20,9 @@ pub mod Unreachable
 pub mod Added
 pub mod Leaves
 pub mod Loaded
+pub mod LoaderSteps
+pub mod FuncsAside
+pub mod Stubbed
 mod Examples
 mod LeavesRows
 mod LoadedRows

@@ -31,7 +31,7 @@ use Rattle.wasm_meaning.specs.Linking.{has_kind, places, space_index, sites_in, 
 use Rattle.wasm_meaning.specs.Environment.{Environment, Thing, FuncAt, TableAt, MemoryAt, GlobalAt, owned_of, owned_at, own_funcs, own_memories, own_globals, all_of}
 use Rattle.wasm_meaning.specs.World.{Begun, Filled, all_there, address_of, address_in, own_count, defined_count, numbers, const_value, value_of, value_of_read, new_func, new_elem, store_with, joined_stores, own_store, is_match, is_matched, run_elem, run_elem_with, run_data, run_data_with, and_then, one_by_one, segments, starts_of, start_in, space, instantiate}
 use Rattle.wasm_meaning.specs.World as world
-use Rattle.wasm_meaning.specs.InTurn.{own_thing, all_match, addresses_of, added, added_as, own_segments, next_inst}
+use Rattle.wasm_meaning.specs.InTurn.{Added, own_thing, all_match, addresses_of, added, added_as, own_segments, next_inst}
 use Rattle.wasm_meaning.specs.Loader.{LoaderWorld, placeholders_of, placeholders_from, store_under, supplied, begun_of, begun_under}
 use Rattle.index_remap.specs.Related.{Pairing, BothRel, FuncRel, StoreRel}
 use Rattle.index_remap.specs.RelatedRuns.{ThingRel}
@@ -40,7 +40,7 @@ use Rattle.world_simulation.specs.Alone.{one, site, thing_in, addresses}
 use Rattle.world_simulation.specs.Alone as alone
 use Rattle.world_simulation.specs.Owned.{SharesOwn}
 use Rattle.world_simulation.specs.Leaves.{contents, elem_copy, elem_copies, data_copy, data_copies}
-use Rattle.world_simulation.specs.Loaded.{primary_world, LoadersBeginAsTheirPrimary}
+use Rattle.world_simulation.specs.Loaded.{LoadersHaveTheirPrimarysInstance, primary_world, LoadersBeginAsTheirPrimary}
 use Rattle.world_simulation.proofs.Places.{opt_self, self_rel, both_in}
 use Rattle.world_simulation.proofs.Alone.{key_is, thing_is, space_is, read_is}
 use Rattle.world_simulation.proofs.Owned.{own_funcs_rel, own_tables_rel, own_globals_rel}
@@ -56,10 +56,10 @@ use Rattle.world_simulation.proofs.Leaves.{tables, memories, copies_in_turn, ele
 -- ---- the environment's own entities stand for themselves ----
 
 module _ (env : Environment) where
-  abbrev shared : Space → ℕ → ℕ → Bool
+  abbrev pub shared : Space → ℕ → ℕ → Bool
   shared k a b = nat_eq a b && nat_lt a (own_count k env)
 
-  abbrev R : Pairing
+  abbrev pub R : Pairing
   R = passed shared shared []
 
   shared_is : (k : Space) (a b : ℕ) → R.of k a b → (a ≡ b) × (a < own_count k env)
@@ -68,13 +68,13 @@ module _ (env : Environment) where
   is_shared : (k : Space) (a : ℕ) → a < own_count k env → R.of k a a
   is_shared k a l = and_from (nat_eq a a) _ (eq-eqb a a refl) (lt-ltb a (own_count k env) l)
 
-  shares : SharesOwn R env
+  pub shares : SharesOwn R env
   shares = record { funcs = is_shared Functions; tables = is_shared Tables; mems = is_shared Memories; globals = is_shared Globals }
 
   shared_at : {A : Type 0} {P : A → A → Type 0} (k : Space) (xs : List A) (a b : ℕ) → ((n : ℕ) → n < own_count k env → BothRel P (slice_get xs n) (slice_get xs n)) → R.of k a b → BothRel P (slice_get xs a) (slice_get xs b)
   shared_at {P = P} k xs a b h r = let e = shared_is k a b r in subst (λ b. BothRel P (slice_get xs a) (slice_get xs b)) e.0 (h a e.1)
 
-  own_like : StoreRel R (own_store env) (own_store env)
+  pub own_like : StoreRel R (own_store env) (own_store env)
   own_like = record {
     types = λ {a} {b} r. type_same R (funcs a b r);
     owns = λ {a} {b} r. own_same R (funcs a b r);
@@ -259,10 +259,10 @@ seen : (i : Inst) (view : List (Text × ExportDesc)) → all_there (world.seen_a
 seen i [] = refl
 seen i (v ∷ view) = ap (λ p. option_and_then (λ y. option_and_then (λ ys. Some (y ∷ ys)) p) (address_in i v.1 >>= λ x. Some (v.0, x))) (seen i view)
 
-nothing_supplied : (env : Environment) (w : LoaderWorld) → placeholders_of w ≡ [] → (i : Import) → supplied env w i ≡ own_thing (owned_of env) w.primary i
+pub nothing_supplied : (env : Environment) (w : LoaderWorld) → placeholders_of w ≡ [] → (i : Import) → supplied env w i ≡ own_thing (owned_of env) w.primary i
 nothing_supplied env w none i = rw none refl
 
-store_is : (env : Environment) (w : LoaderWorld) → placeholders_of w ≡ [] → store_under env w ≡ own_store env
+pub store_is : (env : Environment) (w : LoaderWorld) → placeholders_of w ≡ [] → store_under env w ≡ own_store env
 store_is env w none = ap (λ ps. record (own_store env) { funcs = own_funcs env ++ placeholders_from 0 ps }) none ∙ ap (λ fs. record (own_store env) { funcs = fs }) (append-nil (own_funcs env))
 
 -- instantiated alone, begun under the loader
@@ -362,3 +362,17 @@ begins_as_primary env w none = by (instantiate env (primary_world w)) refl (begu
     by (Some b) e p f = forth env w b none e ∙ sym e
     by None e None f = f ∙ sym e
     by None e (Some b) f = f ∙ sym (back env w b none f)
+
+-- the instance is that of the world
+pub primary_inst : LoadersHaveTheirPrimarysInstance
+primary_inst env w none a h =
+    let m = w.primary in
+    let is = ap₂ (λ o s. option_and_then (added s m) o) (sym (all_there_same (nothing_supplied env w none) m.imports)) (sym (store_is env w none)) ∙ h in
+    let things = and_then_is (all_there (own_thing (owned_of env) m) m.imports) (added (own_store env) m) a is in
+    let good = cond_good (all_match (own_store env) m m.imports things.0) _ a things.2 in
+    let f = all_found env m (own_store env) (own_like env) (matched_all env m (own_store env) (own_like env) m.imports 0 things.0 (all_places env m) things.1 good.0) in
+    let j = next_inst (own_store env) m f.things in
+    let added_is : added_as (own_store env) m j ≡ Some a = ap (λ xs. added_as (own_store env) m (next_inst (own_store env) m xs)) (same_Some _ _ (sym f.are ∙ things.1)) ∙ good.1 in
+    let t = and_then_is (store_with (const_value (own_globals env) j) m j) _ a added_is in
+    let inst : j ≡ a.inst = ap (λ (a : Added). a.inst) (same_Some _ _ t.2) in
+    ap (λ o. option_and_then (λ i. Some (i ∷ [])) o) (inst_found env m f) ∙ ap (λ i. Some (i ∷ [])) inst

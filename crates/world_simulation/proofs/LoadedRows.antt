@@ -1,12 +1,15 @@
 -- A loader that supplies something begins where its primary module alone is not linked; one that supplies nothing begins as that module.
-use Rattle.std.proofs.Common.{◌≡◌, refl, List, [], ◌∷◌, None, true, false}
+use Rattle.std.proofs.Common.{◌≡◌, refl, List, [], ◌∷◌, Some, None, Bool, true, false}
+use Rattle.base_lists.specs.Options.{◌>>=◌}
 use Rattle.wasm_tree.specs.declared.types.FuncType.{FuncType}
 use Rattle.wasm_tree.specs.declared.module.Import.{Import}
 use Rattle.wasm_tree.specs.declared.module.ImportDesc.TheVariants as im
 use Rattle.wasm_tree.specs.declared.module.Module.{Module}
+use Rattle.wasm_meaning.specs.State.{Func, Placeholder}
 use Rattle.wasm_meaning.specs.World.{is_there, links, instantiate}
 use Rattle.wasm_meaning.specs.Loader.{Secondary, LoaderWorld, begun_under}
 use Rattle.world_simulation.specs.Loaded.{primary_world}
+use Rattle.world_simulation.specs.Stubbed.{ImportsThemLast, stubbed, placeholders_begun}
 
 abbrev nothing : FuncType
 nothing = record { params = []; results = [] }
@@ -40,3 +43,22 @@ nor_is_it_linked = refl
 -- without an import both begin alike
 without_an_import : begun_under [] (record (loading []) { primary = importing [] }) ≡ instantiate [] (primary_world (record (loading []) { primary = importing [] }))
 without_an_import = refl
+
+-- ---- a function in place of the placeholder ----
+
+its_placeholder_is_last : ImportsThemLast (loading a_placeholder) [] (0 ∷ [])
+its_placeholder_is_last = record { slots = one_import ∷ []; all = refl; own = tt; placeholders = (refl, refl, refl, tt) }
+
+it_begins_as_with_a_function : begun_under [] (loading a_placeholder) ≡ begun_under [] (stubbed (loading a_placeholder) [] (0 ∷ [])) >>= λ b. Some (placeholders_begun [] (loading a_placeholder) b)
+it_begins_as_with_a_function = refl
+
+-- but for the placeholder itself
+abbrev has_placeholder : List Func → Bool
+has_placeholder (Placeholder slot ty ∷ fs) = true
+has_placeholder fs = false
+
+it_has_the_placeholder : begun_under [] (loading a_placeholder) >>= (λ b. Some (has_placeholder b.store.funcs)) ≡ Some true
+it_has_the_placeholder = refl
+
+the_other_has_a_function : begun_under [] (stubbed (loading a_placeholder) [] (0 ∷ [])) >>= (λ b. Some (has_placeholder b.store.funcs)) ≡ Some false
+the_other_has_a_function = refl

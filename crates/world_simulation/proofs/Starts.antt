@@ -1,4 +1,4 @@
--- Starts one run_after the other, and one start that calls them.
+-- Starts one after the other, and one start that calls them.
 use Rattle.std.proofs.Common.{◌≡◌, ℕ, ◌+◌, List, [], ◌∷◌, ◌++◌, Some, None, Bool, true, false, cond, map, refl, ap, subst, arith, slice_get, Option, option_and_then}
 use Rattle.wasm_tree.specs.declared.instr.Instr.{out-Instr}
 use Rattle.wasm_tree.specs.declared.instr.Instr.TheVariants as i
@@ -36,7 +36,7 @@ still_named : {s t : Store} {j : Inst} {ns xs : List ℕ} → t.funcs ≡ s.func
 still_named e nil = nil
 still_named {s = s} {t = t} e (cons {a = n} {b = a} x l) = cons (record { named = x.named; typed = rw e x.typed }) (still_named e l)
 
--- Runs with the starts one run_after the other, and with the one start; the second has so many steps left to make alone.
+-- Runs with the starts one after the other, and with the one start; the second has so many steps left to make alone.
 data Alike : (d e : ℕ) → Run → Run → Type 0 where
   the_same : {d e : ℕ} (r : Run) → Alike d e r r
   fresh : {e : ℕ} (env : Environment) (b : Begun) (a : ℕ) (moves : List Move) → CallsEach b.store a b.starts → Alike 2 e (fresh_run env (Some b) moves) (fresh_run env (Some (record b { starts = a ∷ [] })) moves)

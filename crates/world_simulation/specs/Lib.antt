@@ -10,3 +10,5 @@ pub mod Unreachable
 pub mod Added
 pub mod Leaves
 pub mod Loaded
+pub mod LoaderSteps
+pub mod Stubbed

@@ -1,8 +1,9 @@
 -- A loader that supplies nothing.
-use Rattle.std.specs.Prelude.{◌≡◌, [], map}
+use Rattle.std.specs.Prelude.{◌≡◌, [], ◌∷◌, map, Some}
 use Rattle.wasm_meaning.specs.Environment.{Environment}
-use Rattle.wasm_meaning.specs.World.{World, instantiate}
-use Rattle.wasm_meaning.specs.Loader.{LoaderWorld, placeholders_of, begun_under}
+use Rattle.wasm_meaning.specs.InTurn.{Added}
+use Rattle.wasm_meaning.specs.World.{World, insts_from, instantiate}
+use Rattle.wasm_meaning.specs.Loader.{LoaderWorld, placeholders_of, primary_added, begun_under}
 use Rattle.world_simulation.specs.Alone.{one}
 
 -- its primary module alone, with the view
@@ -12,3 +13,7 @@ primary_world w = record { parts = one w.primary; view = map (λ v. (v.0, record
 -- The loader's world begins as that world does, where the environment links it and where not.
 abbrev pub LoadersBeginAsTheirPrimary : Type 0
 LoadersBeginAsTheirPrimary = (env : Environment) (w : LoaderWorld) → placeholders_of w ≡ [] → begun_under env w ≡ instantiate env (primary_world w)
+
+-- And its instance is the one of that world.
+abbrev pub LoadersHaveTheirPrimarysInstance : Type 0
+LoadersHaveTheirPrimarysInstance = (env : Environment) (w : LoaderWorld) → placeholders_of w ≡ [] → (a : Added) → primary_added env w ≡ Some a → insts_from env (one w.primary) 0 (one w.primary) ≡ Some (a.inst ∷ [])

@@ -11,7 +11,8 @@ ghost use Rattle.world_simulation.specs.Alone.{
 };
 ghost use Rattle.world_simulation.specs.Instances.{RelatedBegunShowTheSame, RelatedInstancesShowTheSame};
 ghost use Rattle.world_simulation.specs.Leaves.{AddedModulesLeave, ModulesAloneLeave, PrimaryModulesLeave};
-ghost use Rattle.world_simulation.specs.Loaded.{LoadersBeginAsTheirPrimary};
+ghost use Rattle.world_simulation.specs.Loaded.{LoadersBeginAsTheirPrimary, LoadersHaveTheirPrimarysInstance};
+ghost use Rattle.world_simulation.specs.LoaderSteps.{LoadersGoAsTheirRun, LoadersStepAsTheirRun, PlaceholdersAreAnswered};
 ghost use Rattle.world_simulation.specs.Named.{FittingCodeIsNamed, KeptCodeIsNamed};
 ghost use Rattle.world_simulation.specs.Owned.{OwnEntitiesCorrespond};
 ghost use Rattle.world_simulation.specs.Simulation.{
@@ -22,6 +23,7 @@ ghost use Rattle.world_simulation.specs.Simulation.{
   WhatIsInstantiated,
 };
 ghost use Rattle.world_simulation.specs.Starts.{OneStartMayCallSeveral};
+ghost use Rattle.world_simulation.specs.Stubbed.{LoadersAddAsStubbed, LoadersBeginAsStubbed};
 ghost use Rattle.world_simulation.specs.Unreachable.{UnreachableFunctionsAreNotSeen};
 
 use index_remap::{related_runs_show_the_same, steps_agree};
@@ -110,7 +112,24 @@ pub fn modules_leave_what_they_say()
     ensures primary { PrimaryModulesLeave }
 {}
 
-/// A loader that supplies nothing begins as its primary module alone is instantiated, with the loader's view, and where one is not linked neither does the other begin.
+/// A loader that supplies nothing begins as its primary module alone is instantiated, with the loader's view, and where one is not linked neither does the other begin
+/// (`begin`); and it has the instance of the primary module alone (`inst`).
 pub fn loaders_begin_as_their_primary()
     ensures begin { LoadersBeginAsTheirPrimary }
+    ensures inst { LoadersHaveTheirPrimarysInstance }
+{}
+
+/// A step under a loader that calls no placeholder is the step of its run (`step`), and so are several (`steps`). One that calls a placeholder of a secondary module that can
+/// be loaded, or was, goes on in the function that is then in its slot, with the same arguments (`answered`).
+pub fn loaders_step_as_their_run()
+    ensures step { LoadersStepAsTheirRun }
+    ensures steps { LoadersGoAsTheirRun }
+    ensures answered { PlaceholdersAreAnswered }
+{}
+
+/// A loader whose primary module imports its placeholders behind all else has the instance, and begins as, one that supplies nothing and whose primary module has functions of
+/// its own in their place, but for the placeholders themselves (`added`, `begin`): where one is linked so is the other, and where one traps so does the other.
+pub fn loaders_begin_as_with_stubs()
+    ensures added { LoadersAddAsStubbed }
+    ensures begin { LoadersBeginAsStubbed }
 {}

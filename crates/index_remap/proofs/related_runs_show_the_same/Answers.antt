@@ -1,4 +1,4 @@
-use Rattle.index_remap.specs.Laws.{passed}
+use Rattle.index_remap.specs.Laws.{passed_with}
 use Rattle.index_remap.proofs.Lockstep.{ticks_together}
 use Rattle.index_remap.proofs.SameRuns.{together, same_events}
 use Rattle.index_remap.proofs.related_runs_show_the_same.Goals as goal
@@ -8,5 +8,5 @@ returns c = record {
   events = λ of apart r q h n. same_events of apart n r q h;
   ticks = λ of apart r q h. (together of apart r q h).out;
   others = λ of apart r q h begun. let o = together of apart r q h in (o.second begun, o.first begun);
-  listed = λ of named l apart r q h skips known. ticks_together (passed of named l) apart r q h skips known;
+  listed = λ of named l stands apart r q h skips known. ticks_together (passed_with of named l stands) apart r q h skips known;
 }

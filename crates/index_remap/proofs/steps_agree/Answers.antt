@@ -1,4 +1,4 @@
-use Rattle.index_remap.specs.Laws.{passed}
+use Rattle.index_remap.specs.Laws.{passed, passed_with}
 use Rattle.index_remap.proofs.AboveSteps.{step_above, traps_agree}
 use Rattle.index_remap.proofs.Known.{entries_known}
 use Rattle.index_remap.proofs.Shown.{show_all_rel}
@@ -15,7 +15,7 @@ returns c = record {
   shown = λ of named l apart s t vs ws xs ys h v x. show_all_rel (passed of named l) apart h v xs ys x;
   traps = λ of named l. traps_agree (passed of named l);
   code = λ of named l m i j code h. renumbered_rel (passed of named l) m i j code h;
-  replaced = λ of named l m i j types labels listed codes is js h k. replaced_rel (passed of named l) m i j types listed codes labels is js h k;
+  replaced = λ of named l stands m i j types labels listed codes is js may h k. replaced_rel (passed_with of named l stands) m i j types listed codes may labels is js h k;
   unlisted = unlisted_renumbered;
   itself = λ of named l i code h. code_self (passed of named l) i h code;
   typed = replaced_typed;

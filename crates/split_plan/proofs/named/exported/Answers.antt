@@ -1,6 +1,6 @@
 use Rattle.std.proofs.Common.{List, sym, ◌∙◌, arith}
 use Rattle.std.specs.Prelude.{option_map}
-use Rattle.std.proofs.lemmas.Map.Text.{btree_map_updates_str}
+use Rattle.std.proofs.lemmas.Map.Text.{hash_map_updates_str}
 use Rattle.wasm_tree.specs.declared.module.Export.{Export}
 use Rattle.split_plan.specs.declared.named.Named.TheVariants.{Exported}
 use Rattle.split_plan.specs.Words.{exported_among}
@@ -9,7 +9,7 @@ use Rattle.split_plan.proofs.named.exported.Goals as goal
 
 pub loop-at-preserved-in_ok-insert : goal.loop-at-preserved-in_ok-insert
 loop-at-preserved-in_ok-insert c = λ word.
-    let now = btree_map_updates_str c.as_str.result.now c.loop-at.table c.insert.new.self _ c.in_ok-insert.ensures.updates word in
+    let now = hash_map_updates_str c.as_str.result.now c.loop-at.table c.insert.new.self _ c.in_ok-insert.ensures.updates word in
     let step = at_one_before (λ (es : List Export). option_map Exported (exported_among c.args.module.now es word)) c.as_slice-exports.result.now c.loop-at.at c.index-exports-at.result (omega arith) c.loop-at.auto.at c.index-exports-at.is in
     let is = sym (rw (c.requires.first, c.requires.end) at c.has_export.ensures) ∙ c.if-has_export.true in
     rw (now, c.loop-at.invariant word, c.as_str.ensures.text, c.index.ensures) (sym (step ∙ export_enters c.args.module.now c.index-exports-at.result _ word is))

@@ -1,7 +1,11 @@
-use Rattle.std.proofs.Common.{◌≡◌}
+use Rattle.std.proofs.Common.{◌≡◌, ◌≤◌, ℕ, ◌<◌, false, length, slice_get, Some}
 use Rattle.base_lists.proofs.Walk.{part}
-use Rattle.split_slots.specs.Replacing.{code_of_call, inside}
+use Rattle.wasm_tree.specs.declared.instr.Instr.{Instr}
+use Rattle.split_slots.specs.Replacing.{is_spread, settled}
 use Rattle.split_slots.proofs.calls.+replace.Given as goal
 
 abbrev pub invariant-replace_calls-loop-at : goal.invariant-replace_calls-loop-at
-invariant-replace_calls-loop-at l = l.body ≡ part (inside (code_of_call l.calls)) l.initial.body l.at
+invariant-replace_calls-loop-at l =
+    (l.body ≡ part (settled l.calls) l.initial.body l.at)
+    × (l.first ≤ length l.initial.body)
+    × ((k : ℕ) (i : Instr) → k < l.first → k < l.at → slice_get l.initial.body k ≡ Some i → is_spread l.calls i ≡ false)

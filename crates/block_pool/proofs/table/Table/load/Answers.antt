@@ -6,15 +6,15 @@ use Rattle.block_pool.proofs.Reading.{block_part, zero_part}
 use Rattle.block_pool.proofs.Spelled.{little_zero}
 use Rattle.block_pool.proofs.table.Table.load.Goals as goal
 
-pub returns-in-Some : goal.returns-in-Some
-returns-in-Some c =
+pub returns-in-Some-clause-value : goal.returns-in-Some-clause-value
+returns-in-Some-clause-value c =
     let at : ℕ = c.args.at in
     let xs : List ℕ = (pages_of c.args.self.now).now.bytes in
     let e : 4096 * (at / 4096) + at % 4096 ≡ at = omega arith in
-    c.number.ensures ∙ ap little (next_piece c.in-Some.bytes.now (at % 4096) c.args.width ∙ (block_part c.args.self.now (at / 4096) (at % 4096) c.args.width (omega arith) (omega arith) c.in-Some.bytes.now c.in-Some.ensures.some ∙ ap (λ a. part xs a c.args.width) e))
+    c.number.ensures.value ∙ ap little (next_piece c.in-Some.bytes.now (at % 4096) c.args.width ∙ (block_part c.args.self.now (at / 4096) (at % 4096) c.args.width (omega arith) (omega arith) c.in-Some.bytes.now c.in-Some.ensures.some ∙ ap (λ a. part xs a c.args.width) e))
 
-pub returns-in-None : goal.returns-in-None
-returns-in-None c =
+pub returns-in-None-clause-value : goal.returns-in-None-clause-value
+returns-in-None-clause-value c =
     let at : ℕ = c.args.at in
     let xs : List ℕ = (pages_of c.args.self.now).now.bytes in
     let e : 4096 * (at / 4096) + at % 4096 ≡ at = omega arith in

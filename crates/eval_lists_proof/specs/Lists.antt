@@ -1,0 +1,20 @@
+-- The evaluation of a list of constructors, and of the list with one more.
+use Rattle.std.specs.Prelude.{◌≡◌, ℕ, List, [], ◌∷◌, ◌++◌}
+use Rattle.wasm_tree.specs.declared.module.Module.{Module}
+use Rattle.eval_spec.specs.declared.limits.TheConstants.{MOST_TURNS}
+use Rattle.eval_spec.specs.State.{State, Finished}
+use Rattle.eval_spec.specs.Quiet.{call_end}
+use Rattle.eval_spec.specs.Instantiation.{booted}
+use Rattle.eval_spec.specs.Evaluation.{evaluated}
+
+-- From the state after the quiet run of a list, a call that comes to its end gives the state after the quiet run of the list with the function added.
+abbrev pub AddedAreEvaluated : Type 0
+AddedAreEvaluated = (m : Module) (funcs : List ℕ) (func : ℕ) (s t : State) → evaluated m funcs ≡ Finished s → call_end m s func ≡ Finished t → evaluated m (funcs ++ func ∷ []) ≡ Finished t
+
+-- And where the run of the longer list is quiet, that of the list is, and the call from its state comes to its end.
+abbrev pub EvaluatedAreAdded : Type 0
+EvaluatedAreAdded = (m : Module) (funcs : List ℕ) (func : ℕ) (t : State) → evaluated m (funcs ++ func ∷ []) ≡ Finished t → (s : State) × (evaluated m funcs ≡ Finished s) × (call_end m s func ≡ Finished t)
+
+-- The run of no constructor is that of the instantiation with the start.
+abbrev pub NoneIsTheInstantiation : Type 0
+NoneIsTheInstantiation = (m : Module) → evaluated m [] ≡ booted m MOST_TURNS

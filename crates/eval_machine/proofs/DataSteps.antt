@@ -1,0 +1,57 @@
+-- Data segments: their bytes, and data.drop.
+use Rattle.std.proofs.Common.{◌≡◌, ℕ, arith, List, ◌∷◌, length, slice_get, slice_set, Bool, true, false, Option, Some, None, refl, sym, ap, ◌∙◌}
+use Rattle.std.specs.Prelude.{nat_lt}
+use Rattle.std.proofs.lemmas.Bool.{le-ltb}
+use Rattle.std.proofs.lemmas.Option.{slice_get_past, slice_get_within}
+use Rattle.base_lists.proofs.Numbers.{length-numbers}
+use Rattle.base_lists.proofs.Walk.{none_past}
+use Rattle.wasm_tree.specs.declared.space.Space.TheVariants.{DataSegments}
+use Rattle.wasm_tree.specs.declared.module.ImportDesc.{ImportDesc}
+use Rattle.wasm_tree.specs.declared.module.ImportDesc.TheVariants as im
+use Rattle.wasm_tree.specs.declared.module.Module.{Module}
+use Rattle.wasm_tree.specs.declared.instr.Instr.TheVariants as i
+use Rattle.wasm_tree.specs.declared.instr.Instr.{Instr}
+use Rattle.wasm_tree.specs.declared.instr.Instr.TheOpen.{Instr-F}
+use Rattle.wasm_tree.specs.Operands.{same_space}
+use Rattle.wasm_tree.specs.Spaces.{space_of_import}
+use Rattle.wasm_meaning.specs.Outcomes.{Gives}
+use Rattle.wasm_meaning.specs.State.{Val, Entry, Running, Goes, DropData}
+use Rattle.eval_spec.specs.declared.stop.Stop.TheVariants as why
+use Rattle.eval_spec.specs.State.{Going}
+use Rattle.eval_spec.specs.Instantiation.{own_inst}
+use Rattle.eval_machine.specs.declared.kept.Kept.{Kept}
+use Rattle.eval_machine.specs.declared.registers.Registers.{Registers}
+use Rattle.eval_machine.specs.Flows.{Place, body_at, frame_at}
+use Rattle.eval_machine.specs.Kept.{Fits, state_in, store_in}
+use Rattle.eval_machine.specs.Instructions.{BeginsWith, done_by}
+use Rattle.eval_machine.proofs.Imports.{address_of}
+use Rattle.eval_machine.proofs.Instructions.{IsStill, by_layer, ends_trap, still}
+use Rattle.eval_machine.proofs.Openings.{none_of}
+use Rattle.eval_machine.proofs.PouredState.{data_dropped}
+
+pub data_kind : (d : ImportDesc) → same_space DataSegments (space_of_import d) ≡ false
+data_kind (im.Func t) = refl
+data_kind (im.Table t) = refl
+data_kind (im.Memory t) = refl
+data_kind (im.Global t) = refl
+
+pub none_before : (n : ℕ) → nat_lt n 0 ≡ false
+none_before n = le-ltb n 0 (omega arith)
+
+module _ (m : Module) (k : Kept) (f : Fits m k) (n : ℕ) (vs : List Val) where
+  drop_still : (ls : List Val) (rest : List Instr) (p : Place) (es : List Entry) (o : Option ℕ) → slice_get (own_inst m).datas n ≡ o → IsStill m (record { kept = k; operands = vs; locals = ls }) (i.DataDrop n) (Instr-F.DataDrop n) rest p es
+  drop_still ls rest p es None a = record { grow = refl; table = refl; unknown = rw (none_of DataSegments data_kind m.imports 0, none_before n); import = refl; further = rw a; opens = refl; few = rw a; written = rw a }
+  drop_still ls rest p es (Some x) a = record { grow = refl; table = refl; unknown = rw (none_of DataSegments data_kind m.imports 0, none_before n); import = refl; further = rw a; opens = refl; few = rw a; written = rw a }
+
+  pub drop_missing : slice_get k.dropped n ≡ None → BeginsWith m (i.DataDrop n) k vs (Some why.Trap) k vs
+  drop_missing e = λ ls rest p es.
+      let none : slice_get (own_inst m).datas n ≡ None = slice_get_past (own_inst m).datas n (omega (arith, none_past k.dropped n (sym e), f.dropped, length-numbers 0 (length m.datas))) in
+      ends_trap m (record { kept = k; operands = vs; locals = ls }) (i.DataDrop n) (Instr-F.DataDrop n) rest p es (i.outs-DataDrop n) (drop_still ls rest p es None none) (rw none)
+
+  pub drop_goes : (b : Bool) → slice_get k.dropped n ≡ Some b → BeginsWith m (i.DataDrop n) k vs None (record k { dropped = slice_set k.dropped n true }) vs
+  drop_goes b e = λ ls rest p es.
+      let now : Registers = record { kept = k; operands = vs; locals = ls } in
+      let at : slice_get (own_inst m).datas n ≡ Some n = address_of (length m.datas) n (omega (arith, slice_get_within k.dropped n b e, f.dropped)) in
+      let done : done_by m now (Instr-F.DataDrop n) rest p ≡ Gives (Goes (DropData n) (body_at now rest p)) = rw at in
+      by_layer m now (i.DataDrop n) (Instr-F.DataDrop n) rest p es _ (i.outs-DataDrop n) (still m now (i.DataDrop n) (Instr-F.DataDrop n) rest p es (drop_still ls rest p es (Some n) at) (done_by m now (Instr-F.DataDrop n) rest p)
+      ∙ rw done (ap (λ a. Going (record (state_in m k) { store = record (store_in m k) { datas = a } }) (Running (frame_at m now rest p) ∷ es)) (data_dropped m.datas k.dropped n)))

@@ -1,0 +1,36 @@
+-- References to functions, and slots and sizes of tables.
+use Rattle.std.proofs.Common.{◌≡◌, ℕ, ◌<◌, ◌≤◌, arith, List, ◌∷◌, length, slice_get, Bool, false, Some, None, refl, inl, inr, IsTrue}
+use Rattle.std.proofs.lemmas.Bool.{cases_lt}
+use Rattle.std.proofs.lemmas.Option.{slice_get_past}
+use Rattle.base_lists.proofs.Numbers.{length-numbers}
+use Rattle.wasm_tree.specs.declared.instr.Instr.TheVariants as i
+use Rattle.wasm_tree.specs.declared.instr.Instr.{Instr}
+use Rattle.wasm_tree.specs.declared.instr.Instr.TheOpen.{Instr-F}
+use Rattle.wasm_tree.specs.declared.module.Module.{Module}
+use Rattle.wasm_tree.specs.Spaces.{funcs_of}
+use Rattle.wasm_meaning.specs.State.{FuncRef, Val, Ref, Entry}
+use Rattle.eval_spec.specs.declared.stop.Stop.TheVariants as why
+use Rattle.eval_spec.specs.Instantiation.{own_inst}
+use Rattle.eval_machine.specs.declared.kept.Kept.{Kept}
+use Rattle.eval_machine.specs.Flows.{Place}
+use Rattle.eval_machine.specs.Instructions.{BeginsWith}
+use Rattle.eval_machine.proofs.Imports.{address_of}
+use Rattle.eval_machine.proofs.Instructions.{IsStill, ends_on, ends_trap}
+
+module _ (m : Module) (k : Kept) (n : ℕ) (vs us : List Val) where
+  ref_still : (ls : List Val) (rest : List Instr) (p : Place) (es : List Entry) → IsStill m (record { kept = k; operands = vs; locals = ls }) (i.RefFunc n) (Instr-F.RefFunc n) rest p es
+  ref_still ls rest p es = record { grow = refl; table = refl; unknown = refl; import = refl; further = refl; opens = refl; few = refl; written = refl }
+
+  pub ref_missing : length (funcs_of m) ≤ n → BeginsWith m (i.RefFunc n) k vs (Some why.Trap) k us
+  ref_missing le = λ ls rest p es.
+      let none : slice_get (own_inst m).funcs n ≡ None = slice_get_past (own_inst m).funcs n (omega (arith, le, length-numbers 0 (length (funcs_of m)))) in
+      ends_trap m (record { kept = k; operands = vs; locals = ls }) (i.RefFunc n) (Instr-F.RefFunc n) rest p es (i.outs-RefFunc n) (ref_still ls rest p es) (rw none)
+
+  pub ref_there : n < length (funcs_of m) → BeginsWith m (i.RefFunc n) k vs None k (Ref (FuncRef (Some n)) ∷ vs)
+  ref_there lt = λ ls rest p es.
+      let at : slice_get (own_inst m).funcs n ≡ Some n = address_of (length (funcs_of m)) n lt in
+      ends_on m (record { kept = k; operands = vs; locals = ls }) (i.RefFunc n) (Instr-F.RefFunc n) rest p es (i.outs-RefFunc n) (ref_still ls rest p es) (record { kept = k; operands = Ref (FuncRef (Some n)) ∷ vs; locals = ls }) (rw at) refl
+
+-- what a test that holds below a number says where it does not hold
+pub not_below : (n k : ℕ) (b : Bool) → b ≡ false → (n < k → IsTrue b) → k ≤ n
+not_below n k b e h = elim (cases_lt n k) [ inl lt ↦ absurd (let q = h lt in cc) | inr le ↦ le ]

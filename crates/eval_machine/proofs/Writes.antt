@@ -1,0 +1,41 @@
+-- Which blocks a write reaches, and the stops that it is tested for.
+use Rattle.std.proofs.Common.{◌≡◌, ℕ, ◌+◌, ◌-◌, ◌/◌, ◌≤◌, arith, [], ◌∷◌, length, Bool, true, false, Some, None, ap, inl, inr}
+use Rattle.std.specs.Prelude.{count_by, nat_lt}
+use Rattle.std.proofs.lemmas.Bool.{le-ltb, lt-ltb}
+use Rattle.std.proofs.lemmas.List.Sums.{count_by-le-length}
+use Rattle.block_pool.specs.Pages.{IsWidth, Pages, Passes, size, with_reached}
+use Rattle.block_pool.proofs.Reached.{reached_length}
+use Rattle.eval_spec.specs.declared.limits.TheConstants.{MOST_BLOCKS}
+use Rattle.eval_spec.specs.declared.stop.Stop.TheVariants as why
+use Rattle.eval_spec.specs.State.{first_held}
+use Rattle.eval_spec.specs.Stops.{test, too_many_blocks}
+use Rattle.eval_machine.specs.Written.{HoldsMost, bounds_tests, told_of, write_tests}
+
+-- more blocks than the pages may write are more than an evaluation may
+pub passes_too_many : (p : Pages) (place count : ℕ) → HoldsMost p → Passes p place count → too_many_blocks (with_reached place count 0 p.now.written) ≡ true
+passes_too_many p place count h q =
+    let le : count_by (λ w. w) (with_reached place count 0 p.now.written) ≤ length p.now.written = omega (arith, count_by-le-length (λ w. w) (with_reached place count 0 p.now.written), reached_length place count 0 p.now.written) in
+    lt-ltb MOST_BLOCKS (count_by (λ w. w) (with_reached place count 0 p.now.written)) (omega (arith, le, h, q))
+
+told_at : (a b c : Bool) (turns left rest : ℕ) → (None, left) ≡ told_of (first_held (test a why.Trap turns ∷ test b why.Steps turns ∷ [])) rest → c ≡ true →
+    (Some why.Memory, left) ≡ told_of (first_held (test a why.Trap turns ∷ test b why.Steps turns ∷ test c why.Memory rest ∷ [])) rest
+told_at true b c turns left rest e f = absurd (let k = ap (λ q. q.0) e in cc)
+told_at false true c turns left rest e f = absurd (let k = ap (λ q. q.0) e in cc)
+told_at false false c turns left rest e f = let g : left ≡ rest = ap (λ q. q.1) e in rw (f, g)
+
+pub told_memory : (p : Pages) (turns left place count : ℕ) → (None, left) ≡ told_of (first_held (bounds_tests turns (size p) place count)) (turns - count / 64) → HoldsMost p → Passes p place count →
+    (Some why.Memory, left) ≡ told_of (first_held (write_tests turns p place count)) (turns - count / 64)
+told_memory p turns left place count e h q = told_at (nat_lt (size p) (place + count)) (nat_lt turns (count / 64)) _ turns left (turns - count / 64) e (passes_too_many p place count h q)
+
+few_turns : (width : ℕ) → IsWidth width → width / 64 ≡ 0
+few_turns width (inl e) = rw e
+few_turns width (inr (inl e)) = rw e
+few_turns width (inr (inr (inl e))) = rw e
+few_turns width (inr (inr (inr e))) = rw e
+
+pub told_store : (p : Pages) (turns place width : ℕ) → place + width ≤ size p → IsWidth width → HoldsMost p → Passes p place width → (Some why.Memory, turns) ≡ told_of (first_held (write_tests turns p place width)) turns
+told_store p turns place width le w h q =
+    let inside : nat_lt (size p) (place + width) ≡ false = le-ltb (size p) (place + width) le in
+    let slow : nat_lt turns 0 ≡ false = le-ltb turns 0 (omega arith) in
+    let n : turns - 0 ≡ turns = omega arith in
+    rw (inside, few_turns width w, slow, n, passes_too_many p place width h q)

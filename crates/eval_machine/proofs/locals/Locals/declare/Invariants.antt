@@ -1,0 +1,8 @@
+use Rattle.std.proofs.Common.{◌≡◌, ◌++◌, map}
+use Rattle.wasm_meaning.specs.Outcomes.{copies}
+use Rattle.wasm_meaning.specs.Values.{zeros}
+use Rattle.eval_machine.specs.Held.{val_of}
+use Rattle.eval_machine.proofs.locals.Locals.declare.Given as goal
+
+abbrev pub invariant-loop : goal.invariant-loop
+invariant-loop l = map val_of l.self-inside.items ≡ map val_of l.initial.self-inside.items ++ zeros (copies l.counter l.ty)

@@ -1,0 +1,63 @@
+-- What the instantiation with the start, and the call of a constructor, leave in a machine.
+use Rattle.std.specs.Prelude.{◌≡◌, ℕ, ◌≤◌, Option, Some, None, Result, Ok}
+use Rattle.wasm_tree.specs.declared.module.Module.{Module}
+use Rattle.eval_spec.specs.declared.limits.TheConstants.{MOST_TURNS}
+use Rattle.eval_spec.specs.declared.stop.Stop.{Stop}
+use Rattle.eval_spec.specs.State.{Stopped, Finished, stop_of, left_behind}
+use Rattle.eval_spec.specs.Quiet.{call_end}
+use Rattle.eval_spec.specs.Instantiation.{booted}
+use Rattle.eval_machine.specs.declared.kept.Kept.{Kept}
+use Rattle.eval_machine.specs.declared.machine.Booted.{Booted}
+use Rattle.eval_machine.specs.declared.machine.Booted.TheVariants as booted
+use Rattle.eval_machine.specs.declared.machine.Ran.{Ran}
+use Rattle.eval_machine.specs.declared.machine.Ran.TheVariants as ran
+use Rattle.eval_machine.specs.Kept.{Rests, state_in}
+
+-- ---- the instantiation with the start ----
+
+-- it has come to this machine
+pub record IsReady (m : Module) (k : Kept) : Type 0 where
+  pub rests : Rests m k
+  pub ends : booted m MOST_TURNS ≡ Finished (state_in m k)
+
+-- something stops it
+abbrev pub StopsBoot : Module → Stop → Type 0
+StopsBoot m x = stop_of (booted m MOST_TURNS) ≡ Some x
+
+abbrev pub IfReady : (Kept → Type 0) → Booted → Type 0
+IfReady P (booted.Ready k) = P k
+IfReady P (booted.Stopped x) = Unit {0}
+
+abbrev pub IfNotReady : (Stop → Type 0) → Booted → Type 0
+IfNotReady P (booted.Ready k) = Unit {0}
+IfNotReady P (booted.Stopped x) = P x
+
+-- ---- the call of a function ----
+
+-- it has come to its end with this machine, or something stopped it and so many turns are left
+abbrev pub CallEnds : Module → (func : ℕ) → (old : Kept) → Option Stop → (new : Kept) → Type 0
+CallEnds m func old None new = call_end m (state_in m old) func ≡ Finished (state_in m new)
+CallEnds m func old (Some x) new = call_end m (state_in m old) func ≡ Stopped x new.turns
+
+-- something stops it, and the state is what it leaves behind: nothing but the turns is gone
+pub record StopsCall (m : Module) (func : ℕ) (old : Kept) (x : Stop) (new : Kept) : Type 0 where
+  pub stop : stop_of (call_end m (state_in m old) func) ≡ Some x
+  pub state : state_in m new ≡ left_behind (state_in m old) (call_end m (state_in m old) func)
+
+-- the same state, with no more turns left than before
+pub record IsLeft (m : Module) (old new : Kept) : Type 0 where
+  pub state : state_in m new ≡ record (state_in m old) { turns = new.turns }
+  pub turns : new.turns ≤ old.turns
+
+abbrev pub IfDone : Type 0 → Ran → Type 0
+IfDone P ran.Done = P
+IfDone P (ran.Stopped x) = Unit {0}
+
+abbrev pub IfStopped : (Stop → Type 0) → Ran → Type 0
+IfStopped P ran.Done = Unit {0}
+IfStopped P (ran.Stopped x) = P x
+
+-- something stopped it, or there was no memory
+abbrev pub IfNotDone : {E : Type 0} → Type 0 → Result Ran E → Type 0
+IfNotDone P (Ok ran.Done) = Unit {0}
+IfNotDone P _ = P

@@ -1,0 +1,12 @@
+pub mod Accesses
+pub mod Begun
+pub mod Calls
+pub mod Flows
+pub mod Held
+pub mod Instructions
+pub mod Kept
+pub mod Marks
+pub mod Read
+pub mod Slots
+pub mod Stays
+pub mod Written

@@ -1,0 +1,27 @@
+-- What of a machine no call changes while it is under way, and what no instruction changes.
+use Rattle.std.specs.Prelude.{◌≡◌, ◌≤◌, length, map, Option, Some, None}
+use Rattle.block_pool.specs.Pages.{Pages, size}
+use Rattle.eval_machine.specs.declared.kept.Kept.{Kept}
+use Rattle.eval_machine.specs.Held.{is_of_import}
+
+-- the size, the mark and how much may be written
+pub record PagesStay (old new : Pages) : Type 0 where
+  pub size : size new ≡ size old
+  pub blocks : length new.now.written ≡ length old.now.written
+  pub most : new.most ≡ old.most
+  pub mark : new.mark ≡ old.mark
+
+abbrev pub MemoryStays : Option Pages → Option Pages → Type 0
+MemoryStays None None = Unit {0}
+MemoryStays (Some p) (Some q) = PagesStay p q
+MemoryStays _ _ = ⊥
+
+-- places and types, the mark of the memory, and no turns come back
+pub record Stays (old new : Kept) : Type 0 where
+  pub slots : new.slots ≡ old.slots
+  pub imports : new.imports ≡ old.imports
+  pub dropped : length new.dropped ≡ length old.dropped
+  pub types : map (λ g. g.ty) new.globals ≡ map (λ g. g.ty) old.globals
+  pub imported : map (λ g. is_of_import g.standing) new.globals ≡ map (λ g. is_of_import g.standing) old.globals
+  pub memory : MemoryStays old.memory new.memory
+  pub turns : new.turns ≤ old.turns

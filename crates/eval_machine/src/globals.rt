@@ -1,0 +1,122 @@
+// The globals of a machine.
+
+ghost use Rattle.std.specs.Prelude.{◌≡◌, IfOk, IsSome, List, slice_get};
+ghost use Rattle.eval_machine.specs.Held.{Meets, constant_of, global_written, read_of};
+
+use crate::value::Value;
+use eval_spec::Stop;
+use std::alloc::Global;
+use std::marker::Model;
+use wasm_bytes::{Items, NoMemory};
+use wasm_tree::{ConstExpr, GlobalType};
+
+/// What is known of a global.
+#[derive(Clone, Copy, Debug, PartialEq, Eq)]
+pub enum Standing {
+    /// It is imported, and nothing is known of it.
+    Imported,
+    /// Its initialiser reads an import, and nobody has set it.
+    Unset,
+    /// Its value.
+    Known,
+}
+
+/// A global: where nothing is known of it, its value is a zero or null that is not read.
+#[derive(Clone, Copy, Debug, PartialEq, Eq)]
+pub struct GlobalSlot {
+    pub ty: GlobalType,
+    pub value: Value,
+    pub standing: Standing,
+}
+
+/// The globals of a module, by their indices.
+#[derive(Drop)]
+pub struct Globals {
+    items: Items<GlobalSlot>,
+}
+
+impl Model for Globals {
+    ghost use Rattle.std.specs.Prelude.{List};
+    ghost use Rattle.eval_machine.specs.declared.globals.GlobalSlot.{GlobalSlot};
+
+    ghost Value = { List GlobalSlot };
+
+    ghost view = { λ s. s.items };
+}
+
+impl Globals {
+    /// These globals.
+    pub(crate) fn of(items: Items<GlobalSlot>) -> Globals
+        ensures { result ≡ items }
+    {
+        Globals { items }
+    }
+
+    /// A copy of them.
+    pub(crate) fn copy(&self, alloc: Global) -> Result<Globals, NoMemory>
+        ensures { IfOk result (λ globals. globals ≡ self.now) }
+    {
+        let items = Items::from_slice(alloc, self.items.as_slice())?;
+        Ok(Globals { items })
+    }
+
+    /// `global.get` (WebAssembly Core 2.0, section 4.4.5): its value, or the stop.
+    pub fn get(&self, global: u32) -> Result<Value, Stop>
+        ensures { result ≡ read_of (slice_get self.now global) }
+    {
+        match self.items.get(global as usize) {
+            Some(slot) => {
+                match slot.standing {
+                    Standing::Known => Ok(slot.value),
+                    Standing::Imported | Standing::Unset => Err(Stop::Unknown),
+                }
+            }
+            None => Err(Stop::Trap),
+        }
+    }
+
+    /// The value of a global as a constant (section 3.3.10); none exactly where it is unknown or not there.
+    pub fn constant(&self, global: u32) -> Option<ConstExpr>
+        ensures { result ≡ constant_of (slice_get self.now global) }
+    {
+        match self.get(global) {
+            Ok(value) => Some(value.constant()),
+            Err(_) => None,
+        }
+    }
+
+    /// `global.set` (section 4.4.5) of a value, if there is one on top: from then on the global is known.
+    pub fn set(&mut self, global: u32, value: Option<Value>) -> Option<Stop>
+        ensures set { Meets (global_written self.old global value (slice_get self.old global)) result self.new }
+        ensures same { IsSome result → self.new ≡ self.old }
+    {
+        let Some(slot) = self.items.get(global as usize) else {
+            return Some(Stop::Trap);
+        };
+        let GlobalSlot {
+            ty,
+            value: _,
+            standing,
+        } = *slot;
+        if let Standing::Imported = standing {
+            return Some(Stop::Unknown);
+        }
+        let Some(value) = value else {
+            return Some(Stop::Trap);
+        };
+        if !(ty.mutable && value.has_type(ty.ty)) {
+            return Some(Stop::Trap);
+        }
+        match self.items.get_mut(global as usize) {
+            Some(slot) => {
+                *slot = GlobalSlot {
+                    ty,
+                    value,
+                    standing: Standing::Known,
+                };
+                None
+            }
+            None => Some(Stop::Trap),
+        }
+    }
+}

@@ -1,0 +1,183 @@
+ghost use Rattle.std.specs.Prelude.{◌≡◌, ◌<◌, ◌≤◌, ◌↔◌, ℕ, [], IfOk, IfSome, IsNone, Some, length, slice_get};
+ghost use Rattle.block_pool.specs.Pages.{IsNextNonzero, IsZeroFrom, Pages, size};
+ghost use Rattle.wasm_tree.specs.declared.module.Module.{Module};
+ghost use Rattle.eval_spec.specs.Told.{value_of_global, memory_bytes, is_dropped};
+ghost use Rattle.eval_machine.specs.Kept.{Fits, Rests, state_in};
+ghost use Rattle.wasm_tree.specs.Spaces.{funcs_of};
+ghost use Rattle.eval_spec.specs.State.{Finished};
+ghost use Rattle.eval_spec.specs.Quiet.{call_end};
+ghost use Rattle.eval_machine.specs.Calls.{IfDone, IfNotDone, IfNotReady, IfReady, IfStopped, IsLeft, IsReady, StopsBoot, StopsCall};
+ghost use Rattle.eval_machine.specs.Read.{IsInside};
+
+use crate::boot::instantiate;
+use crate::locals::Locals;
+use crate::operands::Operands;
+use crate::registers::Registers;
+use block_pool::Paged;
+use eval_references_proof::{
+    calls_keep_values_of_globals, evaluated_globals_are_typed, evaluated_references_are_there,
+};
+use eval_spec::Stop;
+use std::alloc::Global;
+use std::marker::Model;
+use wasm_bytes::NoMemory;
+use wasm_tree::ConstExpr;
+use wasm_valid::{Valid, valid_where_items_hold};
+
+/// A machine, with what it keeps from call to call, which is what contracts see of it. What is read of it is told of the state that it makes together with a module that it fits.
+#[derive(Drop)]
+pub struct Machine {
+    alloc: Global,
+    registers: Registers,
+}
+
+impl Model for Machine {
+    ghost use Rattle.eval_machine.specs.declared.kept.Kept.{Kept};
+
+    ghost Value = { Kept };
+
+    ghost view = { λ m. m.registers.kept };
+}
+
+/// The end of a module's instantiation with its start.
+#[derive(Drop)]
+pub enum Booted {
+    /// A machine that fits the module, with the state after both.
+    Ready(Machine),
+    /// Why one of them stopped.
+    Stopped(Stop),
+}
+
+/// How the run of a constructor ended.
+#[derive(Clone, Copy, Debug, PartialEq, Eq)]
+pub enum Ran {
+    /// It returned.
+    Done,
+    /// Why it stopped.
+    Stopped(Stop),
+}
+
+impl Machine {
+    /// Instantiates a valid module, of whose imports only the functions' types are known, and runs its start (WebAssembly Core 2.0, sections 4.5.4 and 4.5.5), with as many turns as an evaluation has. Element segments come first, then data segments, then the start.
+    ///
+    /// It is stopped by the first thing in the run that an evaluation does not do, which `Stop` names: the call of an import, `memory.grow`, a write to a table, a use of something unknown, a trap, and want of turns, depth or blocks of memory; and where the module has several memories. It is `Err` for want of memory alone; the pool of the pages has two blocks for each that may be written, so that no later call asks for more pages.
+    pub fn boot(alloc: Global, input: &Valid) -> Result<Booted, NoMemory>
+        ensures ready { IfOk result (IfReady (IsReady input.now)) }
+        ensures stopped { IfOk result (IfNotReady (StopsBoot input.now)) }
+    {
+        valid_where_items_hold();
+        evaluated_globals_are_typed();
+        evaluated_references_are_there();
+        let kept = match instantiate(alloc, input)? {
+            Ok(kept) => kept,
+            Err(stop) => return Ok(Booted::Stopped(stop)),
+        };
+        let mut registers = Registers {
+            kept,
+            operands: Operands::new(alloc),
+            locals: Locals::new(alloc),
+        };
+        let input = input.module();
+        let Some(start) = input.start else {
+            return Ok(Booted::Ready(Machine { alloc, registers }));
+        };
+        match registers.call(alloc, input, start)? {
+            Some(stop) => Ok(Booted::Stopped(stop)),
+            None => Ok(Booted::Ready(Machine { alloc, registers })),
+        }
+    }
+
+    /// Runs a constructor, a function without parameters and results (WebAssembly Core 2.0, section 4.5.5), from the state that the machine has and with the turns that are left. Any other function stops with `Stop::Signature`. The machine is one that fits the module, as `boot` and this call leave it.
+    ///
+    /// Where it is stopped, and for want of memory, globals, memory, dropped segments and the set of written blocks are as before; the turns that were spent stay spent.
+    pub fn run_ctor(&mut self, input: &Valid, func: u32) -> Result<Ran, NoMemory>
+        requires rests { Rests input.now self.old }
+        requires there { func < length (funcs_of input.now) }
+        ensures done { IfOk result (IfDone (call_end input.now (state_in input.now self.old) func ≡ Finished (state_in input.now self.new))) }
+        ensures stopped { IfOk result (IfStopped (λ stop. StopsCall input.now func self.old stop self.new)) }
+        ensures left { IfNotDone (IsLeft input.now self.old self.new) result }
+        ensures turns { self.new.turns ≤ self.old.turns }
+        ensures rests { Rests input.now self.new }
+    {
+        valid_where_items_hold();
+        calls_keep_values_of_globals();
+        let alloc = self.alloc;
+        let globals = self.registers.kept.globals.copy(alloc)?;
+        let dropped = self.registers.kept.copy_dropped(alloc)?;
+        self.registers.kept.mark();
+        match self.registers.call(alloc, input.module(), func) {
+            Ok(None) => {
+                self.registers.kept.commit();
+                Ok(Ran::Done)
+            }
+            Ok(Some(stop)) => {
+                self.registers.kept.put_back(globals, dropped);
+                Ok(Ran::Stopped(stop))
+            }
+            Err(_) => {
+                self.registers.kept.put_back(globals, dropped);
+                Err(NoMemory)
+            }
+        }
+    }
+
+    /// The value of a global; none exactly where it is unknown.
+    pub fn global_value(&self, global: u32) -> Option<ConstExpr>
+        ensures { (m : Module) → Fits m self.now → result ≡ value_of_global m (state_in m self.now) global }
+    {
+        self.registers.kept.globals.constant(global)
+    }
+
+    /// The number of bytes of the memory that the module defines; 0 where it defines none.
+    pub fn memory_size(&self) -> u64
+        ensures inside { (at : ℕ) → at < result → IsInside at self.now.memory }
+        ensures size { (m : Module) → Fits m self.now → result ≡ length (memory_bytes m (state_in m self.now)) }
+    {
+        match &self.registers.kept.memory {
+            Some(paged) => paged.size(),
+            None => 0,
+        }
+    }
+
+    /// The byte of the memory that the module defines at a place of it.
+    pub fn byte(&self, at: u64) -> u8
+        requires { IsInside at self.now.memory }
+        ensures { (m : Module) → Fits m self.now → Some result ≡ slice_get (memory_bytes m (state_in m self.now)) at }
+    {
+        match &self.registers.kept.memory {
+            Some(paged) => paged.load(at, 1) as u8,
+            None => 0,
+        }
+    }
+
+    /// The least place from `from` on whose byte is not zero, in the memory that the module defines; none exactly where there is none, or no such memory.
+    pub fn next_nonzero(&self, from: u64) -> Option<u64>
+        ensures some { (m : Module) → Fits m self.now → IfSome result (λ at. IsNextNonzero (memory_bytes m (state_in m self.now)) from at) }
+        ensures none { (m : Module) → Fits m self.now → IsNone result ↔ IsZeroFrom (memory_bytes m (state_in m self.now)) from }
+    {
+        match &self.registers.kept.memory {
+            Some(paged) => paged.next_nonzero(from),
+            None => None,
+        }
+    }
+
+    /// The pages of the memory that the module defines; none exactly where it defines none. No mark is set in them.
+    pub fn memory(&self) -> Option<&Paged>
+        ensures none { (m : Module) → Fits m self.now → IsNone result ↔ (m.mems ≡ []) }
+        ensures bytes { (m : Module) → Fits m self.now → IfSome result (λ p. p.now.now.bytes ≡ memory_bytes m (state_in m self.now)) }
+        ensures unmarked { (m : Module) → Rests m self.now → IfSome result (λ p. IsNone p.now.mark) }
+        ensures written { (m : Module) → Fits m self.now → IfSome result (λ p. p.now.now.written ≡ (state_in m self.now).written) }
+    {
+        self.registers.kept.memory.as_ref()
+    }
+
+    /// Whether a data segment is dropped.
+    pub fn dropped(&self, segment: u32) -> bool
+        ensures { (m : Module) → Fits m self.now → result ≡ is_dropped (state_in m self.now) segment }
+    {
+        match self.registers.kept.dropped.get(segment as usize) {
+            Some(dropped) => *dropped,
+            None => false,
+        }
+    }
+}

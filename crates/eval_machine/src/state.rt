@@ -1,0 +1,129 @@
+// Instructions on globals, functions and tables.
+
+ghost use Rattle.std.specs.Prelude.{◌≡◌, ◌<◌, ◌↔◌, IfOk, IsTrue, length};
+ghost use Rattle.wasm_tree.specs.declared.instr.Instr.TheVariants as i;
+ghost use Rattle.wasm_tree.specs.Spaces.{funcs_of};
+ghost use Rattle.eval_machine.specs.Instructions.{BeginsWith};
+ghost use Rattle.eval_machine.specs.Kept.{Fits};
+ghost use Rattle.eval_machine.specs.Stays.{Stays};
+
+use crate::kept::Kept;
+use crate::operands::Operands;
+use crate::slots::Slot;
+use crate::value::Value;
+use eval_spec::Stop;
+use wasm_bytes::NoMemory;
+use wasm_tree::Module;
+
+impl Kept {
+    /// `global.get` (WebAssembly Core 2.0, section 4.4.5).
+    pub(crate) fn global_get(
+        &self,
+        input: &Module,
+        operands: &mut Operands,
+        global: u32,
+    ) -> Result<Option<Stop>, NoMemory>
+        requires fits { Fits input.now self.now }
+        ensures { IfOk result (λ stop. BeginsWith input.now (i.GlobalGet global) self.now operands.old stop self.now operands.new) }
+    {
+        match self.globals.get(global) {
+            Ok(value) => {
+                operands.push(value)?;
+                Ok(None)
+            }
+            Err(stop) => Ok(Some(stop)),
+        }
+    }
+
+    /// `global.set` (section 4.4.5).
+    pub(crate) fn global_set(
+        &mut self,
+        input: &Module,
+        operands: &mut Operands,
+        global: u32,
+    ) -> Option<Stop>
+        requires fits { Fits input.now self.old }
+        ensures begins { BeginsWith input.now (i.GlobalSet global) self.old operands.old result self.new operands.new }
+        ensures stays { Stays self.old self.new }
+    {
+        let value = operands.pop();
+        self.globals.set(global, value)
+    }
+
+    // Whether the index is a function's.
+    fn is_func(&self, input: &Module, func: u32) -> bool
+        requires fits { Fits input.now self.now }
+        ensures { IsTrue result ↔ (func < length (funcs_of input.now)) }
+    {
+        let func = func as usize;
+        func < self.imports.funcs || func - self.imports.funcs < input.funcs.len()
+    }
+
+    /// `ref.func` (section 4.4.2).
+    pub(crate) fn ref_func(
+        &self,
+        input: &Module,
+        operands: &mut Operands,
+        func: u32,
+    ) -> Result<Option<Stop>, NoMemory>
+        requires fits { Fits input.now self.now }
+        ensures { IfOk result (λ stop. BeginsWith input.now (i.RefFunc func) self.now operands.old stop self.now operands.new) }
+    {
+        if !self.is_func(input, func) {
+            return Ok(Some(Stop::Trap));
+        }
+        operands.push(Value::Func(Some(func)))?;
+        Ok(None)
+    }
+
+    /// `table.get` (section 4.4.6).
+    pub(crate) fn table_get(
+        &self,
+        input: &Module,
+        operands: &mut Operands,
+        table: u32,
+    ) -> Result<Option<Stop>, NoMemory>
+        requires fits { Fits input.now self.now }
+        ensures { IfOk result (λ stop. BeginsWith input.now (i.TableGet table) self.now operands.old stop self.now operands.new) }
+    {
+        if (table as usize) < self.imports.tables {
+            return Ok(Some(Stop::Unknown));
+        }
+        let Some(_) = self.slot_count(input, table) else {
+            return Ok(Some(Stop::Trap));
+        };
+        let Some(place) = operands.pop_narrow() else {
+            return Ok(Some(Stop::Trap));
+        };
+        match self.slot(input, table, place) {
+            Slot::Unknown => Ok(Some(Stop::Unknown)),
+            Slot::Known(value) => {
+                operands.push(value)?;
+                Ok(None)
+            }
+            Slot::Outside => Ok(Some(Stop::Trap)),
+        }
+    }
+
+    /// `table.size` (section 4.4.6).
+    pub(crate) fn table_size(
+        &self,
+        input: &Module,
+        operands: &mut Operands,
+        table: u32,
+    ) -> Result<Option<Stop>, NoMemory>
+        requires fits { Fits input.now self.now }
+        ensures { IfOk result (λ stop. BeginsWith input.now (i.TableSize table) self.now operands.old stop self.now operands.new) }
+    {
+        if (table as usize) < self.imports.tables {
+            return Ok(Some(Stop::Unknown));
+        }
+        match self.slot_count(input, table) {
+            Some(count) => {
+                operands.push(Value::I32(count))?;
+                Ok(None)
+            }
+            None => Ok(Some(Stop::Trap)),
+        }
+    }
+}

@@ -1,0 +1,6 @@
+pub mod Imports
+mod Itself
+mod Stored
+mod Calls
+mod Globals
+mod Typed

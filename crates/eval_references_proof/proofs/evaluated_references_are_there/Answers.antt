@@ -1,0 +1,5 @@
+use Rattle.eval_references_proof.proofs.Calls.{references_there}
+use Rattle.eval_references_proof.proofs.evaluated_references_are_there.Goals as goal
+
+pub returns : goal.returns
+returns c = record { there = references_there c.steps_agree.ensures.steps c.steps_agree.ensures.known c.steps_agree.ensures.itself c.steps_write_what_they_touch.ensures.writes }

@@ -1,0 +1,27 @@
+-- What a state has to be so that a module can begin in it.
+use Rattle.std.specs.Prelude.{◌≡◌, ℕ, ◌+◌, List, [], ◌∷◌, length, true, Some, slice_get}
+use Rattle.wasm_tree.specs.declared.types.FuncType.{FuncType}
+use Rattle.wasm_tree.specs.declared.module.ConstExpr.{ConstExpr}
+use Rattle.wasm_tree.specs.declared.module.GlobalDef.{GlobalDef}
+use Rattle.wasm_tree.specs.declared.module.Module.{Module}
+use Rattle.wasm_tree.specs.Spaces.{imported_globals}
+use Rattle.wasm_valid.specs.Constants.{const_type}
+use Rattle.wasm_meaning.specs.State.{Text}
+use Rattle.eval_spec.specs.State.{State}
+use Rattle.eval_spec.specs.Stops.{takes_and_gives_nothing}
+use Rattle.eval_spec.specs.Told.{value_of_global, memory_bytes}
+
+pub record Suits (m : Module) (s : State) : Type 0 where
+  -- the constant that is the value of a defined global has its type, so that a function which it names is there
+  pub globals : (n : ℕ) (g : GlobalDef) (e : ConstExpr) → slice_get m.globals n ≡ Some g → value_of_global m s (length (imported_globals m.imports) + n) ≡ Some e → const_type m e ≡ Some g.ty.ty
+  -- where no memory is defined there are no bytes
+  pub memory : m.mems ≡ [] → memory_bytes m s ≡ []
+
+-- one of the types takes and gives nothing
+abbrev pub HasEmptyType : Module → Type 0
+HasEmptyType m = (n : ℕ) × (t : FuncType) × (slice_get m.types n ≡ Some t) × (takes_and_gives_nothing t ≡ true)
+
+-- it is asked of a module of which constructors were evaluated
+abbrev pub HasEmptyTypeFor : Module → (evaluated : List Text) → Type 0
+HasEmptyTypeFor m [] = Unit {0}
+HasEmptyTypeFor m (name ∷ names) = HasEmptyType m

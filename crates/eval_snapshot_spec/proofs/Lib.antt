@@ -1,0 +1,5 @@
+mod Modules
+mod Made
+mod ContentsRows
+mod Rows
+mod WrongRows

@@ -1,0 +1,21 @@
+-- A state that tells what stands after a quiet evaluation.
+use Rattle.std.specs.Prelude.{◌≡◌, ℕ, List, None}
+use Rattle.wasm_tree.specs.declared.module.Module.{Module}
+use Rattle.wasm_meaning.specs.State.{Text}
+use Rattle.eval_spec.specs.State.{State, Finished}
+use Rattle.eval_spec.specs.Told.{value_of_global, memory_bytes, is_dropped}
+use Rattle.eval_spec.specs.Evaluation.{evaluated}
+use Rattle.eval_snapshot_spec.specs.Evaluated.{first_missing, funcs_named}
+
+-- of both states the same is told: the globals, the bytes and the size of the memory, and which data segments are dropped
+pub record TellsTheSame (m : Module) (s t : State) : Type 0 where
+  pub globals : (n : ℕ) → value_of_global m s n ≡ value_of_global m t n
+  pub bytes : memory_bytes m s ≡ memory_bytes m t
+  pub dropped : (n : ℕ) → is_dropped s n ≡ is_dropped t n
+
+-- The names are those of exported functions, nothing stops the instantiation, the start and the calls of these functions in order, and the state tells what they left.
+pub record IsAfter (m : Module) (names : List Text) (s : State) : Type 0 where
+  pub named : first_missing m names ≡ None
+  pub end : State
+  pub quiet : evaluated m (funcs_named m names) ≡ Finished end
+  pub told : TellsTheSame m s end

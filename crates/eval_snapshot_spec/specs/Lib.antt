@@ -1,0 +1,4 @@
+pub mod Contents
+pub mod Snapshot
+pub mod Evaluated
+pub mod After

@@ -1,0 +1,18 @@
+-- Values of globals after evaluated constructors.
+use Rattle.std.specs.Prelude.{◌≡◌, ℕ, ◌+◌, List, length, Some, slice_get}
+use Rattle.wasm_tree.specs.declared.module.ConstExpr.{ConstExpr}
+use Rattle.wasm_tree.specs.declared.module.GlobalDef.{GlobalDef}
+use Rattle.wasm_tree.specs.declared.module.Module.{Module}
+use Rattle.wasm_tree.specs.Spaces.{imported_globals}
+use Rattle.wasm_valid.specs.Constants.{const_type}
+use Rattle.wasm_valid.specs.Validity.{IsValid}
+use Rattle.wasm_meaning.specs.State.{Text}
+use Rattle.eval_spec.specs.State.{State}
+use Rattle.eval_spec.specs.Told.{value_of_global}
+use Rattle.eval_snapshot_spec.specs.After.{IsAfter}
+
+-- The constant that is the value of a defined global has the type of the global.
+abbrev pub ValuesAreTyped : Type 0
+ValuesAreTyped =
+    (m : Module) (names : List Text) (s : State) → IsValid m → IsAfter m names s → (n : ℕ) (g : GlobalDef) (e : ConstExpr) →
+    slice_get m.globals n ≡ Some g → value_of_global m s (length (imported_globals m.imports) + n) ≡ Some e → const_type m e ≡ Some g.ty.ty

@@ -1,0 +1,26 @@
+-- Code that may stand in place of calls, where more may stand there: what was related stays so.
+use Rattle.std.specs.Prelude.{ℕ, Bool, IsTrue, List}
+use Rattle.wasm_tree.specs.declared.space.Space.{Space}
+use Rattle.wasm_tree.specs.declared.instr.Instr.{Instr}
+use Rattle.wasm_meaning.specs.State.{Inst, Store}
+use Rattle.wasm_meaning.specs.Run.{Run}
+use Rattle.index_remap.specs.Related.{CodeRel, StoreRel}
+use Rattle.index_remap.specs.RelatedRuns.{RunRel}
+use Rattle.index_remap.specs.Laws.{Test, passed_with}
+use Rattle.index_remap.specs.Trampolines.{FramesBetween}
+
+-- what passes the first test passes the second
+abbrev pub Allows : Test → Test → Type 0
+Allows fewer more = (j : Inst) (a : ℕ) (code : List Instr) → IsTrue (fewer j a code) → IsTrue (more j a code)
+
+-- code, stores, and runs of which the second has frames of trampolines between
+abbrev pub CodeStaysRelated : Type 0
+CodeStaysRelated = (of named : Space → ℕ → ℕ → Bool) (l : List ℕ) (fewer more : Test) → Allows fewer more → (i j : Inst) (c d : List Instr) → CodeRel (passed_with of named l fewer) i j c d → CodeRel (passed_with of named l more) i j c d
+
+abbrev pub StoresStayRelated : Type 0
+StoresStayRelated = (of named : Space → ℕ → ℕ → Bool) (l : List ℕ) (fewer more : Test) → Allows fewer more → (s t : Store) → StoreRel (passed_with of named l fewer) s t → StoreRel (passed_with of named l more) s t
+
+abbrev pub RunsStayRelated : Type 0
+RunsStayRelated =
+    (of named : Space → ℕ → ℕ → Bool) (l : List ℕ) (fewer more : Test) → Allows fewer more → (r q : Run) → RunRel (passed_with of named l fewer) (FramesBetween (passed_with of named l fewer)) (FramesBetween (passed_with of named l fewer)) r q →
+    RunRel (passed_with of named l more) (FramesBetween (passed_with of named l more)) (FramesBetween (passed_with of named l more)) r q

@@ -1,0 +1,17 @@
+use Rattle.split_behaves_proof.proofs.AlwaysLoads.{LoadLaws, secondaries_load, secondaries_always_load}
+use Rattle.split_behaves_proof.proofs.secondary_modules_load.Goals as goal
+
+pub returns : goal.returns
+returns c =
+    let laws : LoadLaws = record {
+      items = c.valid_where_items_hold.ensures;
+      primary = c.primary_modules_are_valid.ensures.valid;
+      secondary = c.secondary_modules_are_valid.ensures.valid;
+      leave = c.modules_leave_what_they_say.ensures.added;
+      typed = c.instances_stay_typed.ensures.made;
+      stays = c.instances_stay_typed.ensures.stays;
+      calls = c.stores_are_extended.ensures.call;
+      loaders = c.stores_are_extended.ensures.loader;
+      over = c.runs_that_are_over_stay_so.ensures.over;
+    } in
+    record { load = secondaries_load laws; always = secondaries_always_load laws }

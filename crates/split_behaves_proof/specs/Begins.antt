@@ -1,0 +1,48 @@
+-- How a split module begins under its loader, against the module alone: both link or neither, both trap or neither, and what they are instantiated to corresponds.
+use Rattle.std.specs.Prelude.{◌≡◌, ℕ, List, [], Some, None}
+use Rattle.wasm_tree.specs.declared.module.Module.{Module}
+use Rattle.wasm_meaning.specs.Environment.{Environment}
+use Rattle.wasm_meaning.specs.World.{alone, instantiate}
+use Rattle.wasm_meaning.specs.Run.{Run, Closed, LinkFault, InstanceTrapped, Move, Out, fresh_run, tick}
+use Rattle.wasm_meaning.specs.Loader.{begun_under}
+use Rattle.index_remap.specs.Related.{Pairing, OneToOne, OptRel}
+use Rattle.index_remap.specs.RelatedRuns.{BegunRel, RunRel, IsBegun}
+use Rattle.index_remap.specs.Trampolines.{FramesBetween}
+use Rattle.split_spec.specs.declared.names.SplitNames.{SplitNames}
+use Rattle.split_behaves_proof.specs.Worlds.{split_world}
+use Rattle.split_behaves_proof.specs.Addresses.{split_pairing}
+use Rattle.split_behaves_proof.specs.Laws.{CanBeSplit}
+
+-- ---- addresses ----
+
+abbrev pub SplitAddressesAreOneToOne : Type 0
+SplitAddressesAreOneToOne =
+    (namespace : ℕ → List ℕ) (names : SplitNames) (m : Module) (moved : List ℕ) (owns : List (List ℕ)) → CanBeSplit namespace names m moved owns → (env : Environment) (loaded : List (ℕ × ℕ)) → OneToOne (split_pairing env m moved loaded)
+
+-- ---- what both are instantiated to ----
+
+-- In every environment neither can be instantiated, or both, to related states, trapped both or neither.
+abbrev pub SplitModulesBeginAlike : Type 0
+SplitModulesBeginAlike =
+    (namespace : ℕ → List ℕ) (names : SplitNames) (m : Module) (moved : List ℕ) (owns : List (List ℕ)) → CanBeSplit namespace names m moved owns → (env : Environment) →
+    OptRel (BegunRel (split_pairing env m moved []) (FramesBetween (split_pairing env m moved []))) (instantiate env (alone m)) (begun_under env (split_world namespace names m moved owns))
+
+-- ---- the first step ----
+
+-- related runs, of which the second may have frames of trampolines between
+abbrev pub RunsRelated : Pairing → Run → Run → Type 0
+RunsRelated R = RunRel R (FramesBetween R) (FramesBetween R)
+
+-- what the first step of each comes to
+pub data FirstStepsAgree (R : Pairing) : Out → Out → Type 0 where
+  -- neither is linked: both are closed, and go on as one run
+  unlinked : (r : Run) → r.entries ≡ [] → r.phase ≡ Closed → FirstStepsAgree R (r, Some LinkFault) (r, Some LinkFault)
+  -- a segment of both traps
+  trapped : {r q : Run} → r.entries ≡ [] → r.phase ≡ Closed → RunsRelated R r q → FirstStepsAgree R (r, Some InstanceTrapped) (q, Some InstanceTrapped)
+  -- the starts are to be made
+  begun : {r q : Run} → IsBegun r.phase → RunsRelated R r q → FirstStepsAgree R (r, None) (q, None)
+
+abbrev pub FirstStepsOfSplitsAgree : Type 0
+FirstStepsOfSplitsAgree =
+    (namespace : ℕ → List ℕ) (names : SplitNames) (m : Module) (moved : List ℕ) (owns : List (List ℕ)) → CanBeSplit namespace names m moved owns → (env : Environment) (moves : List Move) →
+    FirstStepsAgree (split_pairing env m moved []) (tick (fresh_run env (instantiate env (alone m)) moves)) (tick (fresh_run env (begun_under env (split_world namespace names m moved owns)) moves))

@@ -1,0 +1,65 @@
+-- What a load keeps of the relation between a module alone and its split: stores stay related, and the functions that are loaded are related to those that moved.
+use Rattle.std.specs.Prelude.{◌≡◌, ℕ, suc, ◌+◌, ◌-◌, ◌<◌, true, List, [], ◌∷◌, ◌++◌, length, Some, IsTrue, slice_get, slice_index}
+use Rattle.wasm_tree.specs.declared.space.Space.{Space}
+use Rattle.wasm_tree.specs.declared.space.Space.TheVariants.{Functions, Tables, Memories, Globals}
+use Rattle.wasm_tree.specs.declared.module.Func as tree
+use Rattle.wasm_tree.specs.declared.module.Module.{Module}
+use Rattle.wasm_tree.specs.Spaces.{imported_funcs, funcs_of, tables_of, memories_of, globals_of}
+use Rattle.wasm_meaning.specs.State.{Inst, Store}
+use Rattle.wasm_meaning.specs.Environment.{Environment}
+use Rattle.wasm_meaning.specs.World.{new_func, insts_from}
+use Rattle.wasm_meaning.specs.InTurn.{Added}
+use Rattle.wasm_meaning.specs.Loader.{primary_added}
+use Rattle.index_remap.specs.Related.{Names, StoreRel}
+use Rattle.index_remap.specs.Trampolines.{CodeAt}
+use Rattle.world_simulation.specs.Alone.{one}
+use Rattle.split_spec.specs.declared.names.SplitNames.{SplitNames}
+use Rattle.split_spec.specs.Slots.{slot_table}
+use Rattle.split_spec.specs.Primary.{is_left, primary_map}
+use Rattle.split_spec.specs.Secondary.{HasSlots}
+use Rattle.split_behaves_proof.specs.Worlds.{type_in, split_world}
+use Rattle.split_behaves_proof.specs.Addresses.{defined_address, is_partner, slot_table_address, split_pairing}
+use Rattle.split_behaves_proof.specs.Loads.{IsLoaded}
+use Rattle.split_behaves_proof.specs.Laws.{CanBeSplit}
+
+-- ---- instances ----
+
+abbrev pub Partnered : Environment → Module → (moved : List ℕ) → Space → ℕ → ℕ → Type 0
+Partnered env m moved k a b = IsTrue (is_partner env m moved k a b)
+
+-- What an index names in the instance of the module alone is the partner of what its entry names in the primary module's instance, where the primary module has it; and the
+-- slot table and the functions that move are where they are said to be.
+pub record InstancesAlike (env : Environment) (m : Module) (moved : List ℕ) (first primary : Inst) : Type 0 where
+  pub first_types : first.types ≡ m.types
+  pub types : primary.types ≡ m.types
+  pub funcs : (x : ℕ) → x < length (funcs_of m) → is_left m moved x ≡ true → Names (Partnered env m moved) Functions first.funcs primary.funcs x (slice_index (primary_map m moved).funcs x)
+  pub tables : (x : ℕ) → x < length (tables_of m) → Names (Partnered env m moved) Tables first.tables primary.tables x x
+  pub mems : (x : ℕ) → x < length (memories_of m) → Names (Partnered env m moved) Memories first.mems primary.mems x x
+  pub globals : (x : ℕ) → x < length (globals_of m) → Names (Partnered env m moved) Globals first.globals primary.globals x x
+  pub slots : slice_get primary.tables (slot_table m) ≡ Some (slot_table_address env m)
+  pub moves : (p f : ℕ) → slice_get moved p ≡ Some f → slice_get first.funcs f ≡ Some (defined_address env m f)
+
+-- So they are once both are instantiated.
+abbrev pub InstancesOfSplitsAreAlike : Type 0
+InstancesOfSplitsAreAlike =
+    (namespace : ℕ → List ℕ) (names : SplitNames) (m : Module) (moved : List ℕ) (owns : List (List ℕ)) → CanBeSplit namespace names m moved owns → (env : Environment) (i : Inst) → insts_from env (one m) 0 (one m) ≡ Some (i ∷ []) →
+    (a : Added) → primary_added env (split_world namespace names m moved owns) ≡ Some a → InstancesAlike env m moved i a.inst
+
+-- ---- loaded functions ----
+
+-- the functions of a secondary module whose own begin at an address: where each stands where the module is instantiated alone, and then where it is loaded
+abbrev pub loaded_from : Environment → Module → (own : List ℕ) → (from : ℕ) → List (ℕ × ℕ)
+loaded_from env m [] from = []
+loaded_from env m (func ∷ funcs) from = (defined_address env m func, from) ∷ loaded_from env m funcs (suc from)
+
+-- Where a module is loaded into the second of two related stores they stay related, with its functions as those that are loaded; and each is related to the one that moved.
+pub record RelatedAsLoaded (env : Environment) (m : Module) (moved : List ℕ) (loaded : List (ℕ × ℕ)) (own : List ℕ) (from : ℕ) (s t : Store) : Type 0 where
+  pub store : StoreRel (split_pairing env m moved loaded) s t
+  pub code : (p f : ℕ) → slice_get own p ≡ Some f → CodeAt (split_pairing env m moved loaded) s t (type_in m f) (defined_address env m f) (from + p)
+
+abbrev pub LoadsKeepTheRelation : Type 0
+LoadsKeepTheRelation =
+    (namespace : ℕ → List ℕ) (names : SplitNames) (m : Module) (moved : List ℕ) (owns : List (List ℕ)) → CanBeSplit namespace names m moved owns → (env : Environment) (i j : Inst) → InstancesAlike env m moved i j →
+    (own : List ℕ) (before : ℕ) → HasSlots moved own before → (loaded : List (ℕ × ℕ)) (s z t : Store) (k : Inst) → IsLoaded m moved own before j k z t →
+    ((slot func : ℕ) (f : tree.Func) → slice_get moved slot ≡ Some func → slice_get m.funcs (func - length (imported_funcs m.imports)) ≡ Some f → slice_get s.funcs (defined_address env m func) ≡ new_func i f) → StoreRel (split_pairing env m moved loaded) s z →
+    RelatedAsLoaded env m moved (loaded ++ loaded_from env m own (length z.funcs)) own (length z.funcs) s t

@@ -1,0 +1,59 @@
+-- When a run of a module alone and one of its split under the loader stand at the same place, once both are instantiated.
+use Rattle.std.specs.Prelude.{◌≡◌, ℕ, ◌+◌, ◌-◌, ◌&&◌, Bool, true, false, nat_eq, List, length, pos, Some, slice_get}
+use Rattle.std.specs.List.{list_any}
+use Rattle.wasm_tree.specs.declared.space.Space.TheVariants.{Functions}
+use Rattle.wasm_tree.specs.declared.types.FuncType.{FuncType}
+use Rattle.wasm_tree.specs.declared.module.Func as tree
+use Rattle.wasm_tree.specs.declared.module.Module.{Module}
+use Rattle.wasm_tree.specs.Spaces.{imported_funcs}
+use Rattle.wasm_meaning.specs.State.{FuncRef, Inst, Placeholder, Store, Table}
+use Rattle.wasm_meaning.specs.Environment.{Environment}
+use Rattle.wasm_meaning.specs.Loader.{LoaderRun, LoaderWorld, secondary_of}
+use Rattle.wasm_meaning.specs.Run.{Run}
+use Rattle.wasm_meaning.specs.World.{new_func, own_count}
+use Rattle.index_remap.specs.RelatedRuns.{IsBegun}
+use Rattle.index_remap.specs.Trampolines.{CodeAt, trampoline}
+use Rattle.world_extension_proof.specs.Typed.{IsTyped}
+use Rattle.split_spec.specs.Slots.{slot_table, type_index}
+use Rattle.split_behaves_proof.specs.Worlds.{type_in}
+use Rattle.split_behaves_proof.specs.Addresses.{defined_address, is_left_at, slot_table_address, split_pairing}
+use Rattle.split_behaves_proof.specs.Begins.{RunsRelated}
+
+-- ---- slots ----
+
+-- What the slot of a function holds in this table.
+pub data SlotHolds (env : Environment) (m : Module) (moved : List ℕ) (loaded : List (ℕ × ℕ)) (s t : Store) (table : Table) (slot func : ℕ) : (is_loaded : Bool) → Type 0 where
+  -- its placeholder, while its secondary module is not loaded
+  waits : slice_get table.slots slot ≡ Some (FuncRef (Some (own_count Functions env + slot))) → slice_get t.funcs (own_count Functions env + slot) ≡ Some (Placeholder slot (type_in m func)) → SlotHolds env m moved loaded s t table slot func false
+  -- then that module's function for it, with related code
+  filled : (c : ℕ) → slice_get table.slots slot ≡ Some (FuncRef (Some c)) → CodeAt (split_pairing env m moved loaded) s t (type_in m func) (defined_address env m func) c → SlotHolds env m moved loaded s t table slot func true
+
+pub record SlotIs (env : Environment) (m : Module) (moved : List ℕ) (w : LoaderWorld) (loaded : List (ℕ × ℕ)) (s : Store) (q : LoaderRun) (table : Table) (slot func : ℕ) : Type 0 where
+  pub secondary : ℕ
+  pub is_place : secondary_of w.secondaries slot ≡ Some secondary
+  pub is_loaded : Bool
+  pub loaded_is : slice_get q.loaded secondary ≡ Some is_loaded
+  pub holds : SlotHolds env m moved loaded s q.run.store table slot func is_loaded
+
+-- ---- functions ----
+
+-- The first has no placeholder, and each function that moves as the module defines it. The second has a trampoline wherever one is needed, and in each slot what belongs there.
+pub record FuncsStand (env : Environment) (m : Module) (moved : List ℕ) (w : LoaderWorld) (first second : Inst) (loaded : List (ℕ × ℕ)) (s : Store) (q : LoaderRun) : Type 0 where
+  pub plain : (a n : ℕ) (u : FuncType) → slice_get s.funcs a ≡ Some (Placeholder n u) → ⊥
+  pub moves : (slot func : ℕ) (f : tree.Func) → slice_get moved slot ≡ Some func → slice_get m.funcs (func - length (imported_funcs m.imports)) ≡ Some f → slice_get s.funcs (defined_address env m func) ≡ new_func first f
+  pub trampolines : (slot func b : ℕ) → slice_get moved slot ≡ Some func → is_left_at env m moved (defined_address env m func) b ≡ true → slice_get q.run.store.funcs b ≡ Some (trampoline second (type_in m func) (type_index m func) (slot_table m) (pos slot))
+  pub table : Table
+  pub table_stands : slice_get q.run.store.tables (slot_table_address env m) ≡ Some table
+  pub slots : (slot func : ℕ) → slice_get moved slot ≡ Some func → SlotIs env m moved w loaded s q table slot func
+  -- each pair is of a function that moves and one with related code
+  pub pairs : (a c : ℕ) → list_any (λ p. nat_eq p.0 a && nat_eq p.1 c) loaded ≡ true → (slot func : ℕ) × (slice_get moved slot ≡ Some func) × (a ≡ defined_address env m func) × CodeAt (split_pairing env m moved loaded) s q.run.store (type_in m func) a c
+
+-- ---- states ----
+
+-- The runs are related; the second's primary module has its instance.
+pub record Corresponds (env : Environment) (m : Module) (moved : List ℕ) (w : LoaderWorld) (first second : Inst) (loaded : List (ℕ × ℕ)) (r : Run) (q : LoaderRun) : Type 0 where
+  pub related : RunsRelated (split_pairing env m moved loaded) r q.run
+  pub begun : IsBegun r.phase
+  pub inst : q.inst ≡ Some second
+  pub typed : IsTyped w.primary second q.run.store
+  pub funcs : FuncsStand env m moved w first second loaded r.store q

@@ -1,0 +1,8 @@
+use Rattle.std.proofs.Common.{◌≡◌, map}
+use Rattle.base_lists.specs.Places.{numbers}
+use Rattle.wasm_gen.specs.Draws.{draw}
+use Rattle.wasm_gen.specs.Modules.{second_func}
+use Rattle.wasm_gen.proofs.second.second_funcs.Given as goal
+
+abbrev pub invariant-loop : goal.invariant-loop
+invariant-loop l = (l.all ≡ map (second_func l.initial.state l.count) (numbers 0 l.counter)) × (l.state ≡ draw l.initial.state l.counter)

@@ -1,0 +1,99 @@
+-- The two modules of a sample: the first exports functions on numbers, the second imports all of them and calls one in each of its own functions.
+use Rattle.std.specs.Prelude.{ℕ, zero, suc, ◌+◌, ◌*◌, ◌%◌, List, [], ◌∷◌, ◌++◌, map, pos, decimal, None}
+use Rattle.base_lists.specs.Places.{numbers}
+use Rattle.wasm_num.specs.declared.BinOp.{BinOp}
+use Rattle.wasm_num.specs.declared.BinOp.TheVariants.{I32Add, I32Xor, I32Mul}
+use Rattle.wasm_tree.specs.declared.types.ValType.TheVariants.{I32}
+use Rattle.wasm_tree.specs.declared.types.FuncType.{FuncType}
+use Rattle.wasm_tree.specs.declared.instr.Instr.{Instr}
+use Rattle.wasm_tree.specs.declared.instr.Instr.TheVariants.{LocalGet, I32Const, Bin, Call}
+use Rattle.wasm_tree.specs.declared.module.ImportDesc.TheVariants as imported
+use Rattle.wasm_tree.specs.declared.module.ExportDesc.TheVariants as exported
+use Rattle.wasm_tree.specs.declared.module.Import.{Import}
+use Rattle.wasm_tree.specs.declared.module.Export.{Export}
+use Rattle.wasm_tree.specs.declared.module.Func.{Func}
+use Rattle.wasm_tree.specs.declared.module.Module.{Module}
+use Rattle.wasm_gen.specs.Draws.{draw}
+
+-- the module that the second imports from
+abbrev pub a : List ℕ
+a = 97 ∷ []
+
+-- before the numbers of the functions of the first, and of the second
+abbrev pub f : List ℕ
+f = 102 ∷ []
+
+abbrev pub g : List ℕ
+g = 103 ∷ []
+
+-- ---- what both have ----
+
+-- [i32] to [i32], the one type
+abbrev pub unary : FuncType
+unary = record { params = I32 ∷ []; results = I32 ∷ [] }
+
+abbrev pub func_of : List Instr → Func
+func_of body = record { ty = 0; locals = []; body = body }
+
+-- a letter and a number in decimal
+abbrev pub numbered : (letter : List ℕ) (number : ℕ) → List ℕ
+numbered letter number = letter ++ decimal number
+
+-- so many functions from an index on are exported, as the letter and their number
+abbrev pub exports_of : (letter : List ℕ) (index count : ℕ) → List Export
+exports_of letter index count = map (λ i. record { name = numbered letter i; desc = exported.Func (index + i) }) (numbers 0 count)
+
+abbrev pub module_of : List Import → List Func → List Export → Module
+module_of imports funcs exports = record {
+  types = unary ∷ [];
+  imports = imports;
+  funcs = funcs;
+  tables = [];
+  mems = [];
+  globals = [];
+  exports = exports;
+  start = None;
+  elems = [];
+  datas = [];
+}
+
+-- ---- the first ----
+
+abbrev pub operation : ℕ → BinOp
+operation zero = I32Add
+operation (suc zero) = I32Xor
+operation (suc (suc n)) = I32Mul
+
+-- its parameter and a number, joined by an operation
+abbrev pub joined : (number op : ℕ) → Func
+joined number op = func_of (LocalGet 0 ∷ (I32Const (pos number) ∷ (Bin (operation (op % 3)) ∷ [])))
+
+-- the number and then the operation are drawn
+abbrev pub first_func : (seed i : ℕ) → Func
+first_func seed i = joined (draw seed (i * 2 + 1)) (draw seed (i * 2 + 2))
+
+-- exported as f and the number
+abbrev pub first_module : (seed count : ℕ) → Module
+first_module seed count = module_of [] (map (first_func seed) (numbers 0 count)) (exports_of f 0 count)
+
+-- ---- the second ----
+
+-- all functions of the first, in order, from the module a
+abbrev pub second_imports : (count : ℕ) → List Import
+second_imports count = map (λ i. record { «module» = a; field = numbered f i; desc = imported.Func 0 }) (numbers 0 count)
+
+-- its parameter is given to a function
+abbrev pub passed : ℕ → Func
+passed callee = func_of (LocalGet 0 ∷ (Call callee ∷ []))
+
+-- the function is one of those imported, and is drawn
+abbrev pub second_func : (state count i : ℕ) → Func
+second_func state count i = passed (draw state (i + 1) % count)
+
+-- the second module, drawn from a state on; exported as g and the number
+abbrev pub second_from : (state count : ℕ) → Module
+second_from state count = module_of (second_imports count) (map (second_func state count) (numbers 0 count)) (exports_of g count count)
+
+-- its draws come after those of the first
+abbrev pub second_module : (seed count : ℕ) → Module
+second_module seed count = second_from (draw seed (count * 2)) count

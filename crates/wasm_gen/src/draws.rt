@@ -1,0 +1,15 @@
+// Numbers that are drawn one after the other.
+
+ghost use Rattle.std.specs.Prelude.{◌≡◌, ◌<◌, ◌^◌};
+ghost use Rattle.wasm_gen.specs.Draws.{next};
+
+// The number that is drawn after this one.
+pub(crate) fn draw(state: &mut u32) -> u32
+    ensures drawn { result ≡ next state.old }
+    ensures state { state.new ≡ next state.old }
+    ensures small { result < 2 ^ 31 }
+{
+    let next = (u64::from(*state) * 1_103_515_245 + 12_345) % 2_147_483_648;
+    *state = next as u32;
+    *state
+}

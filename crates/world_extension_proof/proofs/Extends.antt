@@ -1,0 +1,91 @@
+-- Stores that extend others: nothing written is the least, one after the other, and one place that is written.
+use Rattle.std.proofs.Common.{◌≡◌, ℕ, ◌≤◌, List, length, refl, sym, ap, subst, ◌∙◌, arith, slice_set, slice_get, Some}
+use native.Mathlib.Decide.{ℕ_discrete}
+use Rattle.wasm_meaning.specs.State.{Table, Memory, Global, Store, Change, Keep, SetGlobal, SetMemory, SetTable, DropElem, DropData}
+use Rattle.wasm_meaning.specs.Step.{changed, no_items, no_bytes}
+use Rattle.world_extension_proof.specs.Extends.{TableExtends, MemoryExtends, GlobalExtends, EachExtends, Extends}
+use Rattle.std.proofs.lemmas.List.{length-set}
+use Rattle.base_lists.proofs.Places.{set_at, set_other}
+use Rattle.std.proofs.lemmas.Option.{slice_get_within}
+pub use Rattle.world_simulation.proofs.Copied.{overwritten_length}
+
+pub table_stays : (t : Table) → TableExtends t t
+table_stays t = record { type = refl; most = refl; size = omega arith }
+
+pub memory_stays : (m : Memory) → MemoryExtends m m
+memory_stays m = record { most = refl; size = omega arith }
+
+pub global_stays : (g : Global) → GlobalExtends g g
+global_stays g = record { type = refl; fixed = λ e. refl }
+
+pub each_stays : {A : Type 0} (P : A → A → Type 0) (xs : List A) → ((x : A) → P x x) → EachExtends P xs xs
+each_stays P xs h a x e = (x, e, h x)
+
+pub stays : (s : Store) → Extends s s
+stays s = record {
+  funcs = refl;
+  tables = each_stays TableExtends s.tables table_stays;
+  mems = each_stays MemoryExtends s.mems memory_stays;
+  globals = each_stays GlobalExtends s.globals global_stays;
+  table_count = refl;
+  memory_count = refl;
+  global_count = refl;
+  elem_count = refl;
+  data_count = refl;
+}
+
+pub each_then : {A : Type 0} (P : A → A → Type 0) (xs ys zs : List A) → ((x y z : A) → P x y → P y z → P x z) → EachExtends P xs ys → EachExtends P ys zs → EachExtends P xs zs
+each_then P xs ys zs trans h k a x e =
+    let y = h a x e in
+    let z = k a y.0 y.1 in
+    (z.0, z.1, trans x y.0 z.0 y.2 z.2)
+
+pub and_then : (s t u : Store) → Extends s t → Extends t u → Extends s u
+and_then s t u h k = record {
+  funcs = k.funcs ∙ h.funcs;
+  tables = each_then TableExtends s.tables t.tables u.tables (λ x y z p q. let l : length x.slots ≤ length z.slots = omega (arith, p.size, q.size) in record { type = q.type ∙ p.type; most = q.most ∙ p.most; size = l }) h.tables k.tables;
+  mems = each_then MemoryExtends s.mems t.mems u.mems (λ x y z p q. let l : x.pages ≤ z.pages = omega (arith, p.size, q.size) in record { most = q.most ∙ p.most; size = l }) h.mems k.mems;
+  globals = each_then GlobalExtends s.globals t.globals u.globals (λ x y z p q. record { type = q.type ∙ p.type; fixed = λ e. q.fixed (ap (λ t. t.mutable) p.type ∙ e) ∙ p.fixed e }) h.globals k.globals;
+  table_count = k.table_count ∙ h.table_count;
+  memory_count = k.memory_count ∙ h.memory_count;
+  global_count = k.global_count ∙ h.global_count;
+  elem_count = k.elem_count ∙ h.elem_count;
+  data_count = k.data_count ∙ h.data_count;
+}
+
+-- ---- a change ----
+
+-- one place is written with what extends the old
+pub each_put : {A : Type 0} (P : A → A → Type 0) (xs : List A) (n : ℕ) (old new : A) → ((x : A) → P x x) → slice_get xs n ≡ Some old → P old new → EachExtends P xs (slice_set xs n new)
+each_put {A} P xs n old new same there p a x e = go (ℕ_discrete n a)
+  where
+    go : Dec (n ≡ a) → (y : A) × (slice_get (slice_set xs n new) a ≡ Some y) × P x y
+    go (yes i) =
+        let o : old ≡ x = gives_same (sym there ∙ ap (slice_get xs) i ∙ e) in
+        (new, ap (slice_get (slice_set xs n new)) (sym i) ∙ set_at xs n new (slice_get_within xs n old there), subst (λ z. P z new) o p)
+      where
+        gives_same : {u v : A} → Some u ≡ Some v → u ≡ v
+        gives_same e = cc
+    go (no i) = (x, set_other xs n a new (λ f. i (sym f)) ∙ e, same x)
+
+-- what it writes extends what stood there
+pub data Extending (s : Store) : Change → Type 0 where
+  keeps : Extending s Keep
+  global : {a : ℕ} {g h : Global} → slice_get s.globals a ≡ Some g → GlobalExtends g h → Extending s (SetGlobal a h)
+  memory : {a : ℕ} {m n : Memory} → slice_get s.mems a ≡ Some m → MemoryExtends m n → Extending s (SetMemory a n)
+  table : {a : ℕ} {t u : Table} → slice_get s.tables a ≡ Some t → TableExtends t u → Extending s (SetTable a u)
+  elem_drops : {a : ℕ} → Extending s (DropElem a)
+  data_drops : {a : ℕ} → Extending s (DropData a)
+
+pub changed_extends : {s : Store} {c : Change} → Extending s c → Extends s (changed s c)
+changed_extends {s} keeps = stays s
+changed_extends {s} (global {a = a} {g = g} {h = h} e p) = let k = stays s in
+    record { funcs = refl; tables = k.tables; mems = k.mems; globals = each_put GlobalExtends s.globals a g h global_stays e p; table_count = refl; memory_count = refl; global_count = length-set s.globals a h; elem_count = refl; data_count = refl }
+changed_extends {s} (memory {a = a} {m = m} {n = n} e p) = let k = stays s in
+    record { funcs = refl; tables = k.tables; mems = each_put MemoryExtends s.mems a m n memory_stays e p; globals = k.globals; table_count = refl; memory_count = length-set s.mems a n; global_count = refl; elem_count = refl; data_count = refl }
+changed_extends {s} (table {a = a} {t = t} {u = u} e p) = let k = stays s in
+    record { funcs = refl; tables = each_put TableExtends s.tables a t u table_stays e p; mems = k.mems; globals = k.globals; table_count = length-set s.tables a u; memory_count = refl; global_count = refl; elem_count = refl; data_count = refl }
+changed_extends {s} (elem_drops {a = a}) = let k = stays s in
+    record { funcs = refl; tables = k.tables; mems = k.mems; globals = k.globals; table_count = refl; memory_count = refl; global_count = refl; elem_count = length-set s.elems a no_items; data_count = refl }
+changed_extends {s} (data_drops {a = a}) = let k = stays s in
+    record { funcs = refl; tables = k.tables; mems = k.mems; globals = k.globals; table_count = refl; memory_count = refl; global_count = refl; elem_count = refl; data_count = length-set s.datas a no_bytes }

@@ -1,0 +1,11 @@
+use Rattle.world_extension_proof.proofs.TickExtends.{tick_extends, call_extends}
+use Rattle.world_extension_proof.proofs.LoadExtends.{added_extends, loader_extends}
+use Rattle.world_extension_proof.proofs.stores_are_extended.Goals as goal
+
+pub returns : goal.returns
+returns c = record {
+  step = tick_extends c.steps_write_what_they_touch.ensures.writes;
+  call = call_extends c.steps_write_what_they_touch.ensures.writes;
+  added = added_extends;
+  loader = loader_extends c.steps_write_what_they_touch.ensures.writes;
+}

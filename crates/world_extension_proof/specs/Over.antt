@@ -1,0 +1,12 @@
+-- Runs that are over before anything could be called: the world could not be instantiated, or trapped in it.
+use Rattle.std.specs.Prelude.{◌≡◌, []}
+use Rattle.wasm_meaning.specs.Run.{Closed, Run, Out, Makes, transition}
+
+-- the world is closed, and nothing is on the stack
+pub record IsOver (r : Run) : Type 0 where
+  pub phase : r.phase ≡ Closed
+  pub entries : r.entries ≡ []
+
+-- no step of the machine follows, and so it stays
+abbrev pub RunsThatAreOverStaySo : Type 0
+RunsThatAreOverStaySo = (r : Run) → IsOver r → (o : Out) × (transition r ≡ Makes o) × IsOver o.0

@@ -1,0 +1,57 @@
+-- Steps of a run under a loader: those that call no placeholder are steps of the run, and one that calls a placeholder goes on in the function that is then in its slot.
+use Rattle.std.specs.Prelude.{◌≡◌, ℕ, ◌<◌, Bool, false, List, Option, Some, slice_get}
+use Rattle.wasm_tree.specs.declared.types.FuncType.{FuncType}
+use Rattle.base_simulation.specs.Machines.{events_of, state_after}
+use Rattle.wasm_meaning.specs.Outcomes.{Gives}
+use Rattle.wasm_meaning.specs.State.{Pair, FuncRef, Val, Inst, Table, Store, Entry, CallsPlaceholder}
+use Rattle.wasm_meaning.specs.Control.{type_at}
+use Rattle.wasm_meaning.specs.Step.{enter_at}
+use Rattle.wasm_meaning.specs.Run.{Run, Event, Out, Steps, transition, run_after, tick}
+use Rattle.wasm_meaning.specs.Loader.{Secondary, LoaderWorld, LoaderRun, placeholders_of, secondary_of, store_loaded, with_loaded, tick_loader}
+use Rattle.index_remap.specs.ListedRuns.{calls_placeholder}
+
+-- ---- no placeholder is called ----
+
+abbrev pub LoadersStepAsTheirRun : Type 0
+LoadersStepAsTheirRun = (w : LoaderWorld) (q : LoaderRun) → calls_placeholder (transition q.run) ≡ false → tick_loader w q ≡ (record q { run = (tick q.run).0 }, (tick q.run).1)
+
+-- so many steps of the one are those of the other
+pub record GoesAsItsRun (w : LoaderWorld) (q : LoaderRun) (n : ℕ) : Type 0 where
+  pub shown : events_of (tick_loader w) q n ≡ events_of tick q.run n
+  pub state : state_after (tick_loader w) q n ≡ record q { run = state_after tick q.run n }
+
+abbrev pub LoadersGoAsTheirRun : Type 0
+LoadersGoAsTheirRun = (w : LoaderWorld) (q : LoaderRun) (n : ℕ) → ((k : ℕ) → k < n → calls_placeholder (transition (state_after tick q.run k)) ≡ false) → GoesAsItsRun w q n
+
+-- ---- a placeholder is called ----
+
+-- the secondary module of the slot is loaded, or was, without a trap; and then this function is in the slot, with the type of the placeholder
+pub record IsAnswered (w : LoaderWorld) (q : LoaderRun) (slot : ℕ) (s : Store) : Type 0 where
+  pub inst : Inst
+  pub is_inst : q.inst ≡ Some inst
+  pub secondary : ℕ
+  pub is_place : secondary_of w.secondaries slot ≡ Some secondary
+  pub loads : Secondary
+  pub is_secondary : slice_get w.secondaries secondary ≡ Some loads
+  pub is_loaded : Bool
+  pub loaded : slice_get q.loaded secondary ≡ Some is_loaded
+  pub after : Store
+  pub fills : store_loaded w inst loads.«module» is_loaded s ≡ record { store = after; trapped = false }
+  pub placeholder : Pair × FuncType
+  pub is_placeholder : slice_get (placeholders_of w) slot ≡ Some placeholder
+  pub address : ℕ
+  pub names : slice_get inst.tables w.slot_table ≡ Some address
+  pub table : Table
+  pub stands : slice_get after.tables address ≡ Some table
+  pub func : ℕ
+  pub refers : slice_get table.slots slot ≡ Some (FuncRef (Some func))
+  pub typed : type_at after func ≡ Some placeholder.1
+
+-- the run in which that function is entered, over what waits
+abbrev pub answered_out : {w : LoaderWorld} {q : LoaderRun} {slot : ℕ} {s : Store} → IsAnswered w q slot s → Run → List Val → List Entry → Out
+answered_out a r vs es = run_after (record r { store = a.after; entries = es }) (enter_at a.after a.func vs es)
+
+abbrev pub PlaceholdersAreAnswered : Type 0
+PlaceholdersAreAnswered =
+    (w : LoaderWorld) (q : LoaderRun) (r : Run) (slot : ℕ) (vs : List Val) (s : Store) (es : List Entry) → transition q.run ≡ Steps r (Gives (CallsPlaceholder slot vs s es)) → (a : IsAnswered w q slot s) →
+    tick_loader w q ≡ (with_loaded q a.secondary (answered_out a r vs es).0, (answered_out a r vs es).1)
