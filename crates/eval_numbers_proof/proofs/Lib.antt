@@ -1,0 +1,7 @@
+mod Operations
+mod Lists
+mod Values
+mod Steps
+mod Beginning
+mod Evaluated
+mod Rows

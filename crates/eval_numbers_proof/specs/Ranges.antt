@@ -1,0 +1,58 @@
+-- Numbers in the ranges of their types, in the states of an evaluation, and no references of the embedder's (WebAssembly Core 2.0, sections 2.2.1, 2.2.2 and 4.2.1).
+use Rattle.std.specs.Prelude.{◌≡◌, ℕ, ◌^◌, ◌<◌, ◌≤◌, List, length, Some, None, slice_get}
+use Rattle.base_lists.specs.Every.{Every}
+use Rattle.wasm_tree.specs.declared.types.TableType.{TableType}
+use Rattle.wasm_tree.specs.declared.module.DataSeg.{DataSeg}
+use Rattle.wasm_tree.specs.declared.module.Module.{Module}
+use Rattle.wasm_valid.specs.Validity.{IsValid}
+use Rattle.wasm_num.specs.Operations.{bits_of}
+use Rattle.wasm_meaning.specs.State.{RefVal, FuncRef, ExternRef, Val, Num, Ref, Memory, Global, Store}
+use Rattle.eval_spec.specs.State.{State, Finished}
+use Rattle.eval_spec.specs.Evaluation.{evaluated_within}
+
+-- an i32 is below 2 ^ 32, and an i64 below 2 ^ 64
+abbrev pub ValInRange : Val → Type 0
+ValInRange (Num w n) = n < 2 ^ bits_of w
+ValInRange (Ref r) = Unit {0}
+
+-- null, or a function: nothing of the embedder's
+abbrev pub IsNullOrFunction : RefVal → Type 0
+IsNullOrFunction (FuncRef f) = Unit {0}
+IsNullOrFunction (ExternRef None) = Unit {0}
+IsNullOrFunction (ExternRef (Some n)) = ⊥
+
+-- a value that a constant expression can give: a number in its range, null, or a function
+abbrev pub IsExpressible : Val → Type 0
+IsExpressible (Num w n) = n < 2 ^ bits_of w
+IsExpressible (Ref r) = IsNullOrFunction r
+
+abbrev pub IsByte : ℕ → Type 0
+IsByte n = n < 256
+
+-- What a state takes from the module: how many slots tables have, which an i32 can say, and the bytes of data segments. (Of the numbers in code nothing is asked:
+-- a constant is taken modulo 2 ^ 32 or 2 ^ 64.)
+pub record BeginsInRange (m : Module) : Type 0 where
+  pub tables : Every (λ (t : TableType). t.limits.min < 2 ^ 32) m.tables
+  pub datas : Every (λ (d : DataSeg). Every IsByte d.bytes) m.datas
+
+-- the value of each global is in the range of its type
+abbrev pub GlobalsAreInRange : Store → Type 0
+GlobalsAreInRange s = (n : ℕ) (g : Global) → slice_get s.globals n ≡ Some g → ValInRange g.value
+
+-- and none is a reference of the embedder's, which came from outside
+abbrev pub GlobalsAreExpressible : Store → Type 0
+GlobalsAreExpressible s = (n : ℕ) (g : Global) → slice_get s.globals n ≡ Some g → IsExpressible g.value
+
+-- memories hold bytes, of which an i32 can name each
+abbrev pub MemoriesAreInRange : Store → Type 0
+MemoriesAreInRange s = (n : ℕ) (x : Memory) → slice_get s.mems n ≡ Some x → Every IsByte x.bytes × (length x.bytes ≤ 2 ^ 32)
+
+-- So it is after the instantiation of a valid module with its start, and after any calls.
+abbrev pub EvaluatedGlobalsAreInRange : Type 0
+EvaluatedGlobalsAreInRange = (m : Module) → IsValid m → BeginsInRange m → (turns : ℕ) (funcs : List ℕ) (s : State) → evaluated_within m turns funcs ≡ Finished s → GlobalsAreInRange s.store
+
+abbrev pub EvaluatedGlobalsAreExpressible : Type 0
+EvaluatedGlobalsAreExpressible = (m : Module) → IsValid m → BeginsInRange m → (turns : ℕ) (funcs : List ℕ) (s : State) → evaluated_within m turns funcs ≡ Finished s → GlobalsAreExpressible s.store
+
+abbrev pub EvaluatedMemoriesAreInRange : Type 0
+EvaluatedMemoriesAreInRange = (m : Module) → IsValid m → BeginsInRange m → (turns : ℕ) (funcs : List ℕ) (s : State) → evaluated_within m turns funcs ≡ Finished s → MemoriesAreInRange s.store
