@@ -1,0 +1,51 @@
+-- What a valid module names is there: the index is below the number of entries of its space (WebAssembly Core 2.0, section 3.4).
+use Rattle.std.proofs.Common.{ℕ, ◌<◌, ◌≤◌, length, arith}
+use Rattle.std.specs.Prelude.{IsTrue, nat_lt}
+use Rattle.std.proofs.lemmas.Bool.{ltb-true}
+use Rattle.base_lists.specs.Places.{numbers}
+use Rattle.base_lists.proofs.Numbers.{length-numbers}
+use Rattle.wasm_tree.specs.declared.module.Module.{Module}
+use Rattle.wasm_tree.specs.Spaces.{funcs_of, tables_of, memories_of, globals_of}
+use Rattle.wasm_valid.specs.Validity.{IsValid}
+use Rattle.index_remap.specs.declared.remap.Remap.{Remap}
+use Rattle.index_remap.specs.Renumbered.{fits_tree}
+use Rattle.index_remap_proof.specs.Indices.{TreeNamesOnly, with_entry}
+use Rattle.index_remap_proof.specs.Trees.{Covers}
+
+-- an entry for each index
+abbrev pub each_index : Module → Remap
+each_index m = record {
+  types = numbers 0 (length m.types);
+  funcs = numbers 0 (length (funcs_of m));
+  tables = numbers 0 (length (tables_of m));
+  mems = numbers 0 (length (memories_of m));
+  globals = numbers 0 (length (globals_of m));
+  elems = numbers 0 (length m.elems);
+  datas = numbers 0 (length m.datas);
+}
+
+as_many : (n : ℕ) → n ≤ length (numbers 0 n)
+as_many n = let e = length-numbers 0 n in omega (arith, e)
+
+all_covered : (m : Module) → Covers (each_index m) m
+all_covered m = record {
+  types = as_many (length m.types);
+  funcs = as_many (length (funcs_of m));
+  tables = as_many (length (tables_of m));
+  memories = as_many (length (memories_of m));
+  globals = as_many (length (globals_of m));
+  elems = as_many (length m.elems);
+  datas = as_many (length m.datas);
+}
+
+-- the laws of `renumbering_keeps_typing` of index_remap_proof
+pub record NamingLaws : Type 0 where
+  pub entries : (r : Remap) (t : Module) → IsValid t → Covers r t → IsTrue (fits_tree r t)
+  pub named : (r : Remap) (t : Module) → IsTrue (fits_tree r t) → TreeNamesOnly (with_entry r) t
+
+pub names_there : NamingLaws → (m : Module) → IsValid m → TreeNamesOnly (with_entry (each_index m)) m
+names_there laws m valid = laws.named (each_index m) m (laws.entries (each_index m) m valid (all_covered m))
+
+-- so it is below the number of entries
+pub below : (size n : ℕ) → IsTrue (nat_lt n (length (numbers 0 size))) → n < size
+below size n h = let l = ltb-true n (length (numbers 0 size)) h in let e = length-numbers 0 size in omega (arith, l, e)

@@ -1,0 +1,152 @@
+-- Where an environment links a module whose evaluation is quiet, both are instantiated to what is related, and the functions to be called correspond.
+use Rattle.std.proofs.Common.{◌≡◌, ◌∙◌, ap, subst, refl, ℕ, suc, ◌<◌, List, [], ◌∷◌, ◌++◌, map, length, Bool, true, false, cond, Option, Some, None, is_some, inl, inr, arith, slice_get, IsTrue}
+use Rattle.std.proofs.lemmas.Option.{same_Some}
+use Rattle.base_lists.proofs.Filtered.{chosen_from}
+use Rattle.base_lists.proofs.Options.{and_then_is, is_some_there}
+use Rattle.base_lists.proofs.Places.{append_from, map_from, slice_get_there}
+use Rattle.wasm_tree.specs.declared.space.Space.TheVariants.{Functions}
+use Rattle.wasm_tree.specs.declared.module.Export.{Export}
+use Rattle.wasm_tree.specs.declared.module.ExportDesc.{ExportDesc}
+use Rattle.wasm_tree.specs.declared.module.ExportDesc.TheVariants as ex
+use Rattle.wasm_tree.specs.declared.module.ImportDesc.{ImportDesc}
+use Rattle.wasm_tree.specs.declared.module.ImportDesc.TheVariants as im
+use Rattle.wasm_tree.specs.declared.module.Module.{Module}
+use Rattle.wasm_tree.specs.Spaces.{func_of, funcs_of, imported_funcs}
+use Rattle.wasm_valid.specs.Validity.{IsValid}
+use Rattle.wasm_meaning.specs.State.{Text, Inst}
+use Rattle.wasm_meaning.specs.Linking.{export_named, same_text}
+use Rattle.wasm_meaning.specs.Environment.{Environment}
+use Rattle.wasm_meaning.specs.World.{Filled, all_there, alone, begun, joined_stores, links, own_store, segments, start_in}
+use Rattle.index_remap.specs.Related.{ListRel, cons, nil}
+use Rattle.index_remap.proofs.Rel.{append_rel}
+use Rattle.index_remap_proof.specs.Indices.{ExportNamesOnly, ImportNamesOnly, TreeNamesOnly, with_entry}
+use Rattle.world_simulation.specs.Alone.{one}
+use Rattle.world_simulation.proofs.Instancing.{IsInst}
+use Rattle.eval_spec.specs.declared.limits.TheConstants.{MOST_TURNS}
+use Rattle.eval_spec.specs.State.{State, Stage, Going, Stopped, Finished}
+use Rattle.eval_spec.specs.Evaluation.{called_in_order, evaluated}
+use Rattle.eval_spec.specs.Instantiation.{after_start, instantiated}
+use Rattle.eval_snapshot_spec.specs.Evaluated.{first_missing, func_exported, func_named, funcs_named}
+use Rattle.eval_behaves_proof.specs.Worlds.{evaluated_world, with_empty_func}
+use Rattle.eval_behaves_proof.proofs.BothFilled.{both_filled}
+use Rattle.eval_behaves_proof.proofs.InRange.{NamingLaws, below, each_index, names_there}
+use Rattle.eval_behaves_proof.proofs.MoreLinked.{MoreMade, more_made}
+use Rattle.eval_behaves_proof.proofs.QuietRuns.{BothInstantiated, start_of}
+use Rattle.eval_behaves_proof.proofs.Related.{apart}
+use Rattle.eval_behaves_proof.proofs.Rows.{rows}
+use Rattle.eval_behaves_proof.proofs.Standing.{R, func_stands, func_there}
+
+-- ---- a quiet evaluation begins with a quiet instantiation ----
+
+instantiated_first : (m : Module) (c : Stage) (o : Option ℕ) (ns : List ℕ) (t : State) → called_in_order m (after_start m c o) ns ≡ Finished t → (s : State) × (c ≡ Finished s)
+instantiated_first m (Finished s) o ns t e = (s, refl)
+instantiated_first m (Stopped x left) o [] t e = absurd (let k = e in cc)
+instantiated_first m (Stopped x left) o (n ∷ ns) t e = absurd (let k = e in cc)
+instantiated_first m (Going s es) o [] t e = absurd (let k = e in cc)
+instantiated_first m (Going s es) o (n ∷ ns) t e = absurd (let k = e in cc)
+
+-- ---- the functions that are called ----
+
+module _ (m : Module) (names : TreeNamesOnly (with_entry (each_index m)) m) where
+  exported_there : (es : List Export) (name : Text) (d : ExportDesc) → export_named es name ≡ Some d → (k : ℕ) × (e : Export) × (slice_get es k ≡ Some e) × (e.desc ≡ d)
+  exported_there [] name d h = absurd (let k = h in cc)
+  exported_there (e ∷ es) name d h = by (same_text e.name name) h (exported_there es name d)
+    where
+      by : (b : Bool) → cond b (Some e.desc) (export_named es name) ≡ Some d → (export_named es name ≡ Some d → (k : ℕ) × (x : Export) × (slice_get es k ≡ Some x) × (x.desc ≡ d)) →
+          (k : ℕ) × (x : Export) × (slice_get (e ∷ es) k ≡ Some x) × (x.desc ≡ d)
+      by true q again = (0, e, refl, same_Some e.desc d q)
+      by false q again = let r = again q in (suc r.0, r.1, r.2, r.3)
+
+  exported_func : (d : ExportDesc) (f : ℕ) → ExportNamesOnly (with_entry (each_index m)) d → func_exported d ≡ Some f → f < length (funcs_of m)
+  exported_func (ex.Func g) f h e = subst (λ f. f < length (funcs_of m)) (same_Some g f e) (below (length (funcs_of m)) g h)
+  exported_func (ex.Table n) f h e = absurd (let k = e in cc)
+  exported_func (ex.Memory n) f h e = absurd (let k = e in cc)
+  exported_func (ex.Global n) f h e = absurd (let k = e in cc)
+
+  pub named_func : (name : Text) (f : ℕ) → func_named m name ≡ Some f → f < length (funcs_of m)
+  named_func name f h =
+      let d = and_then_is (export_named m.exports name) func_exported f h in
+      let e = exported_there m.exports name d.0 d.1 in
+      exported_func d.0 f (subst (ExportNamesOnly (with_entry (each_index m))) e.3 (names.exports e.0 e.1 e.2)) d.2
+
+  named_funcs : (constructors : List Text) (k f : ℕ) → slice_get (funcs_named m constructors) k ≡ Some f → f < length (funcs_of m)
+  named_funcs constructors k f h = let x = chosen_from (func_named m) constructors k f h in named_func x.0 f x.2
+
+  started_func : (f : ℕ) → m.start ≡ Some f → f < length (funcs_of m)
+  started_func f h = below (length (funcs_of m)) f (names.start f h)
+
+  -- where a function is there so is a type
+  imported_type : (d : ImportDesc) (ty : ℕ) → ImportNamesOnly (with_entry (each_index m)) d → func_of d ≡ Some ty → ty < length m.types
+  imported_type (im.Func u) ty h e = subst (λ n. n < length m.types) (same_Some u ty e) (below (length m.types) u h)
+  imported_type (im.Table t) ty h e = absurd (let k = e in cc)
+  imported_type (im.Memory l) ty h e = absurd (let k = e in cc)
+  imported_type (im.Global t) ty h e = absurd (let k = e in cc)
+
+  pub typed : (f : ℕ) → f < length (funcs_of m) → 0 < length m.types
+  typed f lt =
+      let ty = slice_get_there (funcs_of m) f lt in
+      let low : ty.0 < length m.types = elim (append_from (imported_funcs m.imports) (map (λ f. f.ty) m.funcs) f ty.0 ty.1) [
+        | inl e ↦ let x = chosen_from (λ i. func_of i.desc) m.imports f ty.0 e in imported_type x.0.desc ty.0 (names.imports x.1.0 x.0 x.1.1) x.2
+        | inr j ↦ let x = map_from (λ f. f.ty) m.funcs j.0 ty.0 j.2 in subst (λ n. n < length m.types) x.2 (below (length m.types) x.0.ty ((names.funcs j.0 x.0 x.1).0))
+      ] in
+      omega (arith, low)
+
+  first_there : (name : Text) (constructors : List Text) → first_missing m (name ∷ constructors) ≡ None → 0 < length m.types
+  first_there name constructors h = by (is_some (func_named m name)) refl h
+    where
+      by : (b : Bool) → is_some (func_named m name) ≡ b → cond b (first_missing m constructors) (Some name) ≡ None → 0 < length m.types
+      by true e k = let f = is_some_there (func_named m name) e in typed f.0 (named_func name f.0 f.1)
+      by false e k = absurd (let q = k in cc)
+
+  module _ (env : Environment) (i : Inst) (is : IsInst env (one (with_empty_func m)) 0 (with_empty_func m) i) where
+    -- their addresses
+    pub record HaveAddresses (fs : List ℕ) : Type 0 where
+      pub addresses : List ℕ
+      pub are : all_there (slice_get i.funcs) fs ≡ Some addresses
+      pub related : ListRel ((R env m i is).of Functions) fs addresses
+
+    have_addresses : (fs : List ℕ) → ((k f : ℕ) → slice_get fs k ≡ Some f → f < length (funcs_of m)) → HaveAddresses fs
+    have_addresses [] low = record { addresses = []; are = refl; related = nil }
+    have_addresses (f ∷ fs) low =
+        let x = func_there env m i is f (low 0 f refl) in
+        let r = have_addresses fs (λ k. low (suc k)) in
+        record { addresses = x.address ∷ r.addresses; are = rw (x.is_there, r.are) refl; related = cons (func_stands env m i is f x.address x.named) r.related }
+
+    started : (o : Option ℕ) → ((f : ℕ) → o ≡ Some f → f < length (funcs_of m)) → ListRel ((R env m i is).of Functions) (start_of o) (start_in i o ++ [])
+    started None low = nil
+    started (Some f) low = let x = func_there env m i is f (low f refl) in rw x.is_there (cons (func_stands env m i is f x.address x.named) nil)
+
+-- ---- both ----
+
+module _ (env : Environment) (m : Module) (constructors kept : List Text) (t : State) where
+  made_both : (names : TreeNamesOnly (with_entry (each_index m)) m) → MoreMade env m constructors kept → (s : State) → instantiated m MOST_TURNS ≡ Finished s → BothInstantiated env m constructors kept
+  made_both names made s h =
+      let i = made.inst in
+      let both = both_filled env m i made.shape (apart m i (rows env m i made.shape)) names made.defined made.is_defined MOST_TURNS s h in
+      let called = have_addresses m names env i made.shape (funcs_named m constructors) (named_funcs m names constructors) in
+      let filled = segments env (one (with_empty_func m)) (i ∷ []) (joined_stores (own_store env) made.defined) in
+      let left = both.left in
+      record {
+        begun = begun env (evaluated_world m constructors kept) (i ∷ []) made.view (record { store = both.store; trapped = false });
+        is_begun = made.is_begun ∙ ap (λ (f : Filled). Some (begun env (evaluated_world m constructors kept) (i ∷ []) made.view f)) both.filled;
+        untrapped = refl;
+        inst = i;
+        is_inst = made.is_inst;
+        shape = made.shape;
+        addresses = called.addresses;
+        are_addresses = rw made.shape.funcs called.are;
+        quiet = s;
+        is_quiet = h;
+        turns = omega (arith, left);
+        funcs = both.funcs;
+        related = both.related;
+        called = append_rel (started m names env i made.shape m.start (started_func m names)) called.related;
+      }
+
+pub both_instantiated : NamingLaws → (env : Environment) (m : Module) (name : Text) (names kept : List Text) (t : State) → IsValid m → first_missing m (name ∷ names) ≡ None →
+    evaluated m (funcs_named m (name ∷ names)) ≡ Finished t →
+    IsTrue (links env (alone m)) → BothInstantiated env m (name ∷ names) kept
+both_instantiated laws env m name names kept t valid none e linked =
+    let there = names_there laws m valid in
+    let s = instantiated_first m (instantiated m MOST_TURNS) m.start (funcs_named m (name ∷ names)) t e in
+    made_both env m (name ∷ names) kept t there (more_made env m there (first_there m there name names none) (name ∷ names) kept linked) s.0 s.1

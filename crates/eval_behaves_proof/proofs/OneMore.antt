@@ -1,0 +1,112 @@
+-- A module and the same with one function more, in an environment: each index of the first has the address in the second that it has in the first, and constant expressions
+-- have the values in the second that they have in the first.
+use Rattle.std.proofs.Common.{◌≡◌, ◌∙◌, sym, ap, ℕ, ◌+◌, ◌≤◌, List, [], ◌∷◌, ◌++◌, map, length, Option, Some, None, inl, inr, arith, slice_get, option_and_then}
+use Rattle.std.proofs.lemmas.List.{length-append}
+use Rattle.std.proofs.lemmas.Option.{same_Some}
+use Rattle.base_lists.specs.Places.{numbers}
+use Rattle.base_lists.proofs.Numbers.{numbers_at}
+use Rattle.base_lists.proofs.Options.{and_then_is}
+use Rattle.base_lists.proofs.Places.{append_at_left, append_from, append_right}
+use Rattle.wasm_tree.specs.declared.space.Space.{Space}
+use Rattle.wasm_tree.specs.declared.space.Space.TheVariants.{Types, Functions, Tables, Memories, Globals, ElementSegments, DataSegments}
+use Rattle.wasm_tree.specs.declared.module.ConstExpr.{ConstExpr}
+use Rattle.wasm_tree.specs.declared.module.ConstExpr.TheVariants as const
+use Rattle.wasm_tree.specs.declared.module.Module.{Module}
+use Rattle.wasm_tree.specs.Spaces.{imported_funcs, imported_tables, imported_memories, imported_globals, funcs_of, tables_of, memories_of, globals_of}
+use Rattle.wasm_meaning.specs.State.{Val, Ref, FuncRef, Inst}
+use Rattle.wasm_meaning.specs.Environment.{Environment, own_globals}
+use Rattle.wasm_meaning.specs.World.{defined_count, own_count, space, value_of, value_of_read}
+use Rattle.world_simulation.specs.Alone.{addresses, one, read_place}
+use Rattle.world_simulation.proofs.Alone.{funcs_counted, tables_counted, memories_counted, globals_counted, read_is, space_is}
+use Rattle.world_simulation.proofs.Instancing.{IsInst, is_space}
+use Rattle.world_simulation.proofs.Places.{map_length, number_is}
+use Rattle.eval_snapshot_spec.specs.Snapshot.{empty_func}
+use Rattle.eval_behaves_proof.specs.Worlds.{with_empty_func}
+
+module _ (env : Environment) (m : Module) where
+  abbrev pub more : Module
+  more = with_empty_func m
+
+  -- ---- index spaces ----
+
+  pub space_more : (k : Space) (xs : List ℕ) → space env (one m) k 0 m ≡ Some xs → (ys : List ℕ) × (space env (one more) k 0 more ≡ Some ys)
+  space_more k xs h =
+      let x = and_then_is (addresses env m.types m.imports k) _ xs (sym (space_is env m k) ∙ h) in
+      (x.0 ++ numbers (own_count k env) (defined_count k more), space_is env more k ∙ ap (λ o. option_and_then (λ l. Some (l ++ numbers (own_count k env) (defined_count k more))) o) x.1)
+
+  no_fewer : (k : Space) → defined_count k m ≤ defined_count k more
+  no_fewer Types = omega arith
+  no_fewer Functions = let e = length-append m.funcs (empty_func m ∷ []) in omega (arith, e)
+  no_fewer Tables = omega arith
+  no_fewer Memories = omega arith
+  no_fewer Globals = omega arith
+  no_fewer ElementSegments = omega arith
+  no_fewer DataSegments = omega arith
+
+  pub address_stays : (k : Space) (xs ys : List ℕ) → space env (one m) k 0 m ≡ Some xs → space env (one more) k 0 more ≡ Some ys → (n a : ℕ) → slice_get xs n ≡ Some a → slice_get ys n ≡ Some a
+  address_stays k xs ys f g n a h =
+      let x = and_then_is (addresses env m.types m.imports k) _ xs (sym (space_is env m k) ∙ f) in
+      let y = and_then_is (addresses env m.types m.imports k) _ ys (sym (space_is env more k) ∙ g) in
+      let both : x.0 ≡ y.0 = same_Some x.0 y.0 (sym x.1 ∙ y.1) in
+      let first : x.0 ++ numbers (own_count k env) (defined_count k m) ≡ xs = cc in
+      let second : y.0 ++ numbers (own_count k env) (defined_count k more) ≡ ys = cc in
+      let stays : slice_get (x.0 ++ numbers (own_count k env) (defined_count k more)) n ≡ Some a =
+      elim (append_from x.0 (numbers (own_count k env) (defined_count k m)) n a (ap (λ l. slice_get l n) first ∙ h)) [
+        | inl e ↦ append_at_left x.0 (numbers (own_count k env) (defined_count k more)) n a e
+        | inr j ↦
+            let r = number_is (own_count k env) (defined_count k m) j.0 a j.2 in
+            let l = r.0 in
+            let few = no_fewer k in
+            ap (slice_get (x.0 ++ numbers (own_count k env) (defined_count k more))) j.1 ∙ append_right x.0 (numbers (own_count k env) (defined_count k more)) j.0
+            ∙ numbers_at (own_count k env) (defined_count k more) j.0 (omega (arith, l, few)) ∙ ap Some (sym r.1)
+      ] in
+      ap (λ l. slice_get l n) (sym second) ∙ ap (λ l. slice_get (l ++ numbers (own_count k env) (defined_count k more)) n) (sym both) ∙ stays
+
+  -- ---- how many there are ----
+
+  module _ (i : Inst) (is : IsInst env (one more) 0 more i) where
+    pub funcs_many : length i.funcs ≡ length (funcs_of m) + 1
+    funcs_many =
+        let s = (is_space env (one more) Functions 0 more i.funcs is.funcs).size in
+        let e = funcs_counted m.imports 0 in
+        let f = length-append (imported_funcs m.imports) (map (λ f. f.ty) m.funcs) in
+        let g = map_length (λ f. f.ty) m.funcs in
+        let k = length-append m.funcs (empty_func m ∷ []) in
+        omega (arith, s, e, f, g, k)
+
+    pub tables_many : length i.tables ≡ length (tables_of m)
+    tables_many = let s = (is_space env (one more) Tables 0 more i.tables is.tables).size in let e = tables_counted m.imports 0 in let f = length-append (imported_tables m.imports) m.tables in
+        omega (arith, s, e, f)
+
+    pub mems_many : length i.mems ≡ length (memories_of m)
+    mems_many = let s = (is_space env (one more) Memories 0 more i.mems is.mems).size in let e = memories_counted m.imports 0 in let f = length-append (imported_memories m.imports) m.mems in
+        omega (arith, s, e, f)
+
+    pub globals_many : length i.globals ≡ length (globals_of m)
+    globals_many =
+        let s = (is_space env (one more) Globals 0 more i.globals is.globals).size in
+        let e = globals_counted m.imports 0 in
+        let f = length-append (imported_globals m.imports) (map (λ g. g.ty) m.globals) in
+        let g = map_length (λ g. g.ty) m.globals in
+        omega (arith, s, e, f, g)
+
+  -- ---- values of constant expressions ----
+
+  module _ (i j : Inst) (a : IsInst env (one m) 0 m i) (b : IsInst env (one more) 0 more j) where
+    read_in_both : (o : Option ℕ) (v : Val) → option_and_then (value_of_read (own_globals env) (i ∷ [])) (option_and_then (λ y. Some (record { part = 0; expr = const.Global y })) o) ≡ Some v →
+        option_and_then (value_of_read (own_globals env) (j ∷ [])) (option_and_then (λ y. Some (record { part = 0; expr = const.Global y })) o) ≡ Some v
+    read_in_both None v h = absurd (let k = h in cc)
+    read_in_both (Some y) v h =
+        let x = and_then_is (slice_get i.globals y) _ v h in
+        rw (address_stays Globals i.globals j.globals a.globals b.globals y x.0 x.1) x.2
+
+    pub value_stays : (e : ConstExpr) (v : Val) → value_of env (one m) (i ∷ []) 0 e ≡ Some v → value_of env (one more) (j ∷ []) 0 e ≡ Some v
+    value_stays (const.I32 n) v h = h
+    value_stays (const.I64 n) v h = h
+    value_stays (const.Null t) v h = h
+    value_stays (const.Func f) v h =
+        let x = and_then_is (slice_get i.funcs f) (λ a. Some (Ref (FuncRef (Some a)))) v h in
+        rw (address_stays Functions i.funcs j.funcs a.funcs b.funcs f x.0 x.1) x.2
+    value_stays (const.Global n) v h =
+        ap (option_and_then (value_of_read (own_globals env) (j ∷ []))) (read_is more (const.Global n))
+        ∙ read_in_both (read_place m.imports n) v (ap (option_and_then (value_of_read (own_globals env) (i ∷ []))) (sym (read_is m (const.Global n))) ∙ h)

@@ -1,0 +1,76 @@
+-- The whole quiet run as the machine's in an environment, from stores that are related once both are instantiated.
+use Rattle.std.proofs.Common.{◌≡◌, ◌∙◌, sym, ap, refl, ℕ, ◌≤◌, List, [], ◌∷◌, ◌++◌, Option, Some, None, false}
+use Rattle.wasm_tree.specs.declared.space.Space.TheVariants.{Functions}
+use Rattle.wasm_tree.specs.declared.module.Module.{Module}
+use Rattle.wasm_meaning.specs.State.{Text, Inst}
+use Rattle.wasm_meaning.specs.Environment.{Environment}
+use Rattle.wasm_meaning.specs.World.{Begun, insts_from, instantiate}
+use Rattle.index_remap.specs.Related.{ListRel}
+use Rattle.index_remap.specs.Laws.{passed}
+use Rattle.index_remap.specs.Unknown.{StoreRelOff, StepsAgreeOff, RunsAgreeOff}
+use Rattle.world_simulation.specs.Alone.{one}
+use Rattle.world_simulation.proofs.Instancing.{IsInst}
+use Rattle.eval_spec.specs.declared.limits.TheConstants.{MOST_TURNS}
+use Rattle.eval_spec.specs.State.{State, Stage, Finished}
+use Rattle.eval_spec.specs.Instantiation.{after_start, instantiated, own_inst}
+use Rattle.eval_spec.specs.Evaluation.{called_in_order, evaluated}
+use Rattle.eval_proof.specs.Known.{FuncsOf, QuietCallsAreKnown}
+use Rattle.eval_proof.specs.Alone.{LeavesAlone}
+use Rattle.eval_proof.specs.Led.{QuietCallsLead}
+use Rattle.eval_proof.specs.Laws.{EndsAreReached}
+use Rattle.eval_snapshot_spec.specs.Evaluated.{funcs_named}
+use Rattle.eval_behaves_proof.specs.Worlds.{addresses_of, evaluated_world, with_empty_func}
+use Rattle.eval_behaves_proof.specs.Addresses.{IsTheMachines, names_at, stands_at}
+use Rattle.eval_behaves_proof.proofs.CallsAlike.{calls_alike}
+use Rattle.eval_behaves_proof.proofs.Related.{apart, relates}
+use Rattle.eval_behaves_proof.proofs.Rows.{rows}
+
+-- the start, if there is one
+abbrev pub start_of : Option ℕ → List ℕ
+start_of None = []
+start_of (Some func) = func ∷ []
+
+start_first : (m : Module) (s : State) (o : Option ℕ) (ns : List ℕ) → called_in_order m (after_start m (Finished s) o) ns ≡ called_in_order m (Finished s) (start_of o ++ ns)
+start_first m s None ns = refl
+start_first m s (Some func) ns = refl
+
+-- Both are instantiated, the quiet run in its own store and the world in the environment: the stores are related, and so are the functions that are to be called, by index and address.
+pub record BothInstantiated (env : Environment) (m : Module) (constructors kept : List Text) : Type 0 where
+  pub begun : Begun
+  pub is_begun : instantiate env (evaluated_world m constructors kept) ≡ Some begun
+  pub untrapped : begun.trapped ≡ false
+  pub inst : Inst
+  pub is_inst : insts_from env (one (with_empty_func m)) 0 (one (with_empty_func m)) ≡ Some (inst ∷ [])
+  pub shape : IsInst env (one (with_empty_func m)) 0 (with_empty_func m) inst
+  pub addresses : List ℕ
+  pub are_addresses : addresses_of env (with_empty_func m) (funcs_named m constructors) ≡ Some addresses
+  pub quiet : State
+  pub is_quiet : instantiated m MOST_TURNS ≡ Finished quiet
+  pub turns : quiet.turns ≤ MOST_TURNS
+  pub funcs : FuncsOf (own_inst m) quiet.store.funcs
+  pub related : StoreRelOff (passed (stands_at m inst) (names_at m inst) []) quiet.unknown quiet.store begun.store
+  pub called : ListRel ((passed (stands_at m inst) (names_at m inst) []).of Functions) (start_of m.start ++ funcs_named m constructors) (begun.starts ++ addresses)
+
+module _ (known : QuietCallsAreKnown) (lead : QuietCallsLead) (agree : StepsAgreeOff) (runs : RunsAgreeOff) (reached : EndsAreReached) (env : Environment) (m : Module) (constructors kept : List Text) (t : State) where
+  -- then the calls come to their ends in both, and what the quiet run leaves is what the machine leaves; what is not related, or still unknown, is as it was
+  pub record QuietRun (b : BothInstantiated env m constructors kept) : Type 0 where
+    pub machines : IsTheMachines env m constructors kept t
+    pub alone : LeavesAlone (passed (stands_at m b.inst) (names_at m b.inst) []) t.unknown b.begun.store machines.begun.store
+
+  pub quiet_run : (b : BothInstantiated env m constructors kept) → evaluated m (funcs_named m constructors) ≡ Finished t → QuietRun b
+  quiet_run b e =
+      let ns = funcs_named m constructors in
+      let in_order : called_in_order m (Finished b.quiet) (start_of m.start ++ ns) ≡ Finished t = sym (start_first m b.quiet m.start ns) ∙ ap (λ (c : Stage). called_in_order m (after_start m c m.start) ns) (sym b.is_quiet) ∙ e in
+      let r = (calls_alike known lead agree runs reached m (stands_at m b.inst) (names_at m b.inst) (relates m b.inst) (apart m b.inst (rows env m b.inst b.shape)) (start_of m.start ++ ns) (b.begun.starts ++ b.addresses) b.called b.quiet t b.begun.store
+      b.funcs b.turns b.related in_order).ends in
+      record {
+        machines = record {
+          begun = record b.begun { store = r.after; starts = [] };
+          is_begun = rw (b.is_begun, b.are_addresses, r.ends) refl;
+          untrapped = b.untrapped;
+          inst = b.inst;
+          is_inst = b.is_inst;
+          related = r.related;
+        };
+        alone = r.alone;
+      }

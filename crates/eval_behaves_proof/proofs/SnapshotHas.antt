@@ -1,0 +1,77 @@
+-- What the snapshot of a module has, and how many addresses of each space it shares with the module in an environment.
+use Rattle.std.proofs.Common.{◌≡◌, ◌∙◌, ap, ℕ, ◌+◌, ◌≤◌, List, [], ◌∷◌, length, Bool, true, false, cond, arith}
+use Rattle.std.specs.List.{list_any}
+use Rattle.std.proofs.lemmas.List.{length-append}
+use Rattle.wasm_tree.specs.DataUse.{any_uses_data}
+use Rattle.wasm_tree.specs.declared.space.Space.{Space}
+use Rattle.wasm_tree.specs.declared.space.Space.TheVariants.{Types, Functions, Tables, Memories, Globals, ElementSegments, DataSegments}
+use Rattle.wasm_tree.specs.declared.module.Func.{Func}
+use Rattle.wasm_tree.specs.declared.module.Module.{Module}
+use Rattle.wasm_tree.specs.Spaces.{imported_globals}
+use Rattle.wasm_meaning.specs.State.{Text}
+use Rattle.wasm_meaning.specs.Environment.{Environment}
+use Rattle.wasm_meaning.specs.World.{own_count}
+use Rattle.index_remap.specs.References.{declared_refs}
+use Rattle.world_simulation.proofs.Declared.{Keeps, keeps, last_segments}
+use Rattle.eval_spec.specs.State.{State}
+use Rattle.eval_snapshot_spec.specs.Snapshot.{added_funcs, declared_snapshot, empty_func, is_kept, memory_segments, old_segments, segments_left, snapshot, snapshot_tree}
+use Rattle.eval_snapshot_proof.proofs.Trees.{globals_many, segments_many}
+
+module _ (m : Module) (s : State) (name : Text) (names kept : List Text) where
+  -- before its references are declared
+  abbrev pub plain : Module
+  plain = snapshot_tree m s (name ∷ names) kept
+
+  abbrev taken : Module
+  taken = snapshot m s (name ∷ names) kept
+
+  abbrev pub refs : List ℕ
+  refs = declared_refs plain
+
+  abbrev pub more : List Func
+  more = added_funcs m (name ∷ names) kept
+
+  pub shape : Keeps plain taken refs
+  unfolding declared_snapshot
+  shape = keeps plain refs
+
+  pub funcs_many : length taken.funcs ≡ length m.funcs + length more
+  funcs_many = ap length shape.funcs ∙ length-append m.funcs more
+
+  pub more_few : length more ≤ 1
+  more_few = by (list_any (λ e. is_kept (name ∷ names) kept e.name) m.exports)
+    where
+      by : (b : Bool) → length (cond b (empty_func m ∷ []) []) ≤ 1
+      by true = omega arith
+      by false = omega arith
+
+  pub left_globals_many : length taken.globals ≡ length m.globals
+  left_globals_many = ap length shape.globals ∙ globals_many m s (length (imported_globals m.imports)) m.globals
+
+  pub elems_more : length m.elems ≤ length taken.elems
+  elems_more = let e : length taken.elems ≡ length m.elems + length (last_segments refs) = ap length shape.elems ∙ length-append m.elems (last_segments refs) in omega (arith, e)
+
+  pub datas_more : any_uses_data m.funcs ≡ true → length m.datas ≤ length taken.datas
+  datas_more uses =
+      let e : length taken.datas ≡ length (old_segments m s) + length (memory_segments m s) = ap length shape.datas ∙ length-append (old_segments m s) (memory_segments m s) in
+      let f : length (old_segments m s) ≡ length m.datas = ap (λ b. length (cond b (segments_left s 0 m.datas) [])) uses ∙ segments_many s 0 m.datas in
+      omega (arith, e, f)
+
+  -- of data segments those of the module, where code names any
+  abbrev pub bound : Environment → Space → ℕ
+  bound env Types = 0
+  bound env Functions = own_count Functions env + length taken.funcs
+  bound env Tables = own_count Tables env + length m.tables
+  bound env Memories = own_count Memories env + length m.mems
+  bound env Globals = own_count Globals env + length m.globals
+  bound env ElementSegments = length m.elems
+  bound env DataSegments = cond (any_uses_data m.funcs) (length m.datas) 0
+
+  pub room : (env : Environment) (k : Space) → own_count k env ≤ bound env k
+  room env Types = omega arith
+  room env Functions = omega arith
+  room env Tables = omega arith
+  room env Memories = omega arith
+  room env Globals = omega arith
+  room env ElementSegments = omega arith
+  room env DataSegments = omega arith

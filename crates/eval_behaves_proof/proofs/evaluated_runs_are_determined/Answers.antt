@@ -1,0 +1,14 @@
+use Rattle.std.specs.Prelude.{[], ◌∷◌}
+use Rattle.base_simulation.proofs.Prefixes.{shorter}
+use Rattle.wasm_meaning.specs.World.{alone, instantiate}
+use Rattle.wasm_meaning.specs.Run.{tick, fresh_run}
+use Rattle.eval_behaves_proof.specs.Laws.{ShorterEvaluatedRunsArePrefixes}
+use Rattle.eval_behaves_proof.specs.Worlds.{evaluated_begun}
+use Rattle.eval_behaves_proof.proofs.evaluated_runs_are_determined.Goals as goal
+
+prefixes : ShorterEvaluatedRunsArePrefixes
+prefixes m [] kept env moves n k = shorter tick (fresh_run env (instantiate env (alone m)) moves) n k
+prefixes m (name ∷ names) kept env moves n k = shorter tick (fresh_run env (evaluated_begun env m (name ∷ names) kept) moves) n k
+
+pub returns-clause-prefixes : goal.returns-clause-prefixes
+returns-clause-prefixes c = prefixes

@@ -1,0 +1,20 @@
+use Rattle.std.specs.Prelude.{◌∷◌}
+use Rattle.eval_behaves_proof.proofs.InRange.{NamingLaws}
+use Rattle.eval_behaves_proof.proofs.Instantiated.{both_instantiated}
+use Rattle.eval_behaves_proof.proofs.QuietRuns.{quiet_run}
+use Rattle.eval_behaves_proof.proofs.quiet_runs_are_the_machines.Goals as goal
+
+pub returns : goal.returns
+returns c =
+    let calls = c.quiet_steps_are_known.ensures.calls in
+    let lead = c.quiet_calls_lead_others.ensures.lead in
+    let off = c.steps_agree_off_unknown_places.ensures in
+    let reached = c.quiet_runs_end.ensures.reached in
+    let typing = c.renumbering_keeps_typing.ensures in
+    let naming : NamingLaws = record { entries = typing.tree_entries; named = typing.tree_named } in
+    record {
+      machines = λ m name names kept t valid none quiet env is linked.
+          let b = both_instantiated naming env m name names kept t valid none quiet linked in
+          let r = quiet_run calls lead off.steps off.runs reached env m (name ∷ names) kept t b quiet in
+          r.machines;
+    }

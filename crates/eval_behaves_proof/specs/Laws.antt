@@ -1,0 +1,38 @@
+-- That the snapshot of a module behaves as the module of which constructors are evaluated.
+use Rattle.std.specs.Prelude.{[], ◌≡◌, ℕ, ◌+◌, List, IsTrue}
+use Rattle.wasm_tree.specs.declared.module.Module.{Module}
+use Rattle.wasm_valid.specs.Validity.{IsValid}
+use Rattle.wasm_meaning.specs.State.{Text}
+use Rattle.wasm_meaning.specs.Environment.{Environment}
+use Rattle.wasm_meaning.specs.World.{alone, links}
+use Rattle.wasm_meaning.specs.Run.{Move, IsPrefix, Same, events}
+use Rattle.eval_spec.specs.State.{State}
+use Rattle.eval_numbers_proof.specs.Ranges.{BeginsInRange}
+use Rattle.eval_snapshot_spec.specs.After.{IsAfter}
+use Rattle.eval_snapshot_spec.specs.Snapshot.{snapshot}
+use Rattle.eval_behaves_proof.specs.Worlds.{events_evaluated}
+
+-- In every environment that links the module, whatever is seen in n steps after its evaluated constructors is seen of the other in n, and the other way round.
+abbrev pub BehavesAs : Module → (evaluated kept : List Text) → Module → Type 0
+BehavesAs m evaluated kept other = Same (λ env. IsTrue (links env (alone m))) (events_evaluated m evaluated kept) (events (alone other)) (λ n. n) (λ n. n)
+
+-- So it is with the snapshot in a state that tells what stands after these constructors, where tables of the module have fewer than 2 ^ 32 slots and its data segments hold bytes.
+abbrev pub SnapshotsShowTheSame : Type 0
+SnapshotsShowTheSame = (m : Module) (evaluated kept : List Text) (s : State) → IsValid m → BeginsInRange m → IsAfter m evaluated s → BehavesAs m evaluated kept (snapshot m s evaluated kept)
+
+-- where no constructor is evaluated, the module itself
+abbrev pub NoneShowsTheSame : Type 0
+NoneShowsTheSame = (m : Module) (kept : List Text) → BehavesAs m [] kept m
+
+-- ---- runs ----
+
+-- equal modules, names, environments, moves and numbers of steps give equal events
+abbrev pub EvaluatedRunsAreDetermined : Type 0
+EvaluatedRunsAreDetermined =
+    (m o : Module) (evaluated constructors kept names : List Text) (d e : Environment) (ms ns : List Move) (n k : ℕ) →
+    m ≡ o → evaluated ≡ constructors → kept ≡ names → d ≡ e → ms ≡ ns → n ≡ k → events_evaluated m evaluated kept d ms n ≡ events_evaluated o constructors names e ns k
+
+-- the events of fewer steps are a prefix of those of more
+abbrev pub ShorterEvaluatedRunsArePrefixes : Type 0
+ShorterEvaluatedRunsArePrefixes =
+    (m : Module) (evaluated kept : List Text) (env : Environment) (moves : List Move) (n k : ℕ) → IsPrefix (events_evaluated m evaluated kept env moves n) (events_evaluated m evaluated kept env moves (n + k))
