@@ -1,4 +1,4 @@
--- Values of globals after evaluated constructors.
+-- What holds of a module and of the values of its globals where constructors were evaluated.
 use Rattle.std.specs.Prelude.{◌≡◌, ℕ, ◌+◌, List, length, Some, slice_get}
 use Rattle.wasm_tree.specs.declared.module.ConstExpr.{ConstExpr}
 use Rattle.wasm_tree.specs.declared.module.GlobalDef.{GlobalDef}
@@ -10,9 +10,14 @@ use Rattle.wasm_meaning.specs.State.{Text}
 use Rattle.eval_spec.specs.State.{State}
 use Rattle.eval_spec.specs.Told.{value_of_global}
 use Rattle.eval_snapshot_spec.specs.After.{IsAfter}
+use Rattle.eval_snapshot_proof.specs.Suits.{HasEmptyTypeFor}
 
 -- The constant that is the value of a defined global has the type of the global.
 abbrev pub ValuesAreTyped : Type 0
 ValuesAreTyped =
     (m : Module) (names : List Text) (s : State) → IsValid m → IsAfter m names s → (n : ℕ) (g : GlobalDef) (e : ConstExpr) →
     slice_get m.globals n ≡ Some g → value_of_global m s (length (imported_globals m.imports) + n) ≡ Some e → const_type m e ≡ Some g.ty.ty
+
+-- A module of which a constructor was evaluated has a type that takes and gives nothing. (A function of any other type is not called.)
+abbrev pub EmptyTypesAreThere : Type 0
+EmptyTypesAreThere = (m : Module) (names : List Text) (s : State) → IsAfter m names s → HasEmptyTypeFor m names

@@ -1,0 +1,7 @@
+mod Scanned
+mod NamesFound
+mod Indexed
+mod ExportsLeft
+mod MemoryBytes
+mod Counted
+mod Parts

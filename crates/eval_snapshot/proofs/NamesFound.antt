@@ -1,0 +1,37 @@
+-- Names that are looked up: one name more.
+use Rattle.std.proofs.Common.{◌≡◌, ◌∙◌, ap, sym, refl, ℕ, ◌+◌, ◌<◌, List, [], ◌∷◌, ◌++◌, take, length, get_or, Bool, true, false, ◌||◌, cond, Option, Some, None}
+use Rattle.std.specs.List.{list_any}
+use Rattle.std.specs.Str.{bytes_eq}
+use Rattle.std.proofs.lemmas.List.{take_more}
+use Rattle.std.proofs.lemmas.List.Folds.{list_any-append}
+use Rattle.std.proofs.lemmas.Slice.Eq.{bytes_eq-Decides}
+use Rattle.base_lists.proofs.Bools.{same_tests}
+use Rattle.wasm_meaning.specs.State.{Text}
+use Rattle.wasm_meaning.specs.Linking.{same_text}
+use Rattle.index_remap_proof.proofs.Lists.{text_is, text_self}
+use Rattle.eval_snapshot_spec.specs.Snapshot.{is_among_names}
+
+same_bytes : (q x : Text) → same_text q x ≡ bytes_eq x q
+same_bytes q x = same_tests (same_text q x) (bytes_eq x q) (λ h. (bytes_eq-Decides x q).1 (sym (text_is q x h))) (λ h. ap (same_text q) ((bytes_eq-Decides x q).0 h) ∙ text_self q)
+
+-- a name is among those before the next one, or it is this one
+among_more : (names : List Text) (i : ℕ) (x q : Text) → i < length names → x ≡ get_or names i x → is_among_names (take (i + 1) names) q ≡ (is_among_names (take i names) q || bytes_eq x q)
+among_more names i x q lt is =
+    ap (list_any (same_text q)) (take_more names i x lt ∙ ap (λ y. take i names ++ y ∷ []) (sym is))
+    ∙ (list_any-append (same_text q) (take i names) (x ∷ []) ∙ ap (λ b. list_any (same_text q) (take i names) || b) (last (same_text q x) ∙ same_bytes q x))
+  where
+    last : (b : Bool) → (b || false) ≡ b
+    last true = refl
+    last false = refl
+
+-- what is found of a name once this one is there
+pub found_more : (names : List Text) (value : Text → Bool) (i : ℕ) (x q : Text) (v : Bool) (before now : Option Bool) → i < length names → x ≡ get_or names i x → v ≡ value x → before ≡ cond (is_among_names (take i names) q) (Some (value q)) None →
+    now ≡ cond (bytes_eq x q) (Some v) before → now ≡ cond (is_among_names (take (i + 1) names) q) (Some (value q)) None
+found_more names value i x q v before now lt is w b n =
+    n ∙ (ap (cond (bytes_eq x q) (Some v)) b ∙ (by (is_among_names (take i names) q) (bytes_eq x q) refl ∙ ap (λ t. cond t (Some (value q)) None) (sym (among_more names i x q lt is))))
+  where
+    by : (a e : Bool) → bytes_eq x q ≡ e → cond e (Some v) (cond a (Some (value q)) None) ≡ cond (a || e) (Some (value q)) None
+    by true true h = ap Some (w ∙ ap value ((bytes_eq-Decides x q).0 h))
+    by false true h = ap Some (w ∙ ap value ((bytes_eq-Decides x q).0 h))
+    by true false h = refl
+    by false false h = refl

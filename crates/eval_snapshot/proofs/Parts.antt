@@ -1,0 +1,30 @@
+-- A snapshot, list by list.
+use Rattle.std.proofs.Common.{◌≡◌, ◌∙◌, ap, ap₂, refl, ◌<◌, List, [], ◌∷◌, ◌++◌, filter_map, length, None, arith}
+use Rattle.wasm_tree.specs.declared.module.DataSeg.{DataSeg}
+use Rattle.wasm_tree.specs.declared.module.Export.{Export}
+use Rattle.wasm_tree.specs.declared.module.Func.{Func}
+use Rattle.wasm_tree.specs.declared.module.GlobalDef.{GlobalDef}
+use Rattle.wasm_tree.specs.declared.module.Module.{Module}
+use Rattle.wasm_tree.specs.Spaces.{funcs_of, imported_globals}
+use Rattle.wasm_meaning.specs.State.{Text}
+use Rattle.eval_spec.specs.State.{State}
+use Rattle.eval_machine.specs.declared.kept.Kept.{Kept}
+use Rattle.eval_machine.specs.Kept.{state_in}
+use Rattle.eval_snapshot_spec.specs.Snapshot.{added_funcs, declared_snapshot, export_left, globals_left, memory_segments, old_segments, snapshot, snapshot_tree}
+
+pub tree_is : (m : Module) (s : State) (evaluated kept : List Text) (fs : List Func) (gs : List GlobalDef) (es : List Export) (ds : List DataSeg) → fs ≡ m.funcs ++ added_funcs m evaluated kept → gs ≡ globals_left m s (length (imported_globals m.imports)) m.globals →
+    es ≡ filter_map (export_left evaluated kept (length (funcs_of m))) m.exports → ds ≡ old_segments m s ++ memory_segments m s → record m { funcs = fs; globals = gs; exports = es; start = None; datas = ds } ≡ snapshot_tree m s evaluated kept
+tree_is m s evaluated kept fs gs es ds a b c d = rw (a, b, c, d) refl
+
+-- where no constructor was evaluated, and where some were
+pub of_none : (m : Module) (s : State) (evaluated kept : List Text) → length evaluated ≡ 0 → m ≡ snapshot m s evaluated kept
+of_none m s [] kept e = refl
+of_none m s (name ∷ names) kept e = absurd (omega (arith, e))
+
+pub of_some : (m : Module) (s : State) (evaluated kept : List Text) → 0 < length evaluated → declared_snapshot m s evaluated kept ≡ snapshot m s evaluated kept
+of_some m s [] kept lt = absurd (omega (arith, lt))
+of_some m s (name ∷ names) kept lt = refl
+
+-- of the same module, with the same names
+pub of_same : (m n t : Module) (k : Kept) (evaluated ev kept kp : List Text) → t ≡ snapshot n (state_in n k) ev kp → n ≡ m → ev ≡ evaluated → kp ≡ kept → t ≡ snapshot m (state_in m k) evaluated kept
+of_same m n t k evaluated ev kept kp h a b c = h ∙ (ap (λ n. snapshot n (state_in n k) ev kp) a ∙ ap₂ (snapshot m (state_in m k)) b c)

@@ -1,0 +1,3 @@
+pub mod Scan
+pub mod Names
+pub mod Outcome

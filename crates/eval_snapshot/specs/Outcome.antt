@@ -1,0 +1,26 @@
+-- What a snapshot gives: the module, or why there is none.
+use Rattle.std.specs.Prelude.{◌≡◌, List, length, Option, Some, None, Result, Ok, Err}
+use Rattle.wasm_tree.specs.declared.which.Which.{Which}
+use Rattle.wasm_tree.specs.declared.which.Which.TheVariants as which
+use Rattle.wasm_tree.specs.declared.module.Module.{Module}
+use Rattle.module_limits.specs.Counts.{or_above}
+use Rattle.wasm_meaning.specs.State.{Text}
+use Rattle.eval_spec.specs.State.{State}
+use Rattle.eval_snapshot_spec.specs.Snapshot.{snapshot, too_much}
+use Rattle.eval_snapshot.specs.declared.faults.SnapshotFault.{SnapshotFault}
+use Rattle.eval_snapshot.specs.declared.faults.SnapshotFault.TheVariants.{TooMany}
+
+abbrev pub outcome : Option Which → Module → Result Module SnapshotFault
+outcome (Some which) m = Err (TooMany which)
+outcome None m = Ok m
+
+-- what it gives, want of memory left aside
+abbrev pub snapshot_of : Module → State → (evaluated kept : List Text) → Result Module SnapshotFault
+snapshot_of m s evaluated kept = outcome (too_much m s evaluated kept) (snapshot m s evaluated kept)
+
+abbrev pub SnapshotGives : Module → State → (evaluated kept : List Text) → Result Module SnapshotFault → Type 0
+SnapshotGives m s evaluated kept result = snapshot_of m s evaluated kept ≡ result
+
+-- the first count above its limit, of types, imports and functions
+abbrev pub first_counts : Module → Option Which
+first_counts m = or_above (length m.types) which.Types (or_above (length m.imports) which.Imports (or_above (length m.funcs) which.Functions None))

@@ -1,0 +1,23 @@
+// Why there is no snapshot.
+
+ghost use Rattle.std.specs.Prelude.{◌≡◌};
+ghost use Rattle.eval_snapshot.specs.declared.faults.SnapshotFault.TheVariants.{NoMemory as OutOfMemory};
+
+use wasm_bytes::NoMemory;
+use wasm_tree::Which;
+
+/// Why there is no module in the state that evaluated constructors left.
+#[derive(Drop)]
+pub enum SnapshotFault {
+    /// It would have more of something than a module may have.
+    TooMany { which: Which },
+    NoMemory,
+}
+
+impl From<NoMemory> for SnapshotFault {
+    ghost from_gives = { λ _ e. e ≡ OutOfMemory };
+
+    fn from(_none: NoMemory) -> SnapshotFault {
+        SnapshotFault::NoMemory
+    }
+}

@@ -1,0 +1,125 @@
+// The snapshot of a module.
+
+ghost use Rattle.std.specs.Prelude.{◌≡◌, ◌⊎◌, ◌<◌, ◌^◌, Some, Ok, Err, IfOk, IfErr};
+ghost use Rattle.wasm_tree.specs.Bounds.{IsBounded};
+ghost use Rattle.wasm_valid.specs.Validity.{IsValid};
+ghost use Rattle.module_limits.specs.Counts as counts;
+ghost use Rattle.eval_numbers_proof.specs.Ranges.{BeginsInRange};
+ghost use Rattle.eval_machine.specs.Kept.{Fits, state_in};
+ghost use Rattle.eval_snapshot_spec.specs.Snapshot as spec;
+ghost use Rattle.eval_snapshot_spec.specs.After.{IsAfter};
+ghost use Rattle.eval_behaves_proof.specs.Laws.{BehavesAs};
+ghost use Rattle.eval_snapshot.specs.Outcome.{SnapshotGives, first_counts as first_counts_of};
+ghost use Rattle.eval_snapshot.specs.declared.faults.SnapshotFault.TheVariants.{NoMemory as OutOfMemory, TooMany as OverLimit};
+
+use crate::faults::SnapshotFault;
+use crate::tree::tree;
+use eval_behaves_proof::snapshots_show_the_same;
+use eval_machine::Machine;
+use eval_snapshot_proof::snapshots_are_valid;
+use eval_suits_proof::evaluated_states_suit;
+use index_remap::declare_refs;
+use module_limits::over_limit;
+use std::alloc::Global;
+use wasm_bytes::{Items, Name};
+use wasm_tree::{Module, Which};
+use wasm_valid::Valid;
+
+// The first count that is above its limit, of types, imports and functions. Behind these a u32 can count the functions.
+fn first_counts(module: &Module) -> Option<Which>
+    ensures { result ≡ first_counts_of «module».now }
+{
+    if module.types.len() > Which::Types.limit() as usize {
+        return Some(Which::Types);
+    }
+    if module.imports.len() > Which::Imports.limit() as usize {
+        return Some(Which::Imports);
+    }
+    if module.funcs.len() > Which::Functions.limit() as usize {
+        return Some(Which::Functions);
+    }
+    None
+}
+
+// The module with the state that these constructors left, or what there is too much of.
+fn declared_tree(
+    alloc: Global,
+    from: Module,
+    machine: &Machine,
+    evaluated: &[Name],
+    kept: &[Name],
+) -> Result<Module, SnapshotFault>
+    requires fits { Fits from machine.now }
+    requires valid { IsValid from }
+    requires bounded { IsBounded from }
+    ensures tree { IfOk result (λ tree. tree ≡ spec.declared_snapshot from (state_in from machine.now) evaluated.now kept.now) }
+    ensures fault { IfErr result (λ f. (f ≡ OutOfMemory) ⊎ ((w : _) × (f ≡ OverLimit w) × (counts.over_limit (spec.declared_snapshot from (state_in from machine.now) evaluated.now kept.now) ≡ Some w))) }
+{
+    let mut tree = tree(alloc, from, machine, evaluated, kept)?;
+    if let Some(which) = first_counts(&tree) {
+        return Err(SnapshotFault::TooMany { which });
+    }
+    declare_refs(alloc, &mut tree)?;
+    Ok(tree)
+}
+
+// The same, or the module as it is where no constructor was evaluated.
+fn tree_after(
+    alloc: Global,
+    from: Module,
+    machine: &Machine,
+    evaluated: &[Name],
+    kept: &[Name],
+) -> Result<Module, SnapshotFault>
+    requires fits { Fits from machine.now }
+    requires valid { IsValid from }
+    requires bounded { IsBounded from }
+    ensures tree { IfOk result (λ tree. tree ≡ spec.snapshot from (state_in from machine.now) evaluated.now kept.now) }
+    ensures fault { IfErr result (λ f. (f ≡ OutOfMemory) ⊎ SnapshotGives from (state_in from machine.now) evaluated.now kept.now (Err f)) }
+{
+    if evaluated.len() == 0 {
+        return Ok(from);
+    }
+    declared_tree(alloc, from, machine, evaluated, kept)
+}
+
+/// The module that begins in the state which evaluated constructors left, as the machine that evaluated them tells it.
+///
+/// Each defined global has its value as a constant; one whose value is unknown keeps its initialiser. What the memory holds that the module defines becomes active
+/// data segments, in which fewer than 256 zero bytes stand in a row. Where a body has `memory.init` or `data.drop`, the old segments come first, each at its place: a
+/// passive one that was not dropped stays, every other becomes passive and empty; elsewhere they are left out. The start is removed, and so is the export of each
+/// evaluated constructor, unless its name is to be kept: then it stands for one function more, the last one, with an empty body and the first type that takes and
+/// gives nothing. Functions that `ref.func` names in a body and that nothing else declares any more are declared last (WebAssembly Core 2.0, sections 2.5 and 3.4.10).
+/// Where no constructor was evaluated it is the module as it is, with its start.
+///
+/// `TooMany` comes exactly where a count of this module is above its limit, with the first such count in the order types, imports, functions, tables, memories,
+/// globals, exports, element segments and data segments. `NoMemory` is want of memory, and says nothing of the module. The input is given up in each case.
+pub fn snapshot(
+    alloc: Global,
+    input: Valid,
+    machine: &Machine,
+    evaluated: &Items<Name>,
+    kept: &Items<Name>,
+) -> Result<Valid, SnapshotFault>
+    requires fits { Fits input machine.now }
+    requires after { IsAfter input evaluated.now (state_in input machine.now) }
+    ensures tree { IfOk result (λ valid. SnapshotGives input (state_in input machine.now) evaluated.now kept.now (Ok valid)) }
+    // What an embedder sees of it, in each environment that links the input, is what it sees of the input after these constructors.
+    ensures behaves { IfOk result (λ valid. BeginsInRange input → BehavesAs input evaluated.now kept.now valid) }
+    ensures fault { IfErr result (λ f. (f ≡ OutOfMemory) ⊎ SnapshotGives input (state_in input machine.now) evaluated.now kept.now (Err f)) }
+{
+    snapshots_are_valid();
+    evaluated_states_suit();
+    snapshots_show_the_same();
+    let made = tree_after(
+        alloc,
+        input.into_module(),
+        machine,
+        evaluated.as_slice(),
+        kept.as_slice(),
+    )?;
+    match over_limit(&made) {
+        Some(which) => Err(SnapshotFault::TooMany { which }),
+        None => Ok(Valid::known(made)),
+    }
+}
