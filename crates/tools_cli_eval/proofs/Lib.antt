@@ -1,0 +1,6 @@
+mod Called
+mod Looked
+mod Assembled
+mod Memories
+mod TreesHold
+mod Behaving

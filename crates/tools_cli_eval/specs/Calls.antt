@@ -1,0 +1,17 @@
+-- Calls in order, by a machine.
+use Rattle.std.specs.Prelude.{◌≡◌, ℕ, ◌≤◌, List, length, take}
+use Rattle.wasm_tree.specs.declared.module.Module.{Module}
+use Rattle.eval_spec.specs.State.{State, Finished}
+use Rattle.eval_spec.specs.Evaluation.{done_count, evaluated, stopped_by}
+use Rattle.eval_machine.specs.declared.kept.Kept.{Kept}
+use Rattle.eval_machine.specs.Kept.{state_in}
+use Rattle.tools_cli_eval.specs.declared.running.Calls.{Calls}
+
+-- They came so far, and the machine has the state that the last call left which came to its end; the turns of one that was stopped are spent.
+pub record HaveEnded (m : Module) (funcs : List ℕ) (calls : Calls) (k : Kept) : Type 0 where
+  pub few : calls.count ≤ length funcs
+  pub count : calls.count ≡ done_count m funcs
+  pub stopped : calls.stopped ≡ stopped_by m funcs
+  pub end : State
+  pub quiet : evaluated m (take calls.count funcs) ≡ Finished end
+  pub state : state_in m k ≡ record end { turns = k.turns }

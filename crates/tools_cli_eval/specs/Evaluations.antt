@@ -1,0 +1,34 @@
+-- What the evaluation of listed constructors comes to: a module, how many were evaluated and what ended it; or why there is no module.
+use Rattle.std.specs.Prelude.{◌≡◌, ◌≤◌, List, length, [], Option, Some, None, option_map}
+use Rattle.std.specs.Option.{option_or}
+use Rattle.wasm_tree.specs.declared.module.Module.{Module}
+use Rattle.module_limits.specs.Counts.{over_limit}
+use Rattle.wasm_meaning.specs.State.{Text}
+use Rattle.eval_spec.specs.declared.stop.Stop.{Stop}
+use Rattle.eval_spec.specs.Evaluation.{stopped_by}
+use Rattle.eval_snapshot_spec.specs.Evaluated.{evaluated_count, evaluated_tree, first_missing, funcs_named}
+use Rattle.tools_cli_eval.specs.declared.evaluation.Ending.{Ending}
+use Rattle.tools_cli_eval.specs.declared.evaluation.Ending.TheVariants.{Complete, Instantiation, Constructor}
+use Rattle.tools_cli_eval.specs.declared.evaluation.EvalFault.{EvalFault}
+use Rattle.tools_cli_eval.specs.declared.evaluation.EvalFault.TheVariants.{NoSuchExport, TooMany}
+use Rattle.tools_cli_eval.specs.declared.evaluation.Evaluation.{Evaluation}
+
+-- by what stops the instantiation with the start, or else the calls
+abbrev pub ended : (instantiation calls : Option Stop) → Ending
+ended (Some stop) calls = Instantiation stop
+ended None (Some stop) = Constructor stop
+ended None None = Complete
+
+abbrev pub ending_of : Module → List Text → Ending
+ending_of m names = ended (stopped_by m []) (stopped_by m (funcs_named m names))
+
+-- The first listed name that is no exported function's; or else the first count of the module that is too great.
+abbrev pub fault_of : Module → (names kept : List Text) → Option EvalFault
+fault_of m names kept = option_or (option_map NoSuchExport (first_missing m names)) (option_map TooMany (over_limit (evaluated_tree m names kept)))
+
+pub record IsEvaluation (m : Module) (names kept : List Text) (e : Evaluation) : Type 0 where
+  pub none : fault_of m names kept ≡ None
+  pub tree : e.«module» ≡ evaluated_tree m names kept
+  pub few : e.count ≤ length names
+  pub count : e.count ≡ evaluated_count m names
+  pub ending : e.ending ≡ ending_of m names

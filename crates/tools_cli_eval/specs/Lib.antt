@@ -1,0 +1,4 @@
+pub mod Evaluations
+pub mod Named
+pub mod Calls
+pub mod Trees

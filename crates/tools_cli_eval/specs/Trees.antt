@@ -1,0 +1,39 @@
+-- The module after evaluated constructors, where no listed name is missing.
+use Rattle.std.specs.Prelude.{◌≡◌, ◌⊎◌, List, None, take}
+use Rattle.wasm_tree.specs.declared.module.Module.{Module}
+use Rattle.wasm_tree.specs.Bounds.{IsBounded}
+use Rattle.wasm_valid.specs.Validity.{IsSingle, IsValid}
+use Rattle.module_limits.specs.Counts.{over_limit}
+use Rattle.wasm_meaning.specs.State.{Text}
+use Rattle.eval_spec.specs.State.{State}
+use Rattle.eval_numbers_proof.specs.Ranges.{BeginsInRange}
+use Rattle.eval_snapshot_spec.specs.After.{IsAfter}
+use Rattle.eval_snapshot_spec.specs.Evaluated.{evaluated_count, evaluated_tree, first_missing}
+use Rattle.eval_snapshot_spec.specs.Snapshot.{snapshot}
+use Rattle.eval_behaves_proof.specs.Laws.{BehavesAs}
+
+-- it is a snapshot in a state that evaluated constructors left
+pub record IsSnapshot (m : Module) (names kept : List Text) : Type 0 where
+  pub state : State
+  pub after : IsAfter m (take (evaluated_count m names) names) state
+  pub tree : evaluated_tree m names kept ≡ snapshot m state (take (evaluated_count m names) names) kept
+
+-- It is a snapshot, or the module as it is.
+abbrev pub TreesAreSnapshots : Type 0
+TreesAreSnapshots = (m : Module) (names kept : List Text) → first_missing m names ≡ None → IsSnapshot m names kept ⊎ (evaluated_tree m names kept ≡ m)
+
+-- It is valid where the module is.
+abbrev pub TreesAreValid : Type 0
+TreesAreValid = (m : Module) (names kept : List Text) → first_missing m names ≡ None → IsValid m → IsValid (evaluated_tree m names kept)
+
+-- It has at most one memory where the module has.
+abbrev pub TreesAreSingle : Type 0
+TreesAreSingle = (m : Module) (names kept : List Text) → first_missing m names ≡ None → IsSingle m → IsSingle (evaluated_tree m names kept)
+
+-- A u32 can count what it has where none of its counts is above its limit.
+abbrev pub TreesAreBounded : Type 0
+TreesAreBounded = (m : Module) (names kept : List Text) → first_missing m names ≡ None → IsValid m → IsBounded m → over_limit (evaluated_tree m names kept) ≡ None → IsBounded (evaluated_tree m names kept)
+
+-- In each environment that links the module, what is seen of it is what is seen of the module after the constructors that are evaluated: step by step.
+abbrev pub TreesBehave : Type 0
+TreesBehave = (m : Module) (names kept : List Text) → first_missing m names ≡ None → IsValid m → BeginsInRange m → BehavesAs m (take (evaluated_count m names) names) kept (evaluated_tree m names kept)

@@ -1,0 +1,162 @@
+// The evaluation of listed constructors.
+
+ghost use Rattle.std.specs.Prelude.{◌≡◌, ◌⊎◌, ◌≤◌, List, None, Some, IfErr, IfOk, length, option_map, take};
+ghost use Rattle.module_limits.specs.Counts.{over_limit as over_limit_of};
+ghost use Rattle.wasm_meaning.specs.State.{Text};
+ghost use Rattle.eval_machine.specs.Calls.{IsReady, StopsBoot};
+ghost use Rattle.eval_machine.specs.Kept.{Fits, state_in};
+ghost use Rattle.eval_snapshot_spec.specs.After.{IsAfter};
+ghost use Rattle.eval_snapshot_spec.specs.Evaluated.{first_missing, funcs_named};
+ghost use Rattle.eval_snapshot_spec.specs.Snapshot.{snapshot as snapshot_of};
+ghost use Rattle.tools_cli_eval.specs.Evaluations.{IsEvaluation, ended, fault_of};
+ghost use Rattle.tools_cli_eval.specs.Named.{AreFuncsOf};
+ghost use Rattle.tools_cli_eval.specs.declared.evaluation.EvalFault.TheVariants.{NoMemory as OutOfMemory, TooMany as OverLimit};
+
+use crate::named::{first_names, funcs_named};
+use crate::running::{Calls, call_all};
+use eval_machine::{Booted, Machine};
+use eval_snapshot::{SnapshotFault, snapshot};
+use eval_spec::Stop;
+use module_limits::over_limit;
+use std::alloc::Global;
+use wasm_bytes::{Items, Name, NoMemory};
+use wasm_tree::Which;
+use wasm_valid::Valid;
+
+/// Why there is no module after an evaluation.
+#[derive(Drop)]
+pub enum EvalFault {
+    /// No function is exported under a listed name.
+    NoSuchExport { name: Name },
+    /// The module would have more of something than a module may have.
+    TooMany { which: Which },
+    NoMemory,
+}
+
+impl From<NoMemory> for EvalFault {
+    ghost from_gives = { λ _ e. e ≡ OutOfMemory };
+
+    fn from(_none: NoMemory) -> EvalFault {
+        EvalFault::NoMemory
+    }
+}
+
+/// What an evaluation ended with.
+#[derive(Clone, Copy, Debug, PartialEq, Eq)]
+pub enum Ending {
+    /// Each listed constructor was evaluated.
+    Complete,
+    /// This stopped the instantiation or the start, and no constructor was called.
+    Instantiation(Stop),
+    /// This stopped the first constructor that was not evaluated.
+    Constructor(Stop),
+}
+
+/// What an evaluation came to.
+#[derive(Drop)]
+pub struct Evaluation {
+    /// The module after the constructors that were evaluated; where none was, it is the module as it was.
+    pub module: Valid,
+    /// How many of the listed constructors were evaluated.
+    pub count: usize,
+    pub ending: Ending,
+}
+
+// The ending of calls of which one is stopped so, or none.
+fn ending_of_calls(stopped: Option<Stop>) -> Ending
+    ensures { result ≡ ended None stopped }
+{
+    match stopped {
+        Some(stop) => Ending::Constructor(stop),
+        None => Ending::Complete,
+    }
+}
+
+// The module as it is, where something stopped the instantiation or the start.
+fn unevaluated(input: Valid, stop: Stop) -> Result<Evaluation, EvalFault>
+    requires { StopsBoot input stop }
+    ensures evaluated { (names kept : List Text) → first_missing input names ≡ None → IfOk result (IsEvaluation input names kept) }
+    ensures fault { (names kept : List Text) → first_missing input names ≡ None → IfErr result (λ f. fault_of input names kept ≡ Some f) }
+{
+    if let Some(which) = over_limit(input.module()) {
+        return Err(EvalFault::TooMany { which });
+    }
+    Ok(Evaluation {
+        module: input,
+        count: 0,
+        ending: Ending::Instantiation(stop),
+    })
+}
+
+// The module in the state that the machine has after so many constructors.
+fn module_after(
+    alloc: Global,
+    input: Valid,
+    machine: &Machine,
+    ctors: &[Name],
+    count: usize,
+    kept: &Items<Name>,
+) -> Result<Valid, EvalFault>
+    requires few { count ≤ length ctors.now }
+    requires fits { Fits input machine.now }
+    requires after { IsAfter input (take count ctors.now) (state_in input machine.now) }
+    ensures none { IfOk result (λ valid. over_limit_of (snapshot_of input (state_in input machine.now) (take count ctors.now) kept.now) ≡ None) }
+    ensures tree { IfOk result (λ valid. valid ≡ snapshot_of input (state_in input machine.now) (take count ctors.now) kept.now) }
+    ensures fault { IfErr result (λ f. (f ≡ OutOfMemory) ⊎ (option_map OverLimit (over_limit_of (snapshot_of input (state_in input machine.now) (take count ctors.now) kept.now)) ≡ Some f)) }
+{
+    let evaluated = first_names(alloc, ctors, count)?;
+    match snapshot(alloc, input, machine, &evaluated, kept) {
+        Ok(module) => Ok(module),
+        Err(SnapshotFault::TooMany { which }) => Err(EvalFault::TooMany { which }),
+        Err(SnapshotFault::NoMemory) => Err(EvalFault::NoMemory),
+    }
+}
+
+// Evaluates constructors, which are these functions, on a machine on which the module is instantiated.
+fn evaluate_on(
+    alloc: Global,
+    machine: Machine,
+    input: Valid,
+    funcs: &[u32],
+    ctors: &[Name],
+    kept: &Items<Name>,
+) -> Result<Evaluation, EvalFault>
+    requires ready { IsReady input machine }
+    requires named { first_missing input ctors.now ≡ None }
+    requires funcs { funcs.now ≡ funcs_named input ctors.now }
+    requires there { AreFuncsOf input funcs.now }
+    ensures evaluated { IfOk result (IsEvaluation input ctors.now kept.now) }
+    ensures fault { IfErr result (λ f. (f ≡ OutOfMemory) ⊎ (fault_of input ctors.now kept.now ≡ Some f)) }
+{
+    let mut machine = machine;
+    let calls = call_all(&mut machine, &input, funcs)?;
+    let module = module_after(alloc, input, &machine, ctors, calls.count, kept)?;
+    Ok(Evaluation {
+        module,
+        count: calls.count,
+        ending: ending_of_calls(calls.stopped),
+    })
+}
+
+/// Evaluates the constructors that exports of a module name: after the instantiation and the start they are called in order, until something stops one
+/// (WebAssembly Core 2.0, sections 4.5.4 and 4.5.5; what does is said by `Stop`). The module then begins in the state which those left that were evaluated: see `snapshot`.
+/// The names are distinct or not; a name to keep that is none of an evaluated constructor has no effect. The input is given up on a fault.
+///
+/// `NoSuchExport` comes exactly where a listed name is that of no exported function, with the first. Else `TooMany` comes exactly where a count of the module after the
+/// evaluation is above its limit. `NoMemory` is want of memory, and says nothing of the module.
+pub fn evaluate(
+    alloc: Global,
+    input: Valid,
+    ctors: &Items<Name>,
+    kept: &Items<Name>,
+) -> Result<Evaluation, EvalFault>
+    ensures evaluated { IfOk result (IsEvaluation input ctors.now kept.now) }
+    ensures fault { IfErr result (λ f. (f ≡ OutOfMemory) ⊎ (fault_of input ctors.now kept.now ≡ Some f)) }
+{
+    let names = ctors.as_slice();
+    let funcs = funcs_named(alloc, input.module(), names)?;
+    match Machine::boot(alloc, &input)? {
+        Booted::Stopped(stop) => unevaluated(input, stop),
+        Booted::Ready(machine) => evaluate_on(alloc, machine, input, funcs.as_slice(), names, kept),
+    }
+}
