@@ -1,5 +1,5 @@
 -- Names that are looked up one by one.
-use Rattle.std.proofs.Common.{◌≡◌, ◌∙◌, ◌⊎◌, inl, inr, refl, sym, ap, ap₂, subst, zero, suc, arith, slice_get, Some, Contains, Bool, true, false, not, ◌&&◌, ◌||◌, ℕ, ◌+◌, ◌<◌, List, [], ◌∷◌, ◌++◌, map, take, drop, get_or, length}
+use Rattle.std.proofs.Common.{◌≡◌, ◌∙◌, ◌⊎◌, inl, inr, refl, sym, ap, ap₂, subst, zero, suc, arith, slice_get, Some, Contains, Bool, true, false, not, ◌&&◌, ◌||◌, ℕ, ◌+◌, ◌<◌, List, [], ◌∷◌, ◌++◌, map, take, drop, get_or, length, Bor}
 use Rattle.std.specs.List.{list_any}
 use Rattle.std.specs.Str.{bytes_eq}
 use Rattle.std.proofs.lemmas.List.{map-append, take-append-drop, get_or_default}
@@ -15,6 +15,10 @@ use Rattle.merge_spec.specs.declared.parts.Part as code
 use Rattle.wasm_tree.specs.declared.module.Module.{Module}
 use Rattle.tools_cli.specs.CommandLine.{Text, Source, are_apart}
 use Rattle.tools_cli.specs.Job.{parts_of}
+
+-- a borrowed word that is read nowhere
+unfoldable pub no_word : Bor Text
+no_word = record { ref_ptr = (0, 0); now = [] }
 
 pub both_of : (a b : Bool) → (not a && b) ≡ true → (a ≡ false) × (b ≡ true)
 both_of false true e = (refl, refl)

@@ -1,8 +1,8 @@
 -- From the inputs of a task to its job.
 use Rattle.std.proofs.Common.{◌≡◌, ◌∙◌, sym, refl, ap, subst, Bool, true, false, cond, Result, Ok, Err, IfOk, IfErr, map, ℕ, zero, suc, ◌≤◌, List, [], ◌∷◌, ◌++◌, take, drop, length, length-append, arith, Contains}
 use Rattle.std.specs.List.{list_all}
-use Rattle.tools_cli.specs.CommandLine.{Text, MetadceTask, SplitTask, Task, Merge, Metadce, Split, many_of, modules_of, texts_of, inputs_of, outputs_of}
-use Rattle.tools_cli.specs.Job.{Job, Usage, Missing, Refused, Done, Output, Decision, Refuses, Makes, not_linked, not_joined, merged, Reduces, no_graph, not_swept, reduced, Splits, no_plan, not_parted, parted, Decides, is_within, spelled_output, job_of, AllLoad, OneFails, module_files, contents_of, InputsJob, not_loaded, decided}
+use Rattle.tools_cli.specs.CommandLine.{Text, MetadceTask, SplitTask, CtorEvalTask, SampleTask, Task, Merge, Metadce, Split, CtorEval, Sample, many_of, modules_of, texts_of, inputs_of, outputs_of}
+use Rattle.tools_cli.specs.Job.{Job, Usage, Missing, Refused, Done, Output, Decision, Refuses, Makes, not_linked, not_joined, merged, Reduces, no_graph, not_swept, reduced, Splits, no_plan, not_parted, parted, Evaluates, not_evaluated, evaluated, Samples, not_merged, sampled, Decides, is_within, spelled_output, job_of, AllLoad, OneFails, module_files, contents_of, InputsJob, not_loaded, decided}
 use Rattle.tools_cli.specs.Effects.{Entry, written_names}
 use Rattle.wasm_tree.specs.declared.module.Module.{Module}
 use Rattle.tools_cli.specs.Causes.{total, StopsWith, PrintsAsAllowed}
@@ -12,6 +12,8 @@ use Rattle.tools_cli.specs.declared.decide.Decision as code
 use Rattle.tools_cli.specs.declared.stop.Stop.{Stop}
 use Rattle.tools_cli.proofs.MetadceDecided.{of_one}
 use Rattle.tools_cli.proofs.SplitDecided.{of_one as of_one_split}
+use Rattle.tools_cli.proofs.CtorEvalDecided.{of_one as of_one_eval}
+use Rattle.tools_cli.proofs.SampleDecided.{of_none, output_names_are}
 
 -- ---- the inputs, as modules and other texts ----
 
@@ -49,6 +51,8 @@ pub one_memory : (t : Task) → many_of t ≡ false
 one_memory (Merge merge) = refl
 one_memory (Metadce metadce) = refl
 one_memory (Split split) = refl
+one_memory (CtorEval eval) = refl
+one_memory (Sample sample) = refl
 
 -- ---- the job ----
 
@@ -96,12 +100,22 @@ split_allowed split tree bytes texts decision (no_plan names fault says named fo
 split_allowed split tree bytes texts decision (not_parted names fault says given found told) = tt
 split_allowed split tree bytes texts decision (parted names given none) = ((λ name h. h), λ e. absurd (cc))
 
+eval_allowed : (eval : CtorEvalTask) (tree : Module) (texts : List Text) (decision : Decision) → Evaluates eval tree decision → DecisionIsAllowed (CtorEval eval) texts decision
+eval_allowed eval tree texts decision (not_evaluated fault says found told) = tt
+eval_allowed eval tree texts decision (evaluated none) = ((λ name h. h), λ e. absurd (cc))
+
+sample_allowed : (sample : SampleTask) (texts : List Text) (decision : Decision) → Samples sample decision → DecisionIsAllowed (Sample sample) texts decision
+sample_allowed sample texts decision (not_merged text h) = tt
+sample_allowed sample texts decision (sampled tree is) = ((λ name h. let P : List Text → Type 0 = λ names. Contains names name in subst P (output_names_are sample.output tree) h), λ e. absurd (cc))
+
 decision_allowed : (t : Task) (trees : List Module) (contents texts : List Text) (decision : Decision) → Decides t trees contents decision → DecisionIsAllowed t texts decision
 decision_allowed (Merge merge) trees contents texts decision (not_linked fault text found says) = tt
 decision_allowed (Merge merge) trees contents texts decision (not_joined fault text linked found says) = tt
 decision_allowed (Merge merge) trees contents texts decision (merged tree is) = ((λ name h. h), λ e. refl)
 decision_allowed (Metadce metadce) trees contents texts decision h = let one = of_one metadce trees contents decision h in reduced_allowed metadce one.0 one.2 texts decision one.5
 decision_allowed (Split split) trees contents texts decision h = let one = of_one_split split trees contents decision h in split_allowed split one.0 one.1 texts decision one.4
+decision_allowed (CtorEval eval) trees contents texts decision h = let one = of_one_eval eval trees contents decision h in eval_allowed eval one.0 texts decision one.4
+decision_allowed (Sample sample) trees contents texts decision h = let none = of_none sample trees contents decision h in sample_allowed sample texts decision none.2
 
 same_names : (outputs : List Output) → map (λ (o : Output). o.name) outputs ≡ written_names (map spelled_output outputs)
 same_names [] = refl

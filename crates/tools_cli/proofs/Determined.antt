@@ -3,7 +3,7 @@ use Rattle.std.proofs.Common.{Bool, take, zero, suc, ltb, ◌-◌, ◌↔◌, �
 use Rattle.std.specs.FinMap.{get}
 use Rattle.wasm_bytes.specs.Reading.{IsBytes}
 use Rattle.tool_io.specs.FilesAndSinks.{Contents}
-use Rattle.tools_cli.specs.CommandLine.{Text, MergeTask, Task, Merge, Metadce, Split, source_files, many_of, modules_of, inputs_of}
+use Rattle.tools_cli.specs.CommandLine.{Text, MergeTask, Task, Merge, Metadce, Split, CtorEval, Sample, source_files, many_of, modules_of, inputs_of}
 use Rattle.tools_cli.specs.Effects.{Entry}
 use Rattle.tools_cli.specs.Texts.{fault_text, invalid_text, link_text, join_text, over_limit}
 use Rattle.wasm_tree.specs.declared.which.Which.TheVariants.{InputBytes}
@@ -12,6 +12,8 @@ use Rattle.dce_exact_proof.specs.Laws.{ExactMarksAreOne}
 use Rattle.tools_cli.proofs.Kept.{whole_is, short_enough}
 use Rattle.tools_cli.proofs.MetadceDecided.{metadce_once}
 use Rattle.tools_cli.proofs.SplitDecided.{NamesAreRead, split_once}
+use Rattle.tools_cli.proofs.CtorEvalDecided.{eval_once}
+use Rattle.tools_cli.proofs.SampleDecided.{sample_once}
 use Rattle.wasm_tree.specs.declared.module.Module.{Module}
 use Rattle.wasm_read_spec.specs.declared.fault.ReadFault.{ReadFault}
 use Rattle.wasm_valid.specs.declared.kinds.Invalid.{Invalid}
@@ -166,6 +168,8 @@ decides_once : Known → (t : Task) (trees : List Module) (contents : List Text)
 decides_once known (Merge merge) trees contents are one other h k = merges_once merge trees one other h k
 decides_once known (Metadce metadce) trees contents are one other h k = metadce_once known.marks metadce trees contents one other h k
 decides_once known (Split split) trees contents are one other h k = split_once known.names split trees contents are one other h k
+decides_once known (CtorEval eval) trees contents are one other h k = eval_once eval trees contents one other h k
+decides_once known (Sample sample) trees contents are one other h k = sample_once merges_once sample trees contents one other h k
 
 pub first_are_bytes : (n : ℕ) (files : List Entry) → AreBytes files → AreBytes (take n files)
 first_are_bytes zero files are = tt

@@ -3,10 +3,10 @@ use Rattle.std.proofs.Common.{Bool, true, false, cond, ltb, ◌-◌, ◌≡◌, 
 use Rattle.std.specs.FinMap.{get}
 use Rattle.wasm_bytes.specs.Reading.{IsBytes}
 use Rattle.tool_io.specs.FilesAndSinks.{Contents}
-use Rattle.tools_cli.specs.CommandLine.{Text, Source, MergeTask, Task, Merge, Metadce, Split, task_of, source_files, many_of, modules_of, texts_of, inputs_of}
+use Rattle.tools_cli.specs.CommandLine.{Text, Source, MergeTask, Task, Merge, Metadce, Split, CtorEval, Sample, task_of, source_files, many_of, modules_of, texts_of, inputs_of}
 use Rattle.tools_cli.specs.Effects.{Entry}
 use Rattle.tools_cli.specs.Texts.{fault_text, invalid_text, link_text, import_mismatch, import_cycle, limits_clash, global_cycle, too_many_memories}
-use Rattle.tools_cli.specs.Job.{IsRead, IsAccepted, invalid, Job, Gathered, add_first, add_file, HoldBytes, Whole, Lacks, TooLong, gathered, most_input, Loads, loaded, faulty, AllLoad, OneFails, Decision, Merges, not_linked, not_joined, merged, parts_of, Decides, job_of, module_files, contents_of, InputsJob, not_loaded, decided, refused_before, TaskJob, not_begun, missing, too_long, all_read, HasJob, no_task, asked}
+use Rattle.tools_cli.specs.Job.{IsRead, IsAccepted, invalid, Job, Gathered, add_first, add_file, HoldBytes, Whole, Lacks, TooLong, gathered, most_input, Loads, loaded, faulty, AllLoad, OneFails, Decision, Merges, not_linked, not_joined, merged, parts_of, sample_merge, sample_modules, Decides, job_of, module_files, contents_of, InputsJob, not_loaded, decided, refused_before, TaskJob, not_begun, missing, too_long, all_read, HasJob, no_task, asked}
 use Rattle.wasm_tree.specs.declared.module.Module.{Module}
 use Rattle.wasm_read_spec.specs.declared.fault.ReadFault.{ReadFault}
 use Rattle.wasm_read_spec.specs.declared.fault.ReadFault.TheVariants as fault
@@ -27,6 +27,8 @@ use Rattle.dce_exact_proof.specs.Laws.{ExactMarksExist}
 use Rattle.tools_cli.proofs.MergeDecided.{length_parts, length_files}
 use Rattle.tools_cli.proofs.MetadceDecided.{metadce_told}
 use Rattle.tools_cli.proofs.SplitDecided.{NamesAreRead, split_decides}
+use Rattle.tools_cli.proofs.CtorEvalDecided.{eval_decides}
+use Rattle.tools_cli.proofs.SampleDecided.{sample_decides}
 use Rattle.split_plan.specs.Causes.{FaultsHaveCauses}
 use Rattle.tools_cli.proofs.Loading.{as_many}
 use Rattle.tools_cli.proofs.Determined.{AreBytes, SpelledHasNoFault, FirstIsBytes, gathered_bytes, first_are_bytes, first_is_bytes}
@@ -127,6 +129,8 @@ task_told : Known → (t : Task) (trees : List Module) (contents : List Text) �
 task_told k (Merge merge) trees contents are each all = merge_told merge trees (each ∙ length_files merge.sources) _ refl
 task_told k (Metadce metadce) trees contents are each all = metadce_told k.marks metadce trees contents each all
 task_told k (Split split) trees contents are each all = split_decides k.names k.words split trees contents are each all
+task_told k (CtorEval eval) trees contents are each all = eval_decides eval trees contents each all
+task_told k (Sample sample) trees contents are each all = sample_decides sample trees contents each all (merge_told sample_merge (sample_modules sample) refl _ refl)
 
 -- ---- the job
 

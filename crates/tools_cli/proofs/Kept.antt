@@ -1,25 +1,37 @@
 -- A job that is done keeps what it read: its decision is sound, by the laws of its command, and what is written of a sound decision is kept, of any command.
-use Rattle.std.proofs.Common.{IsTrue, Bool, true, false, not, cond, ltb, ◌≡◌, ◌∙◌, refl, sym, ap, subst, ℕ, zero, suc, ◌-◌, List, [], ◌∷◌, ◌++◌, append-nil, take, length, Option, Some, None, IfSome, IfOk, Result, Ok, ◌<◌, ◌≤◌, ◌^◌, arith, map, option_map}
+use Rattle.std.proofs.Common.{IsTrue, Bool, true, false, not, cond, ltb, ◌≡◌, ◌∙◌, refl, sym, ap, subst, ℕ, zero, suc, ◌-◌, List, [], ◌∷◌, ◌++◌, append-nil, take, length, Option, Some, None, IfSome, IfOk, OnOk, Result, Ok, Err, ◌<◌, ◌≤◌, ◌^◌, arith, map, option_map, inl, inr}
 use Rattle.std.specs.Prelude.{IsUtf8, ◌||◌, ◌&&◌, nat_lt}
 use Rattle.std.specs.Option.{option_or}
 use Rattle.std.proofs.lemmas.Bool.{and_parts}
 use Rattle.std.proofs.lemmas.Bool.Decides.{nat_tests}
 use Rattle.std.specs.FinMap.{get, insert, get-insert}
 use Rattle.std.specs.Cmp.{eq_by_cmp_equiv}
-use Rattle.std.specs.List.{list_all, list_any}
+use Rattle.std.specs.List.{list_all, list_any, cons_option}
 use Rattle.std.specs.Str.{bytes_eq}
 use Rattle.std.proofs.lemmas.Map.Text.{is_eq-slice_cmp}
 use Rattle.std.proofs.lemmas.Cmp.{nat_list_cmp_total}
 use Rattle.tool_io.specs.FilesAndSinks.{Contents}
-use Rattle.tools_cli.specs.CommandLine.{Text, Source, MergeTask, MetadceTask, SplitTask, Task, Merge, Metadce, Split, task_of, many_of, modules_of, texts_of, inputs_of, are_apart}
+use Rattle.tools_cli.specs.CommandLine.{Text, Source, MergeTask, MetadceTask, SplitTask, CtorEvalTask, SampleTask, Task, Merge, Metadce, Split, CtorEval, Sample, task_of, many_of, modules_of, texts_of, inputs_of, are_apart}
 use Rattle.merge_names.specs.declared.mode.Mode.{Mode}
 use Rattle.tools_cli.specs.Effects.{Entry, made}
-use Rattle.tools_cli.specs.Job.{IsRead, IsAccepted, Job, Usage, Missing, Refused, Done, Gathered, Whole, Lacks, TooLong, add_first, add_file, gathered, most_input, most_output, Loads, loaded, faulty, invalid, AllLoad, Output, Decision, Refuses, Makes, Merges, not_linked, not_joined, merged, GivesMarks, Reduces, no_graph, not_swept, reduced, words_plan, Splits, no_plan, not_parted, parted, Decides, is_within, spelled_output, job_of, module_files, contents_of, parts_of, AreMerged, InputsJob, not_loaded, decided, TaskJob, not_begun, missing, too_long, all_read, HasJob, no_task, asked}
+use Rattle.tools_cli.specs.Job.{IsRead, IsAccepted, Job, Usage, Missing, Refused, Done, Gathered, Whole, Lacks, TooLong, add_first, add_file, gathered, most_input, most_output, Loads, loaded, faulty, invalid, AllLoad, Output, Decision, Refuses, Makes, Merges, not_linked, not_joined, merged, GivesMarks, Reduces, no_graph, not_swept, reduced, words_plan, Splits, no_plan, not_parted, parted, Evaluates, not_evaluated, evaluated, Samples, not_merged, sampled, sample_merge, sample_parts, Decides, is_within, spelled_output, job_of, module_files, contents_of, parts_of, AreMerged, InputsJob, not_loaded, decided, TaskJob, not_begun, missing, too_long, all_read, HasJob, no_task, asked}
 use Rattle.tools_cli.specs.Run.{EndsDone}
-use Rattle.tools_cli.specs.Kept.{HoldModules, output_names, Findings, AreMade, equivalence, Holds, Also, TaskKeeps, Keeps, EndsKept, SplitWordsAreText}
+use Rattle.tools_cli.specs.Kept.{HoldModules, output_names, Findings, AreMade, equivalence, Holds, Also, TaskKeeps, Keeps, EndsKept, SplitWordsAreText, HoldBytesAt, ReadsBytes}
 use Rattle.tools_cli.proofs.Apart.{both_of, neither}
 use Rattle.tools_cli.proofs.Deciding.{one_memory}
-use Rattle.tools_cli.proofs.WordTexts.{AreTexts, IsTextTask, task_is_text, task_writes_unlike}
+use Rattle.tools_cli.proofs.ReadBytes.{all_read_are, first_read}
+use Rattle.wasm_bytes.specs.Reading.{IsBytes}
+use Rattle.eval_spec.specs.State.{State}
+use Rattle.eval_numbers_proof.specs.Ranges.{BeginsInRange}
+use Rattle.eval_snapshot_spec.specs.After.{IsAfter}
+use Rattle.eval_snapshot_spec.specs.Evaluated.{evaluated_count, evaluated_tree, first_missing}
+use Rattle.eval_snapshot_spec.specs.Snapshot.{snapshot}
+use Rattle.tools_cli_eval.specs.declared.evaluation.EvalFault.TheVariants as eval_fault
+use Rattle.tools_cli_eval.specs.Trees.{TreesAreBounded, TreesAreSingle, TreesAreSnapshots, TreesAreValid, TreesBehave}
+use Rattle.tools_cli.proofs.WordTexts.{AreTexts, IsTextTask, IsCounted, task_is_text, task_writes_unlike, task_is_counted}
+use Rattle.tools_cli.proofs.SampleDecided.{output_names_are}
+use Rattle.tools_cli.proofs.SampleRanges.{first_in_range, second_in_range}
+use Rattle.wasm_gen.specs.Laws.{SampleModulesAreValid}
 use Rattle.wasm_valid.proofs.Repeats.{equivalence as same_texts}
 use Rattle.wasm_names.specs.declared.func_name.FuncName.{FuncName}
 use Rattle.split_plan.specs.declared.plans.Plan.{Plan}
@@ -72,7 +84,7 @@ IsSound p = IsValid p.«module» × IsBounded p.«module»
 abbrev IsWritable : Module → Type 0
 IsWritable m = InRange m × IsTrue (memory_zero_funcs m.funcs)
 
--- what is known of the plain spelling, of merged modules, of what is left of one and of both of a split
+-- what is known of the plain spelling, of merged modules, of what is left of one, of both of a split and of one after evaluated constructors
 pub record Respelled : Type 0 where
   pub plainly : (tree : Module) → IsWritable tree → length (plain tree) < 2 ^ 32 → Spells (plain tree) tree false
   pub ranges : (bytes : List ℕ) (tree : Module) → Spells bytes tree false → InRange tree
@@ -85,6 +97,7 @@ pub record Respelled : Type 0 where
   pub memory : (parts : List Part) (mode : Mode) → IsValid (joined_module parts mode) → IsSingle (joined_module parts mode) → IsBounded (joined_module parts mode) → IsTrue (memory_zero_funcs (joined_module parts mode).funcs)
   pub same : (parts : List Part) (mode : Mode) → CanBeJoined parts mode → BehavesAs parts mode (joined_module parts mode)
   pub turns : TurnsAreNotSeen
+  pub samples : SampleModulesAreValid
   pub closed : ReachedMarksAreClosed
   pub left_valid : (k : Marks) (m : Module) → IsValid m → AreClosed k m → IsValid (swept k m)
   pub left_single : (k : Marks) (m : Module) → IsValid m → AreClosed k m → IsSingle m → IsSingle (swept k m)
@@ -109,6 +122,15 @@ pub record Respelled : Type 0 where
       → IsValid (secondary_with names m moved own before) → IsSingle (secondary_with names m moved own before) → IsBounded (secondary_with names m moved own before) → InRange (secondary_with names m moved own before)
   pub secondary_memory : (names : SplitNames) (m : Module) (moved own : List ℕ) (before : ℕ) → IsValid (secondary_with names m moved own before) → IsSingle (secondary_with names m moved own before) → IsBounded (secondary_with names m moved own before)
       → IsTrue (memory_zero_funcs (secondary_with names m moved own before).funcs)
+  pub begins : (bytes : List ℕ) (m : Module) → IsBytes bytes → Spells bytes m false → BeginsInRange m
+  pub after_snapshots : TreesAreSnapshots
+  pub after_valid : TreesAreValid
+  pub after_single : TreesAreSingle
+  pub after_sizes : TreesAreBounded
+  pub after_behaves : TreesBehave
+  pub snapshot_in_range : (m : Module) (s : State) (evaluated kept : List Text) → IsValid m → InRange m → BeginsInRange m → IsAfter m evaluated s
+      → IsValid (snapshot m s evaluated kept) → IsSingle (snapshot m s evaluated kept) → IsBounded (snapshot m s evaluated kept) → InRange (snapshot m s evaluated kept)
+  pub memory_zero : (m : Module) → IsValid m → IsSingle m → IsTrue (memory_zero_funcs m.funcs)
 
 sound_at : (P : Module → Type 0) → ((p : Part) → IsSound p → P p.«module») → (parts : List Part) → Every IsSound parts → (n : ℕ) (m : Module) → module_at parts n ≡ Some m → P m
 sound_at P f [] h n m e = absurd (cc)
@@ -393,13 +415,95 @@ split_is_sound k split (file ∷ []) (tree ∷ []) decision text loads h = split
 split_is_sound k split (file ∷ other ∷ files) (tree ∷ []) decision text loads h = absurd h
 split_is_sound k split files (tree ∷ other ∷ trees) decision text loads h = absurd h
 
+-- ---- the module after evaluated constructors ----
+
+after_in_range : Respelled → (m : Module) (names kept : List Text) → first_missing m names ≡ None → IsValid m → InRange m → BeginsInRange m → IsValid (evaluated_tree m names kept) → IsSingle (evaluated_tree m names kept) → IsBounded (evaluated_tree m names kept)
+    → InRange (evaluated_tree m names kept)
+after_in_range k m names kept there valid ranges begins after single sizes = elim (k.after_snapshots m names kept there) [
+  | inl is ↦ subst InRange (sym is.tree) (k.snapshot_in_range m is.state (take (evaluated_count m names) names) kept valid ranges begins is.after (subst IsValid is.tree after) (subst IsSingle is.tree single) (subst IsBounded is.tree sizes))
+  | inr e ↦ subst InRange (sym e) ranges
+]
+
+evaluating_is_sound : Respelled → (eval : CtorEvalTask) (file : Entry) (tree : Module) (decision : Decision) → IsBytes file.1 → Loads false file.0 file.1 (Ok tree) → Evaluates eval tree decision
+    → IsSoundDecision (CtorEval eval) (tree ∷ []) (file.1 ∷ []) decision
+evaluating_is_sound k eval file tree decision are loads (not_evaluated fault says found told) = tt
+evaluating_is_sound k eval file tree decision are loads (evaluated none) =
+    let loaded = loaded_is false file.0 file.1 (Ok tree) loads in
+    let after = evaluated_tree tree eval.ctors eval.kept in
+    let both = none_of_both (option_map eval_fault.NoSuchExport (first_missing tree eval.ctors)) (option_map eval_fault.TooMany (over_limit after)) none in
+    let there = none_from eval_fault.NoSuchExport (first_missing tree eval.ctors) both.0 in
+    let within = none_from eval_fault.TooMany (over_limit after) both.1 in
+    let bounded = k.bounded file.1 tree loaded.0.spelled loaded.0.within in
+    let valid = k.after_valid tree eval.ctors eval.kept there loaded.1.valid in
+    let single = k.after_single tree eval.ctors eval.kept there (loaded.1.single refl) in
+    let sizes = k.after_sizes tree eval.ctors eval.kept there loaded.1.valid bounded within in
+    let ranges = after_in_range k tree eval.ctors eval.kept there loaded.1.valid (k.ranges file.1 tree loaded.0.spelled) (k.begins file.1 tree are loaded.0.spelled) valid single sizes in
+    record {
+      found = tt;
+      made = (none, refl);
+      names = refl;
+      each = ((record { valid = valid; single = λ e. single }, (ranges, k.memory_zero after valid single), refl), tt);
+      behaves = k.after_behaves tree eval.ctors eval.kept there loaded.1.valid (k.begins file.1 tree are loaded.0.spelled);
+      also = tt;
+    }
+
+eval_is_sound : Respelled → (eval : CtorEvalTask) (files : List Entry) (trees : List Module) (decision : Decision) → ((bytes : Text) (more : List Text) → contents_of files ≡ bytes ∷ more → IsBytes bytes)
+    → AllLoad false (module_files (CtorEval eval) files) trees → Decides (CtorEval eval) trees (contents_of files) decision → IsSoundDecision (CtorEval eval) trees (contents_of files) decision
+eval_is_sound k eval files [] decision are loads h = absurd h
+eval_is_sound k eval [] (tree ∷ []) decision are loads h = absurd h
+eval_is_sound k eval (file ∷ []) (tree ∷ []) decision are loads h = evaluating_is_sound k eval file tree decision (are file.1 [] refl) loads.0 h
+eval_is_sound k eval (file ∷ other ∷ files) (tree ∷ []) decision are loads h = absurd h
+eval_is_sound k eval files (tree ∷ other ∷ trees) decision are loads h = absurd h
+
+-- ---- what a sample's modules are merged into ----
+
+sample_sound : Respelled → (sample : SampleTask) → IsCounted (Sample sample) → Every IsSound (sample_parts sample)
+sample_sound k sample (some, few) = let both = k.samples sample.seed sample.count some few in (both.0, (both.1, tt))
+
+sample_in_range : (sample : SampleTask) → IsCounted (Sample sample) → Every (λ (p : Part). InRange p.«module») (sample_parts sample)
+sample_in_range sample (some, few) = (first_in_range sample.seed sample.count few, (second_in_range sample.seed sample.count some few, tt))
+
+-- the one output, if there is one
+abbrev IsEachMerged : SampleTask → Module → List Output → Type 0
+IsEachMerged sample tree outputs =
+    Every (AreMerged false (sample_parts sample) sample_merge.mode) (output_trees outputs) × Every (IsSoundOutput false) outputs
+    × IfSome (equivalence (Sample sample) tt [] (output_trees outputs)) Holds
+
+each_merged : (sample : SampleTask) (tree : Module) → AreMerged false (sample_parts sample) sample_merge.mode tree → IsAccepted false tree × IsWritable tree × BehavesAs (sample_parts sample) sample_merge.mode tree
+    → (o : Option Text) → IsEachMerged sample tree (cons_option (option_map (λ name. record { name = name; tree = tree; custom = [] }) o) [])
+each_merged sample tree is sound None = (tt, tt, tt)
+each_merged sample tree is sound (Some name) = ((is, tt), ((sound.0, sound.1, refl), tt), λ env is named moves n. sound.2 env is tt moves n)
+
+samples_soundly : Respelled → (sample : SampleTask) (decision : Decision) → IsCounted (Sample sample) → Samples sample decision → IsSoundDecision (Sample sample) [] [] decision
+samples_soundly k sample decision counted (not_merged text h) = tt
+samples_soundly k sample decision counted (sampled tree is) =
+    let parts = sample_parts sample in
+    let sources_sound = sample_sound k sample counted in
+    let sound = merged_is_sound k parts sample_merge.mode tree sources_sound (sample_in_range sample counted) is in
+    let each = each_merged sample tree is sound sample.output in
+    record {
+      found = tt;
+      made = each.0;
+      names = output_names_are sample.output tree;
+      each = each.1;
+      behaves = each.2;
+      also = k.turns (linked_world parts sample_merge.mode) (sound_at IsValid (λ p h. h.0) parts sources_sound);
+    }
+
+sample_is_sound : Respelled → (sample : SampleTask) (trees : List Module) (contents : List Text) (decision : Decision) → IsCounted (Sample sample) → Decides (Sample sample) trees contents decision → IsSoundDecision (Sample sample) trees contents decision
+sample_is_sound k sample [] [] decision counted h = samples_soundly k sample decision counted h
+sample_is_sound k sample [] (bytes ∷ more) decision counted h = absurd h
+sample_is_sound k sample (tree ∷ trees) contents decision counted h = absurd h
+
 -- ---- all commands ----
 
-decision_is_sound : Respelled → (task : Task) (files : List Entry) (trees : List Module) (decision : Decision) → IsTextTask task → AllLoad (many_of task) (module_files task files) trees → Decides task trees (contents_of files) decision
+decision_is_sound : Respelled → (task : Task) (files : List Entry) (trees : List Module) (decision : Decision) → IsTextTask task → IsCounted task → ((bytes : Text) (more : List Text) → contents_of files ≡ bytes ∷ more → IsBytes bytes) → AllLoad (many_of task) (module_files task files) trees → Decides task trees (contents_of files) decision
     → IsSoundDecision task trees (contents_of files) decision
-decision_is_sound k (Merge merge) files trees decision text loads h = merge_is_sound k merge (contents_of files) (module_files (Merge merge) files) trees decision loads h
-decision_is_sound k (Metadce metadce) files trees decision text loads h = metadce_is_sound k metadce files trees decision loads h
-decision_is_sound k (Split split) files trees decision text loads h = split_is_sound k split files trees decision text loads h
+decision_is_sound k (Merge merge) files trees decision text counted are loads h = merge_is_sound k merge (contents_of files) (module_files (Merge merge) files) trees decision loads h
+decision_is_sound k (Metadce metadce) files trees decision text counted are loads h = metadce_is_sound k metadce files trees decision loads h
+decision_is_sound k (Split split) files trees decision text counted are loads h = split_is_sound k split files trees decision text loads h
+decision_is_sound k (CtorEval eval) files trees decision text counted are loads h = eval_is_sound k eval files trees decision are loads h
+decision_is_sound k (Sample sample) files trees decision text counted are loads h = sample_is_sound k sample trees (contents_of files) decision counted h
 
 -- no two outputs of a task have one name
 abbrev AreOutputsApart : Task → Type 0
@@ -408,7 +512,13 @@ AreOutputsApart task = (contents : List Text) → are_apart (output_names task c
 outputs_apart : (words : List Text) (task : Task) → task_of words ≡ Some task → AreOutputsApart task
 outputs_apart words (Merge merge) e contents = refl
 outputs_apart words (Metadce metadce) e contents = refl
+outputs_apart words (CtorEval eval) e contents = refl
 outputs_apart words (Split split) e contents = ap (λ b. not (b || false) && true) (same_texts.symm split.outputs.secondary split.outputs.primary ∙ task_writes_unlike words (Split split) e)
+outputs_apart words (Sample sample) e contents = by sample.output
+  where
+    by : (o : Option Text) → are_apart (cons_option o []) ≡ true
+    by None = refl
+    by (Some name) = refl
 
 -- ---- what is written ----
 
@@ -503,15 +613,17 @@ decision_keeps : Respelled → (task : Task) (before : Contents) (files : List E
 decision_keeps k task before files trees (Refuses text) apart e loads sound = tt
 decision_keeps k task before files trees (Makes outputs lines) apart e loads sound = makes_keep k task before files trees outputs lines _ (list_all is_within outputs) apart e loads sound refl
 
-inputs_keep : Respelled → (task : Task) (before : Contents) (files : List Entry) (job : Job) → IsTextTask task → AreOutputsApart task → gathered (inputs_of task) before most_input ≡ Whole files → InputsJob task files job → JobKept task before job
-inputs_keep k task before files job text_task apart e (not_loaded text h) = tt
-inputs_keep k task before files job text_task apart e (decided trees decision loads h) = decision_keeps k task before files trees decision apart e loads (decision_is_sound k task files trees decision text_task loads h)
+inputs_keep : Respelled → (task : Task) (before : Contents) (files : List Entry) (job : Job) → IsTextTask task → IsCounted task → HoldBytesAt (inputs_of task) before → AreOutputsApart task → gathered (inputs_of task) before most_input ≡ Whole files → InputsJob task files job → JobKept task before job
+inputs_keep k task before files job text_task counted are apart e (not_loaded text h) = tt
+inputs_keep k task before files job text_task counted are apart e (decided trees decision loads h) =
+    let first = first_read before (inputs_of task) files (gathered_held before (inputs_of task) most_input files e) are in
+    decision_keeps k task before files trees decision apart e loads (decision_is_sound k task files trees decision text_task counted first loads h)
 
-task_keeps : Respelled → (task : Task) (before : Contents) (job : Job) → IsTextTask task → AreOutputsApart task → TaskJob task before job → JobKept task before job
-task_keeps k task before job text_task apart (not_begun text e) = tt
-task_keeps k task before job text_task apart (missing name begun e) = tt
-task_keeps k task before job text_task apart (too_long name begun e) = tt
-task_keeps k task before job text_task apart (all_read files _ begun e h) = inputs_keep k task before files job text_task apart e h
+task_keeps : Respelled → (task : Task) (before : Contents) (job : Job) → IsTextTask task → IsCounted task → HoldBytesAt (inputs_of task) before → AreOutputsApart task → TaskJob task before job → JobKept task before job
+task_keeps k task before job text_task counted are apart (not_begun text e) = tt
+task_keeps k task before job text_task counted are apart (missing name begun e) = tt
+task_keeps k task before job text_task counted are apart (too_long name begun e) = tt
+task_keeps k task before job text_task counted are apart (all_read files _ begun e h) = inputs_keep k task before files job text_task counted are apart e h
 
 words_keep : (words : List Text) (task : Task) (before : Contents) (job : Job) → task_of words ≡ Some task → JobKept task before job → JobKeeps words before job
 words_keep words task before (Done writes lines) e h = (task, e, h)
@@ -523,18 +635,34 @@ names_are_text : (words : List Text) → SplitWordsAreText words → (task : Tas
 names_are_text words text (Merge merge) e = tt
 names_are_text words text (Metadce metadce) e = tt
 names_are_text words text (Split split) e = task_is_text words (text split e) (Split split) e
+names_are_text words text (CtorEval eval) e = tt
+names_are_text words text (Sample sample) e = tt
 
-job_keeps : Respelled → (words : List Text) (before : Contents) (job : Job) → SplitWordsAreText words → HasJob words before job → JobKeeps words before job
-job_keeps k words before job text (no_task e) = tt
-job_keeps k words before job text (asked task _ e h) = words_keep words task before job e (task_keeps k task before job (names_are_text words text task e) (outputs_apart words task e) h)
+job_keeps : Respelled → (words : List Text) (before : Contents) (job : Job) → SplitWordsAreText words → ReadsBytes words before → HasJob words before job → JobKeeps words before job
+job_keeps k words before job text are (no_task e) = tt
+job_keeps k words before job text are (asked task _ e h) = words_keep words task before job e (task_keeps k task before job (names_are_text words text task e) (task_is_counted words task e) (are task e) (outputs_apart words task e) h)
 
-pub done_keeps : Respelled → (words : List Text) (before : Contents) (writes : List Entry) (lines : Text) → SplitWordsAreText words → HasJob words before (Done writes lines) → Keeps words before (made writes before)
-done_keeps k words before writes lines text h = job_keeps k words before (Done writes lines) text h
+pub done_keeps : Respelled → (words : List Text) (before : Contents) (writes : List Entry) (lines : Text) → SplitWordsAreText words → ReadsBytes words before → HasJob words before (Done writes lines) → Keeps words before (made writes before)
+done_keeps k words before writes lines text are h = job_keeps k words before (Done writes lines) text are h
 
 -- and so does a run that ends done
 abbrev pub DoneKeeps : Type 0
-DoneKeeps = (words : List Text) (before : Contents) (writes : List Entry) (lines : Text) → SplitWordsAreText words → HasJob words before (Done writes lines) → Keeps words before (made writes before)
+DoneKeeps = (words : List Text) (before : Contents) (writes : List Entry) (lines : Text) → SplitWordsAreText words → ReadsBytes words before → HasJob words before (Done writes lines) → Keeps words before (made writes before)
 
-pub end_keeps : DoneKeeps → (held new : Option Contents) (words : List Text) (out out' : Option Text) → SplitWordsAreText words → IfSome held (λ before. EndsDone words before new out out') → IfSome held (λ before. EndsKept words before new)
-end_keeps law None new words out out' text h = tt
-end_keeps law (Some before) new words out out' text (writes, lines, job, (made_all, gains)) = (made writes before, made_all, law words before writes lines text job)
+pub end_keeps : DoneKeeps → (held new : Option Contents) (words : List Text) (out out' : Option Text) → SplitWordsAreText words → IfSome held (ReadsBytes words) → IfSome held (λ before. EndsDone words before new out out') → IfSome held (λ before. EndsKept words before new)
+end_keeps law None new words out out' text are h = tt
+end_keeps law (Some before) new words out out' text are (writes, lines, job, (made_all, gains)) = (made writes before, made_all, law words before writes lines text are job)
+
+-- inputs that are bytes come from files that hold bytes
+pub read_bytes : (held : Option Contents) (task : Task) (inputs : List Entry) → IfSome held (λ a. gathered (inputs_of task) a most_input ≡ Whole inputs) → Every (λ (e : Entry). IsBytes e.1) inputs → IfSome held (HoldBytesAt (inputs_of task))
+read_bytes None task inputs h are = tt
+read_bytes (Some a) task inputs h are = all_read_are a (inputs_of task) inputs (gathered_held a (inputs_of task) most_input inputs h) are
+
+pub on_ok : {A E P : Type 0} (r : Result A E) → P → OnOk r P
+on_ok (Ok x) p = p
+on_ok (Err e) p = tt
+
+-- and those of the task are those of its words
+pub words_read : (held : Option Contents) (words : List Text) (task : Task) → task_of words ≡ Some task → IfSome held (HoldBytesAt (inputs_of task)) → IfSome held (ReadsBytes words)
+words_read None words task e h = tt
+words_read (Some a) words task e h = λ other asked. let both : Some task ≡ Some other = sym e ∙ asked in let same : task ≡ other = cc in subst (λ (t : Task). HoldBytesAt (inputs_of t) a) same h

@@ -7,6 +7,8 @@ pub mod MergeDecided
 pub mod UnusedNames
 pub mod MetadceDecided
 pub mod SplitDecided
+pub mod CtorEvalDecided
+pub mod ReadBytes
 pub mod Deciding
 pub mod Encoding
 pub mod Determined
@@ -19,3 +21,7 @@ pub mod Lines
 pub mod Apart
 pub mod Limits
 pub mod FewInAll
+pub mod NumberTexts
+pub mod SampleRanges
+pub mod SampleDecided
+pub mod SampleText

@@ -1,5 +1,5 @@
 -- What merging the modules of a task decides.
-use Rattle.std.proofs.Common.{◌≡◌, ◌∙◌, sym, refl, ap, subst, ◌⊎◌, inl, inr, None, Some, Err, map, ℕ, zero, suc, ◌+◌, ◌<◌, List, [], ◌∷◌, ◌++◌, append_assoc, append-nil, add-one, drop, drop-cons, length, get_or, slice_get, slice_index_or, arith, Bool}
+use Rattle.std.proofs.Common.{◌≡◌, ◌∙◌, sym, refl, ap, subst, ◌⊎◌, inl, inr, None, Some, Err, map, ℕ, zero, suc, ◌+◌, ◌<◌, List, [], ◌∷◌, ◌++◌, append_assoc, append-nil, add-one, drop, drop-cons, length, get_or, slice_get, slice_index_or, arith, Bool, false, Result, Ok, IfOk, IfErr}
 use Rattle.tools_cli.specs.CommandLine.{Text, Source, MergeTask, Merge, source_files, many_of}
 use Rattle.tools_cli.specs.Job.{Decision, Refuses, Makes, Merges, not_linked, not_joined, merged, AreMerged, parts_of}
 use Rattle.tools_cli.specs.Texts.{link_text, join_text}
@@ -7,11 +7,14 @@ use Rattle.wasm_tree.specs.declared.module.Module.{Module}
 use Rattle.wasm_meaning.specs.Linking.{Part}
 use Rattle.merge_spec.specs.Faults.{link_fault, NamesPart}
 use Rattle.merge_spec.specs.Joined.{Joins}
+use Rattle.merge_names.specs.declared.mode.Mode.{Mode}
 use Rattle.merge_spec.specs.declared.faults.LinkFault.{LinkFault}
 use Rattle.merge_spec.specs.declared.faults.LinkFault.TheVariants as link
 use Rattle.merge_spec.specs.declared.faults.JoinFault.{JoinFault}
 use Rattle.merge_spec.specs.declared.faults.JoinFault.TheVariants as join
-use Rattle.tools_cli.specs.Causes.{MergeFails}
+use Rattle.tools_cli.specs.Causes.{MergeFails, StopsWith}
+use Rattle.tools_cli.specs.declared.stop.Stop.{Stop}
+use Rattle.tools_cli.proofs.Loading.{stops_weaker}
 use Rattle.tools_cli.specs.Sources.{source_values, files_of}
 use Rattle.merge_spec.proofs.FaultParts.{fault_names_part}
 use Rattle.tools_cli.specs.declared.merge.Source as code
@@ -41,6 +44,15 @@ merge_made merge parts trees tree decision named is made =
     let P : Decision → Type 0 = Merges merge trees in
     let Q : List Part → Type 0 = λ ps. AreMerged (many_of (Merge merge)) ps merge.mode tree in
     subst P (sym made) (merged tree (subst Q named is))
+
+-- what is merged under the names of the sources, and why it is not
+pub merged_named : {E : Type 0} (r : Result Module E) (mode : Mode) (parts named : List Part) → parts ≡ named → IfOk r (λ tree. AreMerged false parts mode tree) → IfOk r (λ tree. AreMerged false named mode tree)
+merged_named (Ok tree) mode parts named same h = let P : List Part → Type 0 = λ ps. AreMerged false ps mode tree in subst P same h
+merged_named (Err x) mode parts named same h = tt
+
+pub stops_named : {A : Type 0} (r : Result A Stop) (merge : MergeTask) (parts : List Part) (trees : List Module) → parts ≡ parts_of merge.sources trees → IfErr r (StopsWith (MergeFails merge parts)) → IfErr r (StopsWith (λ text. Merges merge trees (Refuses text)))
+stops_named (Ok x) merge parts trees named h = tt
+stops_named (Err stop) merge parts trees named h = stops_weaker (MergeFails merge parts) (λ text. Merges merge trees (Refuses text)) (merge_refused merge parts trees named) stop h
 
 -- ---- the parts and their sources ----
 

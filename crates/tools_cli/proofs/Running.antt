@@ -6,7 +6,7 @@ use Rattle.tool_io.proofs.Steps.{rose_earlier, becomes_itself, becomes_weaker, b
 use Rattle.tools_cli.specs.CommandLine.{Text, Task, task_of, modules_of, texts_of, inputs_of, usage_line}
 use Rattle.tools_cli.specs.Effects.{Entry, made, IsCut, written_names}
 use Rattle.tools_cli.specs.Job.{Job, Usage, Refused, Done, Whole, TooLong, gathered, most_input, InputsJob, TaskJob, refused_before, not_begun, too_long, all_read, HasJob, no_task, asked}
-use Rattle.tools_cli.specs.Stop.{IsLine, usage, fault_line, invalid_line, parts_line, link_line, join_line, graph_line, plan_line, split_line, output_line, cannot_read_line, cannot_write_line, cannot_print_line, no_memory_line, no_memory, stop_line, line_of, refusal_text, Says, Reports}
+use Rattle.tools_cli.specs.Stop.{IsLine, usage, fault_line, invalid_line, parts_line, link_line, join_line, graph_line, plan_line, split_line, eval_line, output_line, cannot_read_line, cannot_write_line, cannot_print_line, no_memory_line, no_memory, stop_line, line_of, refusal_text, Says, Reports}
 use Rattle.tools_cli.specs.Causes.{StopsWith, StopsGathering, StopsPreparing, StopsFinishing, MayHold, AreOutputs, AllWritten, PrintsAfter, PrintsAsAllowed}
 use Rattle.tools_cli.specs.Run.{IsUsage, PrintsNothing, JobIsDone, HostState, StopsWork, ChangesByTheJob, PrintsForTheJob, EndsDone, EndsRefused, Gains, IsSame, HasOutsideCause, HasStatus, SomeRose}
 use Rattle.tools_cli.specs.declared.stop.Status.{Status}
@@ -20,6 +20,7 @@ use Rattle.tools_cli.specs.declared.refusal.Refusal.TheVariants as refusal
 use Rattle.dce_graph.specs.declared.fault.GraphFault.TheVariants as graph
 use Rattle.split_plan.specs.declared.fault.PlanFault.TheVariants as plan
 use Rattle.split_spec.specs.declared.faults.SplitFault.TheVariants as split
+use Rattle.tools_cli_eval.specs.declared.evaluation.EvalFault.TheVariants as eval
 use Rattle.merge_spec.specs.declared.faults.LinkFault.TheVariants as link
 use Rattle.merge_spec.specs.declared.faults.JoinFault.TheVariants as join
 use Rattle.wasm_read_spec.specs.declared.fault.ReadFault.TheVariants as fault
@@ -175,6 +176,7 @@ refusal_line (refusal.AmbiguousFunction name) = plan_line _ (plan.AmbiguousFunct
 refusal_line (refusal.KeptAndSplit name) = plan_line _ (plan.KeptAndSplit name) refl
 refusal_line (refusal.NamespaceTaken file import) = split_line file.now _ (split.NamespaceTaken import.number) refl
 refusal_line (refusal.PrefixTaken name) = split_line [] _ (split.PrefixTaken name) refl
+refusal_line (refusal.NoSuchExport name) = eval_line _ (eval.NoSuchExport name) refl
 
 -- what is told of a stop is one of the lines
 line_is : (words : List Text) (old new : HostState) (s : Stop) → StopsWork words old new s → IsLine (line_of s)

@@ -1,5 +1,5 @@
--- What is so of each task: its names are UTF-8 where the words that ask for it are, and no two of its outputs have one name.
-use Rattle.std.proofs.Common.{◌≡◌, ◌∙◌, refl, ap, subst, Bool, true, false, cond, ℕ, suc, ◌+◌, ◌<◌, List, [], ◌∷◌, ◌++◌, drop, length, get_or, add-one, Option, Some, None, IfSome, option_map, option_and_then, map, string_bytes, arith}
+-- What is so of each task: its names are UTF-8 where the words that ask for it are, no two of its outputs have one name, and a sample has functions, not too many.
+use Rattle.std.proofs.Common.{◌≡◌, ◌∙◌, refl, ap, subst, Bool, true, false, cond, ℕ, suc, ◌+◌, ◌<◌, ◌≤◌, List, [], ◌∷◌, ◌++◌, drop, length, get_or, add-one, Option, Some, None, IfSome, option_map, option_and_then, map, string_bytes, arith}
 use Rattle.std.specs.Prelude.{◌==◌, IsUtf8, bytes_eq, codes, unwrap_or, nat_lt}
 use Rattle.std.specs.Str.{IsAscii}
 use Rattle.std.proofs.lemmas.Bool.{and_parts}
@@ -13,8 +13,9 @@ use Rattle.base_lists.specs.Every.{Every}
 use Rattle.split_spec.specs.declared.names.SplitNames.{SplitNames}
 use Rattle.tools_cli.specs.declared.split.SplitWords.{SplitWords}
 use Rattle.tools_cli.specs.Words.{Text, Vocabulary, Argument, Value, Flag, Plain, is_plain, behind, long_name, takes_value, own_value, some_value, value_behind, joined_value, other_word, next_argument, add_argument, said_from, OptionValue, Arguments, add_to_arguments, arguments_of, values_of, at_most_one, only_value, value_or}
-use Rattle.tools_cli.specs.CommandLine.{Task, Merge, Metadce, Split, Source, MergeTask, MetadceTask, SplitTask, SplitOutputs, make_merge, make_metadce, make_outputs, make_names, make_split, names_said, outputs_said, words_said, merge_of_arguments, metadce_of_arguments, split_of_arguments, merge_of, metadce_of, split_of, merge_vocabulary, metadce_vocabulary, split_vocabulary, task_of}
+use Rattle.tools_cli.specs.CommandLine.{Task, Merge, Metadce, Split, CtorEval, Sample, Source, MergeTask, MetadceTask, SplitTask, CtorEvalTask, SplitOutputs, make_ctor_eval, ctor_eval_of_arguments, ctor_eval_of, ctor_eval_vocabulary, SampleTask, make_merge, make_metadce, make_outputs, make_names, make_split, make_sample, names_said, outputs_said, words_said, count_in, merge_of_arguments, metadce_of_arguments, split_of_arguments, sample_of_arguments, merge_of, metadce_of, split_of, sample_of, merge_vocabulary, metadce_vocabulary, split_vocabulary, sample_vocabulary, task_of}
 use Rattle.merge_names.specs.declared.mode.Mode.{Mode}
+use Rattle.tools_cli.proofs.NumberTexts.{in_range}
 
 -- ---- one word ----
 
@@ -147,6 +148,8 @@ abbrev pub IsTextTask : Task → Type 0
 IsTextTask (Merge merge) = Unit {0}
 IsTextTask (Metadce metadce) = Unit {0}
 IsTextTask (Split split) = AreTexts split.names
+IsTextTask (CtorEval eval) = Unit {0}
+IsTextTask (Sample sample) = Unit {0}
 
 made_names : (a b c : Option Text) → IfSome a IsUtf8 → IfSome b IsUtf8 → IfSome c IsUtf8 → IfSome (make_names a b c) AreTexts
 made_names (Some a) (Some b) (Some c) h k l = (h, k, l)
@@ -174,6 +177,20 @@ made_metadce P f (Some file) (Some graph) None = tt
 made_metadce P f (Some file) None output = tt
 made_metadce P f None graph output = tt
 
+made_ctor_eval : (P : Task → Type 0) → ((eval : CtorEvalTask) → P (CtorEval eval)) → (file : Option Text) (ctors : Option (List Text)) (kept : Option (Option Text)) (output : Option Text) → IfSome (make_ctor_eval file ctors kept output) P
+made_ctor_eval P f (Some file) (Some ctors) (Some kept) (Some output) = f _
+made_ctor_eval P f (Some file) (Some ctors) (Some kept) None = tt
+made_ctor_eval P f (Some file) (Some ctors) None output = tt
+made_ctor_eval P f (Some file) None kept output = tt
+made_ctor_eval P f None ctors kept output = tt
+
+made_sample : (P : Task → Type 0) (Q : ℕ → Type 0) → ((sample : SampleTask) → Q sample.count → P (Sample sample)) → (plain : List Text) (seed count : Option ℕ) (output : Option (Option Text)) → IfSome count Q → IfSome (make_sample plain seed count output) P
+made_sample P Q f [] (Some seed) (Some count) (Some output) h = f (record { seed = seed; count = count; output = output }) h
+made_sample P Q f [] (Some seed) (Some count) None h = tt
+made_sample P Q f [] (Some seed) None output h = tt
+made_sample P Q f [] None count output h = tt
+made_sample P Q f (word ∷ plain) seed count output h = tt
+
 -- what is so of the task of each command, by what its words say
 from_said : (P : Task → Type 0) (S : List Argument → Type 0) (said : Option (List Argument)) (make : Arguments → Option Task) → ((said : List Argument) → S said → IfSome (make (arguments_of said)) P) → IfSome said S
     → IfSome (option_and_then make (option_map arguments_of said)) P
@@ -184,18 +201,34 @@ any_said : (said : Option (List Argument)) → IfSome said (λ said. Unit {0})
 any_said None = tt
 any_said (Some said) = tt
 
-from_words : (P : Task → Type 0) → ((merge : MergeTask) → P (Merge merge)) → ((metadce : MetadceTask) → P (Metadce metadce)) → (word : Text) (rest : List Text) → IfSome (split_of rest) P → IfSome (task_of (word ∷ rest)) P
+from_words : (P : Task → Type 0) → ((merge : MergeTask) → P (Merge merge)) → ((metadce : MetadceTask) → P (Metadce metadce)) → ((eval : CtorEvalTask) → P (CtorEval eval)) → (word : Text) (rest : List Text) → IfSome (split_of rest) P → IfSome (sample_of rest) P
+    → IfSome (task_of (word ∷ rest)) P
 unfolding task_of
-from_words P f g word rest h =
-    by (bytes_eq word (codes "merge")) (bytes_eq word (codes "metadce")) (bytes_eq word (codes "split"))
+from_words P f g e word rest h i =
+    by (bytes_eq word (codes "merge")) (bytes_eq word (codes "metadce")) (bytes_eq word (codes "split")) (bytes_eq word (codes "ctor-eval")) (bytes_eq word (codes "sample"))
     (from_said P (λ said. Unit {0}) (said_from merge_vocabulary None rest) merge_of_arguments (λ said k. made_merge P f _ _ _) (any_said (said_from merge_vocabulary None rest)))
     (from_said P (λ said. Unit {0}) (said_from metadce_vocabulary None rest) metadce_of_arguments (λ said k. made_metadce P g _ _ _) (any_said (said_from metadce_vocabulary None rest)))
+    (from_said P (λ said. Unit {0}) (said_from ctor_eval_vocabulary None rest) ctor_eval_of_arguments (λ said k. made_ctor_eval P e _ _ _ _) (any_said (said_from ctor_eval_vocabulary None rest)))
   where
-    by : (a b c : Bool) → IfSome (merge_of rest) P → IfSome (metadce_of rest) P → IfSome (cond a (merge_of rest) (cond b (metadce_of rest) (cond c (split_of rest) None))) P
-    by true b c m n = m
-    by false true c m n = n
-    by false false true m n = h
-    by false false false m n = tt
+    by : (a b c d e : Bool) → IfSome (merge_of rest) P → IfSome (metadce_of rest) P → IfSome (ctor_eval_of rest) P
+        → IfSome (cond a (merge_of rest) (cond b (metadce_of rest) (cond c (split_of rest) (cond d (ctor_eval_of rest) (cond e (sample_of rest) None))))) P
+    by true b c d e m n o = m
+    by false true c d e m n o = n
+    by false false true d e m n o = h
+    by false false false true e m n o = o
+    by false false false false true m n o = i
+    by false false false false false m n o = tt
+
+-- where it is so of each sample
+any_sample : (P : Task → Type 0) → ((sample : SampleTask) → P (Sample sample)) → (rest : List Text) → IfSome (sample_of rest) P
+any_sample P f rest = from_said P (λ said. Unit {0}) (said_from sample_vocabulary None rest) sample_of_arguments (λ said k. made_sample P (λ n. Unit {0}) (λ sample one. f sample) _ _ (count said) _ (any_count (count said))) (any_said (said_from sample_vocabulary None rest))
+  where
+    count : List Argument → Option ℕ
+    count said = option_and_then count_in (only_value (codes "--count") (arguments_of said))
+
+    any_count : (o : Option ℕ) → IfSome o (λ n. Unit {0})
+    any_count None = tt
+    any_count (Some n) = tt
 
 no_words : (P : Task → Type 0) → IfSome (task_of []) P
 unfolding task_of
@@ -228,7 +261,7 @@ split_text said h =
 words_text : (words : List Text) → Every IsUtf8 words → IfSome (task_of words) IsTextTask
 words_text [] h = no_words IsTextTask
 words_text (word ∷ rest) h =
-    from_words IsTextTask (λ merge. tt) (λ metadce. tt) word rest (from_said IsTextTask (Every IsTextArgument) (said_from split_vocabulary None rest) split_of_arguments split_text (said_texts split_vocabulary None rest h.1))
+    from_words IsTextTask (λ merge. tt) (λ metadce. tt) (λ eval. tt) word rest (from_said IsTextTask (Every IsTextArgument) (said_from split_vocabulary None rest) split_of_arguments split_text (said_texts split_vocabulary None rest h.1)) (any_sample IsTextTask (λ sample. tt) rest)
 
 pub task_is_text : (words : List Text) → Every IsUtf8 words → (task : Task) → task_of words ≡ Some task → IsTextTask task
 task_is_text words h task e = let P : Option Task → Type 0 = λ o. IfSome o IsTextTask in subst P e (words_text words h)
@@ -242,6 +275,8 @@ abbrev pub WritesUnlike : Task → Type 0
 WritesUnlike (Merge merge) = Unit {0}
 WritesUnlike (Metadce metadce) = Unit {0}
 WritesUnlike (Split split) = AreUnlike split.outputs
+WritesUnlike (CtorEval eval) = Unit {0}
+WritesUnlike (Sample sample) = Unit {0}
 
 unlike_made : (primary secondary : Option Text) → IfSome (make_outputs primary secondary) AreUnlike
 unlike_made (Some primary) (Some secondary) = by (bytes_eq primary secondary) refl
@@ -264,10 +299,42 @@ split_unlike said h =
 words_unlike : (words : List Text) → IfSome (task_of words) WritesUnlike
 words_unlike [] = no_words WritesUnlike
 words_unlike (word ∷ rest) =
-    from_words WritesUnlike (λ merge. tt) (λ metadce. tt) word rest (from_said WritesUnlike (λ said. Unit {0}) (said_from split_vocabulary None rest) split_of_arguments split_unlike (any_said (said_from split_vocabulary None rest)))
+    from_words WritesUnlike (λ merge. tt) (λ metadce. tt) (λ eval. tt) word rest (from_said WritesUnlike (λ said. Unit {0}) (said_from split_vocabulary None rest) split_of_arguments split_unlike (any_said (said_from split_vocabulary None rest))) (any_sample WritesUnlike (λ sample. tt) rest)
 
 pub task_writes_unlike : (words : List Text) (task : Task) → task_of words ≡ Some task → WritesUnlike task
 task_writes_unlike words task e = let P : Option Task → Type 0 = λ o. IfSome o WritesUnlike in subst P e (words_unlike words)
+
+-- ---- a sample's functions ----
+
+abbrev pub IsCounted : Task → Type 0
+IsCounted (Merge merge) = Unit {0}
+IsCounted (Metadce metadce) = Unit {0}
+IsCounted (Split split) = Unit {0}
+IsCounted (CtorEval eval) = Unit {0}
+IsCounted (Sample sample) = (1 ≤ sample.count) × (sample.count ≤ 100000)
+
+any_split : (P : Task → Type 0) → ((split : SplitTask) → P (Split split)) → (rest : List Text) → IfSome (split_of rest) P
+any_split P f rest =
+    from_said P (λ said. Unit {0}) (said_from split_vocabulary None rest) split_of_arguments
+    (λ said k. let arguments = arguments_of said in made_split P (λ o. Unit {0}) (λ n. Unit {0}) (λ split o n. f split) _ (outputs_said arguments) (words_said arguments) (names_said arguments) (any_outputs (outputs_said arguments)) (any_names (names_said arguments)))
+    (any_said (said_from split_vocabulary None rest))
+
+count_of_text : (o : Option Text) → IfSome (option_and_then count_in o) (λ n. (1 ≤ n) × (n ≤ 100000))
+count_of_text None = tt
+count_of_text (Some text) = in_range 1 100000 text
+
+sample_counted : (rest : List Text) → IfSome (sample_of rest) IsCounted
+sample_counted rest =
+    from_said IsCounted (λ said. Unit {0}) (said_from sample_vocabulary None rest) sample_of_arguments
+    (λ said k. made_sample IsCounted (λ n. (1 ≤ n) × (n ≤ 100000)) (λ sample h. h) _ _ (option_and_then count_in (only_value (codes "--count") (arguments_of said))) _ (count_of_text (only_value (codes "--count") (arguments_of said))))
+    (any_said (said_from sample_vocabulary None rest))
+
+words_counted : (words : List Text) → IfSome (task_of words) IsCounted
+words_counted [] = no_words IsCounted
+words_counted (word ∷ rest) = from_words IsCounted (λ merge. tt) (λ metadce. tt) (λ eval. tt) word rest (any_split IsCounted (λ split. tt) rest) (sample_counted rest)
+
+pub task_is_counted : (words : List Text) (task : Task) → task_of words ≡ Some task → IsCounted task
+task_is_counted words task e = let P : Option Task → Type 0 = λ o. IfSome o IsCounted in subst P e (words_counted words)
 
 pub strings_are_text : {Z : Type 0} (words : List (String Z)) → Every IsUtf8 (map string_bytes words)
 strings_are_text [] = tt

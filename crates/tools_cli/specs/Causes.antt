@@ -2,9 +2,9 @@
 use Rattle.std.specs.Prelude.{◌≡◌, ◌⊎◌, ℕ, ◌+◌, ◌-◌, ◌≤◌, ltb, false, if◌then◌else◌, List, [], ◌∷◌, length, map, Contains, Option, Some, None, Err, IfSome, string_bytes}
 use Rattle.std.specs.FinMap.{get}
 use Rattle.tool_io.specs.FilesAndSinks.{Contents, Rose, Becomes, AppendsPrefix}
-use Rattle.tools_cli.specs.CommandLine.{Text, MergeTask, SplitTask, Task, Merge, source_files, many_of, texts_of, inputs_of, outputs_of, may_print}
+use Rattle.tools_cli.specs.CommandLine.{Text, MergeTask, SplitTask, CtorEvalTask, Task, Merge, source_files, many_of, texts_of, inputs_of, outputs_of, may_print}
 use Rattle.tools_cli.specs.Job.{TooLong, gathered, words_fault, TaskJob, refused_before, most_input}
-use Rattle.tools_cli.specs.Texts.{over_limit, invalid_text, link_text, join_text, graph_text, sweep_text, plan_text, split_text}
+use Rattle.tools_cli.specs.Texts.{over_limit, invalid_text, link_text, join_text, graph_text, sweep_text, plan_text, split_text, eval_text}
 use Rattle.wasm_valid.specs.declared.kinds.Invalid.{Invalid}
 use Rattle.wasm_valid.specs.First.{IsFirstInvalid}
 use Rattle.wasm_meaning.specs.Linking.{Part}
@@ -21,6 +21,8 @@ use Rattle.wasm_names.specs.declared.func_name.FuncName.{FuncName}
 use Rattle.split_plan.specs.declared.fault.PlanFault.{PlanFault}
 use Rattle.split_spec.specs.declared.faults.SplitFault.{SplitFault}
 use Rattle.split_spec.specs.Faults.{split_fault}
+use Rattle.tools_cli_eval.specs.declared.evaluation.EvalFault.{EvalFault}
+use Rattle.tools_cli_eval.specs.Evaluations.{fault_of}
 use Rattle.wasm_tree.specs.declared.module.Module.{Module}
 use Rattle.wasm_tree.specs.declared.which.Which.TheVariants.{InputBytes, Types, Imports, Functions, Tables, Memories, Globals, ElementSegments, DataSegments}
 use Rattle.wasm_tree.specs.Limits.{limit}
@@ -89,6 +91,10 @@ PlanFails split tree names says = (fault : PlanFault) × (words_fault split tree
 -- Why a module is not split so that these functions move.
 abbrev pub SplitFails : SplitTask → Module → (moved : List ℕ) → Text → Type 0
 SplitFails split tree moved says = (fault : SplitFault) × (split_fault split.names tree moved ≡ Some fault) × (split_text split.file fault ≡ Some says)
+
+-- Why the constructors of this module are not evaluated.
+abbrev pub EvalFails : CtorEvalTask → Module → Text → Type 0
+EvalFails eval tree says = (fault : EvalFault) × (fault_of tree eval.ctors eval.kept ≡ Some fault) × (eval_text fault ≡ Some says)
 
 -- No list of the tree has more entries than its limit.
 pub record IsWithinLimits (m : Module) : Type 0 where

@@ -1,5 +1,5 @@
 -- What the types of the code stand for.
-use Rattle.std.specs.Prelude.{List, ◌++◌, map, string_bytes}
+use Rattle.std.specs.Prelude.{List, ◌++◌, map, option_map, string_bytes}
 use Rattle.std.specs.Borrow.{Bor}
 use Rattle.tools_cli.specs.CommandLine.{Text}
 use Rattle.tools_cli.specs.CommandLine as words
@@ -10,6 +10,8 @@ use Rattle.tools_cli.specs.declared.merge.MergeTask.{MergeTask}
 use Rattle.tools_cli.specs.declared.metadce.MetadceTask.{MetadceTask}
 use Rattle.tools_cli.specs.declared.split.SplitOutputs.{SplitOutputs}
 use Rattle.tools_cli.specs.declared.split.SplitTask.{SplitTask}
+use Rattle.tools_cli.specs.declared.ctor_eval.CtorEvalTask.{CtorEvalTask}
+use Rattle.tools_cli.specs.declared.sample.SampleTask.{SampleTask}
 use Rattle.tools_cli.specs.declared.task.Task.{Task}
 use Rattle.tools_cli.specs.declared.task.Task.TheVariants as task
 use Rattle.tools_cli.specs.declared.decide.Output.{Output}
@@ -55,10 +57,18 @@ outputs_value outputs = record { primary = outputs.primary.now; secondary = outp
 abbrev pub split_value : SplitTask → words.SplitTask
 split_value split = record { file = split.file.now; outputs = outputs_value split.outputs; words = split.words; names = split.names }
 
+abbrev pub ctor_eval_value : CtorEvalTask → words.CtorEvalTask
+ctor_eval_value eval = record { file = eval.file.now; ctors = eval.ctors; kept = eval.kept; output = eval.output.now }
+
+abbrev pub sample_value : SampleTask → words.SampleTask
+sample_value sample = record { seed = sample.seed; count = sample.count; output = option_map (λ name. name.now) sample.output }
+
 abbrev pub task_value : Task → words.Task
 task_value (task.Merge merge) = words.Merge (merge_value merge)
 task_value (task.Metadce metadce) = words.Metadce (metadce_value metadce)
 task_value (task.Split split) = words.Split (split_value split)
+task_value (task.CtorEval eval) = words.CtorEval (ctor_eval_value eval)
+task_value (task.Sample sample) = words.Sample (sample_value sample)
 
 -- The name and the bytes of a file that was read.
 abbrev pub input_entry : Input → Entry

@@ -1,7 +1,7 @@
 -- The words of a command line, and the task that they ask for.
-use Rattle.std.specs.Prelude.{Bool, true, false, not, ◌&&◌, if◌then◌else◌, List, [], ◌∷◌, ◌++◌, map, Option, Some, None, option_map, option_and_then, bytes_eq, codes}
-use Rattle.std.specs.List.{list_any}
-use Rattle.tools_cli.specs.Words.{Vocabulary, Arguments, output_option, said_together, only, only_value, value_if_any, value_or, listed_words}
+use Rattle.std.specs.Prelude.{ℕ, Bool, true, false, not, ◌&&◌, if◌then◌else◌, List, [], ◌∷◌, ◌++◌, map, Option, Some, None, option_map, option_and_then, bytes_eq, codes}
+use Rattle.std.specs.List.{list_any, cons_option}
+use Rattle.tools_cli.specs.Words.{Vocabulary, Arguments, output_option, said_together, only, only_value, value_if_any, value_or, listed_words, number_within}
 pub use Rattle.tools_cli.specs.Words.{Text}
 use Rattle.merge_names.specs.declared.mode.Mode.{Mode}
 use Rattle.merge_names.specs.declared.mode.Mode.TheVariants as mode
@@ -39,11 +39,27 @@ pub record SplitTask : Type 0 where
   pub words : SplitWords
   pub names : SplitNames
 
+-- What an evaluation of constructors is to do: the module of this file is evaluated with the exported functions of these names, and the output is written. The exports
+-- of those that are evaluated stay where their names are to be kept.
+pub record CtorEvalTask : Type 0 where
+  pub file : Text
+  pub ctors : List Text
+  pub kept : List Text
+  pub output : Text
+
+-- What a sample is to do: two modules of so many functions each are made from the seed and merged, and where there is an output, what they are merged into is written.
+pub record SampleTask : Type 0 where
+  pub seed : ℕ
+  pub count : ℕ
+  pub output : Option Text
+
 -- What a command is to do: a case for each command.
 pub data Task : Type 0 where
   Merge : MergeTask → Task
   Metadce : MetadceTask → Task
   Split : SplitTask → Task
+  CtorEval : CtorEvalTask → Task
+  Sample : SampleTask → Task
 
 -- ---- merge ----
 
@@ -145,9 +161,53 @@ make_split _ _ _ _ = None
 abbrev pub split_of_arguments : Arguments → Option Task
 split_of_arguments arguments = make_split (only arguments.plain) (outputs_said arguments) (words_said arguments) (names_said arguments)
 
+-- ---- ctor-eval ----
+
+abbrev pub ctor_eval_vocabulary : Vocabulary
+ctor_eval_vocabulary = record { options = codes "--ctors" ∷ codes "--kept-exports" ∷ output_option ∷ []; flags = [] }
+
+-- The words of a list that differ.
+abbrev pub words_apart : Text → Option (List Text)
+words_apart text = if are_apart (listed_words text) then Some (listed_words text) else None
+
+-- The words of a list that may be absent.
+abbrev pub words_if_any : Option Text → List Text
+words_if_any None = []
+words_if_any (Some text) = listed_words text
+
+abbrev pub make_ctor_eval : Option Text → (ctors : Option (List Text)) → (kept : Option (Option Text)) → (output : Option Text) → Option Task
+make_ctor_eval (Some file) (Some ctors) (Some kept) (Some output) = Some (CtorEval (record { file = file; ctors = ctors; kept = words_if_any kept; output = output }))
+make_ctor_eval _ _ _ _ = None
+
+-- One plain word, the file, names of constructors that differ, and the output; names to keep may be absent.
+abbrev pub ctor_eval_of_arguments : Arguments → Option Task
+ctor_eval_of_arguments arguments =
+    make_ctor_eval (only arguments.plain) (option_and_then words_apart (only_value (codes "--ctors") arguments)) (value_if_any (codes "--kept-exports") arguments) (only_value (output_option) arguments)
+
+-- ---- sample ----
+
+abbrev pub sample_vocabulary : Vocabulary
+sample_vocabulary = record { options = codes "--seed" ∷ codes "--count" ∷ output_option ∷ []; flags = [] }
+
+-- The seed, from 0 to 2^31 - 1, and how many functions each of the two modules has, from 1 to 100000.
+abbrev pub seed_in : Text → Option ℕ
+seed_in text = number_within 0 2147483647 text
+
+abbrev pub count_in : Text → Option ℕ
+count_in text = number_within 1 100000 text
+
+abbrev pub make_sample : (plain : List Text) (seed count : Option ℕ) (output : Option (Option Text)) → Option Task
+make_sample [] (Some seed) (Some count) (Some output) = Some (Sample (record { seed = seed; count = count; output = output }))
+make_sample _ _ _ _ = None
+
+-- No plain word, and both numbers; an output may be absent.
+abbrev pub sample_of_arguments : Arguments → Option Task
+sample_of_arguments arguments =
+    make_sample arguments.plain (option_and_then seed_in (only_value (codes "--seed") arguments)) (option_and_then count_in (only_value (codes "--count") arguments)) (value_if_any (output_option) arguments)
+
 -- ---- all commands ----
 
--- The task of the words after `merge`, of those after `metadce` and of those after `split`.
+-- The task of the words after `merge`, of those after `metadce`, of those after `split`, of those after `ctor-eval` and of those after `sample`.
 abbrev pub merge_of : List Text → Option Task
 merge_of words = option_and_then merge_of_arguments (said_together merge_vocabulary words)
 
@@ -157,13 +217,21 @@ metadce_of words = option_and_then metadce_of_arguments (said_together metadce_v
 abbrev pub split_of : List Text → Option Task
 split_of words = option_and_then split_of_arguments (said_together split_vocabulary words)
 
+abbrev pub ctor_eval_of : List Text → Option Task
+ctor_eval_of words = option_and_then ctor_eval_of_arguments (said_together ctor_eval_vocabulary words)
+
+abbrev pub sample_of : List Text → Option Task
+sample_of words = option_and_then sample_of_arguments (said_together sample_vocabulary words)
+
 -- The task of a command line, or none.
 unfoldable pub task_of : List Text → Option Task
 task_of [] = None
 task_of (word ∷ rest) =
     if bytes_eq word (codes "merge") then merge_of rest
     else (if bytes_eq word (codes "metadce") then metadce_of rest
-    else (if bytes_eq word (codes "split") then split_of rest else None))
+    else (if bytes_eq word (codes "split") then split_of rest
+    else (if bytes_eq word (codes "ctor-eval") then ctor_eval_of rest
+    else (if bytes_eq word (codes "sample") then sample_of rest else None))))
 
 -- ---- what a task reads, writes and prints ----
 
@@ -176,18 +244,24 @@ abbrev pub many_of : Task → Bool
 many_of (Merge merge) = false
 many_of (Metadce metadce) = false
 many_of (Split split) = false
+many_of (CtorEval eval) = false
+many_of (Sample sample) = false
 
 -- The files that a task reads as modules, in order.
 abbrev pub modules_of : Task → List Text
 modules_of (Merge merge) = source_files merge
 modules_of (Metadce metadce) = metadce.file ∷ []
 modules_of (Split split) = split.file ∷ []
+modules_of (CtorEval eval) = eval.file ∷ []
+modules_of (Sample sample) = []
 
 -- The files that it reads as other texts, in order.
 abbrev pub texts_of : Task → List Text
 texts_of (Merge merge) = []
 texts_of (Metadce metadce) = metadce.graph_file ∷ []
 texts_of (Split split) = []
+texts_of (CtorEval eval) = []
+texts_of (Sample sample) = []
 
 -- The files that a task reads, in order: the modules first.
 abbrev pub inputs_of : Task → List Text
@@ -198,12 +272,16 @@ abbrev pub outputs_of : Task → (texts : List Text) → List Text
 outputs_of (Merge merge) texts = merge.output ∷ []
 outputs_of (Metadce metadce) texts = metadce.output ∷ []
 outputs_of (Split split) texts = split.outputs.secondary ∷ split.outputs.primary ∷ []
+outputs_of (CtorEval eval) texts = eval.output ∷ []
+outputs_of (Sample sample) texts = cons_option sample.output []
 
 -- Whether a task may print lines.
 abbrev pub may_print : Task → Bool
 may_print (Merge merge) = false
 may_print (Metadce metadce) = true
 may_print (Split split) = true
+may_print (CtorEval eval) = true
+may_print (Sample sample) = true
 
 -- The line that is put where a command line asks for no task: that of its command, or that of all where the first word is no command.
 abbrev pub all_usage : Text
@@ -214,4 +292,6 @@ usage_line [] = all_usage
 usage_line (word ∷ _) =
     if bytes_eq word (codes "merge") then codes "usage: binkit merge\n"
     else (if bytes_eq word (codes "metadce") then codes "usage: binkit metadce\n"
-    else (if bytes_eq word (codes "split") then codes "usage: binkit split\n" else all_usage))
+    else (if bytes_eq word (codes "split") then codes "usage: binkit split\n"
+    else (if bytes_eq word (codes "ctor-eval") then codes "usage: binkit ctor-eval\n"
+    else (if bytes_eq word (codes "sample") then codes "usage: binkit sample\n" else all_usage))))

@@ -1,10 +1,10 @@
 -- What a command line comes to over the contents of the files.
-use Rattle.std.specs.Prelude.{◌≡◌, ◌⊎◌, ℕ, ◌-◌, ltb, not, if◌then◌else◌, Bool, false, List, [], ◌∷◌, ◌++◌, length, map, take, Option, Some, None, Result, Ok, Err}
+use Rattle.std.specs.Prelude.{◌≡◌, ◌⊎◌, ℕ, ◌-◌, ltb, not, if◌then◌else◌, Bool, false, List, [], ◌∷◌, ◌++◌, length, map, take, Option, Some, None, option_map, codes, Result, Ok, Err}
 use Rattle.std.specs.FinMap.{get}
-use Rattle.std.specs.List.{list_all}
+use Rattle.std.specs.List.{list_all, cons_option}
 use Rattle.tool_io.specs.FilesAndSinks.{Contents}
 use Rattle.wasm_bytes.specs.Reading.{IsBytes}
-use Rattle.tools_cli.specs.CommandLine.{Text, Source, MergeTask, MetadceTask, SplitTask, Task, Merge, Metadce, Split, task_of, source_files, many_of, modules_of, inputs_of}
+use Rattle.tools_cli.specs.CommandLine.{Text, Source, MergeTask, MetadceTask, SplitTask, CtorEvalTask, SampleTask, Task, Merge, Metadce, Split, CtorEval, Sample, task_of, source_files, many_of, modules_of, inputs_of}
 use Rattle.wasm_meaning.specs.Linking.{Part}
 use Rattle.dce_graph.specs.declared.graph.Graph.{Graph}
 use Rattle.dce_graph.specs.declared.marks.Reached.{Reached}
@@ -22,7 +22,12 @@ use Rattle.split_spec.specs.declared.faults.SplitFault.{SplitFault}
 use Rattle.split_spec.specs.Faults.{split_fault}
 use Rattle.split_spec.specs.Primary.{primary}
 use Rattle.split_spec.specs.Secondary.{secondary}
+use Rattle.eval_snapshot_spec.specs.Evaluated.{evaluated_tree}
+use Rattle.tools_cli_eval.specs.declared.evaluation.EvalFault.{EvalFault}
+use Rattle.tools_cli_eval.specs.Evaluations.{fault_of}
+use Rattle.wasm_gen.specs.Modules.{first_module, second_module}
 use Rattle.merge_names.specs.declared.mode.Mode.{Mode}
+use Rattle.merge_names.specs.declared.mode.Mode.TheVariants as mode
 use Rattle.merge_spec.specs.declared.faults.LinkFault.{LinkFault}
 use Rattle.merge_spec.specs.declared.faults.JoinFault.{JoinFault}
 use Rattle.merge_spec.specs.Faults.{link_fault}
@@ -30,7 +35,9 @@ use Rattle.merge_spec.specs.Joined.{Joins}
 use Rattle.tools_cli.specs.Effects.{Entry}
 use Rattle.tools_cli.specs.Unused.{AreUnused, unused_lines}
 use Rattle.tools_cli.specs.KeptFuncs.{kept_lines}
-use Rattle.tools_cli.specs.Texts.{fault_text, invalid_text, link_text, join_text, graph_text, sweep_text, plan_text, split_text, over_limit, too_many_parts, too_many}
+use Rattle.tools_cli.specs.EvaluationLines.{evaluation_lines}
+use Rattle.tools_cli.specs.Texts.{fault_text, invalid_text, link_text, join_text, graph_text, sweep_text, plan_text, split_text, eval_text, over_limit, too_many_parts, too_many}
+use Rattle.tools_cli.specs.SampleLines.{sample_lines}
 use Rattle.wasm_tree.specs.declared.module.Module.{Module}
 use Rattle.wasm_tree.specs.declared.which.Which.TheVariants.{InputBytes, Parts, OutputBytes}
 use Rattle.wasm_tree.specs.Limits.{limit}
@@ -179,6 +186,33 @@ pub data Splits (split : SplitTask) (tree : Module) (bytes : Text) : Decision �
   parted : (names : List FuncName) → GivesPlan split bytes tree names → split_fault split.names tree (words_plan split tree names).moved ≡ None
       → Splits split tree bytes (Makes (both_modules split tree (words_plan split tree names).moved) (kept_lines tree names (words_plan split tree names).kept))
 
+-- What an evaluation of constructors of this module decides: a name or the module after it has a fault; or the output is the module after the constructors that are
+-- evaluated, and there is a line for each of these and one for what stopped the next one or the instantiation.
+pub data Evaluates (eval : CtorEvalTask) (tree : Module) : Decision → Type 0 where
+  not_evaluated : (fault : EvalFault) (says : Text) → fault_of tree eval.ctors eval.kept ≡ Some fault → eval_text fault ≡ Some says → Evaluates eval tree (Refuses says)
+  evaluated : fault_of tree eval.ctors eval.kept ≡ None
+      → Evaluates eval tree (Makes (record { name = eval.output; tree = evaluated_tree tree eval.ctors eval.kept; custom = [] } ∷ []) (evaluation_lines tree eval.ctors))
+
+-- The two modules of a sample.
+abbrev pub sample_modules : SampleTask → List Module
+sample_modules sample = first_module sample.seed sample.count ∷ second_module sample.seed sample.count ∷ []
+
+-- How they are merged: as parts `a` and `b`, each of which has its name in place of a file, and without an export whose name came before. (A sample names its own output.)
+abbrev pub sample_merge : MergeTask
+sample_merge = record { sources = record { file = codes "a"; name = codes "a" } ∷ record { file = codes "b"; name = codes "b" } ∷ []; output = []; mode = mode.Refuse }
+
+abbrev pub sample_parts : SampleTask → List Part
+sample_parts sample = parts_of sample_merge.sources (sample_modules sample)
+
+-- What they are merged into is the output, where there is one.
+abbrev pub sample_outputs : SampleTask → Module → List Output
+sample_outputs sample tree = cons_option (option_map (λ name. record { name = name; tree = tree; custom = [] }) sample.output) []
+
+-- What a sample decides: merging its modules is refused; or they are merged, and there are lines that tell of it.
+pub data Samples (sample : SampleTask) : Decision → Type 0 where
+  not_merged : (text : Text) → Merges sample_merge (sample_modules sample) (Refuses text) → Samples sample (Refuses text)
+  sampled : (tree : Module) → AreMerged (many_of (Sample sample)) (sample_parts sample) sample_merge.mode tree → Samples sample (Makes (sample_outputs sample tree) (sample_lines sample tree))
+
 -- What a task decides over its modules and the contents of all its files, those of the modules first.
 abbrev pub Decides : Task → List Module → (contents : List Text) → Decision → Type 0
 Decides (Merge merge) trees contents decision = Merges merge trees decision
@@ -186,12 +220,18 @@ Decides (Metadce metadce) (tree ∷ []) (bytes ∷ text ∷ []) decision = Reduc
 Decides (Metadce metadce) _ _ decision = ⊥
 Decides (Split split) (tree ∷ []) (bytes ∷ []) decision = Splits split tree bytes decision
 Decides (Split split) _ _ decision = ⊥
+Decides (CtorEval eval) (tree ∷ []) (bytes ∷ []) decision = Evaluates eval tree decision
+Decides (CtorEval eval) _ _ decision = ⊥
+Decides (Sample sample) [] [] decision = Samples sample decision
+Decides (Sample sample) _ _ decision = ⊥
 
 -- The text of a task that is refused before a file is read.
 abbrev pub refused_before : Task → Option Text
 refused_before (Merge merge) = if ltb most_parts (length merge.sources) then Some too_many_parts else None
 refused_before (Metadce metadce) = None
 refused_before (Split split) = None
+refused_before (CtorEval eval) = None
+refused_before (Sample sample) = None
 
 -- ---- the job ----
 

@@ -6,6 +6,8 @@ pub mod Unused
 pub mod Unmarked
 pub mod KeptFuncs
 pub mod Labels
+pub mod EvaluationLines
+pub mod SampleLines
 pub mod Job
 pub mod Sources
 pub mod Command

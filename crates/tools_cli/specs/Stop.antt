@@ -2,17 +2,18 @@
 use Rattle.std.specs.Prelude.{◌≡◌, ◌⊎◌, ℕ, ◌++◌, List, Option, Some, codes, string_bytes}
 use Rattle.tool_io.specs.FilesAndSinks.{Becomes, Rose, AppendsPrefix}
 use Rattle.tools_cli.specs.CommandLine.{Text, usage_line}
-use Rattle.tools_cli.specs.Texts.{fault_text, invalid_text, link_text, join_text, import_mismatch, import_cycle, limits_clash, global_cycle, too_many_memories, export_conflict, not_module, malformed, malformed_body, unsupported, unsupported_body, over_limit, too_many_parts, too_many, not_json, wrong_shape, node_twice, unknown_node, graph_text, no_function, several_functions, kept_and_split, namespace_taken, prefix_taken, plan_text, split_text}
+use Rattle.tools_cli.specs.Texts.{fault_text, invalid_text, link_text, join_text, import_mismatch, import_cycle, limits_clash, global_cycle, too_many_memories, export_conflict, not_module, malformed, malformed_body, unsupported, unsupported_body, over_limit, too_many_parts, too_many, not_json, wrong_shape, node_twice, unknown_node, graph_text, no_function, several_functions, kept_and_split, namespace_taken, prefix_taken, plan_text, split_text, no_exported_function, eval_text}
 use Rattle.wasm_tree.specs.declared.which.Which.{Which}
 use Rattle.wasm_read_spec.specs.declared.fault.ReadFault.{ReadFault}
 use Rattle.wasm_valid.specs.declared.kinds.Invalid as first
 use Rattle.tools_cli.specs.declared.stop.Status.{Status}
 use Rattle.tools_cli.specs.declared.stop.Status.TheVariants as status
 use Rattle.tools_cli.specs.declared.refusal.Refusal.{Refusal}
-use Rattle.tools_cli.specs.declared.refusal.Refusal.TheVariants.{NotModule, Malformed, MalformedBody, Unsupported, UnsupportedBody, Limit, Invalid, TooManyParts, ImportMismatch, ImportCycle, LimitsClash, TooManyMemories, GlobalCycle, ExportConflict, TooMany, GraphText, GraphShape, NodeTwice, UnknownNode, NoSuchFunction, AmbiguousFunction, KeptAndSplit, NamespaceTaken, PrefixTaken}
+use Rattle.tools_cli.specs.declared.refusal.Refusal.TheVariants.{NotModule, Malformed, MalformedBody, Unsupported, UnsupportedBody, Limit, Invalid, TooManyParts, ImportMismatch, ImportCycle, LimitsClash, TooManyMemories, GlobalCycle, ExportConflict, TooMany, GraphText, GraphShape, NodeTwice, UnknownNode, NoSuchFunction, AmbiguousFunction, KeptAndSplit, NamespaceTaken, PrefixTaken, NoSuchExport}
 use Rattle.dce_graph.specs.declared.fault.GraphFault.{GraphFault}
 use Rattle.split_plan.specs.declared.fault.PlanFault.{PlanFault}
 use Rattle.split_spec.specs.declared.faults.SplitFault.{SplitFault}
+use Rattle.tools_cli_eval.specs.declared.evaluation.EvalFault.{EvalFault}
 use Rattle.merge_spec.specs.declared.faults.LinkFault.{LinkFault}
 use Rattle.merge_spec.specs.declared.faults.JoinFault.{JoinFault}
 use Rattle.tools_cli.specs.declared.stop.Stop.{Stop}
@@ -53,6 +54,7 @@ pub data IsLine : Text → Type 0 where
   graph_line : (file text : Text) (fault : GraphFault) → graph_text file fault ≡ Some text → IsLine (stop_line text)
   plan_line : (text : Text) (fault : PlanFault) → plan_text fault ≡ Some text → IsLine (stop_line text)
   split_line : (file text : Text) (fault : SplitFault) → split_text file fault ≡ Some text → IsLine (stop_line text)
+  eval_line : (text : Text) (fault : EvalFault) → eval_text fault ≡ Some text → IsLine (stop_line text)
   output_line : (which : Which) → IsLine (stop_line (too_many which))
   cannot_read_line : (file : Text) → IsLine (stop_line (cannot_read file))
   cannot_write_line : (file : Text) → IsLine (stop_line (cannot_write file))
@@ -97,6 +99,7 @@ refusal_text (AmbiguousFunction name) = several_functions name
 refusal_text (KeptAndSplit name) = kept_and_split name
 refusal_text (NamespaceTaken file import) = namespace_taken file.now import.number
 refusal_text (PrefixTaken name) = prefix_taken name
+refusal_text (NoSuchExport name) = no_exported_function name
 
 -- What is put on standard error.
 abbrev pub line_of : Stop → Text

@@ -21,6 +21,8 @@ use Rattle.split_plan.specs.declared.fault.PlanFault.{PlanFault}
 use Rattle.split_plan.specs.declared.fault.PlanFault.TheVariants as plan
 use Rattle.split_spec.specs.declared.faults.SplitFault.{SplitFault}
 use Rattle.split_spec.specs.declared.faults.SplitFault.TheVariants as split
+use Rattle.tools_cli_eval.specs.declared.evaluation.EvalFault.{EvalFault}
+use Rattle.tools_cli_eval.specs.declared.evaluation.EvalFault.TheVariants as eval
 use Rattle.tools_cli.specs.CommandLine.{Text}
 
 -- The name of a limited quantity.
@@ -112,6 +114,9 @@ namespace_taken file import = file ++ (codes ": import " ++ (decimal import ++ c
 abbrev pub prefix_taken : Text → Text
 prefix_taken name = codes "export " ++ (name ++ codes " is taken")
 
+abbrev pub no_exported_function : Text → Text
+no_exported_function name = codes "no exported function " ++ name
+
 -- The text of a fault of a file. Want of memory is no fault of it.
 abbrev pub fault_text : Text → ReadFault → Option Text
 fault_text file NotModule = Some (not_module file)
@@ -181,3 +186,9 @@ split_text file (split.NamespaceTaken import) = Some (namespace_taken file impor
 split_text file (split.PrefixTaken name) = Some (prefix_taken name)
 split_text file (split.TooMany which) = Some (too_many which)
 split_text file split.NoMemory = None
+
+-- The text of a fault of an evaluation.
+abbrev pub eval_text : EvalFault → Option Text
+eval_text (eval.NoSuchExport name) = Some (no_exported_function name)
+eval_text (eval.TooMany which) = Some (too_many which)
+eval_text eval.NoMemory = None

@@ -1,6 +1,8 @@
 -- What the words of a command say: the values of its options, its flags, and plain words.
-use Rattle.std.specs.Prelude.{ℕ, Bool, false, not, ◌==◌, if◌then◌else◌, List, [], ◌∷◌, Option, Some, None, unwrap_or, option_map, option_and_then, bytes_eq, codes}
+use Rattle.std.specs.Prelude.{ℕ, Bool, false, not, ◌==◌, ◌&&◌, ltb, length, if◌then◌else◌, List, [], ◌∷◌, Option, Some, None, unwrap_or, option_map, option_and_then, bytes_eq, codes}
 use Rattle.std.specs.Option.{option_or}
+use Rattle.std.specs.Str.{all_ascii_digits}
+use Rattle.std.specs.Str.Parse.{digits_value}
 use Rattle.std.specs.List.{list_any, slice_split}
 
 -- A text or a file's content, as its bytes.
@@ -137,6 +139,15 @@ value_if_any option arguments = at_most_one (values_of option arguments.values)
 -- The same with a value for where it is absent.
 abbrev pub value_or : Text → (default : Text) → Arguments → Option Text
 value_or option default arguments = option_map (λ value. unwrap_or value default) (value_if_any option arguments)
+
+-- One to ten decimal digits, without a sign. Zeros may stand first.
+abbrev pub is_number : Text → Bool
+is_number text = all_ascii_digits text && (ltb 0 (length text) && ltb (length text) 11)
+
+-- The number that a text spells in decimal digits, where it is in this range.
+abbrev pub number_within : (least most : ℕ) → Text → Option ℕ
+number_within least most text =
+    if is_number text && (not (ltb (digits_value 10 text) least) && not (ltb most (digits_value 10 text))) then Some (digits_value 10 text) else None
 
 -- The words of a list, which is cut at each comma: an empty piece is an empty word.
 abbrev pub listed_words : Text → List Text

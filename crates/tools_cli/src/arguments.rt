@@ -143,8 +143,8 @@ pub(crate) fn value_or<'a>(
     }
 }
 
-// The words of a list, as they stand in it.
-fn cut<'a>(alloc: Global, text: &'a str) -> Result<Vec<&'a str>, AllocError>
+/// The words of a list, as they stand in it.
+pub(crate) fn cut<'a>(alloc: Global, text: &'a str) -> Result<Vec<&'a str>, AllocError>
     ensures { IfOk result (λ pieces. names_of pieces.items ≡ listed_words text.now) }
 {
     text.split(',').collect(alloc)

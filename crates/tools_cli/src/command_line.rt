@@ -1,16 +1,19 @@
 // The task that the words of a command line ask for.
-ghost use Rattle.std.specs.Prelude.{◌≡◌, true, map, option_map, option_and_then, string_bytes, IfOk, IfSome};
+ghost use Rattle.std.specs.Prelude.{◌≡◌, ◌<◌, ◌≤◌, ◌^◌, true, map, option_map, option_and_then, string_bytes, IfOk, IfSome};
 ghost use Rattle.tools_cli.specs.Words.{listed_words};
-ghost use Rattle.tools_cli.specs.CommandLine.{task_of, merge_of, metadce_of, split_of, merge_of_arguments, metadce_of_arguments, split_of_arguments, outputs_said, words_said, names_said, sources_of, some_apart, are_apart, flag_mode, merge_mode, usage_line};
+ghost use Rattle.tools_cli.specs.CommandLine.{task_of, merge_of, metadce_of, split_of, merge_of_arguments, metadce_of_arguments, split_of_arguments, outputs_said, words_said, names_said, ctor_eval_of, ctor_eval_of_arguments, words_apart, words_if_any, sample_of, sample_of_arguments, seed_in, count_in, sources_of, some_apart, are_apart, flag_mode, merge_mode, usage_line};
 ghost use Rattle.tools_cli.specs.Command.{task_value, outputs_value, arguments_value, names_of};
 ghost use Rattle.tools_cli.specs.Sources.{source_values, source_names};
 
 use crate::argument::OUTPUT_OPTION;
 use crate::arguments::{
-    Arguments, listed_words, only, only_value, read_arguments, value_if_any, value_or,
+    Arguments, cut, listed_words, only, only_value, read_arguments, value_if_any, value_or,
 };
+use crate::ctor_eval::CtorEvalTask;
 use crate::merge::{MergeTask, Source};
 use crate::metadce::MetadceTask;
+use crate::numbers::number_within;
+use crate::sample::SampleTask;
 use crate::split::{SplitOutputs, SplitTask, SplitWords};
 use crate::task::Task;
 use merge_names::Mode;
@@ -33,18 +36,29 @@ fn pair<'a>(alloc: Global, plain: &[&'a str]) -> Result<Option<Vec<Source<'a>>>,
     Ok(Some(sources))
 }
 
-// No two of the names are equal.
-fn are_apart(alloc: Global, sources: &[Source<'_>]) -> Result<bool, NoMemory>
-    ensures { IfOk result (λ apart. apart ≡ are_apart (source_names sources.now)) }
+// No two of the words are equal.
+fn are_apart(alloc: Global, words: &[&str]) -> Result<bool, NoMemory>
+    ensures { IfOk result (λ apart. apart ≡ are_apart (names_of words.now)) }
 {
-    let mut names: BTreeMap<&str, ()> = BTreeMap::new(alloc);
-    for source in sources {
-        if names.contains_key(source.name) {
+    let mut came: BTreeMap<&str, ()> = BTreeMap::new(alloc);
+    for word in words {
+        if came.contains_key(*word) {
             return Ok(false);
         }
-        names.insert(source.name, ())?;
+        came.insert(*word, ())?;
     }
     Ok(true)
+}
+
+// The names of sources.
+fn source_names<'a>(alloc: Global, sources: &[Source<'a>]) -> Result<Vec<&'a str>, NoMemory>
+    ensures { IfOk result (λ names. names_of names.items ≡ source_names sources.now) }
+{
+    let mut names = Vec::new(alloc);
+    for source in sources {
+        names.push(source.name)?;
+    }
+    Ok(names)
 }
 
 // The sources that plain words name, if they are at least one and have names apart.
@@ -58,7 +72,8 @@ fn some_apart<'a>(alloc: Global, plain: &[&'a str]) -> Result<Option<Vec<Source<
     if sources.is_empty() {
         return Ok(None);
     }
-    if are_apart(alloc, sources.as_slice())? {
+    let names = source_names(alloc, sources.as_slice())?;
+    if are_apart(alloc, names.as_slice())? {
         Ok(Some(sources))
     } else {
         Ok(None)
@@ -256,6 +271,115 @@ fn parse_split<'a>(alloc: Global, words: &'a [String]) -> Result<Option<Task<'a>
     }
 }
 
+// The words of a list, if they differ.
+fn words_apart(alloc: Global, list: &str) -> Result<Option<Items<Name>>, NoMemory>
+    ensures { IfOk result (λ words. words ≡ words_apart list.now) }
+{
+    let words = cut(alloc, list)?;
+    if are_apart(alloc, words.as_slice())? {
+        Ok(Some(listed_words(alloc, list)?))
+    } else {
+        Ok(None)
+    }
+}
+
+// The words of a list that may be absent.
+fn words_if_any(alloc: Global, list: Option<&str>) -> Result<Items<Name>, NoMemory>
+    ensures { IfOk result (λ words. words ≡ words_if_any (option_map (λ text. text.now) list.entry)) }
+{
+    match list {
+        Some(text) => listed_words(alloc, text),
+        None => Ok(Items::new(alloc)),
+    }
+}
+
+// The evaluation of what is said, or none.
+fn ctor_eval_of_arguments<'a>(
+    alloc: Global,
+    arguments: &Arguments<'a>,
+) -> Result<Option<Task<'a>>, NoMemory>
+    ensures { IfOk result (λ task. option_map task_value task ≡ ctor_eval_of_arguments (arguments_value arguments.now)) }
+{
+    let Some(file) = only(arguments.plain.as_slice()) else {
+        return Ok(None);
+    };
+    let Some(list) = only_value("--ctors", arguments) else {
+        return Ok(None);
+    };
+    let Some(ctors) = words_apart(alloc, list)? else {
+        return Ok(None);
+    };
+    let Some(kept) = value_if_any("--kept-exports", arguments) else {
+        return Ok(None);
+    };
+    let Some(output) = only_value(OUTPUT_OPTION, arguments) else {
+        return Ok(None);
+    };
+    let kept = words_if_any(alloc, kept)?;
+    Ok(Some(Task::CtorEval(CtorEvalTask {
+        file,
+        ctors,
+        kept,
+        output,
+    })))
+}
+
+// The evaluation that the words after `ctor-eval` ask for, or none.
+fn parse_ctor_eval<'a>(alloc: Global, words: &'a [String]) -> Result<Option<Task<'a>>, NoMemory>
+    ensures { IfOk result (λ task. option_map task_value task ≡ ctor_eval_of (map string_bytes words.now)) }
+{
+    let options = ["--ctors", "--kept-exports", OUTPUT_OPTION];
+    match read_arguments(alloc, &options, &[], words)? {
+        Some(arguments) => ctor_eval_of_arguments(alloc, &arguments),
+        None => Ok(None),
+    }
+}
+
+// The seed of a sample, or none.
+fn seed_in(text: &str) -> Option<u32>
+    ensures value { result ≡ seed_in text.now }
+    ensures few { IfSome result (λ seed. seed < 2 ^ 31) }
+{
+    number_within(text, 0, 2_147_483_647)
+}
+
+// How many functions each module of a sample has, or none.
+fn count_in(text: &str) -> Option<u32>
+    ensures value { result ≡ count_in text.now }
+    ensures some { IfSome result (λ count. 1 ≤ count) }
+    ensures most { IfSome result (λ count. count ≤ 100000) }
+{
+    number_within(text, 1, 100_000)
+}
+
+// The sample of what is said, or none.
+fn sample_of_arguments<'a>(arguments: &Arguments<'a>) -> Option<Task<'a>>
+    ensures { option_map task_value result ≡ sample_of_arguments (arguments_value arguments.now) }
+{
+    if !arguments.plain.is_empty() {
+        return None;
+    }
+    let seed = seed_in(only_value("--seed", arguments)?)?;
+    let count = count_in(only_value("--count", arguments)?)?;
+    let output = value_if_any(OUTPUT_OPTION, arguments)?;
+    Some(Task::Sample(SampleTask {
+        seed,
+        count,
+        output,
+    }))
+}
+
+// The sample that the words after `sample` ask for, or none.
+fn parse_sample<'a>(alloc: Global, words: &'a [String]) -> Result<Option<Task<'a>>, NoMemory>
+    ensures { IfOk result (λ task. option_map task_value task ≡ sample_of (map string_bytes words.now)) }
+{
+    let options = ["--seed", "--count", OUTPUT_OPTION];
+    match read_arguments(alloc, &options, &[], words)? {
+        Some(arguments) => Ok(sample_of_arguments(&arguments)),
+        None => Ok(None),
+    }
+}
+
 /// The task of a command line, or none.
 #[tactic(auto, unfolding(crate::specs::CommandLine::task_of))]
 pub(crate) fn parse<'a>(alloc: Global, words: &'a [String]) -> Result<Option<Task<'a>>, NoMemory>
@@ -273,6 +397,12 @@ pub(crate) fn parse<'a>(alloc: Global, words: &'a [String]) -> Result<Option<Tas
     if word.as_str() == "split" {
         return parse_split(alloc, rest);
     }
+    if word.as_str() == "ctor-eval" {
+        return parse_ctor_eval(alloc, rest);
+    }
+    if word.as_str() == "sample" {
+        return parse_sample(alloc, rest);
+    }
     Ok(None)
 }
 
@@ -284,6 +414,8 @@ pub(crate) fn usage(words: &[String]) -> &'static str
         Some(word) if word.as_str() == "merge" => "usage: binkit merge\n",
         Some(word) if word.as_str() == "metadce" => "usage: binkit metadce\n",
         Some(word) if word.as_str() == "split" => "usage: binkit split\n",
+        Some(word) if word.as_str() == "ctor-eval" => "usage: binkit ctor-eval\n",
+        Some(word) if word.as_str() == "sample" => "usage: binkit sample\n",
         _ => "usage: binkit merge|split|metadce|ctor-eval|sample\n",
     }
 }

@@ -6,9 +6,11 @@ ghost use Rattle.tools_cli.specs.Command.{task_value, output_value, decision_val
 ghost use Rattle.tools_cli.specs.Job.{Decides, Makes, Refuses, refused_before, most_input};
 ghost use Rattle.tools_cli.specs.Causes.{IsWithinLimits, StopsWith, total};
 
+use crate::evaluating::decide_ctor_eval;
 use crate::gather::Input;
 use crate::merging::decide_merge;
 use crate::reducing::decide_metadce;
+use crate::sampling::decide_sample;
 use crate::splitting::decide_split;
 use crate::stop::Stop;
 use crate::task::Task;
@@ -88,5 +90,7 @@ pub(crate) fn decide<'a>(
         Task::Merge(merge) => decide_merge(alloc, merge, modules),
         Task::Metadce(metadce) => decide_metadce(alloc, metadce, modules, inputs),
         Task::Split(split) => decide_split(alloc, split, modules, inputs),
+        Task::CtorEval(eval) => decide_ctor_eval(alloc, eval, modules, inputs),
+        Task::Sample(sample) => decide_sample(alloc, sample),
     }
 }

@@ -1,5 +1,7 @@
 // The inputs of a command, read in order.
 ghost use Rattle.std.specs.Prelude.{◌≡◌, ◌<◌, ◌≤◌, ◌^◌, map, IfOk, IfErr, IfSome};
+ghost use Rattle.base_lists.specs.Every.{Every};
+ghost use Rattle.wasm_bytes.specs.Reading.{IsBytes};
 ghost use Rattle.tool_io.specs.FilesAndSinks.{NoneFell};
 ghost use Rattle.tools_cli.specs.Job.{gathered, Whole};
 ghost use Rattle.tools_cli.specs.Command.{names_of, input_entries};
@@ -18,6 +20,11 @@ pub(crate) struct Input<'a> {
     pub(crate) bytes: Vec<u8>,
 }
 
+// What a slice of bytes holds are bytes.
+fn are_bytes(bytes: &[u8])
+    ensures { IsBytes bytes.now }
+{}
+
 /// Reads the files of these names in order, up to `most` bytes together.
 pub(crate) fn gather<'a, F: Files>(
     alloc: Global,
@@ -32,6 +39,7 @@ pub(crate) fn gather<'a, F: Files>(
     ensures whole { IfOk result (λ inputs. IfSome (F.contents files.old) (λ held. gathered (names_of names.now) held most ≡ Whole (input_entries inputs.items))) }
     ensures names { IfOk result (λ inputs. map (λ e. e.0) (input_entries inputs.items) ≡ names_of names.now) }
     ensures room { IfOk result (λ inputs. total (input_entries inputs.items) ≤ most) }
+    ensures bytes { IfOk result (λ inputs. Every (λ e. IsBytes e.1) (input_entries inputs.items)) }
     ensures stops { IfErr result (StopsGathering (F.contents files.old) (F.read_faults files.old) (F.read_faults files.new) (names_of names.now) most) }
 {
     let mut inputs = Vec::new(alloc);
@@ -46,6 +54,7 @@ pub(crate) fn gather<'a, F: Files>(
                     }));
                 }
                 left -= bytes.len();
+                are_bytes(bytes.as_slice());
                 inputs.push(Input { name, bytes })?;
             }
             Err(IoFault::Failed) => return Err(Stop::CannotRead(name)),

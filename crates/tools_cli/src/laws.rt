@@ -3,13 +3,14 @@ ghost use Rattle.std.specs.Prelude.{◌≡◌, List, ℕ};
 ghost use Rattle.tool_io.specs.FilesAndSinks.{Contents};
 ghost use Rattle.tools_cli.specs.Effects.{Entry, made};
 ghost use Rattle.tools_cli.specs.Job.{Done, Job, HasJob, HoldBytes};
-ghost use Rattle.tools_cli.specs.Kept.{Keeps, SplitWordsAreText};
+ghost use Rattle.tools_cli.specs.Kept.{Keeps, ReadsBytes, SplitWordsAreText};
 
 use dce_behaves_proof::swept_modules_show_the_same;
 use dce_encode_proof::swept_modules_are_in_range;
 use dce_exact_proof::exact_marks_exist;
 use dce_reach_proof::reached_marks_are_closed;
 use dce_sweep_proof::swept_modules_are_valid;
+use eval_encode_proof::{snapshots_are_in_range, spelled_trees_begin_in_range};
 use merge_behaves_proof::merged_modules_show_the_same;
 use merge_encode_proof::merged_modules_are_in_range;
 use merge_valid_proof::merged_modules_are_valid;
@@ -17,10 +18,15 @@ use split_behaves_proof::{secondary_modules_load, split_modules_show_the_same};
 use split_encode_proof::split_modules_are_in_range;
 use split_plan::plan_faults_have_causes;
 use split_proof::{primary_modules_are_valid, secondary_modules_are_valid};
+use tools_cli_eval::{
+    evaluated_modules_are_snapshots, evaluated_modules_are_valid, evaluated_modules_behave,
+};
+use wasm_gen::sample_modules_are_valid;
 use wasm_names::name_lists_are_those_of_the_first_name_section;
 use wasm_read_spec::{
     faults_have_causes, no_fault_where_spelled, one_tree, spelled_trees_are_bounded,
 };
+use wasm_valid::valid_code_names_memory_zero;
 use wasm_write_proof::{plain_spells, spelled_trees_are_in_range, trees_that_fit_have_small_sizes};
 use world_sequential_proof::turns_are_not_seen;
 
@@ -48,9 +54,11 @@ pub fn command_lines_have_jobs()
 /// A job that is done keeps the modules that it read. Of a merge the output spells the module that they are merged into, it is valid, and it behaves as they do where
 /// they are linked by name. Of a metadce it spells what is left of the module by what is reached, it is valid, and it behaves as the whole does through the exports
 /// that are kept. Of a split, whose words are UTF-8, the outputs spell the secondary and the primary module, both are valid, and they behave as the module does,
-/// under the loader of the secondary one; and wherever it is loaded, it links, and none of its segments traps.
+/// under the loader of the secondary one; and wherever it is loaded, it links, and none of its segments traps. Of an evaluation of constructors the output spells the
+/// module in the state that those leave which are evaluated, it is valid, and it behaves as the module of which they are evaluated. Of a sample the output, if there is
+/// one, is to its two modules what that of a merge is to the modules that it reads. The files that are read hold bytes.
 pub fn done_jobs_keep_the_modules()
-    ensures { (words : List (List ℕ)) (before : Contents) (writes : List Entry) (lines : List ℕ) → SplitWordsAreText words → HasJob words before (Done writes lines) → Keeps words before (made writes before) }
+    ensures { (words : List (List ℕ)) (before : Contents) (writes : List Entry) (lines : List ℕ) → SplitWordsAreText words → ReadsBytes words before → HasJob words before (Done writes lines) → Keeps words before (made writes before) }
 {
     plain_spells();
     trees_that_fit_have_small_sizes();
@@ -60,6 +68,7 @@ pub fn done_jobs_keep_the_modules()
     merged_modules_are_in_range();
     merged_modules_show_the_same();
     turns_are_not_seen();
+    sample_modules_are_valid();
     reached_marks_are_closed();
     swept_modules_are_valid();
     swept_modules_are_in_range();
@@ -69,4 +78,10 @@ pub fn done_jobs_keep_the_modules()
     split_modules_are_in_range();
     split_modules_show_the_same();
     secondary_modules_load();
+    spelled_trees_begin_in_range();
+    evaluated_modules_are_snapshots();
+    evaluated_modules_are_valid();
+    evaluated_modules_behave();
+    snapshots_are_in_range();
+    valid_code_names_memory_zero();
 }

@@ -63,6 +63,22 @@ fn merge_parts<'a>(
     }
 }
 
+/// The module that these are merged into, one for each source.
+pub(crate) fn merge_modules<'a>(
+    alloc: Global,
+    merge: &MergeTask<'a>,
+    modules: Vec<Valid>,
+) -> Result<Valid, Stop<'a>>
+    requires each { length modules.items ≡ length merge.now.sources.items }
+    requires within { Every IsWithinLimits modules.items }
+    requires few { length merge.now.sources.items ≤ most_parts }
+    ensures merged { IfOk result (λ tree. AreMerged false (parts_of (merge_value merge.now).sources modules.items) merge.now.mode tree) }
+    ensures stops { IfErr result (StopsWith (λ text. Merges (merge_value merge.now) modules.items (Refuses text))) }
+{
+    let parts = name_parts(alloc, merge.sources.as_slice(), modules)?;
+    merge_parts(alloc, merge, parts)
+}
+
 /// Merges modules, one for each source.
 pub(crate) fn decide_merge<'a>(
     alloc: Global,
@@ -75,8 +91,7 @@ pub(crate) fn decide_merge<'a>(
     ensures decided { IfOk result (λ decision. Merges (merge_value merge.now) modules.items (decision_value decision)) }
     ensures stops { IfErr result (StopsWith (λ text. Merges (merge_value merge.now) modules.items (Refuses text))) }
 {
-    let parts = name_parts(alloc, merge.sources.as_slice(), modules)?;
-    let tree = merge_parts(alloc, merge, parts)?;
+    let tree = merge_modules(alloc, merge, modules)?;
     let lines = Vec::new(alloc);
     Ok(one_output(alloc, merge.output, tree, lines)?)
 }

@@ -1,6 +1,6 @@
 // What is wrong with the input, and the text of it.
 ghost use Rattle.std.specs.Prelude.{◌≡◌, ◌++◌, Some, IfOk, decimal, flat_map, length, slice_get, codes, ◌<◌};
-ghost use Rattle.tools_cli.specs.Texts.{which_text, fault_text, kind_text, invalid_text, link_text, join_text, graph_text, sweep_text, plan_text, split_text};
+ghost use Rattle.tools_cli.specs.Texts.{which_text, fault_text, kind_text, invalid_text, link_text, join_text, graph_text, sweep_text, plan_text, split_text, eval_text};
 ghost use Rattle.tools_cli.specs.Stop.{refusal_text};
 ghost use Rattle.tools_cli.specs.Sources.{files_of};
 ghost use Rattle.merge_spec.specs.Faults.{NamesPart};
@@ -13,6 +13,7 @@ use merge_spec::{JoinFault, LinkFault};
 use split_plan::PlanFault;
 use split_slots::SplitFault;
 use std::alloc::Global;
+use tools_cli_eval::EvalFault;
 use wasm_bytes::{Name, NoMemory};
 use wasm_read::ReadFault;
 use wasm_tree::Which;
@@ -102,6 +103,9 @@ pub(crate) enum Refusal<'a> {
         import: Digits,
     },
     PrefixTaken {
+        name: Name,
+    },
+    NoSuchExport {
         name: Name,
     },
 }
@@ -270,6 +274,17 @@ pub(crate) fn refuse_split<'a>(
     }
 }
 
+/// The refusal of constructors that are not evaluated. Want of memory is the error, as a fault.
+pub(crate) fn refuse_eval<'a>(fault: EvalFault) -> Result<Refusal<'a>, NoMemory>
+    ensures { IfOk result (λ refusal. eval_text fault ≡ Some (refusal_text refusal)) }
+{
+    match fault {
+        EvalFault::NoSuchExport { name } => Ok(Refusal::NoSuchExport { name }),
+        EvalFault::TooMany { which } => Ok(Refusal::TooMany { which }),
+        EvalFault::NoMemory => Err(NoMemory),
+    }
+}
+
 // The name of a limited quantity.
 fn which_name<'a>(which: Which) -> &'a str
     ensures { result.now ≡ which_text which }
@@ -369,5 +384,6 @@ pub(crate) fn refusal_pieces<'a>(refusal: &'a Refusal<'a>) -> [&'a str; 4]
             at_import(file, import, " uses the placeholder namespace")
         }
         Refusal::PrefixTaken { name } => ["export ", name.as_str(), " is taken", ""],
+        Refusal::NoSuchExport { name } => ["no exported function ", name.as_str(), "", ""],
     }
 }

@@ -5,9 +5,11 @@ ghost use Rattle.tools_cli.specs.Job.{refused_before};
 ghost use Rattle.tools_cli.specs.Stop.{refusal_text};
 ghost use Rattle.tools_cli.specs.Command.{task_value, names_of};
 
+use crate::ctor_eval::CtorEvalTask;
 use crate::merge::MergeTask;
 use crate::metadce::MetadceTask;
 use crate::refusal::Refusal;
+use crate::sample::SampleTask;
 use crate::split::SplitTask;
 use std::alloc::Global;
 use wasm_bytes::NoMemory;
@@ -19,6 +21,8 @@ pub(crate) enum Task<'a> {
     Merge(MergeTask<'a>),
     Metadce(MetadceTask<'a>),
     Split(SplitTask<'a>),
+    CtorEval(CtorEvalTask<'a>),
+    Sample(SampleTask<'a>),
 }
 
 impl<'a> Task<'a> {
@@ -30,6 +34,8 @@ impl<'a> Task<'a> {
             Task::Merge(merge) => merge.files(alloc),
             Task::Metadce(metadce) => metadce.files(alloc),
             Task::Split(split) => split.files(alloc),
+            Task::CtorEval(eval) => eval.files(alloc),
+            Task::Sample(_) => Ok(Vec::new(alloc)),
         }
     }
 
@@ -39,7 +45,8 @@ impl<'a> Task<'a> {
     {
         match self {
             Task::Merge(merge) => merge.sources.len(),
-            Task::Metadce(_) | Task::Split(_) => 1,
+            Task::Metadce(_) | Task::Split(_) | Task::CtorEval(_) => 1,
+            Task::Sample(_) => 0,
         }
     }
 
@@ -51,7 +58,11 @@ impl<'a> Task<'a> {
             Task::Merge(merge) if merge.sources.len() > MOST_PARTS as usize => {
                 Some(Refusal::TooManyParts)
             }
-            Task::Merge(_) | Task::Metadce(_) | Task::Split(_) => None,
+            Task::Merge(_)
+            | Task::Metadce(_)
+            | Task::Split(_)
+            | Task::CtorEval(_)
+            | Task::Sample(_) => None,
         }
     }
 }

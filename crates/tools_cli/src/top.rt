@@ -37,9 +37,10 @@ pub fn run<F: Files, O: Sink, E: Sink>(
 
     // Each status has its cause.
     ensures done { result ≡ Status.Done → IfSome (F.contents files.old) (λ a. EndsDone (map string_bytes words.now) a (F.contents files.new) (O.bytes out.old) (O.bytes out.new)) × IsSame (E.bytes err.old) (E.bytes err.new) }
-    // Where it is done and the files tell what they hold, each output is a valid module: of a merge the one that the modules are merged into which the files held, and it
-    // behaves as these do, linked by name; of a metadce what is left of the module which the file held, by what is reached, and it behaves as this does; of a split the
-    // secondary and the primary module of the one which the file held, and these behave as it does, under the loader of the secondary one.
+    // Where it is done and the files tell what they hold, each output is a valid module, and is observationally equivalent to what it was made from. Of a merge it is the one
+    // that the modules are merged into which the files held, compared with these, linked by name; of a sample that of its two modules. Of a metadce it is what is left, by what
+    // is reached, of the module which the file held. Of a split there are two, the secondary and the primary module of that one, compared with it under the loader of the
+    // secondary one. Of an evaluation of constructors it is that module in the state which those leave that are evaluated, compared with it after these.
     ensures kept { result ≡ Status.Done → IfSome (F.contents files.old) (λ a. EndsKept (map string_bytes words.now) a (F.contents files.new)) }
     ensures refused { result ≡ Status.Refused → IfSome (F.contents files.old) (λ a. EndsRefused (map string_bytes words.now) a (E.bytes err.old) (E.bytes err.new)) × IsSame (F.contents files.old) (F.contents files.new) × IsSame (O.bytes out.old) (O.bytes out.new) }
     ensures usage { result ≡ Status.Usage → (task_of (map string_bytes words.now) ≡ None) × Gains (usage_line (map string_bytes words.now)) (E.bytes err.old) (E.bytes err.new) × IsSame (F.contents files.old) (F.contents files.new) × IsSame (O.bytes out.old) (O.bytes out.new) }

@@ -1,6 +1,9 @@
 // The work of a command, up to what is said of a stop.
 ghost use Rattle.std.specs.Prelude.{◌≡◌, ◌≤◌, ◌++◌, [], map, string_bytes, OnOk, IfOk, IfErr, IfSome, None};
+ghost use Rattle.base_lists.specs.Every.{Every};
+ghost use Rattle.wasm_bytes.specs.Reading.{IsBytes};
 ghost use Rattle.tool_io.specs.FilesAndSinks.{NoneFell, Becomes, AppendsPrefix};
+ghost use Rattle.tools_cli.specs.Kept.{HoldBytesAt, ReadsBytes};
 ghost use Rattle.tools_cli.specs.Effects.{IsCut, written_names};
 ghost use Rattle.tools_cli.specs.Job.{InputsJob, TaskJob, Done, Refused, Whole, gathered, refused_before, most_input};
 ghost use Rattle.tools_cli.specs.Command.{task_value, input_entries, write_entries};
@@ -32,6 +35,7 @@ fn read_inputs<'a, F: Files>(
     ensures whole { IfOk result (λ inputs. IfSome (F.contents files.old) (λ held. gathered (inputs_of (task_value task.now)) held most_input ≡ Whole (input_entries inputs.items))) }
     ensures names { IfOk result (λ inputs. map (λ e. e.0) (input_entries inputs.items) ≡ inputs_of (task_value task.now)) }
     ensures room { IfOk result (λ inputs. total (input_entries inputs.items) ≤ most_input) }
+    ensures bytes { IfOk result (λ inputs. Every (λ e. IsBytes e.1) (input_entries inputs.items)) }
     ensures stops { IfErr result (StopsGathering (F.contents files.old) (F.read_faults files.old) (F.read_faults files.new) (inputs_of (task_value task.now)) most_input) }
 {
     let names = task.inputs(alloc)?;
@@ -60,6 +64,7 @@ fn prepare<'a, F: Files>(alloc: Global, task: &Task<'a>, files: &mut F) -> Resul
     ensures plan { IfOk result (λ plan. IfSome (F.contents files.old) (λ held. TaskJob (task_value task.now) held (Done (write_entries plan.writes.items) plan.lines.items))) }
     ensures outputs { IfOk result (λ plan. AreOutputs (task_value task.now) (F.contents files.old) (written_names (write_entries plan.writes.items))) }
     ensures lines { IfOk result (λ plan. PrintsAsAllowed (task_value task.now) plan.lines.items) }
+    ensures bytes { OnOk result (IfSome (F.contents files.old) (HoldBytesAt (inputs_of (task_value task.now)))) }
     ensures stops { IfErr result (StopsPreparing (F.contents files.old) (F.read_faults files.old) (F.read_faults files.new) (task_value task.now)) }
 {
     if let Some(refusal) = task.refused_before() {
@@ -118,6 +123,7 @@ pub(crate) fn run_command<'a, F: Files, O: Sink>(
     ensures prints { IfSome (F.contents files.old) (λ a. Becomes (O.bytes out.old) (O.bytes out.new) (PrintsForTheJob (map string_bytes words.now) a (F.contents files.new))) }
     ensures no_lines { PrintsNothing (map string_bytes words.now) → IsSame (O.bytes out.old) (O.bytes out.new) }
     ensures done { OnOk result (IfSome (F.contents files.old) (λ a. EndsDone (map string_bytes words.now) a (F.contents files.new) (O.bytes out.old) (O.bytes out.new))) }
+    ensures bytes { OnOk result (IfSome (F.contents files.old) (ReadsBytes (map string_bytes words.now))) }
     ensures no_task { task_of (map string_bytes words.now) ≡ None → IsUsage result }
     ensures stops { IfErr result (StopsWork (map string_bytes words.now)
         (record { files = F.contents files.old; reads = F.read_faults files.old; writes = F.write_faults files.old; out = O.bytes out.old; out_faults = O.faults out.old })

@@ -2,6 +2,10 @@
 #![tactic(auto)]
 
 #[cfg(test)]
+mod broken;
+#[cfg(test)]
+mod ctor_eval;
+#[cfg(test)]
 mod given;
 #[cfg(test)]
 mod merges;
@@ -11,6 +15,8 @@ mod metadce;
 mod outside;
 #[cfg(test)]
 mod refusals;
+#[cfg(test)]
+mod sample;
 #[cfg(test)]
 mod split;
 #[cfg(test)]

@@ -9,8 +9,12 @@ const GIVES_TWICE: &str =
     "01 05 01 60 00 01 7F 03 02 01 00 07 0B 02 01 66 00 00 03 66 5F 31 00 00 0A 06 01 04 00 41 07 0B";
 
 // A function, exported as g, that calls a.f.
-const CALLS: &str =
+pub const CALLS: &str =
     "01 05 01 60 00 01 7F 02 07 01 01 61 01 66 00 00 03 02 01 00 07 05 01 01 67 00 01 0A 06 01 04 00 10 00 0B";
+
+// This one merged with the one that gives 7.
+pub const BOTH: &str =
+    "01 05 01 60 00 01 7F 03 03 02 00 00 07 09 02 01 66 00 00 01 67 00 01 0A 0B 02 04 00 41 07 0B 04 00 10 00 0B";
 
 // A start that does nothing.
 const STARTS: &str = "01 04 01 60 00 00 03 02 01 00 08 01 00 0A 04 01 02 00 0B";
@@ -19,12 +23,7 @@ const STARTS: &str = "01 04 01 60 00 00 03 02 01 00 08 01 00 0A 04 01 02 00 0B";
 fn two_parts_are_merged_into_one_module(rt: HostRuntime) -> Result<(), Fail> {
     let alloc = rt.alloc();
     for (a, b, flag, merged) in [
-        (
-            GIVES,
-            CALLS,
-            "",
-            "01 05 01 60 00 01 7F 03 03 02 00 00 07 09 02 01 66 00 00 01 67 00 01 0A 0B 02 04 00 41 07 0B 04 00 10 00 0B",
-        ),
+        (GIVES, CALLS, "", BOTH),
         (
             GIVES,
             GIVES,

@@ -1,19 +1,19 @@
-use crate::given::{CUT, LINKED, NOTHING_GIVEN, module_of, run_over, words_of, zeros};
+use crate::given::{CUT, LINKED, NOTHING_GIVEN, module_of, run_over, zeros};
 use std::alloc::Global;
 use std::test::Fail;
 use tool_io::{MemFiles, MemSink};
-use tools_cli::{Status, run};
+use tools_cli::Status;
 
 // The import env.cb, and functions 1 to 3, exported as a, b and c. Function 1 calls the import and names function 3.
-const CALLS_BACK: &str =
+pub const CALLS_BACK: &str =
     "01 04 01 60 00 00 02 0A 01 03 65 6E 76 02 63 62 00 00 03 04 03 00 00 00 07 0D 03 01 61 00 01 01 62 00 02 01 63 00 03 0A 0F 03 07 00 10 00 D2 03 1A 0B 02 00 0B 02 00 0B";
 
 // A host that uses a, and that calls b when the module calls it back.
-const HOST: &str =
+pub const HOST: &str =
     "[{\"name\":\"out\",\"root\":true,\"reaches\":[\"A\"]},{\"name\":\"A\",\"export\":\"a\"},{\"name\":\"cb\",\"import\":[\"env\",\"cb\"],\"reaches\":[\"B\"]},{\"name\":\"B\",\"export\":\"b\"},{\"name\":\"C\",\"export\":\"c\"}]";
 
 // What it leaves: the export c is gone, and function 3 is declared.
-const LEFT: &str =
+pub const LEFT: &str =
     "01 04 01 60 00 00 02 0A 01 03 65 6E 76 02 63 62 00 00 03 04 03 00 00 00 07 09 02 01 61 00 01 01 62 00 02 09 05 01 03 00 01 03 0A 0F 03 07 00 10 00 D2 03 1A 0B 02 00 0B 02 00 0B";
 
 const LINE: &str = "metadce m.wasm --graph-file=g.json -o o.wasm";
@@ -226,50 +226,6 @@ fn a_segment_too_many_is_told(rt: HostRuntime) -> Result<(), Fail> {
 }
 
 #[test]
-fn faults_of_its_files_and_of_standard_output_are_told(rt: HostRuntime) -> Result<(), Fail> {
-    let alloc = rt.alloc();
-    for (line, call, text) in [
-        (LINE, 1, "binkit: cannot read m.wasm\n"),
-        (LINE, 2, "binkit: cannot read g.json\n"),
-        (LINE, 3, "binkit: cannot write o.wasm\n"),
-        (
-            "metadce m.wasm --graph-file n.json -o o.wasm",
-            0,
-            "binkit: cannot read n.json\n",
-        ),
-    ] {
-        let module = module_of(alloc, CALLS_BACK)?;
-        let mut files = files_of(alloc, module.as_slice(), HOST)?;
-        files.fail_at(call)?;
-        let (ended, out, err) = run_over(alloc, &mut files, line)?;
-        assert_eq!(rt; err.text(), text.as_bytes(), "{text}");
-        assert_eq!(rt; ended, Status::Outside, "{text}");
-        assert_eq!(rt; out.text(), b"".as_slice(), "{text}");
-    }
-    Ok(())
-}
-
-#[test]
-fn the_output_is_whole_where_standard_output_fails(rt: HostRuntime) -> Result<(), Fail> {
-    let alloc = rt.alloc();
-    let module = module_of(alloc, CALLS_BACK)?;
-    let mut files = files_of(alloc, module.as_slice(), HOST)?;
-    let words = words_of(alloc, LINE)?;
-    let mut out = MemSink::new(alloc);
-    let mut err = MemSink::new(alloc);
-    out.fail_at(1)?;
-    let ended = run(alloc, words.as_slice(), &mut files, &mut out, &mut err);
-    let left = module_of(alloc, LEFT)?;
-    assert_eq!(rt;
-        err.text(),
-        b"binkit: cannot write standard output\n".as_slice()
-    );
-    assert_eq!(rt; ended, Status::Outside);
-    assert_eq!(rt; files.contents("o.wasm"), Some(left.as_slice()));
-    Ok(())
-}
-
-#[test]
 fn its_options_stand_anywhere_and_once(rt: HostRuntime) -> Result<(), Fail> {
     let alloc = rt.alloc();
     for line in [
@@ -283,27 +239,24 @@ fn its_options_stand_anywhere_and_once(rt: HostRuntime) -> Result<(), Fail> {
         assert_eq!(rt; ended, Status::Done, "{line}");
         assert_eq!(rt; out.text(), b"unused: C\n".as_slice(), "{line}");
     }
-    for line in [
-        "metadce",
-        "metadce m.wasm -o o.wasm",
-        "metadce m.wasm --graph-file g.json",
-        "metadce --graph-file g.json -o o.wasm",
-        "metadce m.wasm n.wasm --graph-file g.json -o o.wasm",
-        "metadce m.wasm --graph-file g.json -o o.wasm --output=p.wasm",
-        "metadce m.wasm --graph-file g.json --graph-file g.json -o o.wasm",
-        "metadce m.wasm --graph-file= -o o.wasm",
-        "metadce m.wasm --graph-file -o o.wasm",
-        "metadce m.wasm --graph-file g.json -o",
-        "metadce m.wasm --graph g.json -o o.wasm",
-        "metadce m.wasm --graph-file g.json -o=o.wasm",
-        "metadce m.wasm --graph-file g.json -o o.wasm --skip-export-conflicts",
-        "metadce '' --graph-file g.json -o o.wasm",
-        "metadce m.wasm --graph-file g.json -o o.wasm --",
-    ] {
-        let mut files = MemFiles::new(alloc);
-        let (ended, _, err) = run_over(alloc, &mut files, line)?;
-        assert_eq!(rt; ended, Status::Usage, "{line}");
-        assert_eq!(rt; err.text(), b"usage: binkit metadce\n".as_slice(), "{line}");
-    }
     Ok(())
 }
+
+// Words that are no metadce.
+pub const NO_SWEEP: [&str; 15] = [
+    "metadce",
+    "metadce m.wasm -o o.wasm",
+    "metadce m.wasm --graph-file g.json",
+    "metadce --graph-file g.json -o o.wasm",
+    "metadce m.wasm n.wasm --graph-file g.json -o o.wasm",
+    "metadce m.wasm --graph-file g.json -o o.wasm --output=p.wasm",
+    "metadce m.wasm --graph-file g.json --graph-file g.json -o o.wasm",
+    "metadce m.wasm --graph-file= -o o.wasm",
+    "metadce m.wasm --graph-file -o o.wasm",
+    "metadce m.wasm --graph-file g.json -o",
+    "metadce m.wasm --graph g.json -o o.wasm",
+    "metadce m.wasm --graph-file g.json -o=o.wasm",
+    "metadce m.wasm --graph-file g.json -o o.wasm --skip-export-conflicts",
+    "metadce '' --graph-file g.json -o o.wasm",
+    "metadce m.wasm --graph-file g.json -o o.wasm --",
+];

@@ -1,61 +1,301 @@
-use crate::given::{A, CUT, HEADER, run_line, words_of, zeros};
+// Single calls of files and streams that fail, and files that are too large.
+use crate::given::{GIVES, module_of, run_line, words_of, zeros};
+use crate::merges::{BOTH, CALLS};
+use crate::metadce::{CALLS_BACK, HOST, LEFT};
+use crate::split::{ADDS, ADDS_PRIMARY, ADDS_SECONDARY, COPIES, COPIES_PRIMARY, COPIES_SECONDARY};
 use std::alloc::Global;
 use std::test::Fail;
 use tool_io::{MemFiles, MemSink};
 use tools_cli::{Status, run};
 
+// A function that gives 7, without its last byte.
+const GIVES_CUT: &str =
+    "01 05 01 60 00 01 7F 03 02 01 00 07 05 01 01 66 00 00 0A 06 01 04 00 41 07";
+
+// The modules that are there.
+const MODULES: [(&str, &str); 7] = [
+    ("a.wasm", GIVES),
+    ("b.wasm", CALLS),
+    ("c.wasm", GIVES_CUT),
+    ("h.wasm", ""),
+    ("s.wasm", ADDS),
+    ("i.wasm", COPIES),
+    ("m.wasm", CALLS_BACK),
+];
+
+fn all_files(alloc: Global) -> Result<MemFiles, Fail> {
+    let mut files = MemFiles::new(alloc);
+    for (name, sections) in MODULES {
+        let bytes = module_of(alloc, sections)?;
+        files.add(name, bytes.as_slice())?;
+    }
+    files.add("g.json", HOST.as_bytes())?;
+    Ok(files)
+}
+
+// Whether a file holds the first `count` bytes of a module. Where `count` is 0 it is not to be
+// there.
+fn holds(
+    alloc: Global,
+    files: &MemFiles,
+    name: &str,
+    sections: &str,
+    count: usize,
+) -> Result<bool, Fail> {
+    let mut bytes = module_of(alloc, sections)?;
+    bytes.truncate(count);
+    match files.contents(name) {
+        Some(held) => Ok(count > 0 && held == bytes.as_slice()),
+        None => Ok(count == 0),
+    }
+}
+
+// Whether the files that were there are as they were.
+fn inputs_stay(alloc: Global, files: &MemFiles) -> Result<bool, Fail> {
+    for (name, sections) in MODULES {
+        let bytes = module_of(alloc, sections)?;
+        if files.contents(name) != Some(bytes.as_slice()) {
+            return Ok(false);
+        }
+    }
+    Ok(files.contents("g.json") == Some(HOST.as_bytes()))
+}
+
+const MERGE: &str = "merge a.wasm a b.wasm b -o o.wasm";
+
+const MERGE_H: &str = "merge h.wasm m -o o.wasm";
+
+const MERGE_N: &str = "merge n.wasm n h.wasm h -o o.wasm";
+
+const MERGE_C: &str = "merge c.wasm m -o o.wasm";
+
+const SPLIT: &str = "split s.wasm --split-funcs=add --primary-output=p --secondary-output=q";
+
+const SPLIT_I: &str = "split i.wasm --split-funcs=i --primary-output=p --secondary-output=q";
+
+const SPLIT_N: &str = "split n.wasm --split-funcs=add --primary-output=p --secondary-output=q";
+
+const SWEEP: &str = "metadce m.wasm --graph-file=g.json -o o.wasm";
+
+const SWEEP_N: &str = "metadce m.wasm --graph-file n.json -o o.wasm";
+
+const NO_OUTPUT: &str = "binkit: cannot write standard output\n";
+
+// A line, the number of the call of its files that fails, or 0, and of the put on standard output
+// and on standard error; what is put on standard error; and the output, o.wasm or q, and the second
+// one, p: the module of which it holds a first part, and how many bytes.
+const FAILING: [(&str, u64, u64, u64, &str, &str, usize, &str, usize); 24] = [
+    (MERGE, 1, 0, 0, "binkit: cannot read a.wasm\n", "", 0, "", 0),
+    (MERGE, 2, 0, 0, "binkit: cannot read b.wasm\n", "", 0, "", 0),
+    (
+        MERGE,
+        3,
+        0,
+        0,
+        "binkit: cannot write o.wasm\n",
+        BOTH,
+        22,
+        "",
+        0,
+    ),
+    (
+        MERGE_H,
+        1,
+        0,
+        0,
+        "binkit: cannot read h.wasm\n",
+        "",
+        0,
+        "",
+        0,
+    ),
+    (
+        MERGE_H,
+        2,
+        0,
+        0,
+        "binkit: cannot write o.wasm\n",
+        "",
+        4,
+        "",
+        0,
+    ),
+    // a file that is not there, before another call that is to fail
+    (
+        MERGE_N,
+        0,
+        0,
+        0,
+        "binkit: cannot read n.wasm\n",
+        "",
+        0,
+        "",
+        0,
+    ),
+    (
+        MERGE_N,
+        2,
+        0,
+        0,
+        "binkit: cannot read n.wasm\n",
+        "",
+        0,
+        "",
+        0,
+    ),
+    (
+        "merge a.wasm a n.wasm n -o o.wasm",
+        0,
+        0,
+        0,
+        "binkit: cannot read n.wasm\n",
+        "",
+        0,
+        "",
+        0,
+    ),
+    // all files are read before the first is decoded
+    (
+        "merge c.wasm c n.wasm n -o o.wasm",
+        0,
+        0,
+        0,
+        "binkit: cannot read n.wasm\n",
+        "",
+        0,
+        "",
+        0,
+    ),
+    (MERGE_H, 1, 0, 1, "bink", "", 0, "", 0),
+    (MERGE_H, 1, 0, 2, "binkit: cannot", "", 0, "", 0),
+    (MERGE_C, 0, 0, 1, "bink", "", 0, "", 0),
+    (MERGE_C, 0, 0, 2, "binkit: c.w", "", 0, "", 0),
+    (
+        "merge a.wasm a a.wasm b -o o.wasm",
+        0,
+        0,
+        1,
+        "bink",
+        "",
+        0,
+        "",
+        0,
+    ),
+    (SPLIT, 1, 0, 0, "binkit: cannot read s.wasm\n", "", 0, "", 0),
+    (
+        SPLIT_N,
+        0,
+        0,
+        0,
+        "binkit: cannot read n.wasm\n",
+        "",
+        0,
+        "",
+        0,
+    ),
+    // the secondary module is written first
+    (
+        SPLIT,
+        2,
+        0,
+        0,
+        "binkit: cannot write q\n",
+        ADDS_SECONDARY,
+        32,
+        "",
+        0,
+    ),
+    (
+        SPLIT,
+        3,
+        0,
+        0,
+        "binkit: cannot write p\n",
+        ADDS_SECONDARY,
+        64,
+        ADDS_PRIMARY,
+        44,
+    ),
+    (
+        SPLIT_I,
+        0,
+        1,
+        0,
+        NO_OUTPUT,
+        COPIES_SECONDARY,
+        45,
+        COPIES_PRIMARY,
+        79,
+    ),
+    (SWEEP, 1, 0, 0, "binkit: cannot read m.wasm\n", "", 0, "", 0),
+    (SWEEP, 2, 0, 0, "binkit: cannot read g.json\n", "", 0, "", 0),
+    (
+        SWEEP,
+        3,
+        0,
+        0,
+        "binkit: cannot write o.wasm\n",
+        LEFT,
+        33,
+        "",
+        0,
+    ),
+    (
+        SWEEP_N,
+        0,
+        0,
+        0,
+        "binkit: cannot read n.json\n",
+        "",
+        0,
+        "",
+        0,
+    ),
+    (SWEEP, 0, 1, 0, NO_OUTPUT, LEFT, 67, "", 0),
+];
+
+// The name of the first output of a line.
+fn first_output(line: &str) -> &str {
+    if line.starts_with("split") {
+        "q"
+    } else {
+        "o.wasm"
+    }
+}
+
+// Runs a line where these calls fail: whether it is told so, with nothing on standard output but
+// where that fails; and the files.
+fn run_failing(
+    alloc: Global,
+    line: &str,
+    call: u64,
+    out_put: u64,
+    err_put: u64,
+    told: &str,
+) -> Result<(bool, MemFiles), Fail> {
+    let words = words_of(alloc, line)?;
+    let mut files = all_files(alloc)?;
+    files.fail_at(call)?;
+    let mut out = MemSink::new(alloc);
+    out.fail_at(out_put)?;
+    let mut err = MemSink::new(alloc);
+    err.fail_at(err_put)?;
+    let ended = run(alloc, words.as_slice(), &mut files, &mut out, &mut err);
+    let is_silent = out_put > 0 || out.text().is_empty();
+    let is_told = ended.code() == 3 && err.text() == told.as_bytes();
+    Ok((is_silent && is_told, files))
+}
+
 #[test]
-fn faults_of_files_and_of_standard_error_are_told(rt: HostRuntime) -> Result<(), Fail> {
+fn one_call_that_fails_is_told_and_the_files_are_a_first_part(rt: HostRuntime) -> Result<(), Fail> {
     let alloc = rt.alloc();
-    for (line, call, put, text, half) in [
-        (
-            "merge h.wasm m -o o.wasm",
-            1,
-            0,
-            "binkit: cannot read h.wasm\n",
-            None,
-        ),
-        (
-            "merge h.wasm m -o o.wasm",
-            2,
-            0,
-            "binkit: cannot write o.wasm\n",
-            Some(&HEADER[..4]),
-        ),
-        (
-            "merge a.wasm m -o o.wasm",
-            2,
-            0,
-            "binkit: cannot write o.wasm\n",
-            Some(&A[..17]),
-        ),
-        (
-            "merge n.wasm m -o o.wasm",
-            0,
-            0,
-            "binkit: cannot read n.wasm\n",
-            None,
-        ),
-        ("merge a.wasm m -o o.wasm", 1, 1, "bink", None),
-        ("merge a.wasm m -o o.wasm", 1, 2, "binkit: cannot", None),
-        ("merge c.wasm m -o o.wasm", 0, 1, "bink", None),
-        ("merge c.wasm m -o o.wasm", 0, 2, "binkit: c.w", None),
-    ] {
-        let words = words_of(alloc, line)?;
-        let mut files = MemFiles::new(alloc);
-        files.add("h.wasm", &HEADER)?;
-        files.add("a.wasm", &A)?;
-        files.add("c.wasm", &CUT)?;
-        files.fail_at(call)?;
-        let mut out = MemSink::new(alloc);
-        let mut err = MemSink::new(alloc);
-        err.fail_at(put)?;
-        let ended = run(alloc, words.as_slice(), &mut files, &mut out, &mut err);
-        assert_eq!(rt; ended, Status::Outside, "{text}");
-        assert_eq!(rt; ended.code(), 3);
-        assert_eq!(rt; out.text(), b"".as_slice(), "{text}");
-        assert_eq!(rt; err.text(), text.as_bytes(), "{text}");
-        assert_eq!(rt; files.contents("o.wasm"), half, "{text}");
+    for (line, call, out_put, err_put, told, output, count, second, second_count) in FAILING {
+        let (is_told, files) = run_failing(alloc, line, call, out_put, err_put, told)?;
+        assert!(rt; is_told, "{line}: {told}");
+        let name = first_output(line);
+        assert!(rt; holds(alloc, &files, name, output, count)?, "{line}");
+        assert!(rt; holds(alloc, &files, "p", second, second_count)?, "{line}");
+        assert!(rt; inputs_stay(alloc, &files)?, "{line}");
     }
     Ok(())
 }
@@ -79,61 +319,6 @@ fn input_files_have_16_mib_at_most_together(rt: HostRuntime) -> Result<(), Fail>
         assert_eq!(rt; err.text(), text.as_bytes());
         assert_eq!(rt; ended, Status::Refused, "{text}");
         assert_eq!(rt; files.contents("o.wasm"), None, "{text}");
-    }
-    Ok(())
-}
-
-#[test]
-fn all_files_are_read_before_the_first_is_decoded(rt: HostRuntime) -> Result<(), Fail> {
-    let alloc = rt.alloc();
-    let mut files = MemFiles::new(alloc);
-    files.add("c.wasm", &CUT)?;
-    let line = "merge c.wasm c n.wasm n -o o.wasm";
-    let (ended, err) = run_line(alloc, &mut files, line)?;
-    assert_eq!(rt; ended, Status::Outside);
-    assert_eq!(rt; err.text(), b"binkit: cannot read n.wasm\n".as_slice());
-    Ok(())
-}
-
-#[test]
-fn a_file_that_cannot_be_read_is_told_first_or_second(rt: HostRuntime) -> Result<(), Fail> {
-    let alloc = rt.alloc();
-    for (line, call, text) in [
-        (
-            "merge a.wasm a h.wasm h -o o.wasm",
-            1,
-            "binkit: cannot read a.wasm\n",
-        ),
-        (
-            "merge a.wasm a h.wasm h -o o.wasm",
-            2,
-            "binkit: cannot read h.wasm\n",
-        ),
-        (
-            "merge n.wasm n h.wasm h -o o.wasm",
-            0,
-            "binkit: cannot read n.wasm\n",
-        ),
-        (
-            "merge a.wasm a n.wasm n -o o.wasm",
-            0,
-            "binkit: cannot read n.wasm\n",
-        ),
-        (
-            "merge n.wasm n h.wasm h -o o.wasm",
-            2,
-            "binkit: cannot read n.wasm\n",
-        ),
-    ] {
-        let mut files = MemFiles::new(alloc);
-        files.add("a.wasm", &A)?;
-        files.add("h.wasm", &HEADER)?;
-        files.fail_at(call)?;
-        let (ended, err) = run_line(alloc, &mut files, line)?;
-        assert_eq!(rt; err.text(), text.as_bytes(), "{line}");
-        assert_eq!(rt; ended, Status::Outside, "{line}");
-        assert_eq!(rt; ended.code(), 3, "{line}");
-        assert_eq!(rt; files.contents("o.wasm"), None, "{line}");
     }
     Ok(())
 }

@@ -1,10 +1,8 @@
-use crate::given::{
-    CUT, HEADER, LINKED, NOTHING_GIVEN, module_of, module_of_tables, run_over, words_of,
-};
+use crate::given::{CUT, HEADER, LINKED, NOTHING_GIVEN, module_of, module_of_tables, run_over};
 use std::alloc::Global;
 use std::test::Fail;
 use tool_io::{MemFiles, MemSink};
-use tools_cli::{Status, run};
+use tools_cli::Status;
 
 // The module s.wasm, and an older file p.
 fn files_of(alloc: Global, module: &[u8]) -> Result<MemFiles, Fail> {
@@ -28,23 +26,23 @@ fn split_by(
 }
 
 // A function, exported as add, that adds its parameters. Its primary module calls it through a trampoline.
-const ADDS: &str =
+pub const ADDS: &str =
     "01 07 01 60 02 7F 7F 01 7F 03 02 01 00 07 07 01 03 61 64 64 00 00 0A 09 01 07 00 20 00 20 01 6A 0B";
 
-const ADDS_PRIMARY: &str =
+pub const ADDS_PRIMARY: &str =
     "01 07 01 60 02 7F 7F 01 7F 02 11 01 0B 70 6C 61 63 65 68 6F 6C 64 65 72 01 30 00 00 03 02 01 00 04 05 01 70 01 01 01 07 10 02 03 61 64 64 00 01 06 25 73 6C 6F 74 73 01 00 09 07 01 00 41 00 0B 01 00 0A 0D 01 0B 00 20 00 20 01 41 00 11 00 00 0B";
 
-const ADDS_SECONDARY: &str =
+pub const ADDS_SECONDARY: &str =
     "01 07 01 60 02 7F 7F 01 7F 02 15 01 07 70 72 69 6D 61 72 79 06 25 73 6C 6F 74 73 01 70 01 01 01 03 02 01 00 09 07 01 00 41 00 0B 01 00 0A 09 01 07 00 20 00 20 01 6A 0B";
 
 // A function, exported as i, that copies from a segment.
-const COPIES: &str =
+pub const COPIES: &str =
     "01 04 01 60 00 00 03 02 01 00 05 03 01 00 01 07 05 01 01 69 00 00 0C 01 01 0A 0E 01 0C 00 41 00 41 00 41 00 FC 08 00 00 0B 0B 04 01 01 01 78";
 
-const COPIES_PRIMARY: &str =
+pub const COPIES_PRIMARY: &str =
     "01 04 01 60 00 00 03 02 01 00 04 05 01 70 01 00 00 05 03 01 00 01 07 0E 02 01 69 00 00 06 25 73 6C 6F 74 73 01 00 09 06 01 00 41 00 0B 00 0C 01 01 0A 0E 01 0C 00 41 00 41 00 41 00 FC 08 00 00 0B 0B 04 01 01 01 78";
 
-const COPIES_SECONDARY: &str =
+pub const COPIES_SECONDARY: &str =
     "01 04 01 60 00 00 02 15 01 07 70 72 69 6D 61 72 79 06 25 73 6C 6F 74 73 01 70 01 00 00 09 06 01 00 41 00 0B 00";
 
 const LINKED_PRIMARY: &str =
@@ -536,67 +534,6 @@ fn the_module_is_read_and_validated_before_the_words_are_looked_up(
     Ok(())
 }
 
-// What a write that fails leaves of each module of ADDS.
-const HALF_PRIMARY: &str =
-    "01 07 01 60 02 7F 7F 01 7F 02 11 01 0B 70 6C 61 63 65 68 6F 6C 64 65 72 01 30 00 00 03 02 01 00 04 05 01 70";
-
-const HALF_SECONDARY: &str =
-    "01 07 01 60 02 7F 7F 01 7F 02 15 01 07 70 72 69 6D 61 72 79 06 25 73 6C";
-
-#[test]
-fn the_secondary_module_is_written_first(rt: HostRuntime) -> Result<(), Fail> {
-    let alloc = rt.alloc();
-    let module = module_of(alloc, ADDS)?;
-    let secondary = module_of(alloc, ADDS_SECONDARY)?;
-    let half_primary = module_of(alloc, HALF_PRIMARY)?;
-    let half_secondary = module_of(alloc, HALF_SECONDARY)?;
-    let whole = Some(secondary.as_slice());
-    let half = Some(half_secondary.as_slice());
-    for (file, call, text, p, q) in [
-        ("s.wasm", 1, "read s.wasm", HEADER.as_slice(), None),
-        ("n.wasm", 0, "read n.wasm", HEADER.as_slice(), None),
-        ("s.wasm", 2, "write q", HEADER.as_slice(), half),
-        ("s.wasm", 3, "write p", half_primary.as_slice(), whole),
-    ] {
-        let mut files = files_of(alloc, module.as_slice())?;
-        files.fail_at(call)?;
-        let line = format!(in alloc;
-            "split {file} --split-funcs=add --primary-output=p --secondary-output=q"
-        )?;
-        let (ended, out, err) = run_over(alloc, &mut files, line.as_str())?;
-        let told = format!(in alloc; "binkit: cannot {text}\n")?;
-        assert_eq!(rt; err.text(), told.as_bytes(), "{text}");
-        assert_eq!(rt; ended, Status::Outside, "{text}");
-        assert_eq!(rt; out.text(), b"".as_slice(), "{text}");
-        assert_eq!(rt; files.contents("p"), Some(p), "{text}");
-        assert_eq!(rt; files.contents("q"), q, "{text}");
-    }
-    Ok(())
-}
-
-#[test]
-fn both_outputs_are_whole_where_standard_output_fails(rt: HostRuntime) -> Result<(), Fail> {
-    let alloc = rt.alloc();
-    let module = module_of(alloc, COPIES)?;
-    let mut files = files_of(alloc, module.as_slice())?;
-    let line = "split s.wasm --split-funcs=i --primary-output=p --secondary-output=q";
-    let words = words_of(alloc, line)?;
-    let mut out = MemSink::new(alloc);
-    let mut err = MemSink::new(alloc);
-    out.fail_at(1)?;
-    let ended = run(alloc, words.as_slice(), &mut files, &mut out, &mut err);
-    let primary = module_of(alloc, COPIES_PRIMARY)?;
-    let secondary = module_of(alloc, COPIES_SECONDARY)?;
-    assert_eq!(rt;
-        err.text(),
-        b"binkit: cannot write standard output\n".as_slice()
-    );
-    assert_eq!(rt; ended, Status::Outside);
-    assert_eq!(rt; files.contents("p"), Some(primary.as_slice()));
-    assert_eq!(rt; files.contents("q"), Some(secondary.as_slice()));
-    Ok(())
-}
-
 #[test]
 fn an_output_may_be_the_file(rt: HostRuntime) -> Result<(), Fail> {
     let alloc = rt.alloc();
@@ -663,7 +600,7 @@ fn its_options_stand_anywhere_and_once(rt: HostRuntime) -> Result<(), Fail> {
 }
 
 // Words that are no split.
-const NO_SPLIT: [&str; 27] = [
+pub const NO_SPLIT: [&str; 27] = [
     "split",
     "split s.wasm",
     "split s.wasm --split-funcs=g --primary-output=p",
@@ -692,16 +629,3 @@ const NO_SPLIT: [&str; 27] = [
     "split s.wasm --groups=m.json --primary-output=p",
     "split s.wasm --split-funcs=g --primary-output=p --secondary-output=q --",
 ];
-
-#[test]
-fn other_words_are_answered_with_the_usage_line(rt: HostRuntime) -> Result<(), Fail> {
-    let alloc = rt.alloc();
-    for line in NO_SPLIT {
-        let mut files = MemFiles::new(alloc);
-        let (ended, out, err) = run_over(alloc, &mut files, line)?;
-        assert_eq!(rt; ended, Status::Usage, "{line}");
-        assert_eq!(rt; out.text(), b"".as_slice(), "{line}");
-        assert_eq!(rt; err.text(), b"usage: binkit split\n".as_slice(), "{line}");
-    }
-    Ok(())
-}

@@ -3,6 +3,7 @@
 
 mod draws;
 mod first;
+mod laws;
 mod pair;
 mod sampling;
 mod second;
@@ -10,5 +11,6 @@ mod shared;
 #[cfg(test)]
 mod tests;
 
+pub use laws::sample_modules_are_valid;
 pub use pair::Sample;
 pub use sampling::sample;

@@ -3,7 +3,7 @@ use Rattle.tools_cli.proofs.Kept.{done_keeps}
 use Rattle.tools_cli.proofs.laws.done_jobs_keep_the_modules.Goals as goal
 
 pub returns : goal.returns
-returns c words before writes lines text h =
+returns c words before writes lines text are h =
     done_keeps (record {
       plainly = λ tree writable few. c.plain_spells.ensures.spells tree writable.0 writable.1 (c.trees_that_fit_have_small_sizes.ensures tree few);
       ranges = c.spelled_trees_are_in_range.ensures;
@@ -15,6 +15,7 @@ returns c words before writes lines text h =
       memory = c.merged_modules_are_in_range.ensures.memory;
       same = c.merged_modules_show_the_same.ensures.same;
       turns = c.turns_are_not_seen.ensures.turns;
+      samples = c.sample_modules_are_valid.ensures;
       closed = c.reached_marks_are_closed.ensures.closed;
       left_valid = c.swept_modules_are_valid.ensures.valid;
       left_single = c.swept_modules_are_valid.ensures.single;
@@ -35,4 +36,12 @@ returns c words before writes lines text h =
       secondary_sizes = c.secondary_modules_are_valid.ensures.bounded;
       secondary_in_range = c.split_modules_are_in_range.ensures.secondary;
       secondary_memory = c.split_modules_are_in_range.ensures.secondary_memory;
-    }) words before writes lines text h
+      begins = λ bytes tree is s. c.spelled_trees_begin_in_range.ensures bytes tree false is s;
+      after_snapshots = c.evaluated_modules_are_snapshots.ensures;
+      after_valid = c.evaluated_modules_are_valid.ensures.valid;
+      after_single = c.evaluated_modules_are_valid.ensures.single;
+      after_sizes = c.evaluated_modules_are_valid.ensures.bounded;
+      after_behaves = c.evaluated_modules_behave.ensures;
+      snapshot_in_range = c.snapshots_are_in_range.ensures.range;
+      memory_zero = c.valid_code_names_memory_zero.ensures;
+    }) words before writes lines text are h

@@ -1,77 +1,11 @@
-use Rattle.std.proofs.Common.{◌≡◌, ◌<◌, ◌≤◌, ◌^◌, ◌∙◌, sym, ap, subst, List, [], ◌∷◌, Err, length, arith}
-use Rattle.std.proofs.lemmas.List.{length-map}
-use Rattle.wasm_meaning.specs.Linking.{Part, sites}
-use Rattle.merge_spec.specs.Parts.{named_module, named_modules}
-use Rattle.merge_spec.specs.Joined.{FewInAll}
-use Rattle.tools_cli.specs.CommandLine.{Text, are_apart}
+use Rattle.std.proofs.Common.{◌∙◌, refl, ap, [], ◌∷◌}
 use Rattle.tools_cli.specs.Command.{merge_value, decision_value}
-use Rattle.tools_cli.specs.Sources.{source_values}
-use Rattle.tools_cli.specs.Job.{Merges, Refuses, Makes, parts_of, most_parts}
-use Rattle.tools_cli.specs.Causes.{MergeFails}
-use Rattle.tools_cli.proofs.Loading.{stops_weaker}
-use Rattle.tools_cli.proofs.MergeDecided.{length_once, length_parts, merge_refused, merge_made}
-use Rattle.tools_cli.proofs.Lines.{names_once}
-use Rattle.tools_cli.proofs.Apart.{parts_apart}
-use Rattle.tools_cli.proofs.FewInAll.{parts_few, imports_few}
+use Rattle.tools_cli.specs.Job.{Makes, parts_of}
+use Rattle.tools_cli.proofs.MergeDecided.{merge_made}
 use Rattle.tools_cli.proofs.merging.decide_merge.Goals as goal
-
-pub name_parts-requires : goal.name_parts-requires
-name_parts-requires c =
-    let slice = ap length c.as_slice.ensures.value in
-    let each = c.requires.each in
-    omega arith
-
-pub merge_parts-requires-clause-names : goal.merge_parts-requires-clause-names
-merge_parts-requires-clause-names c =
-    let xs = c.args.merge.now.sources.items in
-    let trees = c.args.modules.items in
-    let named : named_modules c.in_ok-parts.parts ≡ parts_of (source_values xs) trees = c.in_ok-parts.ensures ∙ ap (λ l. parts_of (source_values l) trees) c.as_slice.ensures.value in
-    parts_apart c.in_ok-parts.parts (source_values xs) trees (c.requires.each ∙ sym (length_once xs)) named (ap are_apart (names_once xs) ∙ c.args.merge.now.apart)
-
-pub merge_parts-requires-clause-each : goal.merge_parts-requires-clause-each
-merge_parts-requires-clause-each c =
-    let xs = c.args.merge.now.sources.items in
-    let trees = c.args.modules.items in
-    let named : named_modules c.in_ok-parts.parts ≡ parts_of (source_values xs) trees = c.in_ok-parts.ensures ∙ ap (λ l. parts_of (source_values l) trees) c.as_slice.ensures.value in
-    sym (length-map c.in_ok-parts.parts named_module) ∙ ap length named ∙ length_parts (source_values xs) trees (c.requires.each ∙ sym (length_once xs)) ∙ length_once xs
-
-pub merge_parts-requires-clause-imports : goal.merge_parts-requires-clause-imports
-merge_parts-requires-clause-imports c =
-    let xs = c.args.merge.now.sources.items in
-    let trees = c.args.modules.items in
-    let named : named_modules c.in_ok-parts.parts ≡ parts_of (source_values xs) trees = c.in_ok-parts.ensures ∙ ap (λ l. parts_of (source_values l) trees) c.as_slice.ensures.value in
-    let same = length_once xs in
-    let few = c.requires.few in
-    let short : length (source_values xs) ≤ most_parts = omega arith in
-    subst (λ (ps : List Part). length (sites ps) < 2 ^ 32) (sym named) (imports_few (source_values xs) trees short c.requires.within)
-
-pub merge_parts-requires-clause-few : goal.merge_parts-requires-clause-few
-merge_parts-requires-clause-few c =
-    let xs = c.args.merge.now.sources.items in
-    let trees = c.args.modules.items in
-    let named : named_modules c.in_ok-parts.parts ≡ parts_of (source_values xs) trees = c.in_ok-parts.ensures ∙ ap (λ l. parts_of (source_values l) trees) c.as_slice.ensures.value in
-    let same = length_once xs in
-    let few = c.requires.few in
-    let short : length (source_values xs) ≤ most_parts = omega arith in
-    subst FewInAll (sym named) (parts_few (source_values xs) trees short c.requires.within)
-
-pub returns-in_err-tree-clause-stops : goal.returns-in_err-tree-clause-stops
-returns-in_err-tree-clause-stops c =
-    let m = merge_value c.args.merge.now in
-    let xs = c.args.merge.now.sources.items in
-    let trees = c.args.modules.items in
-    let parts = named_modules c.in_ok-parts.parts in
-    let named : parts ≡ parts_of (source_values xs) trees = c.in_ok-parts.ensures ∙ ap (λ l. parts_of (source_values l) trees) c.as_slice.ensures.value in
-    let Q : Text → Type 0 = λ text. Merges m trees (Refuses text) in
-    let stop = c.in_err-tree.field-0.0 in
-    let gone : c.from_residual-in_err-tree.result ≡ Err stop = grind arith in
-    rw gone (stops_weaker (MergeFails m parts) Q (merge_refused m parts trees named) stop c.in_err-tree.ensures.stops)
 
 pub returns-clause-decided : goal.returns-clause-decided
 returns-clause-decided c =
     let m = merge_value c.args.merge.now in
-    let xs = c.args.merge.now.sources.items in
     let trees = c.args.modules.items in
-    let parts = named_modules c.in_ok-parts.parts in
-    let named : parts ≡ parts_of (source_values xs) trees = c.in_ok-parts.ensures ∙ ap (λ l. parts_of (source_values l) trees) c.as_slice.ensures.value in
-    merge_made m parts trees c.in_ok-tree.tree (decision_value c.in_ok-one_output.field-0) named c.in_ok-tree.ensures.merged (c.in_ok-one_output.ensures ∙ ap (Makes (record { name = m.output; tree = c.in_ok-tree.tree; custom = [] } ∷ [])) c.new-lines.ensures.items)
+    merge_made m (parts_of m.sources trees) trees c.in_ok-tree.tree (decision_value c.in_ok-one_output.field-0) refl c.in_ok-tree.ensures.merged (c.in_ok-one_output.ensures ∙ ap (Makes (record { name = m.output; tree = c.in_ok-tree.tree; custom = [] } ∷ [])) c.new-lines.ensures.items)

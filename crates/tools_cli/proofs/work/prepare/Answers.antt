@@ -8,6 +8,7 @@ use Rattle.tools_cli.specs.Stop.{refusal_text}
 use Rattle.tools_cli.specs.Causes.{AreOutputs, PrintsAsAllowed, StopsWith, StopsPreparing}
 use Rattle.tools_cli.proofs.Deciding.{text_contents, inputs_job_allowed}
 use Rattle.tools_cli.proofs.Running.{texts_held, decided_at, not_begun_at, preparing_from_planning, preparing_from_gathering}
+use Rattle.tools_cli.proofs.Kept.{on_ok, read_bytes}
 use Rattle.tools_cli.proofs.work.prepare.Goals as goal
 
 pub returns-clause-plan : goal.returns-clause-plan
@@ -70,3 +71,10 @@ returns-in-Some-clause-stops g c =
     let t = task_value c.args.task.now in
     let told : refused_before t ≡ Some (refusal_text c.in-Some.refusal) = search rules in
     not_begun_at _ t (refusal_text c.in-Some.refusal) told
+
+pub returns-clause-bytes : goal.returns-clause-bytes
+returns-clause-bytes g c =
+    let held = g.F.Files.contents c.args.files.now in
+    let t = task_value c.args.task.now in
+    let inputs = input_entries c.in_ok-inputs.inputs.items in
+    on_ok c.plan.result (read_bytes held t inputs c.in_ok-inputs.ensures.whole c.in_ok-inputs.ensures.bytes)

@@ -5,6 +5,7 @@ use Rattle.tools_cli.specs.CommandLine.{task_of}
 use Rattle.tools_cli.specs.Causes.{StopsFinishing}
 use Rattle.tools_cli.specs.Run.{HostState, StopsWork}
 use Rattle.tools_cli.proofs.Running.{changes_from_cut, prints_from_lines, ends_done, finish_stops, prepare_stops, has_no_lines}
+use Rattle.tools_cli.proofs.Kept.{on_ok, words_read}
 use Rattle.tools_cli.proofs.work.run_command.Goals as goal
 
 pub returns-clause-files : goal.returns-clause-files
@@ -51,3 +52,8 @@ pub returns-clause-no_lines : goal.returns-clause-no_lines
 returns-clause-no_lines g c nothing =
     let asked : task_of (map string_bytes c.args.words.now) ≡ Some (task_value c.in-Some.task) = search rules in
     c.finish.ensures.silent (has_no_lines _ _ _ asked c.in_ok-plan.ensures.lines nothing)
+
+pub returns-clause-bytes : goal.returns-clause-bytes
+returns-clause-bytes g c =
+    let asked : task_of (map string_bytes c.args.words.now) ≡ Some (task_value c.in-Some.task) = search rules in
+    on_ok c.finish.result (words_read (g.F.Files.contents c.args.files.now) (map string_bytes c.args.words.now) (task_value c.in-Some.task) asked c.in_ok-plan.ensures.bytes)

@@ -1,0 +1,39 @@
+-- Files that were read hold bytes.
+use Rattle.std.proofs.Common.{◌≡◌, ◌∙◌, sym, refl, ap, subst, zero, suc, List, [], ◌∷◌, ◌++◌, map, Some, arith}
+use Rattle.std.specs.FinMap.{get}
+use Rattle.base_lists.specs.Every.{Every}
+use Rattle.wasm_bytes.specs.Reading.{IsBytes}
+use Rattle.tool_io.specs.FilesAndSinks.{Contents}
+use Rattle.tools_cli.specs.CommandLine.{Text}
+use Rattle.tools_cli.specs.Effects.{Entry}
+use Rattle.tools_cli.specs.Job.{contents_of}
+use Rattle.tools_cli.specs.Kept.{HoldBytesAt}
+use Rattle.tools_cli.specs.Command.{input_entries}
+use Rattle.tools_cli.specs.declared.gather.Input.{Input}
+
+-- the first contents are those of a file that was read
+pub first_read : (files : Contents) (names : List Text) (es : List Entry) → map (get files) names ≡ map (λ (e : Entry). Some e.1) es → HoldBytesAt names files → (bytes : Text) (more : List Text) → contents_of es ≡ bytes ∷ more → IsBytes bytes
+first_read files names [] held h bytes more e = absurd (cc)
+first_read files [] (x ∷ es) held h bytes more e = absurd (cc)
+first_read files (name ∷ names) (x ∷ es) held h bytes more e =
+    let there : get files name ≡ Some x.1 = cc in
+    let same : x.1 ≡ bytes = cc in
+    subst IsBytes same (h name x.1 (0, omega arith, refl) there)
+
+-- so many contents that are bytes are those of the files
+pub all_read_are : (files : Contents) (names : List Text) (es : List Entry) → map (get files) names ≡ map (λ (e : Entry). Some e.1) es → Every (λ (e : Entry). IsBytes e.1) es → HoldBytesAt names files
+all_read_are files [] es held h name bytes (k, lt, is) there = absurd (omega (arith, lt))
+all_read_are files (n ∷ names) [] held h name bytes (k, lt, is) there = absurd (cc)
+all_read_are files (n ∷ names) (x ∷ es) held h name bytes (zero, lt, is) there =
+    let here : get files n ≡ Some x.1 = cc in
+    let both : Some x.1 ≡ Some bytes = sym here ∙ (ap (get files) is ∙ there) in
+    let same : x.1 ≡ bytes = cc in
+    subst IsBytes same h.0
+all_read_are files (n ∷ names) (x ∷ es) held h name bytes (suc k, lt, is) there =
+    let rest : map (get files) names ≡ map (λ (e : Entry). Some e.1) es = cc in
+    all_read_are files names es rest h.1 name bytes (k, omega (arith, lt), is) there
+
+-- one input more
+pub one_more_read : (xs : List Input) (x : Input) → Every (λ (e : Entry). IsBytes e.1) (input_entries xs) → IsBytes x.bytes.items → Every (λ (e : Entry). IsBytes e.1) (input_entries (xs ++ x ∷ []))
+one_more_read [] x h k = (k, tt)
+one_more_read (y ∷ ys) x h k = (h.0, one_more_read ys x h.1 k)

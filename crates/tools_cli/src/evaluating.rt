@@ -1,0 +1,68 @@
+// What an evaluation of constructors decides.
+ghost use Rattle.std.specs.Prelude.{◌≡◌, length, IfOk, IfErr};
+ghost use Rattle.tools_cli_eval.specs.Evaluations.{IsEvaluation};
+ghost use Rattle.tools_cli.specs.CommandLine.{CtorEval};
+ghost use Rattle.tools_cli.specs.Command.{ctor_eval_value, decision_value, input_texts};
+ghost use Rattle.tools_cli.specs.Job.{Decides, Evaluates, Refuses};
+ghost use Rattle.tools_cli.specs.Causes.{StopsWith, EvalFails};
+
+use crate::ctor_eval::CtorEvalTask;
+use crate::decide::{Decision, one_output};
+use crate::evaluation_lines::lines_after;
+use crate::gather::Input;
+use crate::refusal::refuse_eval;
+use crate::stop::Stop;
+use std::alloc::Global;
+use tools_cli_eval::{Evaluation, evaluate};
+use wasm_valid::Valid;
+
+// The module after the constructors that are evaluated, how many these are and what ended it.
+fn evaluate_by<'a>(
+    alloc: Global,
+    eval: &CtorEvalTask<'a>,
+    module: Valid,
+) -> Result<Evaluation, Stop<'a>>
+    ensures evaluated { IfOk result (IsEvaluation «module» eval.now.ctors eval.now.kept) }
+    ensures stops { IfErr result (StopsWith (EvalFails (ctor_eval_value eval.now) «module»)) }
+{
+    match evaluate(alloc, module, &eval.ctors, &eval.kept) {
+        Ok(evaluation) => Ok(evaluation),
+        Err(fault) => Err(Stop::Refused(refuse_eval(fault)?)),
+    }
+}
+
+// Evaluates constructors of one module.
+fn evaluate_one<'a>(
+    alloc: Global,
+    eval: &CtorEvalTask<'a>,
+    module: Valid,
+) -> Result<Decision, Stop<'a>>
+    ensures decided { IfOk result (λ decision. Evaluates (ctor_eval_value eval.now) «module» (decision_value decision)) }
+    ensures stops { IfErr result (StopsWith (λ says. Evaluates (ctor_eval_value eval.now) «module» (Refuses says))) }
+{
+    let Evaluation {
+        module,
+        count,
+        ending,
+    } = evaluate_by(alloc, eval, module)?;
+    let lines = lines_after(alloc, eval.ctors.as_slice(), count, ending)?;
+    Ok(one_output(alloc, eval.output, module, lines)?)
+}
+
+/// Evaluates constructors of the module, which is one, of one file.
+pub(crate) fn decide_ctor_eval<'a>(
+    alloc: Global,
+    eval: &CtorEvalTask<'a>,
+    modules: Vec<Valid>,
+    inputs: &[Input<'a>],
+) -> Result<Decision, Stop<'a>>
+    requires one { length modules.items ≡ 1 }
+    requires one_file { length inputs.now ≡ 1 }
+    ensures decided { IfOk result (λ decision. Decides (CtorEval (ctor_eval_value eval.now)) modules.items (input_texts inputs.now) (decision_value decision)) }
+    ensures stops { IfErr result (StopsWith (λ says. Decides (CtorEval (ctor_eval_value eval.now)) modules.items (input_texts inputs.now) (Refuses says))) }
+{
+    let Some(module) = modules.into_iter().next() else {
+        unreachable!()
+    };
+    evaluate_one(alloc, eval, module)
+}

@@ -1,0 +1,99 @@
+// Modules that are cut, or of which one size or count is changed.
+use crate::given::{A, GIVES, module_of, run_line};
+use std::alloc::Global;
+use std::test::Fail;
+use tool_io::{MemFiles, MemSink};
+use tools_cli::Status;
+
+// Merges the bytes alone: what it comes to, what is put on standard error, and the files.
+fn merge_alone(alloc: Global, bytes: &[u8]) -> Result<(Status, MemSink, MemFiles), Fail> {
+    let mut files = MemFiles::new(alloc);
+    files.add("a.wasm", bytes)?;
+    let (ended, err) = run_line(alloc, &mut files, "merge a.wasm a -o o.wasm")?;
+    Ok((ended, err, files))
+}
+
+// What is put on standard error where a.wasm is refused with this text, or nothing.
+fn told_of_a(alloc: Global, text: &str) -> Result<String, Fail> {
+    if text.is_empty() {
+        return Ok(String::new(alloc));
+    }
+    Ok(format!(in alloc; "binkit: a.wasm: {text}\n")?)
+}
+
+// What is said of the first bytes of a module that has 34, from none on: so many counts after one
+// another, and the text. Nothing is said where the bytes are a module.
+const CUTS: [(usize, &str); 8] = [
+    (8, "not a WebAssembly module"),
+    (1, ""),
+    (6, "malformed section 0"),
+    (1, ""),
+    (3, "malformed section 1"),
+    (7, "malformed section 2"),
+    (8, "malformed section 3"),
+    (1, ""),
+];
+
+#[test]
+fn a_module_that_is_cut_is_written_where_a_section_ends(rt: HostRuntime) -> Result<(), Fail> {
+    let alloc = rt.alloc();
+    let mut bytes = Vec::new(alloc);
+    for (counts, text) in CUTS {
+        let told = told_of_a(alloc, text)?;
+        for _ in 0..counts {
+            let (ended, err, files) = merge_alone(alloc, bytes.as_slice())?;
+            assert_eq!(rt; err.text(), told.as_bytes(), "{text}");
+            assert_eq!(rt; ended.code(), u8::from(!text.is_empty()), "{text}");
+            assert_eq!(rt; files.contents("a.wasm"), Some(bytes.as_slice()));
+            let written = text.is_empty().then_some(bytes.as_slice());
+            assert_eq!(rt; files.contents("o.wasm"), written, "{text}");
+            if let Some(byte) = A.get(bytes.len()) {
+                bytes.push(*byte)?;
+            }
+        }
+    }
+    assert_eq!(rt; bytes.as_slice(), A.as_slice());
+    Ok(())
+}
+
+// A module with one size or count changed: that of the types, of the characters of a name, of the
+// bytes of a body.
+const CHANGES: [(&str, &str); 6] = [
+    (
+        "01 05 02 60 00 01 7F 03 02 01 00 07 05 01 01 66 00 00 0A 06 01 04 00 41 07 0B",
+        "malformed section 0",
+    ),
+    (
+        "01 05 00 60 00 01 7F 03 02 01 00 07 05 01 01 66 00 00 0A 06 01 04 00 41 07 0B",
+        "malformed section 0",
+    ),
+    (
+        "01 05 01 60 00 01 7F 03 02 01 00 07 05 01 09 66 00 00 0A 06 01 04 00 41 07 0B",
+        "malformed section 2",
+    ),
+    (
+        "01 05 01 60 00 01 7F 03 02 01 00 07 05 01 01 66 00 00 0A 06 01 05 00 41 07 0B",
+        "malformed section 3",
+    ),
+    (
+        "01 05 01 60 00 01 7F 03 02 01 00 07 05 01 01 66 00 00 0A 06 01 03 00 41 07 0B",
+        "malformed function 0",
+    ),
+    (GIVES, ""),
+];
+
+#[test]
+fn a_module_with_a_changed_size_or_count_is_refused(rt: HostRuntime) -> Result<(), Fail> {
+    let alloc = rt.alloc();
+    for (sections, text) in CHANGES {
+        let bytes = module_of(alloc, sections)?;
+        let told = told_of_a(alloc, text)?;
+        let (ended, err, files) = merge_alone(alloc, bytes.as_slice())?;
+        assert_eq!(rt; err.text(), told.as_bytes(), "{text}");
+        assert_eq!(rt; ended.code(), u8::from(!text.is_empty()), "{text}");
+        assert_eq!(rt; files.contents("a.wasm"), Some(bytes.as_slice()));
+        let written = text.is_empty().then_some(bytes.as_slice());
+        assert_eq!(rt; files.contents("o.wasm"), written, "{text}");
+    }
+    Ok(())
+}

@@ -1,0 +1,318 @@
+// The evaluation of constructors.
+use crate::given::{CUT, HEADER, LINKED, module_of, run_over, words_of};
+use std::alloc::Global;
+use std::test::Fail;
+use tool_io::{MemFiles, MemSink};
+use tools_cli::{Status, run};
+
+// Three constructors: a stores 42 at 1024, b calls the import env.f, and c does nothing.
+const THREE: &str =
+    "01 04 01 60 00 00 02 09 01 03 65 6E 76 01 66 00 00 03 04 03 00 00 00 05 03 01 00 01 07 0D 03 01 61 00 01 01 62 00 02 01 63 00 03 0A 1C 03 0A 00 41 80 08 41 2A 3A 00 00 0B 0C 00 41 81 08 41 01 3A 00 00 10 00 0B 02 00 0B";
+
+// After a.
+const THREE_AFTER: &str =
+    "01 04 01 60 00 00 02 09 01 03 65 6E 76 01 66 00 00 03 04 03 00 00 00 05 03 01 00 01 07 09 02 01 62 00 02 01 63 00 03 0A 1C 03 0A 00 41 80 08 41 2A 3A 00 00 0B 0C 00 41 81 08 41 01 3A 00 00 10 00 0B 02 00 0B 0B 08 01 00 41 80 08 0B 01 2A";
+
+// After a, whose export stays.
+const THREE_KEPT: &str =
+    "01 04 01 60 00 00 02 09 01 03 65 6E 76 01 66 00 00 03 05 04 00 00 00 00 05 03 01 00 01 07 0D 03 01 61 00 04 01 62 00 02 01 63 00 03 0A 1F 04 0A 00 41 80 08 41 2A 3A 00 00 0B 0C 00 41 81 08 41 01 3A 00 00 10 00 0B 02 00 0B 02 00 0B 0B 08 01 00 41 80 08 0B 01 2A";
+
+// After a and c, whose exports stay and share a function.
+const THREE_BOTH_KEPT: &str =
+    "01 04 01 60 00 00 02 09 01 03 65 6E 76 01 66 00 00 03 05 04 00 00 00 00 05 03 01 00 01 07 0D 03 01 61 00 04 01 62 00 02 01 63 00 04 0A 1F 04 0A 00 41 80 08 41 2A 3A 00 00 0B 0C 00 41 81 08 41 01 3A 00 00 10 00 0B 02 00 0B 02 00 0B 0B 08 01 00 41 80 08 0B 01 2A";
+
+// The module of a linker, after its constructors.
+const LINKED_AFTER: &str =
+    "01 0D 03 60 00 00 60 01 7F 01 7F 60 01 7F 00 02 0B 01 03 65 6E 76 03 6C 6F 67 00 02 03 05 04 00 00 01 01 04 05 01 70 01 05 05 05 03 01 00 02 06 08 01 7F 01 41 90 88 04 0B 07 10 02 06 6D 65 6D 6F 72 79 02 00 03 72 75 6E 00 04 09 07 01 00 41 01 0B 01 03 0A 27 04 04 00 10 02 0B 0A 00 41 00 41 2A 36 02 84 08 0B 07 00 20 00 41 01 74 0B 0D 00 20 00 10 00 20 00 41 01 11 01 00 0B 0B 0C 01 00 41 80 08 0B 05 68 69 00 00 2A";
+
+// A segment has a byte for place 4000, and a stores at 4256 and at 4513.
+const ZEROS: &str =
+    "01 04 01 60 00 00 03 02 01 00 05 03 01 00 01 07 05 01 01 61 00 00 0A 14 01 12 00 41 A0 21 41 02 3A 00 00 41 A1 23 41 03 3A 00 00 0B 0B 08 01 00 41 A0 1F 0B 01 01";
+
+// After a: 255 zeros lie in the first of two segments, and 256 between them.
+const ZEROS_AFTER: &str =
+    "01 04 01 60 00 00 03 02 01 00 05 03 01 00 01 0A 14 01 12 00 41 A0 21 41 02 3A 00 00 41 A1 23 41 03 3A 00 00 0B 0B 90 02 02 00 41 A0 1F 0B 81 02 01 00 00 00 00 00 00 00 00 00 00 00 00 00 00 00 00 00 00 00 00 00 00 00 00 00 00 00 00 00 00 00 00 00 00 00 00 00 00 00 00 00 00 00 00 00 00 00 00 00 00 00 00 00 00 00 00 00 00 00 00 00 00 00 00 00 00 00 00 00 00 00 00 00 00 00 00 00 00 00 00 00 00 00 00 00 00 00 00 00 00 00 00 00 00 00 00 00 00 00 00 00 00 00 00 00 00 00 00 00 00 00 00 00 00 00 00 00 00 00 00 00 00 00 00 00 00 00 00 00 00 00 00 00 00 00 00 00 00 00 00 00 00 00 00 00 00 00 00 00 00 00 00 00 00 00 00 00 00 00 00 00 00 00 00 00 00 00 00 00 00 00 00 00 00 00 00 00 00 00 00 00 00 00 00 00 00 00 00 00 00 00 00 00 00 00 00 00 00 00 00 00 00 00 00 00 00 00 00 00 00 00 00 00 00 00 00 00 00 00 00 00 00 00 00 00 00 00 00 00 00 00 00 00 00 00 00 00 00 00 00 00 00 00 00 00 00 00 00 00 00 00 00 00 00 00 02 00 41 A1 23 0B 01 03";
+
+// A memory of 65,536 pages, in whose last byte a stores.
+const LAST_BYTE: &str =
+    "01 04 01 60 00 00 03 02 01 00 05 05 01 00 80 80 04 07 05 01 01 61 00 00 0A 0B 01 09 00 41 7F 41 01 3A 00 00 0B";
+
+// After a.
+const LAST_BYTE_AFTER: &str =
+    "01 04 01 60 00 00 03 02 01 00 05 05 01 00 80 80 04 0A 0B 01 09 00 41 7F 41 01 3A 00 00 0B 0B 07 01 00 41 7F 0B 01 01";
+
+// Global 0 is imported, and global 1 begins with its value. a sets globals 2 to 4, the last one to function 1, which is the start and sets global 5.
+const GLOBALS: &str =
+    "01 04 01 60 00 00 02 0A 01 03 65 6E 76 01 67 03 7F 00 03 03 02 00 00 06 1A 05 7F 01 23 00 0B 7F 01 41 01 0B 7E 01 42 02 0B 70 01 D0 70 0B 7F 01 41 03 0B 07 09 02 01 61 00 00 01 74 00 01 08 01 01 0A 1B 02 12 00 41 79 24 02 42 80 E4 97 D0 12 24 03 D2 01 24 04 0B 06 00 41 04 24 05 0B";
+
+// After a: global 1 keeps its initialiser, and the start is gone.
+const GLOBALS_AFTER: &str =
+    "01 04 01 60 00 00 02 0A 01 03 65 6E 76 01 67 03 7F 00 03 03 02 00 00 06 1E 05 7F 01 23 00 0B 7F 01 41 79 0B 7E 01 42 80 E4 97 D0 12 0B 70 01 D2 01 0B 7F 01 41 04 0B 07 05 01 01 74 00 01 0A 1B 02 12 00 41 79 24 02 42 80 E4 97 D0 12 24 03 D2 01 24 04 0B 06 00 41 04 24 05 0B";
+
+// Of three data segments the last one is active. a copies the first to place 512 and drops it, and function 1 copies from the second.
+const SEGMENTS: &str =
+    "01 04 01 60 00 00 03 03 02 00 00 05 03 01 00 01 07 09 02 01 61 00 00 01 74 00 01 0C 01 03 0A 1F 02 10 00 41 80 04 41 00 41 02 FC 08 00 00 FC 09 00 0B 0C 00 41 00 41 00 41 00 FC 08 01 00 0B 0B 0F 03 01 02 61 62 01 02 63 64 00 41 10 0B 01 65";
+
+// After a: the first and the last are empty, and two come behind them.
+const SEGMENTS_AFTER: &str =
+    "01 04 01 60 00 00 03 03 02 00 00 05 03 01 00 01 07 05 01 01 74 00 01 0C 01 05 0A 1F 02 10 00 41 80 04 41 00 41 02 FC 08 00 00 FC 09 00 0B 0C 00 41 00 41 00 41 00 FC 08 01 00 0B 0B 17 05 01 00 01 02 63 64 01 00 00 41 10 0B 01 65 00 41 80 04 0B 02 61 62";
+
+// Function 1 names a by `ref.func`, which the export of a alone declares.
+const REFERENCES: &str =
+    "01 08 02 60 01 7F 00 60 00 00 03 03 02 01 01 07 09 02 01 61 00 00 01 74 00 01 0A 0A 02 02 00 0B 05 00 D2 00 1A 0B";
+
+// After a: a segment declares it.
+const REFERENCES_AFTER: &str =
+    "01 08 02 60 01 7F 00 60 00 00 03 03 02 01 01 07 05 01 01 74 00 01 09 05 01 03 00 01 00 0A 0A 02 02 00 0B 05 00 D2 00 1A 0B";
+
+// After a, whose export stays for function 2, of the second type.
+const REFERENCES_KEPT: &str =
+    "01 08 02 60 01 7F 00 60 00 00 03 04 03 01 01 01 07 09 02 01 61 00 02 01 74 00 01 09 05 01 03 00 01 00 0A 0D 03 02 00 0B 05 00 D2 00 1A 0B 02 00 0B";
+
+const ONE: &str = "evaluated a\n";
+
+const STOPPED_AT_B: &str = "evaluated a\nstopped at b: import\n";
+
+// Evaluates the module m.wasm into o.wasm by these words: what it comes to, what is put on standard
+// output and on standard error, and the files.
+fn evaluate_by(
+    alloc: Global,
+    module: &str,
+    words: &str,
+) -> Result<(Status, MemSink, MemSink, MemFiles), Fail> {
+    let module = module_of(alloc, module)?;
+    let mut files = MemFiles::new(alloc);
+    files.add("m.wasm", module.as_slice())?;
+    let line = format!(in alloc; "ctor-eval m.wasm {words} -o o.wasm")?;
+    let (ended, out, err) = run_over(alloc, &mut files, line.as_str())?;
+    Ok((ended, out, err, files))
+}
+
+#[test]
+fn constructors_are_evaluated_until_one_is_stopped(rt: HostRuntime) -> Result<(), Fail> {
+    let alloc = rt.alloc();
+    let both = "evaluated a\nevaluated c\n";
+    for (module, words, lines, after) in [
+        (THREE, "--ctors=a,b,c", STOPPED_AT_B, THREE_AFTER),
+        (
+            THREE,
+            "--ctors a,b,c --kept-exports=a",
+            STOPPED_AT_B,
+            THREE_KEPT,
+        ),
+        (
+            THREE,
+            "--kept-exports c,c,x --ctors=a,b,c",
+            STOPPED_AT_B,
+            THREE_AFTER,
+        ),
+        (
+            THREE,
+            "--ctors=a,c --kept-exports=c,a",
+            both,
+            THREE_BOTH_KEPT,
+        ),
+        (
+            LINKED,
+            "--ctors=__wasm_call_ctors",
+            "evaluated __wasm_call_ctors\n",
+            LINKED_AFTER,
+        ),
+        (ZEROS, "--ctors=a", ONE, ZEROS_AFTER),
+        (LAST_BYTE, "--ctors=a", ONE, LAST_BYTE_AFTER),
+        (GLOBALS, "--ctors=a", ONE, GLOBALS_AFTER),
+        (SEGMENTS, "--ctors=a", ONE, SEGMENTS_AFTER),
+        (REFERENCES, "--ctors=a", ONE, REFERENCES_AFTER),
+        (
+            REFERENCES,
+            "--ctors=a --kept-exports=a",
+            ONE,
+            REFERENCES_KEPT,
+        ),
+    ] {
+        let (ended, out, err, files) = evaluate_by(alloc, module, words)?;
+        let after = module_of(alloc, after)?;
+        assert_eq!(rt; err.text(), b"".as_slice(), "{words}");
+        assert_eq!(rt; ended, Status::Done, "{words}");
+        assert_eq!(rt; out.text(), lines.as_bytes(), "{words}");
+        assert_eq!(rt; files.contents("o.wasm"), Some(after.as_slice()), "{words}");
+    }
+    Ok(())
+}
+
+// Modules whose first constructor is stopped, each with what is told; and one whose start is.
+const STOPPED: [(&str, &str); 11] = [
+    // It calls an import.
+    (
+        "01 04 01 60 00 00 02 09 01 03 65 6E 76 01 66 00 00 03 02 01 00 07 05 01 01 61 00 01 0A 06 01 04 00 10 00 0B",
+        "stopped at a: import\n",
+    ),
+    // It is an import.
+    (
+        "01 04 01 60 00 00 02 09 01 03 65 6E 76 01 66 00 00 07 05 01 01 61 00 00",
+        "stopped at a: import\n",
+    ),
+    // It grows.
+    (
+        "01 04 01 60 00 00 03 02 01 00 05 03 01 00 01 07 05 01 01 61 00 00 0A 09 01 07 00 41 00 40 00 1A 0B",
+        "stopped at a: grow\n",
+    ),
+    // It sets a slot.
+    (
+        "01 04 01 60 00 00 03 02 01 00 04 04 01 70 00 01 07 05 01 01 61 00 00 0A 0A 01 08 00 41 00 D0 70 26 00 0B",
+        "stopped at a: table write\n",
+    ),
+    // It reads an imported global.
+    (
+        "01 04 01 60 00 00 02 0A 01 03 65 6E 76 01 67 03 7F 00 03 02 01 00 07 05 01 01 61 00 00 0A 07 01 05 00 23 00 1A 0B",
+        "stopped at a: unknown\n",
+    ),
+    // It is unreachable.
+    (
+        "01 04 01 60 00 00 03 02 01 00 07 05 01 01 61 00 00 0A 05 01 03 00 00 0B",
+        "stopped at a: trap\n",
+    ),
+    // It has a parameter.
+    (
+        "01 05 01 60 01 7F 00 03 02 01 00 07 05 01 01 61 00 00 0A 04 01 02 00 0B",
+        "stopped at a: signature\n",
+    ),
+    // It fills more than the turns.
+    (
+        "01 04 01 60 00 00 03 02 01 00 05 05 01 00 BD FD 02 07 05 01 01 61 00 00 0A 11 01 0F 00 41 00 41 00 41 80 C0 F0 F5 7B FC 0B 00 0B",
+        "stopped at a: steps\n",
+    ),
+    // It calls itself.
+    (
+        "01 04 01 60 00 00 03 02 01 00 07 05 01 01 61 00 00 0A 06 01 04 00 10 00 0B",
+        "stopped at a: depth\n",
+    ),
+    // It fills too many blocks.
+    (
+        "01 04 01 60 00 00 03 02 01 00 05 04 01 00 81 08 07 05 01 01 61 00 00 0A 10 01 0E 00 41 00 41 00 41 80 A0 80 20 FC 0B 00 0B",
+        "stopped at a: memory\n",
+    ),
+    // Its start is unreachable.
+    (
+        "01 04 01 60 00 00 03 03 02 00 00 07 05 01 01 61 00 00 08 01 01 0A 08 02 02 00 0B 03 00 00 0B",
+        "instantiation stopped: trap\n",
+    ),
+];
+
+#[test]
+fn where_the_first_is_stopped_the_module_stays_as_it_is(rt: HostRuntime) -> Result<(), Fail> {
+    let alloc = rt.alloc();
+    for (module, line) in STOPPED {
+        let (ended, out, err, files) = evaluate_by(alloc, module, "--ctors=a --kept-exports=a")?;
+        let same = module_of(alloc, module)?;
+        assert_eq!(rt; err.text(), b"".as_slice(), "{line}");
+        assert_eq!(rt; ended, Status::Done, "{line}");
+        assert_eq!(rt; out.text(), line.as_bytes(), "{line}");
+        assert_eq!(rt; files.contents("o.wasm"), Some(same.as_slice()), "{line}");
+    }
+    Ok(())
+}
+
+#[test]
+fn a_name_of_no_exported_function_is_refused_before_anything_is_written(
+    rt: HostRuntime,
+) -> Result<(), Fail> {
+    let alloc = rt.alloc();
+    for (module, words, text) in [
+        (THREE, "--ctors=zz", "binkit: no exported function zz\n"),
+        (
+            THREE,
+            "--ctors=a,yy,zz",
+            "binkit: no exported function yy\n",
+        ),
+        (THREE, "--ctors=a,", "binkit: no exported function \n"),
+        (
+            LINKED,
+            "--ctors=memory",
+            "binkit: no exported function memory\n",
+        ),
+    ] {
+        let (ended, out, err, files) = evaluate_by(alloc, module, words)?;
+        assert_eq!(rt; err.text(), text.as_bytes(), "{words}");
+        assert_eq!(rt; ended, Status::Refused, "{words}");
+        assert_eq!(rt; out.text(), b"".as_slice(), "{words}");
+        assert!(rt; files.contents("o.wasm").is_none(), "{words}");
+    }
+    Ok(())
+}
+
+#[test]
+fn faults_of_its_file_and_of_standard_output_are_told(rt: HostRuntime) -> Result<(), Fail> {
+    let alloc = rt.alloc();
+    let module = module_of(alloc, THREE)?;
+    let after = module_of(alloc, THREE_AFTER)?;
+    let words = words_of(alloc, "ctor-eval --ctors=a,b,c m.wasm -o o.wasm")?;
+    for (call, put, text) in [
+        (1, 0, "binkit: cannot read m.wasm\n"),
+        (2, 0, "binkit: cannot write o.wasm\n"),
+        (0, 1, "binkit: cannot write standard output\n"),
+    ] {
+        let mut files = MemFiles::new(alloc);
+        files.add("m.wasm", module.as_slice())?;
+        files.fail_at(call)?;
+        let mut out = MemSink::new(alloc);
+        let mut err = MemSink::new(alloc);
+        out.fail_at(put)?;
+        let ended = run(alloc, words.as_slice(), &mut files, &mut out, &mut err);
+        assert_eq!(rt; err.text(), text.as_bytes(), "{text}");
+        assert_eq!(rt; ended, Status::Outside, "{text}");
+        if put == 1 {
+            assert_eq!(rt; files.contents("o.wasm"), Some(after.as_slice()));
+        }
+    }
+    Ok(())
+}
+
+#[test]
+fn its_module_is_read_before_its_names_are_looked_up(rt: HostRuntime) -> Result<(), Fail> {
+    let alloc = rt.alloc();
+    let mut files = MemFiles::new(alloc);
+    files.add("m.wasm", &CUT)?;
+    files.add("h.wasm", &HEADER)?;
+    for (file, text) in [
+        ("m.wasm", "binkit: m.wasm: malformed section 3\n"),
+        ("h.wasm", "binkit: no exported function zz\n"),
+    ] {
+        let line = format!(in alloc; "ctor-eval {file} --ctors=zz -o o.wasm")?;
+        let (ended, _, err) = run_over(alloc, &mut files, line.as_str())?;
+        assert_eq!(rt; err.text(), text.as_bytes(), "{text}");
+        assert_eq!(rt; ended, Status::Refused, "{text}");
+    }
+    Ok(())
+}
+
+#[test]
+fn its_options_stand_anywhere_and_its_names_differ(rt: HostRuntime) -> Result<(), Fail> {
+    let alloc = rt.alloc();
+    for line in [
+        "ctor-eval",
+        "ctor-eval m.wasm -o o.wasm",
+        "ctor-eval m.wasm --ctors=a",
+        "ctor-eval --ctors=a -o o.wasm",
+        "ctor-eval m.wasm n.wasm --ctors=a -o o.wasm",
+        "ctor-eval m.wasm --ctors=a,b,a -o o.wasm",
+        "ctor-eval m.wasm --ctors=, -o o.wasm",
+        "ctor-eval m.wasm --ctors= -o o.wasm",
+        "ctor-eval m.wasm --ctors=a --ctors=b -o o.wasm",
+        "ctor-eval m.wasm --ctors=a --kept-exports=a --kept-exports=b -o o.wasm",
+        "ctor-eval m.wasm --ctors=a --kept-exports= -o o.wasm",
+        "ctor-eval m.wasm --ctors=a -o o.wasm --output=o.wasm",
+        "ctor-eval m.wasm --ctors=a --wide -o o.wasm",
+        "ctor-eval m.wasm --ctors a -o o.wasm --",
+    ] {
+        let mut files = MemFiles::new(alloc);
+        let (ended, _, err) = run_over(alloc, &mut files, line)?;
+        assert_eq!(rt; ended, Status::Usage, "{line}");
+        assert_eq!(rt;
+            err.text(),
+            b"usage: binkit ctor-eval\n".as_slice(),
+            "{line}"
+        );
+    }
+    Ok(())
+}

@@ -1,0 +1,123 @@
+use crate::given::{module_of, run_over};
+use std::test::Fail;
+use tool_io::MemFiles;
+use tools_cli::Status;
+
+// What a sample of seed 1 with one function each prints.
+const LINES: &str = "sample seed 1 count 1\nparts 2\nfunctions 2\nexports 2\nbytes 56\n";
+
+// And what its two modules are merged into.
+const MERGED: &str =
+    "01 06 01 60 01 7F 01 7F 03 03 02 00 00 07 0B 02 02 66 30 00 00 02 67 30 00 01 0A 14 02 0B 00 20 00 41 A6 FD 99 8E 04 6A 0B 06 00 20 00 10 00 0B";
+
+// With seed 7 and two functions each.
+const MERGED_OF_TWO: &str =
+    "01 06 01 60 01 7F 01 7F 03 05 04 00 00 00 00 07 15 04 02 66 30 00 00 02 66 31 00 01 02 67 30 00 02 02 67 31 00 03 0A 27 04 0B 00 20 00 41 B4 AA B1 E3 04 6A 0B 0B 00 20 00 41 D2 A1 D1 D3 02 6A 0B 06 00 20 00 10 00 0B 06 00 20 00 10 01 0B";
+
+#[test]
+fn a_sample_without_an_output_prints_its_lines(rt: HostRuntime) -> Result<(), Fail> {
+    let alloc = rt.alloc();
+    for (line, lines) in [
+        ("sample --seed 1 --count 1", LINES),
+        ("sample --count=1 --seed=1", LINES),
+        // zeros stand first
+        ("sample --seed 0000000001 --count=0000000001", LINES),
+        (
+            "sample --seed 2147483647 --count 1",
+            "sample seed 2147483647 count 1\nparts 2\nfunctions 2\nexports 2\nbytes 56\n",
+        ),
+        (
+            "sample --seed 0 --count 3",
+            "sample seed 0 count 3\nparts 2\nfunctions 6\nexports 6\nbytes 116\n",
+        ),
+    ] {
+        let mut files = MemFiles::new(alloc);
+        let (ended, out, err) = run_over(alloc, &mut files, line)?;
+        assert_eq!(rt; ended, Status::Done, "{line}");
+        assert_eq!(rt; out.text(), lines.as_bytes(), "{line}");
+        assert_eq!(rt; err.text(), b"".as_slice(), "{line}");
+        assert_eq!(rt; files.contents("o.wasm"), None, "{line}");
+    }
+    Ok(())
+}
+
+#[test]
+fn a_sample_writes_what_its_modules_are_merged_into(rt: HostRuntime) -> Result<(), Fail> {
+    let alloc = rt.alloc();
+    for (line, lines, merged) in [
+        ("sample --seed 1 --count 1 -o o.wasm", LINES, MERGED),
+        ("sample --output=o.wasm --seed 1 --count 1", LINES, MERGED),
+        (
+            "sample --seed 7 -o o.wasm --count 2",
+            "sample seed 7 count 2\nparts 2\nfunctions 4\nexports 4\nbytes 87\n",
+            MERGED_OF_TWO,
+        ),
+    ] {
+        let mut files = MemFiles::new(alloc);
+        let (ended, out, err) = run_over(alloc, &mut files, line)?;
+        let merged = module_of(alloc, merged)?;
+        assert_eq!(rt; ended, Status::Done, "{line}");
+        assert_eq!(rt; out.text(), lines.as_bytes(), "{line}");
+        assert_eq!(rt; err.text(), b"".as_slice(), "{line}");
+        assert_eq!(rt; files.contents("o.wasm"), Some(merged.as_slice()), "{line}");
+    }
+    Ok(())
+}
+
+#[test]
+fn a_large_sample_prints_the_same_lines_at_each_run(rt: HostRuntime) -> Result<(), Fail> {
+    let alloc = rt.alloc();
+    for line in [
+        "sample --seed 1 --count 2000",
+        "sample --seed 1 --count 2000 -o o.wasm",
+    ] {
+        let mut files = MemFiles::new(alloc);
+        let (ended, out, _) = run_over(alloc, &mut files, line)?;
+        let lines =
+            "sample seed 1 count 2000\nparts 2\nfunctions 4000\nexports 4000\nbytes 77444\n";
+        assert_eq!(rt; ended, Status::Done, "{line}");
+        assert_eq!(rt; out.text(), lines.as_bytes(), "{line}");
+    }
+    Ok(())
+}
+
+#[test]
+fn other_words_are_answered_with_the_usage_line(rt: HostRuntime) -> Result<(), Fail> {
+    let alloc = rt.alloc();
+    for line in [
+        "sample",
+        "sample --seed 1",
+        "sample --count 1",
+        "sample --seed 2147483648 --count 1",
+        "sample --seed 4294967297 --count 1",
+        "sample --seed 9999999999 --count 1",
+        "sample --seed 1 --count 0",
+        "sample --seed 1 --count 100001",
+        "sample --seed=+1 --count 1",
+        "sample --seed 1 --count=+1",
+        "sample --seed=-1 --count 1",
+        "sample --seed -1 --count 1",
+        "sample --seed 00000000001 --count 1",
+        "sample --seed 1 --count 00000000001",
+        "sample --seed 1x --count 1",
+        "sample --seed 0x1 --count 1",
+        "sample --seed= --count 1",
+        "sample --seed 1 --count",
+        "sample --seed 1 --seed 1 --count 1",
+        "sample --seed 1 --count 1 --count=2",
+        "sample --seed 1 --count 1 m.wasm",
+        "sample --seed 1 --count 1 -o o.wasm --output=p.wasm",
+        "sample --seed 1 --count 1 -o",
+        "sample --seed 1 --count 1 -o=o.wasm",
+        "sample --seed 1 --count 1 -g",
+        "sample --seed 1 --count 1 --",
+        "sample --help",
+    ] {
+        let mut files = MemFiles::new(alloc);
+        let (ended, out, err) = run_over(alloc, &mut files, line)?;
+        assert_eq!(rt; ended, Status::Usage, "{line}");
+        assert_eq!(rt; out.text(), b"".as_slice(), "{line}");
+        assert_eq!(rt; err.text(), b"usage: binkit sample\n".as_slice(), "{line}");
+    }
+    Ok(())
+}
