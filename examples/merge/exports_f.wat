@@ -1,0 +1,2 @@
+;; Exports a function f.
+(module (func (export "f")))

@@ -1,0 +1,157 @@
+#!/usr/bin/env python3
+"""Checks that what README.md and docs/THEOREMS.md cite is there.
+
+    python3 scripts/claims.py [TOP OF THE REPOSITORY]
+
+A contract is cited as `crate::function` or `crate::Type::function`, and its clauses as `: `one`, `two`` behind it. `clause.field` cites a
+field of the record that the clause promises. In both files
+
+- each such function stands in src/ of the crate as a public function, with each clause that is cited of it (`ensures NAME {`);
+- each row of a table with the column Contract cites one, or has `-` there;
+- in README.md a row of such a table claims at most 25 words in its column Claim;
+- a row with `-` in its column Premises cites no function that asks for something (`requires`);
+- each name of code in a column Refused is a must-fail edit, as `name` or `crate/name`, a contract, or a file.
+
+In all pages each file that is cited with its path from the top or from crates/, and each file that is linked, is there.
+"""
+import functools
+import glob
+import os
+import re
+import sys
+
+PAGES = ("README.md", "docs/THEOREMS.md")
+CONTRACT = re.compile(r"`([a-z]\w*)((?:::\w+)+)`((?:: `[\w.]+`(?:(?:, | and )`[\w.]+`)*)?)")
+SPAN = re.compile(r"`([^`]+)`")
+FUNCTION = r"\bpub (?:const )?fn {}\b"
+METHOD = r"\bfn {}\b"
+NEXT = re.compile(r"^ *(?:pub(?:\(\w+\))? )?(?:const )?fn \w+", re.M)
+FILE = re.compile(r"^[\w.-]+(?:/[\w.-]+)+\.(?:antt|rt|md|mjs|py|sh|wat|wasm|html|json|edit)$")
+MOST_WORDS = 25
+
+
+@functools.lru_cache(maxsize=None)
+def text_below(folder, ending):
+    """The texts of the files below a folder, one after the other."""
+    files = sorted(glob.glob(f"{folder}/**/*{ending}", recursive=True))
+    return "\n".join(open(file, encoding="utf-8").read() for file in files)
+
+
+def contracts_of(code, name, is_method):
+    """The text behind each function of this name, up to the next one."""
+    head = re.compile((METHOD if is_method else FUNCTION).format(name))
+    for found in head.finditer(code):
+        following = NEXT.search(code, found.end())
+        yield code[found.end(): following.start() if following else len(code)]
+
+
+def is_clause(contract, clause, crate):
+    name, _, field = clause.partition(".")
+    if not re.search(rf"\bensures\*? {name} \{{", contract):
+        return False
+    return not field or re.search(rf"^ +pub {field} :", text_below(f"{crate}/specs", ".antt"), re.M) is not None
+
+
+def faults_of_contract(top, crate, path, clauses):
+    """What is wrong with one citation of a contract."""
+    folder = f"{top}/crates/{crate}"
+    if not os.path.isdir(folder):
+        yield f"no crate {crate}"
+        return
+    *owners, name = path.split("::")
+    code = text_below(f"{folder}/src", ".rt")
+    for owner in owners:
+        if not re.search(rf"\b(?:struct|enum|trait|mod) {owner}\b", code):
+            yield f"{crate} has no {owner}"
+            return
+    contracts = list(contracts_of(code, name, bool(owners)))
+    if not contracts:
+        yield f"{crate} has no public function {name}"
+    for clause in clauses if contracts else ():
+        if not any(is_clause(contract, clause, folder) for contract in contracts):
+            yield f"{crate}::{path} has no clause {clause}"
+
+
+def tables_of(text):
+    """The rows of each table as (number of the line, {column: cell})."""
+    columns = None
+    for number, line in enumerate(text.split("\n"), 1):
+        if not line.startswith("|"):
+            columns = None
+            continue
+        cells = [cell.strip() for cell in line.strip().strip("|").split(" | ")]
+        cells = [cell.strip("| ").strip() for cell in cells]
+        if columns is None:
+            columns = cells
+        elif not set(line) <= set("|-: "):
+            yield number, dict(zip(columns, cells))
+
+
+def asks(top, crate, path):
+    """Whether the function that is cited asks for something: its contract ends where its body opens."""
+    *owners, name = path.split("::")
+    found = list(contracts_of(text_below(f"{top}/crates/{crate}/src", ".rt"), name, bool(owners)))
+    return bool(found) and all(re.search(r"\brequires\b", re.split(r"^ *\{$", contract, flags=re.M)[0]) for contract in found)
+
+
+@functools.lru_cache(maxsize=None)
+def is_refused_by(top, name):
+    """Whether a name in a column Refused is one of an edit, of a contract or of a file."""
+    crate, _, edit = name.rpartition("/")
+    if glob.glob(f"{top}/crates/{crate or '*'}/must-fail/{edit}.edit"):
+        return True
+    return bool(CONTRACT.fullmatch(f"`{name}`")) or is_file(top, top, name)
+
+
+@functools.lru_cache(maxsize=None)
+def is_file(top, folder, name):
+    return any(os.path.exists(f"{at}/{name}") for at in (top, folder, f"{top}/crates"))
+
+
+def faults_of_rows(top, page, text):
+    for number, row in tables_of(text):
+        if "Contract" in row and row["Contract"] != "-" and not CONTRACT.search(row["Contract"]):
+            yield number, f"the row cites no contract: {row['Contract']}"
+        for crate, path, _ in CONTRACT.findall(row.get("Contract", "")):
+            if row.get("Premises") == "-" and asks(top, crate, path[2:]):
+                yield number, f"{crate}{path} has premises"
+        words = len(row.get("Claim", "").split())
+        if page == "README.md" and words > MOST_WORDS:
+            yield number, f"the row claims {words} words"
+        for name in SPAN.findall(row.get("Refused", "")):
+            if not is_refused_by(top, name):
+                yield number, f"no edit, contract or file {name}"
+
+
+def faults_of_files(top, page, text):
+    folder = os.path.dirname(f"{top}/{page}")
+    for number, line in enumerate(text.split("\n"), 1):
+        for name in SPAN.findall(line):
+            if FILE.match(name) and not name.startswith((".", "specs/", "proofs/", "src/")) and "NAME" not in name and not is_file(top, folder, name):
+                yield number, f"no file {name}"
+        for target in re.findall(r"\]\(([^)#]+)[^)]*\)", line):
+            if "://" not in target and not os.path.exists(f"{folder}/{target}"):
+                yield number, f"the link leads nowhere: {target}"
+
+
+def main(top):
+    count, failed = 0, 0
+    others = sorted(os.path.relpath(page, top) for page in glob.glob(f"{top}/docs/**/*.md", recursive=True))
+    for page in [*PAGES, *(page for page in others if page not in PAGES)]:
+        text = open(f"{top}/{page}", encoding="utf-8").read()
+        faults = list(faults_of_files(top, page, text))
+        if page in PAGES:
+            for found in CONTRACT.finditer(text):
+                number, clauses = text.count("\n", 0, found.start()) + 1, SPAN.findall(found.group(3))
+                count += max(len(clauses), 1)
+                faults += [(number, fault) for fault in faults_of_contract(top, found.group(1), found.group(2)[2:], clauses)]
+            faults += faults_of_rows(top, page, text)
+        for number, fault in sorted(faults):
+            print(f"{page}:{number}: {fault}")
+        failed += len(faults)
+    print(f"claims: {count} clauses and contracts are cited, {failed} faults")
+    return 1 if failed else 0
+
+
+if __name__ == "__main__":
+    sys.exit(main(os.path.abspath(sys.argv[1] if len(sys.argv) > 1 else os.path.dirname(os.path.dirname(os.path.abspath(__file__))))))
