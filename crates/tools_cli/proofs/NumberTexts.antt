@@ -6,7 +6,8 @@ use Rattle.std.specs.Str.Parse.{digits_value, ParsesUnsigned}
 use Rattle.std.proofs.lemmas.Bool.{and_parts}
 use Rattle.std.proofs.lemmas.Bool.Decides.{nat_tests}
 use Rattle.std.proofs.lemmas.Str.Parse.{numerals_by_value, tells_all_ascii_digits, parse_digits}
-use Rattle.tools_cli.specs.Words.{Text, is_number, number_within}
+use Rattle.tools_cli_words.specs.Words.{Text}
+use Rattle.tools_cli.specs.Numbers.{is_number, number_within}
 
 -- a number where a test says that it is in the range
 abbrev pub within : (least most n : ℕ) → Option ℕ

@@ -17,7 +17,7 @@ use Rattle.dce_graph.specs.declared.graph.Node.{Node}
 use Rattle.dce_graph.specs.declared.point.Point.TheVariants as point
 use Rattle.dce_graph.specs.declared.marks.Reached.{Reached}
 use Rattle.dce_sweep_spec.specs.Reached.{AreExact}
-use Rattle.tools_cli.specs.Words.{Text}
+use Rattle.tools_cli_words.specs.Words.{Text}
 use Rattle.tools_cli.specs.Command.{names_of}
 use Rattle.tools_cli.specs.Unused.{AreUnused, IsUnused}
 use Rattle.tools_cli.specs.Unmarked.{with_name, unmarked_from, unmarked_names}

@@ -12,7 +12,7 @@ use Rattle.std.proofs.lemmas.Str.{IsUtf8-drop, IsUtf8-from_ascii, IsUtf8-string_
 use Rattle.base_lists.specs.Every.{Every}
 use Rattle.split_spec.specs.declared.names.SplitNames.{SplitNames}
 use Rattle.tools_cli.specs.declared.split.SplitWords.{SplitWords}
-use Rattle.tools_cli.specs.Words.{Text, Vocabulary, Argument, Value, Flag, Plain, is_plain, behind, long_name, takes_value, own_value, some_value, value_behind, joined_value, other_word, next_argument, add_argument, said_from, OptionValue, Arguments, add_to_arguments, arguments_of, values_of, at_most_one, only_value, value_or}
+use Rattle.tools_cli_words.specs.Words.{Text, Vocabulary, Argument, Value, Flag, Plain, is_plain, behind, long_name, takes_value, own_value, some_value, value_behind, joined_value, other_word, next_argument, add_argument, said_from, OptionValue, Arguments, add_to_arguments, arguments_of, value_of, with_value, valued_options, in_order, are_apart, options_and_flags, said_once, values_of, at_most_one, only_value, value_or}
 use Rattle.tools_cli.specs.CommandLine.{Task, Merge, Metadce, Split, CtorEval, Sample, Source, MergeTask, MetadceTask, SplitTask, CtorEvalTask, SplitOutputs, make_ctor_eval, ctor_eval_of_arguments, ctor_eval_of, ctor_eval_vocabulary, SampleTask, make_merge, make_metadce, make_outputs, make_names, make_split, make_sample, names_said, outputs_said, words_said, count_in, merge_of_arguments, metadce_of_arguments, split_of_arguments, sample_of_arguments, merge_of, metadce_of, split_of, sample_of, merge_vocabulary, metadce_vocabulary, split_vocabulary, sample_vocabulary, task_of}
 use Rattle.merge_names.specs.declared.mode.Mode.{Mode}
 use Rattle.tools_cli.proofs.NumberTexts.{in_range}
@@ -122,6 +122,22 @@ sorted_texts : (said : List Argument) → Every IsTextArgument said → AreTextV
 sorted_texts [] h = tt
 sorted_texts (a ∷ said) h = one_added a (arguments_of said) h.0 (sorted_texts said h.1)
 
+value_text : (option : Text) (values : List OptionValue) → Every (λ (v : OptionValue). IsUtf8 v.value) values → IfSome (value_of option values) IsUtf8
+value_text option [] h = tt
+value_text option (v ∷ values) h = by (bytes_eq v.option option) (value_text option values h.1)
+  where
+    by : (b : Bool) → IfSome (value_of option values) IsUtf8 → IfSome (cond b (Some v.value) (value_of option values)) IsUtf8
+    by true k = h.0
+    by false k = k
+
+with_text : (option : Text) (value : Option Text) (rest : List OptionValue) → IfSome value IsUtf8 → Every (λ (v : OptionValue). IsUtf8 v.value) rest → Every (λ (v : OptionValue). IsUtf8 v.value) (with_value option value rest)
+with_text option None rest h k = k
+with_text option (Some value) rest h k = (h, k)
+
+ordered_texts : (options : List Text) (values : List OptionValue) → Every (λ (v : OptionValue). IsUtf8 v.value) values → Every (λ (v : OptionValue). IsUtf8 v.value) (valued_options options values)
+ordered_texts [] values h = tt
+ordered_texts (option ∷ options) values h = with_text option (value_of option values) (valued_options options values) (value_text option values h) (ordered_texts options values h)
+
 picked_texts : (option : Text) (values : List OptionValue) → Every (λ (v : OptionValue). IsUtf8 v.value) values → Every IsUtf8 (values_of option values)
 picked_texts option [] h = tt
 picked_texts option (v ∷ values) h = by (bytes_eq v.option option) (picked_texts option values h.1)
@@ -192,10 +208,14 @@ made_sample P Q f [] None count output h = tt
 made_sample P Q f (word ∷ plain) seed count output h = tt
 
 -- what is so of the task of each command, by what its words say
-from_said : (P : Task → Type 0) (S : List Argument → Type 0) (said : Option (List Argument)) (make : Arguments → Option Task) → ((said : List Argument) → S said → IfSome (make (arguments_of said)) P) → IfSome said S
-    → IfSome (option_and_then make (option_map arguments_of said)) P
-from_said P S None make f h = tt
-from_said P S (Some said) make f h = f said h
+from_said : (P : Task → Type 0) (S : List Argument → Type 0) (v : Vocabulary) (said : Option (List Argument)) (make : Arguments → Option Task) → ((said : List Argument) → S said → IfSome (make (in_order v (arguments_of said))) P) → IfSome said S
+    → IfSome (option_and_then make (option_and_then (said_once v) (option_map arguments_of said))) P
+from_said P S v None make f h = tt
+from_said P S v (Some said) make f h = by (are_apart (options_and_flags (arguments_of said))) (f said h)
+  where
+    by : (b : Bool) → IfSome (make (in_order v (arguments_of said))) P → IfSome (option_and_then make (cond b (Some (in_order v (arguments_of said))) None)) P
+    by true k = k
+    by false k = tt
 
 any_said : (said : Option (List Argument)) → IfSome said (λ said. Unit {0})
 any_said None = tt
@@ -206,9 +226,9 @@ from_words : (P : Task → Type 0) → ((merge : MergeTask) → P (Merge merge))
 unfolding task_of
 from_words P f g e word rest h i =
     by (bytes_eq word (codes "merge")) (bytes_eq word (codes "metadce")) (bytes_eq word (codes "split")) (bytes_eq word (codes "ctor-eval")) (bytes_eq word (codes "sample"))
-    (from_said P (λ said. Unit {0}) (said_from merge_vocabulary None rest) merge_of_arguments (λ said k. made_merge P f _ _ _) (any_said (said_from merge_vocabulary None rest)))
-    (from_said P (λ said. Unit {0}) (said_from metadce_vocabulary None rest) metadce_of_arguments (λ said k. made_metadce P g _ _ _) (any_said (said_from metadce_vocabulary None rest)))
-    (from_said P (λ said. Unit {0}) (said_from ctor_eval_vocabulary None rest) ctor_eval_of_arguments (λ said k. made_ctor_eval P e _ _ _ _) (any_said (said_from ctor_eval_vocabulary None rest)))
+    (from_said P (λ said. Unit {0}) merge_vocabulary (said_from merge_vocabulary None rest) merge_of_arguments (λ said k. made_merge P f _ _ _) (any_said (said_from merge_vocabulary None rest)))
+    (from_said P (λ said. Unit {0}) metadce_vocabulary (said_from metadce_vocabulary None rest) metadce_of_arguments (λ said k. made_metadce P g _ _ _) (any_said (said_from metadce_vocabulary None rest)))
+    (from_said P (λ said. Unit {0}) ctor_eval_vocabulary (said_from ctor_eval_vocabulary None rest) ctor_eval_of_arguments (λ said k. made_ctor_eval P e _ _ _ _) (any_said (said_from ctor_eval_vocabulary None rest)))
   where
     by : (a b c d e : Bool) → IfSome (merge_of rest) P → IfSome (metadce_of rest) P → IfSome (ctor_eval_of rest) P
         → IfSome (cond a (merge_of rest) (cond b (metadce_of rest) (cond c (split_of rest) (cond d (ctor_eval_of rest) (cond e (sample_of rest) None))))) P
@@ -221,10 +241,10 @@ from_words P f g e word rest h i =
 
 -- where it is so of each sample
 any_sample : (P : Task → Type 0) → ((sample : SampleTask) → P (Sample sample)) → (rest : List Text) → IfSome (sample_of rest) P
-any_sample P f rest = from_said P (λ said. Unit {0}) (said_from sample_vocabulary None rest) sample_of_arguments (λ said k. made_sample P (λ n. Unit {0}) (λ sample one. f sample) _ _ (count said) _ (any_count (count said))) (any_said (said_from sample_vocabulary None rest))
+any_sample P f rest = from_said P (λ said. Unit {0}) sample_vocabulary (said_from sample_vocabulary None rest) sample_of_arguments (λ said k. made_sample P (λ n. Unit {0}) (λ sample one. f sample) _ _ (count said) _ (any_count (count said))) (any_said (said_from sample_vocabulary None rest))
   where
     count : List Argument → Option ℕ
-    count said = option_and_then count_in (only_value (codes "--count") (arguments_of said))
+    count said = option_and_then count_in (only_value (codes "--count") (in_order sample_vocabulary (arguments_of said)))
 
     any_count : (o : Option ℕ) → IfSome o (λ n. Unit {0})
     any_count None = tt
@@ -249,10 +269,10 @@ any_outputs : (outputs : Option SplitOutputs) → IfSome outputs (λ o. Unit {0}
 any_outputs None = tt
 any_outputs (Some outputs) = tt
 
-split_text : (said : List Argument) → Every IsTextArgument said → IfSome (split_of_arguments (arguments_of said)) IsTextTask
+split_text : (said : List Argument) → Every IsTextArgument said → IfSome (split_of_arguments (in_order split_vocabulary (arguments_of said))) IsTextTask
 split_text said h =
-    let arguments = arguments_of said in
-    let are = sorted_texts said h in
+    let arguments = in_order split_vocabulary (arguments_of said) in
+    let are = ordered_texts split_vocabulary.options (arguments_of said).values (sorted_texts said h) in
     made_split IsTextTask (λ o. Unit {0}) AreTexts (λ split one names. names) _ (outputs_said arguments) (words_said arguments) (names_said arguments) (any_outputs (outputs_said arguments))
     (made_names _ _ _ (said_text (codes "--import-namespace") (codes "primary") arguments are (IsUtf8-from_ascii (codes "primary") (ascii_where (codes "primary") refl)))
     (said_text (codes "--placeholder-namespace") (codes "placeholder") arguments are (IsUtf8-from_ascii (codes "placeholder") (ascii_where (codes "placeholder") refl)))
@@ -261,7 +281,7 @@ split_text said h =
 words_text : (words : List Text) → Every IsUtf8 words → IfSome (task_of words) IsTextTask
 words_text [] h = no_words IsTextTask
 words_text (word ∷ rest) h =
-    from_words IsTextTask (λ merge. tt) (λ metadce. tt) (λ eval. tt) word rest (from_said IsTextTask (Every IsTextArgument) (said_from split_vocabulary None rest) split_of_arguments split_text (said_texts split_vocabulary None rest h.1)) (any_sample IsTextTask (λ sample. tt) rest)
+    from_words IsTextTask (λ merge. tt) (λ metadce. tt) (λ eval. tt) word rest (from_said IsTextTask (Every IsTextArgument) split_vocabulary (said_from split_vocabulary None rest) split_of_arguments split_text (said_texts split_vocabulary None rest h.1)) (any_sample IsTextTask (λ sample. tt) rest)
 
 pub task_is_text : (words : List Text) → Every IsUtf8 words → (task : Task) → task_of words ≡ Some task → IsTextTask task
 task_is_text words h task e = let P : Option Task → Type 0 = λ o. IfSome o IsTextTask in subst P e (words_text words h)
@@ -291,15 +311,15 @@ any_names : (names : Option SplitNames) → IfSome names (λ n. Unit {0})
 any_names None = tt
 any_names (Some names) = tt
 
-split_unlike : (said : List Argument) → Unit {0} → IfSome (split_of_arguments (arguments_of said)) WritesUnlike
+split_unlike : (said : List Argument) → Unit {0} → IfSome (split_of_arguments (in_order split_vocabulary (arguments_of said))) WritesUnlike
 split_unlike said h =
-    let arguments = arguments_of said in
+    let arguments = in_order split_vocabulary (arguments_of said) in
     made_split WritesUnlike AreUnlike (λ n. Unit {0}) (λ split outputs names. outputs) _ (outputs_said arguments) (words_said arguments) (names_said arguments) (unlike_made (only_value (codes "--primary-output") arguments) (only_value (codes "--secondary-output") arguments)) (any_names (names_said arguments))
 
 words_unlike : (words : List Text) → IfSome (task_of words) WritesUnlike
 words_unlike [] = no_words WritesUnlike
 words_unlike (word ∷ rest) =
-    from_words WritesUnlike (λ merge. tt) (λ metadce. tt) (λ eval. tt) word rest (from_said WritesUnlike (λ said. Unit {0}) (said_from split_vocabulary None rest) split_of_arguments split_unlike (any_said (said_from split_vocabulary None rest))) (any_sample WritesUnlike (λ sample. tt) rest)
+    from_words WritesUnlike (λ merge. tt) (λ metadce. tt) (λ eval. tt) word rest (from_said WritesUnlike (λ said. Unit {0}) split_vocabulary (said_from split_vocabulary None rest) split_of_arguments split_unlike (any_said (said_from split_vocabulary None rest))) (any_sample WritesUnlike (λ sample. tt) rest)
 
 pub task_writes_unlike : (words : List Text) (task : Task) → task_of words ≡ Some task → WritesUnlike task
 task_writes_unlike words task e = let P : Option Task → Type 0 = λ o. IfSome o WritesUnlike in subst P e (words_unlike words)
@@ -315,8 +335,8 @@ IsCounted (Sample sample) = (1 ≤ sample.count) × (sample.count ≤ 100000)
 
 any_split : (P : Task → Type 0) → ((split : SplitTask) → P (Split split)) → (rest : List Text) → IfSome (split_of rest) P
 any_split P f rest =
-    from_said P (λ said. Unit {0}) (said_from split_vocabulary None rest) split_of_arguments
-    (λ said k. let arguments = arguments_of said in made_split P (λ o. Unit {0}) (λ n. Unit {0}) (λ split o n. f split) _ (outputs_said arguments) (words_said arguments) (names_said arguments) (any_outputs (outputs_said arguments)) (any_names (names_said arguments)))
+    from_said P (λ said. Unit {0}) split_vocabulary (said_from split_vocabulary None rest) split_of_arguments
+    (λ said k. let arguments = in_order split_vocabulary (arguments_of said) in made_split P (λ o. Unit {0}) (λ n. Unit {0}) (λ split o n. f split) _ (outputs_said arguments) (words_said arguments) (names_said arguments) (any_outputs (outputs_said arguments)) (any_names (names_said arguments)))
     (any_said (said_from split_vocabulary None rest))
 
 count_of_text : (o : Option Text) → IfSome (option_and_then count_in o) (λ n. (1 ≤ n) × (n ≤ 100000))
@@ -325,9 +345,12 @@ count_of_text (Some text) = in_range 1 100000 text
 
 sample_counted : (rest : List Text) → IfSome (sample_of rest) IsCounted
 sample_counted rest =
-    from_said IsCounted (λ said. Unit {0}) (said_from sample_vocabulary None rest) sample_of_arguments
-    (λ said k. made_sample IsCounted (λ n. (1 ≤ n) × (n ≤ 100000)) (λ sample h. h) _ _ (option_and_then count_in (only_value (codes "--count") (arguments_of said))) _ (count_of_text (only_value (codes "--count") (arguments_of said))))
+    from_said IsCounted (λ said. Unit {0}) sample_vocabulary (said_from sample_vocabulary None rest) sample_of_arguments
+    (λ said k. made_sample IsCounted (λ n. (1 ≤ n) × (n ≤ 100000)) (λ sample h. h) _ _ (option_and_then count_in (count said)) _ (count_of_text (count said)))
     (any_said (said_from sample_vocabulary None rest))
+  where
+    count : List Argument → Option Text
+    count said = only_value (codes "--count") (in_order sample_vocabulary (arguments_of said))
 
 words_counted : (words : List Text) → IfSome (task_of words) IsCounted
 words_counted [] = no_words IsCounted

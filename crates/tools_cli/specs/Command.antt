@@ -1,9 +1,8 @@
 -- What the types of the code stand for.
-use Rattle.std.specs.Prelude.{List, ◌++◌, map, option_map, string_bytes}
-use Rattle.std.specs.Borrow.{Bor}
+use Rattle.std.specs.Prelude.{List, map, option_map, string_bytes}
 use Rattle.tools_cli.specs.CommandLine.{Text}
 use Rattle.tools_cli.specs.CommandLine as words
-use Rattle.tools_cli.specs.Words as said
+pub use Rattle.tools_cli_words.specs.Meaning.{names_of, arguments_value}
 use Rattle.tools_cli.specs.Effects.{Entry}
 use Rattle.tools_cli.specs.Sources.{source_values}
 use Rattle.tools_cli.specs.declared.merge.MergeTask.{MergeTask}
@@ -17,32 +16,8 @@ use Rattle.tools_cli.specs.declared.task.Task.TheVariants as task
 use Rattle.tools_cli.specs.declared.decide.Output.{Output}
 use Rattle.tools_cli.specs.declared.decide.Decision.{Decision}
 use Rattle.tools_cli.specs.Job as job
-use Rattle.tools_cli.specs.declared.argument.Argument.{Argument}
-use Rattle.tools_cli.specs.declared.argument.Argument.TheVariants as word
-use Rattle.tools_cli.specs.declared.arguments.OptionValue.{OptionValue}
-use Rattle.tools_cli.specs.declared.arguments.Arguments.{Arguments}
 use Rattle.tools_cli.specs.declared.gather.Input.{Input}
 use Rattle.tools_cli.specs.declared.perform.Write.{Write}
-
--- The texts of borrowed words.
-abbrev pub names_of : List (Bor Text) → List Text
-names_of words = map (λ w. w.now) words
-
--- What one word says, and what all say together.
-abbrev pub argument_value : Argument → said.Argument
-argument_value (word.Value option value) = said.Value option.now value.now
-argument_value (word.Flag flag) = said.Flag flag.now
-argument_value (word.Plain text) = said.Plain text.now
-
-abbrev pub option_value : OptionValue → said.OptionValue
-option_value v = record { option = v.option.now; value = v.value.now }
-
-abbrev pub arguments_value : Arguments → said.Arguments
-arguments_value arguments = record { values = map option_value arguments.values.items; flags = names_of arguments.flags.items; plain = names_of arguments.plain.items }
-
--- What is said first, and then more.
-abbrev pub join_arguments : said.Arguments → said.Arguments → said.Arguments
-join_arguments first more = record { values = first.values ++ more.values; flags = first.flags ++ more.flags; plain = first.plain ++ more.plain }
 
 -- The task of a command line.
 abbrev pub merge_value : MergeTask → words.MergeTask

@@ -1,8 +1,13 @@
 -- The words of a command line, and the task that they ask for.
-use Rattle.std.specs.Prelude.{ℕ, Bool, true, false, not, ◌&&◌, if◌then◌else◌, List, [], ◌∷◌, ◌++◌, map, Option, Some, None, option_map, option_and_then, bytes_eq, codes}
-use Rattle.std.specs.List.{list_any, cons_option}
-use Rattle.tools_cli.specs.Words.{Vocabulary, Arguments, output_option, said_together, only, only_value, value_if_any, value_or, listed_words, number_within}
-pub use Rattle.tools_cli.specs.Words.{Text}
+use Rattle.std.specs.Prelude.{ℕ, Bool, true, false, if◌then◌else◌, List, [], ◌∷◌, ◌++◌, map, Option, Some, None, option_map, option_and_then, bytes_eq, codes}
+use Rattle.std.specs.List.{cons_option}
+use Rattle.tools_cli_words.specs.Words.{Arguments, output_option, said_together, only, only_value, value_if_any, value_or, listed_words}
+use Rattle.tools_cli_words.specs.Vocabularies.{rename_flag, skip_flag, vocabulary_of}
+pub use Rattle.tools_cli_words.specs.Vocabularies.{merge_vocabulary, metadce_vocabulary, split_vocabulary, ctor_eval_vocabulary, sample_vocabulary}
+use Rattle.tools_cli_words.specs.declared.tool.Tool.{Tool}
+use Rattle.tools_cli_words.specs.declared.tool.Tool.TheVariants as tool
+pub use Rattle.tools_cli_words.specs.Words.{Text, are_apart}
+use Rattle.tools_cli.specs.Numbers.{number_within}
 use Rattle.merge_names.specs.declared.mode.Mode.{Mode}
 use Rattle.merge_names.specs.declared.mode.Mode.TheVariants as mode
 use Rattle.split_spec.specs.declared.names.SplitNames.{SplitNames}
@@ -63,25 +68,11 @@ pub data Task : Type 0 where
 
 -- ---- merge ----
 
-abbrev pub rename_flag : Text
-rename_flag = codes "--rename-export-conflicts"
-
-abbrev pub skip_flag : Text
-skip_flag = codes "--skip-export-conflicts"
-
-abbrev pub merge_vocabulary : Vocabulary
-merge_vocabulary = record { options = output_option ∷ []; flags = rename_flag ∷ skip_flag ∷ [] }
-
 -- Plain words as pairs FILE NAME; none where a file has no name.
 abbrev pub sources_of : List Text → Option (List Source)
 sources_of [] = Some []
 sources_of (file ∷ []) = None
 sources_of (file ∷ name ∷ rest) = option_map (λ sources. record { file = file; name = name } ∷ sources) (sources_of rest)
-
--- No two of the names are equal.
-abbrev pub are_apart : List Text → Bool
-are_apart [] = true
-are_apart (name ∷ names) = not (list_any (bytes_eq name) names) && are_apart names
 
 -- At least one source, with names apart.
 abbrev pub some_apart : List Source → Option (List Source)
@@ -107,9 +98,6 @@ merge_of_arguments arguments = make_merge (option_and_then some_apart (sources_o
 
 -- ---- metadce ----
 
-abbrev pub metadce_vocabulary : Vocabulary
-metadce_vocabulary = record { options = codes "--graph-file" ∷ output_option ∷ []; flags = [] }
-
 abbrev pub make_metadce : Option Text → Option Text → Option Text → Option Task
 make_metadce (Some file) (Some graph_file) (Some output) = Some (Metadce (record { file = file; graph_file = graph_file; output = output }))
 make_metadce _ _ _ = None
@@ -119,12 +107,6 @@ abbrev pub metadce_of_arguments : Arguments → Option Task
 metadce_of_arguments arguments = make_metadce (only arguments.plain) (only_value (codes "--graph-file") arguments) (only_value (output_option) arguments)
 
 -- ---- split ----
-
-abbrev pub split_vocabulary : Vocabulary
-split_vocabulary = record {
-  options = codes "--primary-output" ∷ codes "--secondary-output" ∷ codes "--split-funcs" ∷ codes "--keep-funcs" ∷ codes "--import-namespace" ∷ codes "--placeholder-namespace" ∷ codes "--export-prefix" ∷ [];
-  flags = [];
-}
 
 -- Two outputs that differ.
 abbrev pub make_outputs : (primary secondary : Option Text) → Option SplitOutputs
@@ -163,9 +145,6 @@ split_of_arguments arguments = make_split (only arguments.plain) (outputs_said a
 
 -- ---- ctor-eval ----
 
-abbrev pub ctor_eval_vocabulary : Vocabulary
-ctor_eval_vocabulary = record { options = codes "--ctors" ∷ codes "--kept-exports" ∷ output_option ∷ []; flags = [] }
-
 -- The words of a list that differ.
 abbrev pub words_apart : Text → Option (List Text)
 words_apart text = if are_apart (listed_words text) then Some (listed_words text) else None
@@ -185,9 +164,6 @@ ctor_eval_of_arguments arguments =
     make_ctor_eval (only arguments.plain) (option_and_then words_apart (only_value (codes "--ctors") arguments)) (value_if_any (codes "--kept-exports") arguments) (only_value (output_option) arguments)
 
 -- ---- sample ----
-
-abbrev pub sample_vocabulary : Vocabulary
-sample_vocabulary = record { options = codes "--seed" ∷ codes "--count" ∷ output_option ∷ []; flags = [] }
 
 -- The seed, from 0 to 2^31 - 1, and how many functions each of the two modules has, from 1 to 100000.
 abbrev pub seed_in : Text → Option ℕ
@@ -232,6 +208,33 @@ task_of (word ∷ rest) =
     else (if bytes_eq word (codes "split") then split_of rest
     else (if bytes_eq word (codes "ctor-eval") then ctor_eval_of rest
     else (if bytes_eq word (codes "sample") then sample_of rest else None))))
+
+-- The tool that a first word names.
+abbrev pub tool_named : Text → Option Tool
+tool_named word =
+    if bytes_eq word (codes "merge") then Some tool.Merge
+    else (if bytes_eq word (codes "metadce") then Some tool.Metadce
+    else (if bytes_eq word (codes "split") then Some tool.Split
+    else (if bytes_eq word (codes "ctor-eval") then Some tool.CtorEval
+    else (if bytes_eq word (codes "sample") then Some tool.Sample else None))))
+
+-- The tool of a command line.
+abbrev pub tool_in : List Text → Option Tool
+tool_in [] = None
+tool_in (word ∷ _) = tool_named word
+
+-- What a command line says to the tool that its first word names.
+abbrev pub said_to_tool : List Text → Option Arguments
+said_to_tool [] = None
+said_to_tool (word ∷ rest) = option_and_then (λ t. said_together (vocabulary_of t) rest) (tool_named word)
+
+-- The task of a tool by what is said to it, or none.
+abbrev pub task_of_arguments : Tool → Arguments → Option Task
+task_of_arguments tool.Merge arguments = merge_of_arguments arguments
+task_of_arguments tool.Metadce arguments = metadce_of_arguments arguments
+task_of_arguments tool.Split arguments = split_of_arguments arguments
+task_of_arguments tool.CtorEval arguments = ctor_eval_of_arguments arguments
+task_of_arguments tool.Sample arguments = sample_of_arguments arguments
 
 -- ---- what a task reads, writes and prints ----
 

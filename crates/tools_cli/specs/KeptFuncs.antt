@@ -7,7 +7,7 @@ use Rattle.wasm_tree.specs.declared.module.Module.{Module}
 use Rattle.wasm_tree.specs.Operands.{same_space}
 use Rattle.wasm_tree.specs.Spaces.{space_of_export, index_of_export}
 use Rattle.wasm_names.specs.declared.func_name.FuncName.{FuncName}
-use Rattle.tools_cli.specs.Words.{Text}
+use Rattle.tools_cli_words.specs.Words.{Text}
 
 -- The first name that a name list gives the function.
 abbrev pub listed_name : List FuncName → (func : ℕ) → Option Text

@@ -1,4 +1,4 @@
-pub mod Words
+pub mod Numbers
 pub mod CommandLine
 pub mod Effects
 pub mod Texts

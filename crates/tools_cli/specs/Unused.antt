@@ -8,7 +8,7 @@ use Rattle.dce_graph.specs.declared.graph.Graph.{Graph}
 use Rattle.dce_graph.specs.declared.graph.Node.{Node}
 use Rattle.dce_graph.specs.declared.point.Point.TheVariants as point
 use Rattle.dce_graph.specs.Reach.{IsReached}
-use Rattle.tools_cli.specs.Words.{Text}
+use Rattle.tools_cli_words.specs.Words.{Text}
 
 -- A node of this name is there, and no path from a root leads to it.
 abbrev pub IsUnused : Graph → Module → Text → Type 0

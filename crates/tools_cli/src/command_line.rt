@@ -1,14 +1,10 @@
 // The task that the words of a command line ask for.
 ghost use Rattle.std.specs.Prelude.{◌≡◌, ◌<◌, ◌≤◌, ◌^◌, true, map, option_map, option_and_then, string_bytes, IfOk, IfSome};
-ghost use Rattle.tools_cli.specs.Words.{listed_words};
-ghost use Rattle.tools_cli.specs.CommandLine.{task_of, merge_of, metadce_of, split_of, merge_of_arguments, metadce_of_arguments, split_of_arguments, outputs_said, words_said, names_said, ctor_eval_of, ctor_eval_of_arguments, words_apart, words_if_any, sample_of, sample_of_arguments, seed_in, count_in, sources_of, some_apart, are_apart, flag_mode, merge_mode, usage_line};
+ghost use Rattle.tools_cli_words.specs.Words.{listed_words};
+ghost use Rattle.tools_cli.specs.CommandLine.{task_of, task_of_arguments, tool_named, tool_in, said_to_tool, merge_of_arguments, metadce_of_arguments, split_of_arguments, outputs_said, words_said, names_said, ctor_eval_of_arguments, words_apart, words_if_any, sample_of_arguments, seed_in, count_in, sources_of, some_apart, are_apart, flag_mode, merge_mode, usage_line};
 ghost use Rattle.tools_cli.specs.Command.{task_value, outputs_value, arguments_value, names_of};
 ghost use Rattle.tools_cli.specs.Sources.{source_values, source_names};
 
-use crate::argument::OUTPUT_OPTION;
-use crate::arguments::{
-    Arguments, cut, listed_words, only, only_value, read_arguments, value_if_any, value_or,
-};
 use crate::ctor_eval::CtorEvalTask;
 use crate::merge::{MergeTask, Source};
 use crate::metadce::MetadceTask;
@@ -20,7 +16,11 @@ use merge_names::Mode;
 use split_spec::SplitNames;
 use std::alloc::Global;
 use std::collections::BTreeMap;
+use tools_cli_words::{Arguments, Tool, cut, listed_words, read_arguments};
 use wasm_bytes::{Items, Name, NoMemory};
+
+// The option of a command with one output.
+const OUTPUT_OPTION: &str = "--output";
 
 // Plain words as pairs of a file and a name; none where a file has no name.
 fn pair<'a>(alloc: Global, plain: &[&'a str]) -> Result<Option<Vec<Source<'a>>>, NoMemory>
@@ -107,14 +107,15 @@ fn merge_mode(flags: &[&str]) -> Option<Mode>
 // The merge of what is said, or none.
 fn merge_of_arguments<'a>(
     alloc: Global,
-    arguments: &Arguments<'a>,
+    arguments: &'a Arguments,
 ) -> Result<Option<Task<'a>>, NoMemory>
     ensures { IfOk result (λ task. option_map task_value task ≡ merge_of_arguments (arguments_value arguments.now)) }
 {
-    let Some(sources) = some_apart(alloc, arguments.plain.as_slice())? else {
+    let plain = arguments.plain_words(alloc)?;
+    let Some(sources) = some_apart(alloc, plain.as_slice())? else {
         return Ok(None);
     };
-    let Some(output) = only_value(OUTPUT_OPTION, arguments) else {
+    let Some(output) = arguments.only_value(OUTPUT_OPTION) else {
         return Ok(None);
     };
     let Some(mode) = merge_mode(arguments.flags.as_slice()) else {
@@ -127,25 +128,13 @@ fn merge_of_arguments<'a>(
     })))
 }
 
-// The merge that the words after `merge` ask for, or none.
-fn parse_merge<'a>(alloc: Global, words: &'a [String]) -> Result<Option<Task<'a>>, NoMemory>
-    ensures { IfOk result (λ task. option_map task_value task ≡ merge_of (map string_bytes words.now)) }
-{
-    let options = [OUTPUT_OPTION];
-    let flags = ["--rename-export-conflicts", "--skip-export-conflicts"];
-    match read_arguments(alloc, &options, &flags, words)? {
-        Some(arguments) => merge_of_arguments(alloc, &arguments),
-        None => Ok(None),
-    }
-}
-
 // The metadce of what is said, or none.
-fn metadce_of_arguments<'a>(arguments: &Arguments<'a>) -> Option<Task<'a>>
+fn metadce_of_arguments<'a>(arguments: &'a Arguments) -> Option<Task<'a>>
     ensures { option_map task_value result ≡ metadce_of_arguments (arguments_value arguments.now) }
 {
-    let file = only(arguments.plain.as_slice())?;
-    let graph_file = only_value("--graph-file", arguments)?;
-    let output = only_value(OUTPUT_OPTION, arguments)?;
+    let file = arguments.only_plain()?;
+    let graph_file = arguments.only_value("--graph-file")?;
+    let output = arguments.only_value(OUTPUT_OPTION)?;
     Some(Task::Metadce(MetadceTask {
         file,
         graph_file,
@@ -153,23 +142,12 @@ fn metadce_of_arguments<'a>(arguments: &Arguments<'a>) -> Option<Task<'a>>
     }))
 }
 
-// The metadce that the words after `metadce` ask for, or none.
-fn parse_metadce<'a>(alloc: Global, words: &'a [String]) -> Result<Option<Task<'a>>, NoMemory>
-    ensures { IfOk result (λ task. option_map task_value task ≡ metadce_of (map string_bytes words.now)) }
-{
-    let options = ["--graph-file", OUTPUT_OPTION];
-    match read_arguments(alloc, &options, &[], words)? {
-        Some(arguments) => Ok(metadce_of_arguments(&arguments)),
-        None => Ok(None),
-    }
-}
-
 // Two outputs that differ, or none.
-fn outputs_said<'a>(arguments: &Arguments<'a>) -> Option<SplitOutputs<'a>>
+fn outputs_said<'a>(arguments: &'a Arguments) -> Option<SplitOutputs<'a>>
     ensures { option_map outputs_value result ≡ outputs_said (arguments_value arguments.now) }
 {
-    let primary = only_value("--primary-output", arguments)?;
-    let secondary = only_value("--secondary-output", arguments)?;
+    let primary = arguments.only_value("--primary-output")?;
+    let secondary = arguments.only_value("--secondary-output")?;
     if primary == secondary {
         return None;
     }
@@ -187,13 +165,13 @@ fn words_in(alloc: Global, list: Option<&str>) -> Result<Option<Items<Name>>, No
 }
 
 // The words to split, the words to keep, or both, or none.
-fn words_said(alloc: Global, arguments: &Arguments<'_>) -> Result<Option<SplitWords>, NoMemory>
+fn words_said(alloc: Global, arguments: &Arguments) -> Result<Option<SplitWords>, NoMemory>
     ensures { IfOk result (λ words. words ≡ words_said (arguments_value arguments.now)) }
 {
-    let Some(split) = value_if_any("--split-funcs", arguments) else {
+    let Some(split) = arguments.value_if_any("--split-funcs") else {
         return Ok(None);
     };
-    let Some(keep) = value_if_any("--keep-funcs", arguments) else {
+    let Some(keep) = arguments.value_if_any("--keep-funcs") else {
         return Ok(None);
     };
     if split.is_none() && keep.is_none() {
@@ -206,16 +184,16 @@ fn words_said(alloc: Global, arguments: &Arguments<'_>) -> Result<Option<SplitWo
 }
 
 // The names that a split adds, or none.
-fn names_said(alloc: Global, arguments: &Arguments<'_>) -> Result<Option<SplitNames>, NoMemory>
+fn names_said(alloc: Global, arguments: &Arguments) -> Result<Option<SplitNames>, NoMemory>
     ensures { IfOk result (λ names. names ≡ names_said (arguments_value arguments.now)) }
 {
-    let Some(importing) = value_or("--import-namespace", "primary", arguments) else {
+    let Some(importing) = arguments.value_or("--import-namespace", "primary") else {
         return Ok(None);
     };
-    let Some(placeholder) = value_or("--placeholder-namespace", "placeholder", arguments) else {
+    let Some(placeholder) = arguments.value_or("--placeholder-namespace", "placeholder") else {
         return Ok(None);
     };
-    let Some(prefix) = value_or("--export-prefix", "%", arguments) else {
+    let Some(prefix) = arguments.value_or("--export-prefix", "%") else {
         return Ok(None);
     };
     Ok(Some(SplitNames {
@@ -228,11 +206,11 @@ fn names_said(alloc: Global, arguments: &Arguments<'_>) -> Result<Option<SplitNa
 // The split of what is said, or none.
 fn split_of_arguments<'a>(
     alloc: Global,
-    arguments: &Arguments<'a>,
+    arguments: &'a Arguments,
 ) -> Result<Option<Task<'a>>, NoMemory>
     ensures { IfOk result (λ task. option_map task_value task ≡ split_of_arguments (arguments_value arguments.now)) }
 {
-    let Some(file) = only(arguments.plain.as_slice()) else {
+    let Some(file) = arguments.only_plain() else {
         return Ok(None);
     };
     let Some(outputs) = outputs_said(arguments) else {
@@ -250,25 +228,6 @@ fn split_of_arguments<'a>(
         words,
         names,
     })))
-}
-
-// The split that the words after `split` ask for, or none.
-fn parse_split<'a>(alloc: Global, words: &'a [String]) -> Result<Option<Task<'a>>, NoMemory>
-    ensures { IfOk result (λ task. option_map task_value task ≡ split_of (map string_bytes words.now)) }
-{
-    let options = [
-        "--primary-output",
-        "--secondary-output",
-        "--split-funcs",
-        "--keep-funcs",
-        "--import-namespace",
-        "--placeholder-namespace",
-        "--export-prefix",
-    ];
-    match read_arguments(alloc, &options, &[], words)? {
-        Some(arguments) => split_of_arguments(alloc, &arguments),
-        None => Ok(None),
-    }
 }
 
 // The words of a list, if they differ.
@@ -296,23 +255,23 @@ fn words_if_any(alloc: Global, list: Option<&str>) -> Result<Items<Name>, NoMemo
 // The evaluation of what is said, or none.
 fn ctor_eval_of_arguments<'a>(
     alloc: Global,
-    arguments: &Arguments<'a>,
+    arguments: &'a Arguments,
 ) -> Result<Option<Task<'a>>, NoMemory>
     ensures { IfOk result (λ task. option_map task_value task ≡ ctor_eval_of_arguments (arguments_value arguments.now)) }
 {
-    let Some(file) = only(arguments.plain.as_slice()) else {
+    let Some(file) = arguments.only_plain() else {
         return Ok(None);
     };
-    let Some(list) = only_value("--ctors", arguments) else {
+    let Some(list) = arguments.only_value("--ctors") else {
         return Ok(None);
     };
     let Some(ctors) = words_apart(alloc, list)? else {
         return Ok(None);
     };
-    let Some(kept) = value_if_any("--kept-exports", arguments) else {
+    let Some(kept) = arguments.value_if_any("--kept-exports") else {
         return Ok(None);
     };
-    let Some(output) = only_value(OUTPUT_OPTION, arguments) else {
+    let Some(output) = arguments.only_value(OUTPUT_OPTION) else {
         return Ok(None);
     };
     let kept = words_if_any(alloc, kept)?;
@@ -322,17 +281,6 @@ fn ctor_eval_of_arguments<'a>(
         kept,
         output,
     })))
-}
-
-// The evaluation that the words after `ctor-eval` ask for, or none.
-fn parse_ctor_eval<'a>(alloc: Global, words: &'a [String]) -> Result<Option<Task<'a>>, NoMemory>
-    ensures { IfOk result (λ task. option_map task_value task ≡ ctor_eval_of (map string_bytes words.now)) }
-{
-    let options = ["--ctors", "--kept-exports", OUTPUT_OPTION];
-    match read_arguments(alloc, &options, &[], words)? {
-        Some(arguments) => ctor_eval_of_arguments(alloc, &arguments),
-        None => Ok(None),
-    }
 }
 
 // The seed of a sample, or none.
@@ -353,15 +301,15 @@ fn count_in(text: &str) -> Option<u32>
 }
 
 // The sample of what is said, or none.
-fn sample_of_arguments<'a>(arguments: &Arguments<'a>) -> Option<Task<'a>>
+fn sample_of_arguments<'a>(arguments: &'a Arguments) -> Option<Task<'a>>
     ensures { option_map task_value result ≡ sample_of_arguments (arguments_value arguments.now) }
 {
     if !arguments.plain.is_empty() {
         return None;
     }
-    let seed = seed_in(only_value("--seed", arguments)?)?;
-    let count = count_in(only_value("--count", arguments)?)?;
-    let output = value_if_any(OUTPUT_OPTION, arguments)?;
+    let seed = seed_in(arguments.only_value("--seed")?)?;
+    let count = count_in(arguments.only_value("--count")?)?;
+    let output = arguments.value_if_any(OUTPUT_OPTION)?;
     Some(Task::Sample(SampleTask {
         seed,
         count,
@@ -369,41 +317,87 @@ fn sample_of_arguments<'a>(arguments: &Arguments<'a>) -> Option<Task<'a>>
     }))
 }
 
-// The sample that the words after `sample` ask for, or none.
-fn parse_sample<'a>(alloc: Global, words: &'a [String]) -> Result<Option<Task<'a>>, NoMemory>
-    ensures { IfOk result (λ task. option_map task_value task ≡ sample_of (map string_bytes words.now)) }
+// The tool that a first word names.
+fn tool_named(word: &str) -> Option<Tool>
+    ensures { result ≡ tool_named word.now }
 {
-    let options = ["--seed", "--count", OUTPUT_OPTION];
-    match read_arguments(alloc, &options, &[], words)? {
-        Some(arguments) => Ok(sample_of_arguments(&arguments)),
-        None => Ok(None),
+    if word == "merge" {
+        return Some(Tool::Merge);
+    }
+    if word == "metadce" {
+        return Some(Tool::Metadce);
+    }
+    if word == "split" {
+        return Some(Tool::Split);
+    }
+    if word == "ctor-eval" {
+        return Some(Tool::CtorEval);
+    }
+    if word == "sample" {
+        return Some(Tool::Sample);
+    }
+    None
+}
+
+// The tool of a command line.
+fn tool_in(words: &[String]) -> Option<Tool>
+    ensures { result ≡ tool_in (map string_bytes words.now) }
+{
+    match words.first() {
+        Some(word) => tool_named(word.as_str()),
+        None => None,
     }
 }
 
-/// The task of a command line, or none.
-#[tactic(auto, unfolding(crate::specs::CommandLine::task_of))]
-pub(crate) fn parse<'a>(alloc: Global, words: &'a [String]) -> Result<Option<Task<'a>>, NoMemory>
-    ensures { IfOk result (λ task. option_map task_value task ≡ task_of (map string_bytes words.now)) }
+/// What a command line says to its tool, or none.
+pub(crate) fn said_to_tool(alloc: Global, words: &[String]) -> Result<Option<Arguments>, NoMemory>
+    ensures { IfOk result (λ said. option_map arguments_value said ≡ said_to_tool (map string_bytes words.now)) }
 {
     let Some((word, rest)) = words.split_first() else {
         return Ok(None);
     };
-    if word.as_str() == "merge" {
-        return parse_merge(alloc, rest);
+    match tool_named(word.as_str()) {
+        Some(tool) => read_arguments(alloc, tool, rest),
+        None => Ok(None),
     }
-    if word.as_str() == "metadce" {
-        return parse_metadce(alloc, rest);
+}
+
+// The task of a tool by what is said to it, or none.
+fn task_of_arguments<'a>(
+    alloc: Global,
+    tool: Tool,
+    arguments: &'a Arguments,
+) -> Result<Option<Task<'a>>, NoMemory>
+    ensures { IfOk result (λ task. option_map task_value task ≡ task_of_arguments tool (arguments_value arguments.now)) }
+{
+    match tool {
+        Tool::Merge => merge_of_arguments(alloc, arguments),
+        Tool::Metadce => Ok(metadce_of_arguments(arguments)),
+        Tool::Split => split_of_arguments(alloc, arguments),
+        Tool::CtorEval => ctor_eval_of_arguments(alloc, arguments),
+        Tool::Sample => Ok(sample_of_arguments(arguments)),
     }
-    if word.as_str() == "split" {
-        return parse_split(alloc, rest);
+}
+
+/// The task of a command line, or none. `said` is what the command line says to its tool. Where there
+/// was no memory to read that, the result is want of memory too.
+pub(crate) fn parse<'a>(
+    alloc: Global,
+    words: &[String],
+    said: &'a Result<Option<Arguments>, NoMemory>,
+) -> Result<Option<Task<'a>>, NoMemory>
+    requires { IfOk said.now (λ a. option_map arguments_value a ≡ said_to_tool (map string_bytes words.now)) }
+    ensures { IfOk result (λ task. option_map task_value task ≡ task_of (map string_bytes words.now)) }
+{
+    let arguments = match said {
+        Ok(Some(arguments)) => arguments,
+        Ok(None) => return Ok(None),
+        Err(_) => return Err(NoMemory),
+    };
+    match tool_in(words) {
+        Some(tool) => task_of_arguments(alloc, tool, arguments),
+        None => Ok(None),
     }
-    if word.as_str() == "ctor-eval" {
-        return parse_ctor_eval(alloc, rest);
-    }
-    if word.as_str() == "sample" {
-        return parse_sample(alloc, rest);
-    }
-    Ok(None)
 }
 
 /// The usage line of these words.

@@ -1,7 +1,7 @@
 // Numbers among the words of a command line.
 ghost use Rattle.std.specs.Prelude.{◌≡◌, ◌<◌, ◌^◌};
 ghost use Rattle.std.specs.Str.{all_ascii_digits};
-ghost use Rattle.tools_cli.specs.Words.{is_number, number_within};
+ghost use Rattle.tools_cli.specs.Numbers.{is_number, number_within};
 
 fn are_digits(bytes: &[u8]) -> bool
     ensures { result ≡ all_ascii_digits bytes.now }

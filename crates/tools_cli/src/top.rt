@@ -6,6 +6,7 @@ ghost use Rattle.tools_cli.specs.Stop.{Says};
 ghost use Rattle.tools_cli.specs.Kept.{EndsKept};
 ghost use Rattle.tools_cli.specs.Run.{ChangesByTheJob, PrintsForTheJob, PrintsNothing, EndsDone, EndsRefused, HasStatus, HasOutsideCause, SomeRose, IsSame, Gains, HostState};
 
+use crate::command_line::said_to_tool;
 use crate::laws::done_jobs_keep_the_modules;
 use crate::stop::{Status, report};
 use crate::work::run_command;
@@ -59,7 +60,8 @@ pub fn run<F: Files, O: Sink, E: Sink>(
     ensures no_task { task_of (map string_bytes words.now) ≡ None → Rose (E.faults err.old) (E.faults err.new) ⊎ ((result ≡ Status.NoMemory) ⊎ (result ≡ Status.Usage)) }
 {
     done_jobs_keep_the_modules();
-    match run_command(alloc, words, files, out) {
+    let said = said_to_tool(alloc, words);
+    match run_command(alloc, words, &said, files, out) {
         Ok(()) => Status::Done,
         Err(stop) => report(err, &stop),
     }

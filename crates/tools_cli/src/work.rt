@@ -1,15 +1,15 @@
 // The work of a command, up to what is said of a stop.
-ghost use Rattle.std.specs.Prelude.{◌≡◌, ◌≤◌, ◌++◌, [], map, string_bytes, OnOk, IfOk, IfErr, IfSome, None};
+ghost use Rattle.std.specs.Prelude.{◌≡◌, ◌≤◌, ◌++◌, [], map, string_bytes, option_map, OnOk, IfOk, IfErr, IfSome, None};
 ghost use Rattle.base_lists.specs.Every.{Every};
 ghost use Rattle.wasm_bytes.specs.Reading.{IsBytes};
 ghost use Rattle.tool_io.specs.FilesAndSinks.{NoneFell, Becomes, AppendsPrefix};
 ghost use Rattle.tools_cli.specs.Kept.{HoldBytesAt, ReadsBytes};
 ghost use Rattle.tools_cli.specs.Effects.{IsCut, written_names};
 ghost use Rattle.tools_cli.specs.Job.{InputsJob, TaskJob, Done, Refused, Whole, gathered, refused_before, most_input};
-ghost use Rattle.tools_cli.specs.Command.{task_value, input_entries, write_entries};
+ghost use Rattle.tools_cli.specs.Command.{task_value, arguments_value, input_entries, write_entries};
 ghost use Rattle.tools_cli.specs.Causes.{AreOutputs, PrintsAsAllowed, StopsWith, StopsGathering, StopsPreparing, StopsPrinting, StopsFinishing, AllWritten, PrintsAfter, total};
 ghost use Rattle.tools_cli.specs.Run.{ChangesByTheJob, PrintsForTheJob, PrintsNothing, EndsDone, IsSame, IsUsage, StopsWork};
-ghost use Rattle.tools_cli.specs.CommandLine.{task_of, inputs_of};
+ghost use Rattle.tools_cli.specs.CommandLine.{task_of, said_to_tool, inputs_of};
 
 use crate::command_line::{parse, usage};
 use crate::decide::decide;
@@ -21,6 +21,8 @@ use crate::stop::Stop;
 use crate::task::Task;
 use std::alloc::Global;
 use tool_io::{Files, IoFault, Sink};
+use tools_cli_words::Arguments;
+use wasm_bytes::NoMemory;
 use wasm_tree::MOST_INPUT_BYTES;
 
 // Reads the files of a task, in order.
@@ -109,13 +111,15 @@ fn finish<'a, F: Files, O: Sink>(files: &mut F, out: &mut O, plan: Plan) -> Resu
     print_lines(out, lines.as_slice())
 }
 
-/// Does what a command line asks for.
+/// Does what a command line asks for, by what it says to its tool.
 pub(crate) fn run_command<'a, F: Files, O: Sink>(
     alloc: Global,
-    words: &'a [String],
+    words: &[String],
+    said: &'a Result<Option<Arguments>, NoMemory>,
     files: &mut F,
     out: &mut O,
 ) -> Result<(), Stop<'a>>
+    requires said { IfOk said.now (λ a. option_map arguments_value a ≡ said_to_tool (map string_bytes words.now)) }
     ensures reads { NoneFell (F.read_faults files.old) (F.read_faults files.new) }
     ensures writes { NoneFell (F.write_faults files.old) (F.write_faults files.new) }
     ensures later { O.faults out.old ≤ O.faults out.new }
@@ -129,7 +133,7 @@ pub(crate) fn run_command<'a, F: Files, O: Sink>(
         (record { files = F.contents files.old; reads = F.read_faults files.old; writes = F.write_faults files.old; out = O.bytes out.old; out_faults = O.faults out.old })
         (record { files = F.contents files.new; reads = F.read_faults files.new; writes = F.write_faults files.new; out = O.bytes out.new; out_faults = O.faults out.new })) }
 {
-    let Some(task) = parse(alloc, words)? else {
+    let Some(task) = parse(alloc, words, said)? else {
         return Err(Stop::Usage(usage(words)));
     };
     let plan = prepare(alloc, &task, files)?;

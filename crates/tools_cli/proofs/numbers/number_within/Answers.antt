@@ -1,5 +1,5 @@
 use Rattle.std.proofs.Common.{◌≡◌, sym, true, rules}
-use Rattle.tools_cli.specs.Words.{is_number}
+use Rattle.tools_cli.specs.Numbers.{is_number}
 use Rattle.tools_cli.proofs.NumberTexts.{not_parsed}
 use Rattle.tools_cli.proofs.numbers.number_within.Goals as goal
 

@@ -13,40 +13,40 @@ returns-in-Ok-clause-kept g c is =
 pub returns-in-Ok-clause-says : goal.returns-in-Ok-clause-says
 returns-in-Ok-clause-says g c = says_nothing _
 
-pub returns-in-Err-clause-says : goal.returns-in-Err-clause-says
-returns-in-Err-clause-says g c =
+pub returns-clause-says : goal.returns-clause-says
+returns-clause-says g c =
     let old : HostState = record { files = g.F.Files.contents c.args.files.now; reads = g.F.Files.read_faults c.args.files.now; writes = g.F.Files.write_faults c.args.files.now; out = g.O.Sink.bytes c.args.out.now; out_faults = g.O.Sink.faults c.args.out.now } in
     let new : HostState = record { files = g.F.Files.contents c.run_command.new.files; reads = g.F.Files.read_faults c.run_command.new.files; writes = g.F.Files.write_faults c.run_command.new.files; out = g.O.Sink.bytes c.run_command.new.out; out_faults = g.O.Sink.faults c.run_command.new.out } in
     says_a_line (map string_bytes c.args.words.now) old new c.in-Err.stop _ _ c.in-Err.ensures.stops c.report.ensures.prefix
 
-pub returns-in-Err-clause-outside : goal.returns-in-Err-clause-outside
-returns-in-Err-clause-outside g c is =
+pub returns-clause-outside : goal.returns-clause-outside
+returns-clause-outside g c is =
     let old : HostState = record { files = g.F.Files.contents c.args.files.now; reads = g.F.Files.read_faults c.args.files.now; writes = g.F.Files.write_faults c.args.files.now; out = g.O.Sink.bytes c.args.out.now; out_faults = g.O.Sink.faults c.args.out.now } in
     let new : HostState = record { files = g.F.Files.contents c.run_command.new.files; reads = g.F.Files.read_faults c.run_command.new.files; writes = g.F.Files.write_faults c.run_command.new.files; out = g.O.Sink.bytes c.run_command.new.out; out_faults = g.O.Sink.faults c.run_command.new.out } in
     outside_cause (map string_bytes c.args.words.now) old new c.in-Err.stop _ _ _ _ c.report.result c.in-Err.ensures.stops c.report.ensures.reports is
 
-pub returns-in-Err-clause-complete : goal.returns-in-Err-clause-complete
-returns-in-Err-clause-complete g c =
+pub returns-clause-complete : goal.returns-clause-complete
+returns-clause-complete g c =
     let old : HostState = record { files = g.F.Files.contents c.args.files.now; reads = g.F.Files.read_faults c.args.files.now; writes = g.F.Files.write_faults c.args.files.now; out = g.O.Sink.bytes c.args.out.now; out_faults = g.O.Sink.faults c.args.out.now } in
     let new : HostState = record { files = g.F.Files.contents c.run_command.new.files; reads = g.F.Files.read_faults c.run_command.new.files; writes = g.F.Files.write_faults c.run_command.new.files; out = g.O.Sink.bytes c.run_command.new.out; out_faults = g.O.Sink.faults c.run_command.new.out } in
     complete_at_stop (map string_bytes c.args.words.now) old new c.in-Err.stop _ _ _ _ c.report.result c.in-Err.ensures.stops c.report.ensures.reports
 
-pub returns-in-Err-clause-no_task : goal.returns-in-Err-clause-no_task
-returns-in-Err-clause-no_task g c none =
+pub returns-clause-no_task : goal.returns-clause-no_task
+returns-clause-no_task g c none =
     let P = λ (r : Result (Unit {0}) Stop). IsUsage r in
     usage_at_stop c.in-Err.stop _ _ _ _ c.report.result (subst P c.in-Err.is (c.run_command.ensures.no_task none)) c.report.ensures.reports
 
-pub returns-in-Err-clause-usage : goal.returns-in-Err-clause-usage
-returns-in-Err-clause-usage g c is =
+pub returns-clause-usage : goal.returns-clause-usage
+returns-clause-usage g c is =
     let old : HostState = record { files = g.F.Files.contents c.args.files.now; reads = g.F.Files.read_faults c.args.files.now; writes = g.F.Files.write_faults c.args.files.now; out = g.O.Sink.bytes c.args.out.now; out_faults = g.O.Sink.faults c.args.out.now } in
     let new : HostState = record { files = g.F.Files.contents c.run_command.new.files; reads = g.F.Files.read_faults c.run_command.new.files; writes = g.F.Files.write_faults c.run_command.new.files; out = g.O.Sink.bytes c.run_command.new.out; out_faults = g.O.Sink.faults c.run_command.new.out } in
     usage_told (map string_bytes c.args.words.now) old new c.in-Err.stop _ _ _ _ c.report.result c.in-Err.ensures.stops c.report.ensures.reports is
 
-pub returns-in-Err-clause-done : goal.returns-in-Err-clause-done
-returns-in-Err-clause-done g c is = absurd (no_stop_is_done c.in-Err.stop _ _ _ _ c.report.result c.report.ensures.reports is)
+pub returns-clause-done : goal.returns-clause-done
+returns-clause-done g c is = absurd (no_stop_is_done c.in-Err.stop _ _ _ _ c.report.result c.report.ensures.reports is)
 
-pub returns-in-Err-clause-refused : goal.returns-in-Err-clause-refused
-returns-in-Err-clause-refused g c is =
+pub returns-clause-refused : goal.returns-clause-refused
+returns-clause-refused g c is =
     let old : HostState = record { files = g.F.Files.contents c.args.files.now; reads = g.F.Files.read_faults c.args.files.now; writes = g.F.Files.write_faults c.args.files.now; out = g.O.Sink.bytes c.args.out.now; out_faults = g.O.Sink.faults c.args.out.now } in
     let new : HostState = record { files = g.F.Files.contents c.run_command.new.files; reads = g.F.Files.read_faults c.run_command.new.files; writes = g.F.Files.write_faults c.run_command.new.files; out = g.O.Sink.bytes c.run_command.new.out; out_faults = g.O.Sink.faults c.run_command.new.out } in
     refusal_told (map string_bytes c.args.words.now) old new c.in-Err.stop _ _ _ _ c.report.result c.in-Err.ensures.stops c.report.ensures.reports is

@@ -1,7 +1,0 @@
-use Rattle.std.proofs.Common.{◌≡◌, drop}
-use Rattle.tools_cli.specs.Words.{joined_value}
-use Rattle.tools_cli.specs.Command.{names_of}
-use Rattle.tools_cli.proofs.argument.joined_value.Given as goal
-
-abbrev pub invariant-loop-option : goal.invariant-loop-option
-invariant-loop-option l = joined_value (names_of l.options) l.word ≡ joined_value (names_of (drop l.option-index l.options)) l.word

@@ -1,0 +1,9 @@
+pub mod Equal
+pub mod Given
+pub mod Lines
+pub mod Lookups
+pub mod Proper
+pub mod Reader
+pub mod Readers
+pub mod Rows
+pub mod Walking

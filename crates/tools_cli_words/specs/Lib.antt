@@ -1,0 +1,4 @@
+pub mod Words
+pub mod Vocabularies
+pub mod Meaning
+pub mod Reader
