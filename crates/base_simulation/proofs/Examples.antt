@@ -3,7 +3,7 @@ use Rattle.std.proofs.Common.{◌≡◌, ℕ, zero, suc, ◌+◌, ◌*◌, List,
 use Rattle.base_simulation.specs.Machines.{Machine, events_of, IsPrefix}
 use Rattle.base_simulation.specs.Simulations.{StepsTogether}
 use Rattle.base_simulation.proofs.Lockstep.{lockstep}
-use Rattle.base_simulation.proofs.Led.{Leads, both, second, led_show_the_same, LeadsSome, led_by_some_show_the_same}
+use Rattle.base_simulation.proofs.LedRuns.{Leads, both, second, led_traces_are_equal, LeadsSome, stuttering_simulation}
 
 -- it counts, and shows each number
 abbrev counts : Machine ℕ ℕ
@@ -28,14 +28,14 @@ both_double s q e = record { event = ap Some e; states = omega (arith, e) }
 by_two_shows_doubles : (n : ℕ) → events_of by_two 0 n ≡ events_of doubles 0 n
 by_two_shows_doubles = lockstep by_two doubles (λ s q. s ≡ q + q) both_double 0 0 refl
 
--- ---- a number of silent steps in all ----
+-- ---- a number of stuttering steps in all ----
 
 -- it waits first
 abbrev waits : Machine (ℕ × ℕ) ℕ
 waits (zero, n) = ((zero, suc n), Some n)
 waits (suc k, n) = ((k, n), None)
 
--- the silent steps that are left are those for which it waits
+-- the stuttering steps that are left are those for which it waits
 data Waiting : (d e : ℕ) → ℕ → ℕ × ℕ → Type 0 where
   for : {k n : ℕ} → Waiting k 0 n (k, n)
 
@@ -44,7 +44,7 @@ still_waits d e s (zero, n) for = both refl for
 still_waits d e s (suc k, n) for = second refl for
 
 waits_in_two_more : (n : ℕ) → IsPrefix (events_of counts 0 n) (events_of waits (2, 0) (n + 2)) × IsPrefix (events_of waits (2, 0) n) (events_of counts 0 (n + 0))
-waits_in_two_more = led_show_the_same counts waits Waiting still_waits 2 0 0 (2, 0) for
+waits_in_two_more = led_traces_are_equal counts waits Waiting still_waits 2 0 0 (2, 0) for
 
 -- one more is too few
 not_in_one_more : ((n : ℕ) → IsPrefix (events_of counts 0 n) (events_of waits (2, 0) (n + 1))) → ⊥
@@ -64,7 +64,7 @@ still_rests : (s : ℕ) (q : ℕ × ℕ) → Rested s q → LeadsSome counts res
 still_rests s q at = record { further = 2; bound = omega arith; shown = refl; states = at }
 
 rests_in_three_times_as_many : (n : ℕ) → IsPrefix (events_of counts 0 n) (events_of rests (2, 0) (3 * n)) × IsPrefix (events_of rests (2, 0) n) (events_of counts 0 n)
-rests_in_three_times_as_many = led_by_some_show_the_same counts rests 3 Rested still_rests 0 (2, 0) at
+rests_in_three_times_as_many = stuttering_simulation counts rests 3 Rested still_rests 0 (2, 0) at
 
 -- twice as many are too few, and so are three more
 not_in_twice_as_many : ((n : ℕ) → IsPrefix (events_of counts 0 n) (events_of rests (2, 0) (2 * n))) → ⊥

@@ -1,5 +1,5 @@
 pub mod Prefixes
 pub mod Lockstep
 pub mod Stuttering
-pub mod Led
+pub mod LedRuns
 mod Examples

@@ -2,10 +2,10 @@
 use Rattle.std.proofs.Common.{◌≡◌, ℕ, zero, suc, ◌+◌, ◌-◌, ◌*◌, ◌<◌, ◌≤◌, ◌++◌, ◌⊎◌, inl, inr, sym, ap, subst, ◌∙◌, arith}
 use Rattle.std.proofs.lemmas.Bool.{cases_lt}
 use Rattle.base_simulation.specs.Machines.{Machine, noted, events_of, state_after}
-use Rattle.base_simulation.specs.Simulations.{Follows, both, second, first, BudgetedShowTheSame, Answers, by_some, SlowerShowTheSame}
+use Rattle.base_simulation.specs.Simulations.{Follows, both, second, first, BudgetedTracesAreBounded, Answers, by_some, StutteringTracesAreBounded}
 use Rattle.base_simulation.proofs.Prefixes.{Prefix, prefix_nil, prefix_trans, prefix_noted, prefix_append, is_prefix, events_add, later}
 
--- ---- a number of silent steps in all ----
+-- ---- a number of stuttering steps in all ----
 
 module _ {S T E : Type 0} (t : Machine S E) (u : Machine T E) where
   there : (n : ℕ) {k d e : ℕ} {r : S} {q : T} → Follows t u k d e r q → n + d + e ≤ k → Prefix (events_of t r n) (events_of u q (n + d))
@@ -26,7 +26,7 @@ module _ {S T E : Type 0} (t : Machine S E) (u : Machine T E) where
   turned (second p f) = first p (turned f)
   turned (first p f) = second p (turned f)
 
-pub budgeted : {S T E : Type 0} → BudgetedShowTheSame S T E
+pub budgeted : {S T E : Type 0} → BudgetedTracesAreBounded S T E
 budgeted t u d e r q f n = (is_prefix (there t u n (f (n + d + e)) (omega arith)), is_prefix (there u t n (turned t u (f (n + e + d))) (omega arith)))
 
 -- ---- several steps for one ----
@@ -55,5 +55,5 @@ module _ {S T E : Type 0} (t : Machine S E) (u : Machine T E) (c : ℕ) where
           let one : events_of t r 1 ++ events_of t (t r).0 m ≡ events_of t r (suc m) = (let k : 1 + m ≡ suc m = omega arith in sym (events_add t 1 m r) ∙ ap (events_of t r) k) in
           prefix_trans (subst (λ x. Prefix x (events_of t r (suc m))) b (subst (λ x. Prefix (events_of t r 1 ++ events_of u v m) x) one (prefix_append (events_of t r 1) (ih m (omega arith))))) (later t (suc m) (suc n) r (omega arith))
 
-pub slowed : {S T E : Type 0} → SlowerShowTheSame S T E
+pub slowed : {S T E : Type 0} → StutteringTracesAreBounded S T E
 slowed t u c r q a n = (is_prefix (slower t u c (a n)), is_prefix (no_faster t u c n (omega arith) (a n)))

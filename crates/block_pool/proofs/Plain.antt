@@ -82,9 +82,9 @@ fixed_self t = record { size = refl; most = refl; marked = refl; slots = refl }
 pub fixed_on : (t u v : Table) → IsFixed t u → IsFixed u v → IsFixed t v
 fixed_on t u v f g = record { size = g.size ∙ f.size; most = g.most ∙ f.most; marked = g.marked ∙ f.marked; slots = g.slots ∙ f.slots }
 
-pub none_listed : (xs : List ℕ) → length xs ≡ 0 → xs ≡ []
-none_listed [] e = refl
-none_listed (x ∷ xs) e = absurd (omega arith)
+pub no_opaque : (xs : List ℕ) → length xs ≡ 0 → xs ≡ []
+no_opaque [] e = refl
+no_opaque (x ∷ xs) e = absurd (omega arith)
 
 module _ (t : Table) (sound : IsSound t) (none : t.changed.items ≡ []) where
   pub unmarked_sound : IsSound (record t { marked = false })

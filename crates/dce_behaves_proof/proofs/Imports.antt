@@ -9,7 +9,7 @@ use Rattle.wasm_tree.specs.declared.module.Import.{Import}
 use Rattle.wasm_meaning.specs.Linking.{has_kind}
 use Rattle.wasm_meaning.specs.Environment.{Environment}
 use Rattle.wasm_meaning.specs.World.{address_of, all_there}
-use Rattle.world_simulation.specs.Alone.{thing_in, address_in, addresses, import_places}
+use Rattle.world_simulation.specs.Alone.{external_value_in, address_in, addresses, import_places}
 use Rattle.base_kept.specs.Kept.{kept, is_marked}
 use Rattle.base_kept.proofs.Laws.{AreKeptAlike, kept_chosen}
 
@@ -47,10 +47,10 @@ filter_is {A} test (x ∷ xs) = by (test x) (filter_is test xs)
 
 module _ (env : Environment) (types : List FuncType) (k : Space) where
   abbrev address : Import → Option ℕ
-  address i = option_and_then (address_of k) (thing_in env types (Some i))
+  address i = option_and_then (address_of k) (external_value_in env types (Some i))
 
   addresses_are : (is : List Import) → addresses env types is k ≡ all_there address (filter (has_kind k) is)
-  addresses_are is = at_places (has_kind k) address is 0 (address_in env types is k) (λ n i e. ap (address_in env types is k) (let z : 0 + n ≡ n = omega arith in z) ∙ ap (λ o. option_and_then (address_of k) (thing_in env types o)) e)
+  addresses_are is = at_places (has_kind k) address is 0 (address_in env types is k) (λ n i e. ap (address_in env types is k) (let z : 0 + n ≡ n = omega arith in z) ∙ ap (λ o. option_and_then (address_of k) (external_value_in env types o)) e)
 
   -- where imports are kept as the entries of the index space are that they add, so are their addresses
   pub kept_addresses : (bs cs : List Bool) (is : List Import) (all : List ℕ) → addresses env types is k ≡ Some all → length bs ≡ length is → length (import_places k is) ≤ length cs → AreKeptAlike (has_kind k) bs cs is 0 →

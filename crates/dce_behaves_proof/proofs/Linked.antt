@@ -16,7 +16,7 @@ use Rattle.wasm_tree.specs.declared.module.ImportDesc.TheVariants as im
 use Rattle.wasm_tree.specs.declared.module.Module.{Module}
 use Rattle.wasm_tree.specs.Spaces.{imported_funcs, funcs_of}
 use Rattle.wasm_meaning.specs.State.{Inst, Func, Global, Elem, Store, RefVal}
-use Rattle.wasm_meaning.specs.Environment.{Environment, Thing, all_of}
+use Rattle.wasm_meaning.specs.Environment.{Environment, ExternalValue, all_of}
 use Rattle.wasm_meaning.specs.Linking.{sites}
 use Rattle.wasm_meaning.specs.Linking as linking
 use Rattle.wasm_meaning.specs.World.{own_store, joined_stores, part_store, stores_from, insts_from, is_match, is_matched, all_there, seen_as, links, alone, Begun}
@@ -25,10 +25,10 @@ use Rattle.index_remap.specs.declared.remap.Remap.{Remap}
 use Rattle.index_remap.specs.References.{declared_refs}
 use Rattle.index_remap.specs.Renumbered.{new_func, new_elem, new_global, new_const}
 use Rattle.index_remap.specs.Related.{Pairing, StoreRel, OptRel, RefRel}
-use Rattle.index_remap.specs.RelatedRuns.{ThingRel}
+use Rattle.index_remap.specs.RelatedRuns.{ExternalValueRel}
 use Rattle.index_remap.specs.Laws.{passed, RenumberedCodeIsRelated}
 use Rattle.index_remap_proof.specs.Indices.{TreeNamesOnly}
-use Rattle.world_simulation.specs.Alone.{one, site, thing_in}
+use Rattle.world_simulation.specs.Alone.{one, site, external_value_in}
 use Rattle.world_simulation.specs.Definitions.{FuncsCorrespond, Instantiated, values_in}
 use Rattle.world_simulation.specs.Simulation.{IsInstantiated}
 use Rattle.world_simulation.proofs.Alone.{thing_is, on_some, funcs_counted}
@@ -45,7 +45,7 @@ use Rattle.dce_sweep_spec.specs.Marks.{Marks}
 use Rattle.dce_sweep_spec.specs.Closed.{AreClosed}
 use Rattle.dce_sweep_spec.specs.Swept.{defined_funcs, defined_globals, kept_elem, kept_items, kept_tree, renumbered_kept, sweep_map, swept}
 use Rattle.dce_sweep_spec.specs.Unswept.{unswept}
-use Rattle.dce_sweep_proof.proofs.Stands.{item_there}
+use Rattle.dce_sweep_proof.proofs.ComesFrom.{item_there}
 use Rattle.dce_behaves_proof.proofs.Swept.{kept_indices, same, moved_elem, elems_mapped, R, own, names, consts, definitions, view}
 
 module _ (k : Marks) (t : Module) (c : AreClosed k t) (env : Environment) (imports : (swept k t).imports ≡ kept k.imports t.imports) (i j : Inst) (a : IsInst env (one t) 0 t i) (b : IsInst env (one (swept k t)) 0 (swept k t) j) (named : TreeNamesOnly (kept_indices k t) (kept_tree k t)) (code : RenumberedCodeIsRelated) where
@@ -132,7 +132,7 @@ module _ (k : Marks) (t : Module) (c : AreClosed k t) (env : Environment) (impor
 
   -- ---- its imports match ----
 
-  types_only : (z : Store) (d : ImportDesc) (y : Thing) → is_match z t d y ≡ is_match z u d y
+  types_only : (z : Store) (d : ImportDesc) (y : ExternalValue) → is_match z t d y ≡ is_match z u d y
   types_only z (im.Func ty) y = ap (λ ts. is_match z (record t { types = ts }) (im.Func ty) y) (sym (same k t c).types)
   types_only z (im.Table l) y = refl
   types_only z (im.Memory l) y = refl
@@ -144,9 +144,9 @@ module _ (k : Marks) (t : Module) (c : AreClosed k t) (env : Environment) (impor
         let p = kept_from k.imports t.imports n x (subst (λ xs. slice_get xs n ≡ Some x) imports h) in
         let lt = slice_get_within t.imports p.place x p.is in
         let old = all_each (is_matched env (one t) s) (sites (one t)) matched p.place (site p.place) (sites_at (length t.imports) 0 p.place lt ∙ ap (λ m. Some (site m)) (let z : 0 + p.place ≡ p.place = omega arith in z)) in
-        ap (λ o. unwrap_or o false) (ap₂ (λ o y. option_and_then (λ i. option_and_then (is_match z u i.desc) y) o) h (thing_is env u n ∙ ap₂ (thing_in env) (same k t c).types h)
+        ap (λ o. unwrap_or o false) (ap₂ (λ o y. option_and_then (λ i. option_and_then (is_match z u i.desc) y) o) h (thing_is env u n ∙ ap₂ (external_value_in env) (same k t c).types h)
         ∙ sym (then_eq (thing_rel Q env (own k t c env) t.types (Some x)) (λ _ y q. match_same Q env (own k t c env) s z like t t refl refl x.desc q ∙ types_only z x.desc y))
-        ∙ sym (ap₂ (λ o y. option_and_then (λ i. option_and_then (is_match s t i.desc) y) o) p.is (thing_is env t p.place ∙ ap (thing_in env t.types) p.is)))
+        ∙ sym (ap₂ (λ o y. option_and_then (λ i. option_and_then (is_match s t i.desc) y) o) p.is (thing_is env t p.place ∙ ap (external_value_in env t.types) p.is)))
         ∙ old
       where
         sites_at : (count from n : ℕ) → n < count → slice_get (linking.sites_in 0 count from ++ []) n ≡ Some (site (from + n))

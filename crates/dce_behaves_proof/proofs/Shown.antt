@@ -11,8 +11,8 @@ use Rattle.index_remap.specs.Related.{ListRel}
 use Rattle.index_remap.specs.Laws.{RenumberedCodeIsRelated}
 use Rattle.index_remap_proof.specs.Indices.{TreeNamesOnly}
 use Rattle.world_simulation.specs.Alone.{one}
-use Rattle.world_simulation.specs.Instances.{RelatedInstancesShowTheSame}
-use Rattle.world_simulation.specs.Simulation.{AreSimilar, StartAlike, WorldsCorrespond}
+use Rattle.world_simulation.specs.Instances.{RelatedInstancesHaveEqualTraces}
+use Rattle.world_simulation.specs.Simulation.{AreSimilar, StartsCorrespond, WorldsCorrespond}
 use Rattle.world_simulation.proofs.Instancing.{IsInst, inst_is, inst_there}
 use Rattle.world_simulation.proofs.Simulated.{what_is_made, instances_rel}
 use Rattle.world_simulation.proofs.Single.{one_inst, there_is}
@@ -36,7 +36,7 @@ module _ (k : Marks) (t : Module) (c : AreClosed k t) (imports : (swept k t).imp
     similar : AreSimilar (R k t c env) env (unswept k t) (alone u)
     similar = for_instances (WorldsCorrespond (R k t c env) env (unswept k t) (alone u)) (λ i j a b. worlds k t c env imports i j a b named code)
 
-    start_alike : StartAlike (R k t c env) env (unswept k t) (alone u)
+    start_alike : StartsCorrespond (R k t c env) env (unswept k t) (alone u)
     start_alike = for_instances (λ is js. ListRel ((R k t c env).of Functions) (starts_of (one t) is) (starts_of (one u) js)) (λ i j a b. starts k t c env imports i j a b named)
 
     linked : links env (unswept k t) ≡ true → links env (alone u) ≡ true
@@ -53,6 +53,6 @@ module _ (k : Marks) (t : Module) (c : AreClosed k t) (imports : (swept k t).imp
         let b = inst_is env (one u) 0 u j.0 j.1 in
         linked_with k t c env imports i.0 j.0 a b named code o.0 x i.1 (ap (option_and_then (λ i. option_and_then (λ is. Some (i ∷ is)) (Some []))) j.1)
 
-    pub shows_the_same : RelatedInstancesShowTheSame → links env (unswept k t) ≡ true → (moves : List Move) (n : ℕ) → events (unswept k t) env moves n ≡ events (alone u) env moves n
+    pub shows_the_same : RelatedInstancesHaveEqualTraces → links env (unswept k t) ≡ true → (moves : List Move) (n : ℕ) → events (unswept k t) env moves n ≡ events (alone u) env moves n
     shows_the_same law h moves n =
         law (of k t c env) (one_to_one k t c env) (unswept k t) (alone u) env (instances_rel (R k t c env) (one_to_one k t c env) env (unswept k t) (alone u) similar start_alike (h ∙ sym (linked h))) moves n

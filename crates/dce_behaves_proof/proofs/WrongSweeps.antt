@@ -1,5 +1,5 @@
 -- Sweeps that are wrong, of a small module: what is seen of the module is not seen of what they leave, by computation. The module is valid and its marks
--- are closed, so that the law `swept_modules_show_the_same` speaks of it: a sweep that leaves such a module breaks it.
+-- are closed, so that the law `swept_module_equivalent` speaks of it: a sweep that leaves such a module breaks it.
 use Rattle.std.proofs.Common.{◌≡◌, refl, ap, subst, sym, ℕ, zero, suc, List, [], ◌∷◌, Some, None, true, false, arith, slice_get}
 use Rattle.std.specs.Prelude.{Contains, get_or}
 use Rattle.std.proofs.lemmas.Option.{same_Some}
@@ -28,7 +28,7 @@ use Rattle.dce_sweep_spec.specs.Marks.{Marks, stays}
 use Rattle.dce_sweep_spec.specs.Closed.{AreClosed}
 use Rattle.dce_sweep_spec.specs.Swept.{kept_tree, swept}
 use Rattle.dce_sweep_spec.specs.Unswept.{unswept}
-use Rattle.dce_behaves_proof.specs.Laws.{BehavesAs}
+use Rattle.dce_behaves_proof.specs.Laws.{ObservationallyEquivalent}
 
 -- ---- the module ----
 
@@ -205,15 +205,15 @@ without_an_export_nothing_is_called = refl
 
 -- No sweep that leaves this module satisfies the law.
 abbrev BreaksTheLaw : Module → Type 0
-BreaksTheLaw wrong = (sweep : Marks → Module → Module) → sweep second whole ≡ wrong → ((k : Marks) (t : Module) → IsValid t → AreClosed k t → BehavesAs k t (sweep k t)) → ⊥
+BreaksTheLaw wrong = (sweep : Marks → Module → Module) → sweep second whole ≡ wrong → ((k : Marks) (t : Module) → IsValid t → AreClosed k t → ObservationallyEquivalent k t (sweep k t)) → ⊥
 
 -- Where what is seen of the module does not begin what is seen of another, that one does not behave as the module.
-refused : (wrong : Module) (xs ys : List Event) → events (unswept second whole) both moves 20 ≡ xs → events (alone wrong) both moves 20 ≡ ys → (IsPrefix xs ys → ⊥) → BehavesAs second whole wrong → ⊥
+refused : (wrong : Module) (xs ys : List Event) → events (unswept second whole) both moves 20 ≡ xs → events (alone wrong) both moves 20 ≡ ys → (IsPrefix xs ys → ⊥) → ObservationallyEquivalent second whole wrong → ⊥
 refused wrong xs ys seen shown apart same = apart (rw (← seen) (rw (← shown) (same both refl refl moves 20).0))
 
 breaks : (wrong : Module) (ys : List Event) → events (alone wrong) both moves 20 ≡ ys → (IsPrefix g_twice ys → ⊥) → BreaksTheLaw wrong
 breaks wrong ys shown apart sweep gives law =
-    refused wrong g_twice ys the_module_asks_for_g shown apart (subst (BehavesAs second whole) gives (law second whole whole_is_valid second_is_closed))
+    refused wrong g_twice ys the_module_asks_for_g shown apart (subst (ObservationallyEquivalent second whole) gives (law second whole whole_is_valid second_is_closed))
 
 -- the field of the function that the first event asks for
 abbrev asked_first : List Event → Text

@@ -10,8 +10,8 @@ use Rattle.dce_sweep_spec.specs.Swept.{swept}
 use Rattle.dce_sweep_spec.specs.Unswept.{unswept}
 
 -- in every environment that links the module, an embedder that uses only the exports that are kept sees the same of it and of the other, step by step
-abbrev pub BehavesAs : Marks → Module → Module → Type 0
-BehavesAs k t other = Same (λ env. IsTrue (links env (unswept k t))) (events (unswept k t)) (events (alone other)) (λ n. n) (λ n. n)
+abbrev pub ObservationallyEquivalent : Marks → Module → Module → Type 0
+ObservationallyEquivalent k t other = Same (λ env. IsTrue (links env (unswept k t))) (events (unswept k t)) (events (alone other)) (λ n. n) (λ n. n)
 
-abbrev pub SweptModulesShowTheSame : Type 0
-SweptModulesShowTheSame = (k : Marks) (t : Module) → IsValid t → AreClosed k t → BehavesAs k t (swept k t)
+abbrev pub SweptModuleEquivalent : Type 0
+SweptModuleEquivalent = (k : Marks) (t : Module) → IsValid t → AreClosed k t → ObservationallyEquivalent k t (swept k t)

@@ -41,7 +41,7 @@ pub stands_last : (w : Walk) (a b x y : Text) (found : Option ℕ) → AreLookup
 stands_last w a b x y found lookups is same_module same_field =
     sym (is ∙ lookups.standing.last_one x y ∙ ap₂ (λ m f. last_place (is_of_pair m f) w.graph.now.nodes 0) same_module same_field)
 
--- where no node stands for a module and a field, there is none to meet
+-- where no node denotes a module and a field, there is none to meet
 pub none_stands : (nodes : List GraphNode) (test : GraphNode → Bool) (s : Search) → last_place test nodes 0 ≡ None → Spread s (map Node (places test nodes 0)) s
 none_stands nodes test s is = meeting_ends nodes test None s s (meeting_starts nodes test None s (sym is)) refl
 

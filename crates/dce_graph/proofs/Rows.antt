@@ -56,7 +56,7 @@ the_last_counts : comes_to (codes "[{\"name\":\"b\",\"name\":\"a\",\"reaches\":[
 unfolding serde_json_on_literals
 the_last_counts = refl
 
--- ---- a module of three functions behind an imported one, and a graph in which a node stands for the import ----
+-- ---- a module of three functions behind an imported one, and a graph in which a node denotes the import ----
 
 abbrev func : List Instr → ModuleFunc
 func body = record { ty = 0; locals = []; body = body }

@@ -1,4 +1,4 @@
--- The nodes that stand for one module and field, met from the last to the first.
+-- The nodes that denote one module and field, met from the last to the first.
 use Rattle.std.proofs.Common.{◌≡◌, ◌∙◌, sym, ap, refl, ℕ, zero, suc, ◌+◌, ◌<◌, ◌≤◌, List, [], ◌∷◌, ◌++◌, map, take, drop, length, Bool, true, false, cond, Option, Some, None, slice_get, subst, ap₂, ◌&&◌, inl, inr, ⊎_elim, Ordering, Less, Equal, Greater, arith}
 use Rattle.std.specs.Prelude.{Contains}
 use Rattle.std.specs.Prelude.{option_and_then}
@@ -132,7 +132,7 @@ last_more test (y ∷ ys) x j = ap (λ o. option_or o (cond (test y) (Some j) No
 
 -- ---- meeting them ----
 
--- a node that stands for a module and a field has them in its import
+-- a node that denotes a module and a field has them in its import
 pub pair_there : (a b : Text) (o : Option ImportPair) → pair_is a b o ≡ true → (pair : ImportPair) × (o ≡ Some pair) × (pair.«module» ≡ a) × (pair.base ≡ b)
 pair_there a b None h = cc
 pair_there a b (Some pair) h =
@@ -154,7 +154,7 @@ meeting_starts nodes test next s is =
 pub meeting_last : (nodes : List GraphNode) (test : GraphNode → Bool) (next : Option ℕ) (old s : Search) (n : ℕ) → IsMeeting nodes test next old s → next ≡ Some n → (k : ℕ) × IsLastBefore test nodes k n
 meeting_last nodes test next old s n m is = (m.from, last_before test nodes m.from n m.there (sym m.next_is ∙ is))
 
--- the node before it that stands for the same
+-- the node before it that denotes the same
 pub next_is : (w : Walk) (a b : Text) (k n : ℕ) → AreLookups w → IsLastBefore (is_of_pair a b) w.graph.now.nodes k n → slice_get w.before.items n ≡ Some (last_place (is_of_pair a b) (take n w.graph.now.nodes) 0)
 next_is w a b k n lookups l =
     let nodes = w.graph.now.nodes in

@@ -1,4 +1,4 @@
--- What the program's entries, which are parts of a value, stand for.
+-- What the program's entries, which are parts of a value, denote.
 use Rattle.std.specs.Prelude.{ℕ, List, map, Option, option_map}
 use Rattle.std.specs.List.{filter_map}
 use Rattle.std.specs.BTreeMap.{BTreeMap, get_by}

@@ -107,7 +107,7 @@ imports_into space imports = places (λ i. same_space space (space_of_import i.d
 abbrev pub export_place : List ModuleExport → List ℕ → Option ℕ
 export_place exports name = first_place (λ e. bytes_eq name e.name) exports 0
 
--- whether a node stands for the import of this module and field
+-- whether a node denotes the import of this module and field
 abbrev pub pair_is : List ℕ → List ℕ → Option ImportPair → Bool
 pair_is module_name field None = false
 pair_is module_name field (Some pair) = bytes_eq pair.«module» module_name && bytes_eq pair.base field
@@ -131,7 +131,7 @@ from_export (export.Table i) = []
 from_export (export.Memory i) = []
 from_export (export.Global i) = Global i ∷ []
 
--- from an import to each node that stands for its module and field. No edge leads from such a node to the import
+-- from an import to each node that denotes its module and field. No edge leads from such a node to the import
 abbrev pub from_import : List GraphNode → ModuleImport → List Point
 from_import nodes i = map Node (places (stands_for i) nodes 0)
 

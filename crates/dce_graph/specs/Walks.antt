@@ -28,26 +28,26 @@ last_place is (x ∷ xs) n = option_or (last_place is xs (suc n)) (cond (is x) (
 abbrev pub found_pair : BTreeMap (Bor Text × Bor Text) ℕ → Text → Text → Option ℕ
 found_pair pairs module_name field = get_by (λ k. ordering_then (slice_cmp nat_cmp module_name k.0.now) (slice_cmp nat_cmp field k.1.now)) pairs
 
--- whether a node stands for this module and field
+-- whether a node denotes this module and field
 abbrev pub is_of_pair : Text → Text → Node → Bool
 is_of_pair module_name field n = pair_is module_name field n.import
 
 abbrev pub last_of_pair : List Node → ImportPair → Option ℕ
 last_of_pair nodes pair = last_place (is_of_pair pair.«module» pair.base) nodes 0
 
--- of each module and field the last node that stands for them, and of each node the one before it that stands for the same
+-- of each module and field the last node that denotes them, and of each node the one before it that denotes the same
 pub record AreStanding (nodes : List Node) (last : BTreeMap (Bor Text × Bor Text) ℕ) (before : List (Option ℕ)) : Type 0 where
   pub last_one : (a b : Text) → found_pair last a b ≡ last_place (is_of_pair a b) nodes 0
   pub before_it : (n : ℕ) (node : Node) → slice_get nodes n ≡ Some node → slice_get before n ≡ Some (option_and_then (last_of_pair (take n nodes)) node.import)
 
--- the places of the names of exports, the nodes that stand for modules and fields, and the places of the imports of functions and of globals
+-- the places of the names of exports, the nodes that denote modules and fields, and the places of the imports of functions and of globals
 pub record AreLookups (w : Walk) : Type 0 where
   pub exports : (q : Text) → place_in_map w.exports q ≡ export_place w.«module».now.exports q
   pub standing : AreStanding w.graph.now.nodes w.last w.before.items
   pub funcs : w.funcs.items ≡ imports_into Functions w.«module».now.imports
   pub globals : w.globals.items ≡ imports_into Globals w.«module».now.imports
 
--- While the nodes that stand for one module and field are met from the last to the first: those from a place on are met, and the next is the last before it.
+-- While the nodes that denote one module and field are met from the last to the first: those from a place on are met, and the next is the last before it.
 pub record IsMeeting (nodes : List Node) (test : Node → Bool) (next : Option ℕ) (old new : Search) : Type 0 where
   pub from : ℕ
   pub there : from ≤ length nodes
@@ -63,6 +63,6 @@ ahead (Some n) = suc n
 abbrev pub AreMet : Reached → List Point → Type 0
 AreMet r ps = (q : Point) → Contains ps q → HasMark r q → marked r q ≡ true
 
--- where the flag of the last node that stands for a module and a field is set, each node that stands for them is met
+-- where the flag of the last node that denotes a module and a field is set, each node that denotes them is met
 abbrev pub AreFollowed : List Node → List Bool → Reached → Type 0
 AreFollowed nodes followed r = (a b : Text) (n : ℕ) → last_place (is_of_pair a b) nodes 0 ≡ Some n → get_or followed n false ≡ true → AreMet r (map node_point (places (is_of_pair a b) nodes 0))

@@ -30,7 +30,7 @@ fn export_places<'a>(
     Ok(places)
 }
 
-// Notes that a node stands for its module and field, if it does, and gives the one that did before.
+// Notes that a node denotes its module and field, if it does, and gives the one that did before.
 fn note<'a>(
     last: &mut BTreeMap<(&'a str, &'a str), u32>,
     import: &'a Option<ImportPair>,
@@ -45,7 +45,7 @@ fn note<'a>(
     }
 }
 
-// The nodes that stand for modules and fields.
+// The nodes that denote modules and fields.
 #[derive(Drop)]
 struct Standing<'a> {
     last: BTreeMap<(&'a str, &'a str), u32>,

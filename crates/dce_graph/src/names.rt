@@ -1,4 +1,4 @@
-// The places of names, and the nodes that names stand for.
+// The places of names, and the nodes that names denote.
 
 ghost use Rattle.std.specs.Prelude.{◌≡◌, ◌<◌, ◌^◌, List, ℕ, Some, None, cond, length, map, is_some, option_map, IfOk, IfErr, IsOk, OnOk};
 ghost use Rattle.std.specs.List.{filter_map};

@@ -18,7 +18,7 @@ use wasm_valid::Valid;
 /// Roots are the graph's root nodes, the start function, the imports of tables and memories, and the functions and globals that the offsets and items of
 /// active and passive segments name. Edges lead from a node to each node that it reaches and to the export that it names; from an export to its function
 /// or global; from a defined function to each function and global that its body names; from a defined global to what its initialiser names; and from an
-/// imported function or global to its import, and from an import to every node that stands for its module and field. A node whose export or import the
+/// imported function or global to its import, and from an import to every node that denotes its module and field. A node whose export or import the
 /// module does not have names nothing (WebAssembly Core 2.0, sections 2.5 and 2.5.1).
 pub fn reached(alloc: Global, graph: &Graph, input: &Valid) -> Result<Reached, NoMemory>
     requires { length graph.now.nodes < 2 ^ 32 }

@@ -23,9 +23,9 @@ pub(crate) struct Walk<'a> {
     pub(crate) module: &'a Module,
     /// The place of each name of an export.
     pub(crate) exports: BTreeMap<&'a str, u32>,
-    /// Of each module and field the last node that stands for them.
+    /// Of each module and field the last node that denotes them.
     pub(crate) last: BTreeMap<(&'a str, &'a str), u32>,
-    /// Of each node the one before it that stands for the same module and field.
+    /// Of each node the one before it that denotes the same module and field.
     pub(crate) before: Vec<Option<u32>>,
     /// The places of the imports of functions.
     pub(crate) funcs: Vec<u32>,
@@ -124,7 +124,7 @@ impl<'a> Walk<'a> {
         self.visit_named_export(search, &node.export)
     }
 
-    // Meets each node that stands for the import, from the last to the first.
+    // Meets each node that denotes the import, from the last to the first.
     fn visit_standing(
         &self,
         search: &mut Search,
@@ -143,8 +143,8 @@ impl<'a> Walk<'a> {
         Ok(())
     }
 
-    // Meets each node that stands for the import. Each module and field is followed once, however often they are imported: then the flag of the last node
-    // that stands for them is set.
+    // Meets each node that denotes the import. Each module and field is followed once, however often they are imported: then the flag of the last node
+    // that denotes them is set.
     fn visit_from_import(
         &self,
         search: &mut Search,

@@ -6,7 +6,7 @@ ghost use Rattle.dce_sweep_spec.specs.Swept.{renumbered_kept};
 ghost use Rattle.wasm_tree.specs.Bounds.{IsBounded};
 ghost use Rattle.wasm_tree.specs.declared.module.Module.{Module as Tree};
 ghost use Rattle.wasm_valid.specs.Validity.{IsValid};
-ghost use Rattle.dce_behaves_proof.specs.Laws.{BehavesAs};
+ghost use Rattle.dce_behaves_proof.specs.Laws.{ObservationallyEquivalent};
 ghost use Rattle.dce_sweep.specs.declared.faults.SweepFault.TheVariants.{NoMemory as OutOfMemory};
 ghost use Rattle.dce_sweep_spec.specs.Reached.{marks_of};
 ghost use Rattle.dce_sweep.specs.Sweeps.{Sweeps};
@@ -14,7 +14,7 @@ ghost use Rattle.dce_sweep.specs.Sweeps.{Sweeps};
 use crate::faults::SweepFault;
 use crate::kept::kept_module;
 use crate::places::sweep_map;
-use dce_behaves_proof::swept_modules_show_the_same;
+use dce_behaves_proof::swept_module_equivalent;
 use dce_graph::Reached;
 use dce_sweep_proof::{swept_modules_are_valid, what_is_kept_fits};
 use index_remap::{declare_refs, renumber_in_place};
@@ -53,10 +53,10 @@ pub fn sweep(alloc: Global, input: Valid, marks: &Reached) -> Result<Valid, Swee
     requires closed { AreClosed (marks_of marks.now) input }
     ensures swept { IfOk result (λ valid. Sweeps (marks_of marks.now) input (Ok valid)) }
     ensures fault { IfErr result (λ f. (f ≡ OutOfMemory) ⊎ Sweeps (marks_of marks.now) input (Err f)) }
-    ensures behaves { IfOk result (λ valid. BehavesAs (marks_of marks.now) input valid) }
+    ensures behaves { IfOk result (λ valid. ObservationallyEquivalent (marks_of marks.now) input valid) }
 {
     swept_modules_are_valid();
-    swept_modules_show_the_same();
+    swept_module_equivalent();
     what_is_kept_fits();
     let mut module = renumbered(alloc, input.into_module(), marks)?;
     declare_refs(alloc, &mut module)?;

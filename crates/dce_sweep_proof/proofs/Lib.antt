@@ -1,5 +1,5 @@
 pub mod Spaces
-pub mod Stands
+pub mod ComesFrom
 pub mod Fits
 pub mod Bounds
 pub mod Whole

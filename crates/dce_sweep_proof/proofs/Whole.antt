@@ -7,7 +7,7 @@ use Rattle.wasm_valid.specs.Validity.{IsSingle, IsValid}
 use Rattle.index_remap.specs.declared.remap.Remap.{Remap}
 use Rattle.index_remap.specs.References.{declared, declared_refs, declaring, with_declared}
 use Rattle.index_remap_proof.specs.Indices.{Indices}
-use Rattle.index_remap_proof.specs.Trees.{EachStands, TreesAgree}
+use Rattle.index_remap_proof.specs.Trees.{EachItemComesFrom, TreesAgree}
 use Rattle.index_remap_proof.specs.ButForReferences.{IsValidButForReferences}
 use Rattle.module_limits.specs.Counts.{over_limit, CountsAreWithinWhereNoneIsOver}
 use Rattle.dce_sweep_spec.specs.Marks.{Marks, stays}
@@ -15,13 +15,13 @@ use Rattle.dce_sweep_spec.specs.Swept.{renumbered_kept, sweep_map, swept}
 use Rattle.dce_sweep_spec.specs.Closed.{AreClosed}
 use Rattle.dce_sweep_proof.proofs.Spaces.{ItemsHold, memories_are}
 use Rattle.dce_sweep_proof.proofs.Bounds.{kept_bounded}
-use Rattle.dce_sweep_proof.proofs.Stands.{ConstantsAreKept, agree, each_stands}
+use Rattle.dce_sweep_proof.proofs.ComesFrom.{ConstantsAreKept, agree, each_stands}
 
 -- what the laws below say
 pub record Laws : Type 0 where
   pub items : (m : Module) → IsValid m ↔ ItemsHold m
   pub constants : ConstantsAreKept
-  pub undeclared : (m : Remap) (kept : Indices) (t u : Module) → IsValid t → TreesAgree m kept t u → EachStands m kept t u → IsValidButForReferences u
+  pub undeclared : (m : Remap) (kept : Indices) (t u : Module) → IsValid t → TreesAgree m kept t u → EachItemComesFrom m kept t u → IsValidButForReferences u
   pub valid : (t : Module) → IsValidButForReferences t → IsValid (declared t)
   pub single : (t : Module) → IsSingle t → IsSingle (declared t)
   pub bounded : (t : Module) → IsBounded t → length t.elems + 1 < 2 ^ 32 → IsBounded (declared t)

@@ -42,7 +42,7 @@ use Rattle.eval_behaves_proof.specs.Worlds.{with_empty_func}
 use Rattle.eval_behaves_proof.proofs.InRange.{each_index}
 use Rattle.eval_behaves_proof.proofs.FuncsAtFirst.{behind, funcs_related}
 use Rattle.eval_behaves_proof.proofs.Related.{defined, named}
-use Rattle.eval_behaves_proof.proofs.Standing.{R, value_alike, value_there}
+use Rattle.eval_behaves_proof.proofs.Counterparts.{R, value_alike, value_there}
 
 -- ---- what is unknown at first ----
 

@@ -9,7 +9,7 @@ use Rattle.wasm_valid.specs.Validity.{IsValid}
 use Rattle.wasm_meaning.specs.State.{Text, Inst, Val, Store}
 use Rattle.wasm_meaning.specs.Touched.{StepsWriteWhatTheyTouch}
 use Rattle.wasm_meaning.specs.Linking.{sites}
-use Rattle.wasm_meaning.specs.Environment.{Environment, Thing, all_of}
+use Rattle.wasm_meaning.specs.Environment.{Environment, ExternalValue, all_of}
 use Rattle.wasm_meaning.specs.World.{Begun, all_there, alone, begun, inst_of, insts_from, instantiate, is_matched, joined_stores, own_store, part_store, seen_as, segments, start_in, stores_from, value_of}
 use Rattle.index_remap.specs.Related.{Pairing, some, ListRel, nil, cons, opening, StoreRel}
 use Rattle.index_remap.specs.RelatedRuns.{BegunRel, KeyRel}
@@ -30,14 +30,14 @@ use Rattle.eval_spec.specs.Instantiation.{imported_store, own_inst, value_in}
 use Rattle.eval_spec.specs.Told.{memory_bytes}
 use Rattle.eval_proof.specs.Known.{QuietCallsAreKnown}
 use Rattle.eval_proof.specs.Laws.{EndsAreReached}
-use Rattle.eval_proof.specs.Led.{QuietCallsLead}
+use Rattle.eval_proof.specs.QuietCalls.{QuietCallsSimulate}
 use Rattle.eval_proof.specs.Machines.{InstantiatedAs, InstantiationsAreTheMachines}
 use Rattle.eval_snapshot_spec.specs.After.{IsAfter}
 use Rattle.eval_snapshot_spec.specs.Evaluated.{funcs_named}
 use Rattle.eval_snapshot_spec.specs.Snapshot.{snapshot}
 use Rattle.eval_snapshot_proof.proofs.Trees.{CodeLaws, ItemsHold}
 use Rattle.eval_behaves_proof.specs.Worlds.{all_called, evaluated_from, evaluated_world, with_empty_func}
-use Rattle.eval_behaves_proof.proofs.Alike.{R, enough}
+use Rattle.eval_behaves_proof.proofs.StatesAgree.{R, enough}
 use Rattle.eval_behaves_proof.proofs.InRange.{NamingLaws, each_index, names_there}
 use Rattle.eval_behaves_proof.proofs.DatasAlike.{AreBytesOf}
 use Rattle.eval_behaves_proof.proofs.KnownValues.{Run}
@@ -57,7 +57,7 @@ use Rattle.eval_behaves_proof.proofs.StoresAlike.{stores_alike}
 -- what the laws below say
 pub record Laws : Type 0 where
   pub known : QuietCallsAreKnown
-  pub lead : QuietCallsLead
+  pub lead : QuietCallsSimulate
   pub agree : StepsAgreeOff
   pub runs : RunsAgreeOff
   pub reached : EndsAreReached
@@ -150,7 +150,7 @@ module _ (laws : Laws) (env : Environment) (m : Module) (s : State) (name : Text
     matched = second_matched env m s name names kept i b.shape j c named added.0 added.1 inits stored.0 stored.1
         (subst (λ z. all_of (is_matched env (one first) z) (sites (one first)) ≡ true) (sym added.2) x.matched)
 
-    viewed : (w : List (Text × Thing)) × (all_there (seen_as (j ∷ [])) (alone second).view ≡ Some w) × ListRel (KeyRel Q) x.view w
+    viewed : (w : List (Text × ExternalValue)) × (all_there (seen_as (j ∷ [])) (alone second).view ≡ Some w) × ListRel (KeyRel Q) x.view w
     viewed =
         let views = all_rel (views_alike env m s name names kept i b.shape j c named) in
         let is = ap (λ is. all_there (seen_as is) (evaluated_world m (name ∷ names) kept).view) (sym insts_are) ∙ x.is_view in

@@ -30,7 +30,7 @@ use Rattle.eval_behaves_proof.proofs.AtFirst.{related_at_first}
 use Rattle.eval_behaves_proof.proofs.FuncsAtFirst.{code_of}
 use Rattle.eval_behaves_proof.proofs.InRange.{each_index}
 use Rattle.eval_behaves_proof.proofs.SegmentsAlike.{CopiedAlike, IsWhole, data_alike, elem_alike, nothing_copied}
-use Rattle.eval_behaves_proof.proofs.Standing.{R, value_there}
+use Rattle.eval_behaves_proof.proofs.Counterparts.{R, value_there}
 
 -- the state from which a run in order goes on
 began : {A : Type 0} (f : State → A → Stage) (t : Stage) (xs : List A) (r : State) → in_order f t xs ≡ Finished r → (s : State) × (t ≡ Finished s)

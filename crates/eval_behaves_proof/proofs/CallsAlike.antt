@@ -26,7 +26,7 @@ use Rattle.eval_spec.specs.Quiet.{ComesTo, call_end, came_to, host_opened_if_the
 use Rattle.eval_spec.specs.Instantiation.{own_inst}
 use Rattle.eval_proof.specs.Known.{RelatesAllButImports, FramesOf, FuncsOf, QuietCallsAreKnown}
 use Rattle.eval_proof.specs.Alone.{LeavesAlone}
-use Rattle.eval_proof.specs.Led.{QuietCallsLead}
+use Rattle.eval_proof.specs.QuietCalls.{QuietCallsSimulate}
 use Rattle.eval_proof.specs.Laws.{EndsAreReached}
 use Rattle.eval_behaves_proof.specs.Worlds.{all_called, called_to_end, most_steps, store_at_end}
 use Rattle.eval_behaves_proof.proofs.MachineCalls.{ends_after, ends_in_more, goes_within, known_go_on}
@@ -39,7 +39,7 @@ pub record EndsAlike (R : Pairing) (t : State) (x : Store) (o : Option Store) : 
   pub related : StoreRelOff R t.unknown t.store after
   pub alone : LeavesAlone R t.unknown x after
 
-module _ (known : QuietCallsAreKnown) (lead : QuietCallsLead) (agree : StepsAgreeOff) (runs : RunsAgreeOff) (reached : EndsAreReached) (m : Module) (of named : Space → ℕ → ℕ → Bool) (all : RelatesAllButImports m of named) (apart : OneToOneWhereWritten (passed of named [])) where
+module _ (known : QuietCallsAreKnown) (lead : QuietCallsSimulate) (agree : StepsAgreeOff) (runs : RunsAgreeOff) (reached : EndsAreReached) (m : Module) (of named : Space → ℕ → ℕ → Bool) (all : RelatesAllButImports m of named) (apart : OneToOneWhereWritten (passed of named [])) where
   abbrev R : Pairing
   R = passed of named []
 

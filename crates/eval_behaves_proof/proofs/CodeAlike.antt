@@ -1,4 +1,4 @@
--- The same code over two instances is related, where each index that it names stands for addresses that code may name as one.
+-- The same code over two instances is related, where each index that it names denotes addresses in the code relation.
 use Rattle.std.proofs.Common.{ℕ, List, [], ◌∷◌, refl, false}
 use Rattle.std.specs.Prelude.{IsTrue}
 use Rattle.base_lists.specs.Every.{Every}
@@ -13,11 +13,11 @@ use Rattle.wasm_tree.specs.Operands.{block_operands, operands}
 use Rattle.wasm_meaning.specs.State.{Inst}
 use Rattle.index_remap.specs.Related
 use Rattle.index_remap.specs.Related.{Pairing, Names, SameType, BlockRel, empty, value, indexed, OpRel, CodeRel, end, then}
-use Rattle.index_remap.proofs.Unlisted.{operands_follow}
+use Rattle.index_remap.proofs.NotOpaque.{operands_follow}
 use Rattle.index_remap_proof.specs.Indices.{Indices, LayerNamesOnly}
 
 module _ (R : Pairing) (i j : Inst) where
-  -- the index stands for addresses that code may name as one, or for equal types, or for nothing in both
+  -- the index denotes addresses in the code relation, or for equal types, or for nothing in both
   abbrev pub IndexAlike : Space → ℕ → Type 0
   IndexAlike Types n = SameType i j n n
   IndexAlike Functions n = Names R.named Functions i.funcs j.funcs n n

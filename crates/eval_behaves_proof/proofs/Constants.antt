@@ -23,7 +23,7 @@ unsigned_again_64 n lt = elim (cases_lt n (2 ^ 63)) [
 ]
 
 module _ (R : Pairing) (value : ConstExpr → Option Val) (i32 : (v : ℤ) → value (const.I32 v) ≡ Some (Num W32 (wrapped 32 v))) (i64 : (v : ℤ) → value (const.I64 v) ≡ Some (Num W64 (wrapped 64 v))) (null : (t : RefType) → value (const.Null t) ≡ Some (Ref (null_of t))) where
-  -- a number fits its width, and a function stands for its address
+  -- a number fits its width, and a function denotes its address
   abbrev pub Stands : Val → Type 0
   Stands (Num W32 n) = n < 2 ^ 32
   Stands (Num W64 n) = n < 2 ^ 64

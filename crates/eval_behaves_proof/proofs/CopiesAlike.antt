@@ -27,7 +27,7 @@ use Rattle.world_simulation.proofs.Stored.{ref_rel}
 use Rattle.eval_spec.specs.State.{State}
 use Rattle.eval_snapshot_spec.specs.Snapshot.{snapshot}
 use Rattle.eval_behaves_proof.specs.Worlds.{with_empty_func}
-use Rattle.eval_behaves_proof.proofs.Alike.{R, first_value, second_value, table_shared, value_itself, values_same}
+use Rattle.eval_behaves_proof.proofs.StatesAgree.{R, first_value, second_value, table_shared, value_itself, values_same}
 use Rattle.eval_behaves_proof.proofs.InRange.{below, each_index}
 
 -- each item and the mode of each of these segments

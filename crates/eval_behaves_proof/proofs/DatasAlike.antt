@@ -38,7 +38,7 @@ use Rattle.eval_snapshot_spec.specs.Contents as tree
 use Rattle.eval_snapshot_spec.specs.Contents.{Stretch, stretch_segment, stretches}
 use Rattle.eval_snapshot_spec.specs.Snapshot.{old_segments, snapshot}
 use Rattle.eval_behaves_proof.specs.Worlds.{with_empty_func}
-use Rattle.eval_behaves_proof.proofs.Alike.{enough, first_value, second_value, same_imports, same_types}
+use Rattle.eval_behaves_proof.proofs.StatesAgree.{enough, first_value, second_value, same_imports, same_types}
 use Rattle.eval_behaves_proof.proofs.InRange.{below, each_index}
 use Rattle.eval_behaves_proof.proofs.Fit.{Fit, GoesSomewhere}
 use Rattle.eval_behaves_proof.proofs.QuietSegments.{IsQuietlyMade}

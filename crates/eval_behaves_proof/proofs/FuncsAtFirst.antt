@@ -21,11 +21,11 @@ use Rattle.wasm_tree.specs.Spaces.{func_of, funcs_of, imported_funcs, space_of_i
 use Rattle.wasm_meaning.specs.State.{Pair, Inst, Func, Own, Store}
 use Rattle.wasm_meaning.specs.Linking.{has_kind, imports_of, pair_of}
 use Rattle.wasm_meaning.specs.Environment.{Environment, FuncKey, owned_at, owned_of, own_funcs}
-use Rattle.wasm_meaning.specs.World.{address_of, imported_thing, joined_stores, new_func, own_store}
+use Rattle.wasm_meaning.specs.World.{address_of, imported_external_value, joined_stores, new_func, own_store}
 use Rattle.index_remap.specs.Related.{BothRel, FuncRel, own}
 use Rattle.index_remap_proof.specs.Indices.{ImportNamesOnly, TreeNamesOnly, with_entry}
 use Rattle.index_remap_proof.proofs.Lists.{all_there_back}
-use Rattle.world_simulation.specs.Alone.{key_in, one, site, thing_in}
+use Rattle.world_simulation.specs.Alone.{key_in, one, site, external_value_in}
 use Rattle.world_simulation.specs.Definitions.{FuncsCorrespond}
 use Rattle.world_simulation.proofs.Alone.{funcs_counted, thing_is}
 use Rattle.world_simulation.proofs.Allocated.{AddsWith}
@@ -39,7 +39,7 @@ use Rattle.eval_behaves_proof.specs.Worlds.{with_empty_func}
 use Rattle.eval_behaves_proof.proofs.InRange.{below, each_index}
 use Rattle.eval_behaves_proof.proofs.OwnFuncs.{own_found}
 use Rattle.eval_behaves_proof.proofs.Related.{named}
-use Rattle.eval_behaves_proof.proofs.Standing.{R, body_alike, value_there}
+use Rattle.eval_behaves_proof.proofs.Counterparts.{R, body_alike, value_there}
 
 -- what stands so many places behind a list
 pub behind : {A : Type 0} (xs ys : List A) (n c j : ℕ) → length xs ≡ c → n ≡ c + j → slice_get (xs ++ ys) n ≡ slice_get ys j
@@ -103,12 +103,12 @@ module _ (m : Module) where
               let u = slice_get_there m.types ty low in
               let same : chosen x ≡ Some (Own (pair_of x) u.0) = ap (by_pair (pair_of x)) d ∙ ap (λ o. Some (Own (pair_of x) (unwrap_or o none_named))) u.1 in
               let stands : slice_get first.funcs n ≡ Some (Own (pair_of x) u.0) = append_at_left (imported_store m).funcs quiet.funcs n _ (ap (λ l. slice_get l n) all_chosen ∙ here ∙ same) in
-              let thing = and_then_is (imported_thing env (one (with_empty_func m)) (site p)) (address_of Functions) a address in
+              let thing = and_then_is (imported_external_value env (one (with_empty_func m)) (site p)) (address_of Functions) a address in
               let import_at : slice_get m.imports p ≡ Some x = let z : p ≡ k = omega (arith, e) in ap (slice_get m.imports) z ∙ at in
-              let key : thing_in env m.types (Some x) ≡ owned_at (owned_of env) (FuncKey (pair_of x) u.0) =
+              let key : external_value_in env m.types (Some x) ≡ owned_at (owned_of env) (FuncKey (pair_of x) u.0) =
               ap (λ d. option_and_then (λ key. owned_at (owned_of env) key) (key_in m.types (pair_of x) d)) d
               ∙ ap (λ o. option_and_then (λ key. owned_at (owned_of env) key) (option_and_then (λ t. Some (FuncKey (pair_of x) t)) o)) u.1 in
-              let f = own_found (pair_of x) u.0 env thing.0 (sym key ∙ ap (thing_in env m.types) (sym import_at) ∙ sym (thing_is env (with_empty_func m) p) ∙ thing.1) in
+              let f = own_found (pair_of x) u.0 env thing.0 (sym key ∙ ap (external_value_in env m.types) (sym import_at) ∙ sym (thing_is env (with_empty_func m) p) ∙ thing.1) in
               let addressed : Some (0 + f.place) ≡ Some a = sym (ap (address_of Functions) f.thing) ∙ thing.2 in
               let place_is = same_Some (0 + f.place) a addressed in
               let z : a ≡ f.place = omega (arith, place_is) in

@@ -34,7 +34,7 @@ use Rattle.eval_behaves_proof.proofs.MoreLinked.{MoreMade, more_made}
 use Rattle.eval_behaves_proof.proofs.QuietRuns.{BothInstantiated, start_of}
 use Rattle.eval_behaves_proof.proofs.Related.{apart}
 use Rattle.eval_behaves_proof.proofs.Rows.{rows}
-use Rattle.eval_behaves_proof.proofs.Standing.{R, func_stands, func_there}
+use Rattle.eval_behaves_proof.proofs.Counterparts.{R, func_stands, func_there}
 
 -- ---- a quiet evaluation begins with a quiet instantiation ----
 

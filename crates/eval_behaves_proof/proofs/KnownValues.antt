@@ -30,7 +30,7 @@ use Rattle.eval_snapshot_spec.specs.Snapshot.{snapshot}
 use Rattle.eval_behaves_proof.proofs.SnapshotHas.{bound}
 use Rattle.eval_behaves_proof.specs.Worlds.{with_empty_func}
 use Rattle.eval_behaves_proof.specs.Addresses.{addresses_in, names_at, stands_at}
-use Rattle.eval_behaves_proof.proofs.Alike.{R, func_shared, second_value}
+use Rattle.eval_behaves_proof.proofs.StatesAgree.{R, func_shared, second_value}
 use Rattle.eval_behaves_proof.proofs.Related.{names as names_address}
 use Rattle.eval_behaves_proof.proofs.Constants.{Stands, constant_stands}
 use Rattle.eval_behaves_proof.proofs.Shared.{to_itself}

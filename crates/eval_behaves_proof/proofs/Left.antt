@@ -6,7 +6,7 @@ use Rattle.wasm_tree.specs.declared.module.Module.{Module}
 use Rattle.wasm_meaning.specs.State.{Inst, Text}
 use Rattle.wasm_meaning.specs.Linking.{Entity}
 use Rattle.wasm_meaning.specs.Environment.{Environment}
-use Rattle.wasm_meaning.specs.InTurn.{Added}
+use Rattle.wasm_meaning.specs.Sequential.{Added}
 use Rattle.wasm_meaning.specs.World.{Begun, Filled, World, and_then, const_value, instantiate, insts_from, joined_stores, one_by_one, own_store, part_store, run_data, run_data_with, run_elem, run_elem_with, segments, segments_in, store_with, stores_from, value_of}
 use Rattle.world_simulation.specs.Alone.{one}
 use Rattle.world_simulation.specs.Leaves.{Leaves}

@@ -18,7 +18,7 @@ mod Fit
 mod Shared
 mod SnapshotHas
 mod Zipped
-mod Alike
+mod StatesAgree
 mod CopiesAlike
 mod QuietSegments
 mod DatasAlike
@@ -36,7 +36,7 @@ mod OwnFuncs
 mod InRange
 mod OneMore
 mod MoreLinked
-mod Standing
+mod Counterparts
 mod FuncsAtFirst
 mod AtFirst
 mod Overwritten

@@ -22,7 +22,7 @@ use Rattle.wasm_tree.specs.Spaces.{funcs_of, tables_of, memories_of, globals_of}
 use Rattle.wasm_meaning.specs.State.{Text, Inst, Func, Code, Global, Elem, Store}
 use Rattle.wasm_meaning.specs.Values.{declared, ref_of}
 use Rattle.wasm_meaning.specs.Linking.{Entity, sites}
-use Rattle.wasm_meaning.specs.Environment.{Environment, Thing, FuncAt, TableAt, MemoryAt, GlobalAt, all_of}
+use Rattle.wasm_meaning.specs.Environment.{Environment, ExternalValue, FuncAt, TableAt, MemoryAt, GlobalAt, all_of}
 use Rattle.wasm_meaning.specs.World.{Begun, address_in, all_there, alone, begun, elem_of, insts_from, instantiate, is_matched, joined_stores}
 use Rattle.wasm_meaning.specs.World.{links, new_elem, new_func, new_global, own_count, own_store, part_store, seen_as, segments, stores_from, value_of}
 use Rattle.index_remap.specs.Related.{Pairing}
@@ -68,7 +68,7 @@ pub record MoreMade (env : Environment) (m : Module) (evaluated kept : List Text
   pub shape : IsInst env (one (with_empty_func m)) 0 (with_empty_func m) inst
   pub defined : Store
   pub is_defined : part_store env (one (with_empty_func m)) (inst ∷ []) 0 (with_empty_func m) inst ≡ Some defined
-  pub view : List (Text × Thing)
+  pub view : List (Text × ExternalValue)
   pub is_begun : instantiate env (evaluated_world m evaluated kept) ≡ Some
       (begun env (evaluated_world m evaluated kept) (inst ∷ []) view (segments env (one (with_empty_func m)) (inst ∷ []) (joined_stores (own_store env) defined)))
 
@@ -145,26 +145,26 @@ module _ (env : Environment) (m : Module) (names : TreeNamesOnly (with_entry (ea
 
     -- ---- names ----
 
-    thing_there : (d : ExportDesc) → ExportNamesOnly (with_entry (each_index m)) d → (x : Thing) × (address_in j d ≡ Some x)
+    thing_there : (d : ExportDesc) → ExportNamesOnly (with_entry (each_index m)) d → (x : ExternalValue) × (address_in j d ≡ Some x)
     thing_there (ex.Func n) h = let l = below (length (funcs_of m)) n h in let e = funcs_many env m j b in let x = slice_get_there j.funcs n (omega (arith, l, e)) in (FuncAt x.0, rw x.1 refl)
     thing_there (ex.Table n) h = let l = below (length (tables_of m)) n h in let e = tables_many env m j b in let x = slice_get_there j.tables n (omega (arith, l, e)) in (TableAt x.0, rw x.1 refl)
     thing_there (ex.Memory n) h = let l = below (length (memories_of m)) n h in let e = mems_many env m j b in let x = slice_get_there j.mems n (omega (arith, l, e)) in (MemoryAt x.0, rw x.1 refl)
     thing_there (ex.Global n) h = let l = below (length (globals_of m)) n h in let e = globals_many env m j b in let x = slice_get_there j.globals n (omega (arith, l, e)) in
         (GlobalAt x.0, rw x.1 refl)
 
-    last_there : (x : Thing) × (address_in j (ex.Func (length (funcs_of m))) ≡ Some x)
+    last_there : (x : ExternalValue) × (address_in j (ex.Func (length (funcs_of m))) ≡ Some x)
     last_there = let e = funcs_many env m j b in let x = slice_get_there j.funcs (length (funcs_of m)) (omega (arith, e)) in (FuncAt x.0, rw x.1 refl)
 
     left_there : (evaluated kept : List Text) (e d : Export) → ExportNamesOnly (with_entry (each_index m)) e.desc → export_left evaluated kept (length (funcs_of m)) e ≡ Some d →
-        (x : Thing) × (address_in j d.desc ≡ Some x)
+        (x : ExternalValue) × (address_in j d.desc ≡ Some x)
     left_there evaluated kept e d h = go (is_among_names evaluated e.name) (is_among_names kept e.name)
       where
-        go : (p q : Bool) → cond p (cond q (Some (record e { desc = ex.Func (length (funcs_of m)) })) None) (Some e) ≡ Some d → (x : Thing) × (address_in j d.desc ≡ Some x)
-        go true true k = subst (λ (d : Export). (x : Thing) × (address_in j d.desc ≡ Some x)) (same_Some (record e { desc = ex.Func (length (funcs_of m)) }) d k) last_there
+        go : (p q : Bool) → cond p (cond q (Some (record e { desc = ex.Func (length (funcs_of m)) })) None) (Some e) ≡ Some d → (x : ExternalValue) × (address_in j d.desc ≡ Some x)
+        go true true k = subst (λ (d : Export). (x : ExternalValue) × (address_in j d.desc ≡ Some x)) (same_Some (record e { desc = ex.Func (length (funcs_of m)) }) d k) last_there
         go true false k = absurd (let q = k in cc)
-        go false q k = subst (λ (d : Export). (x : Thing) × (address_in j d.desc ≡ Some x)) (same_Some e d k) (thing_there e.desc h)
+        go false q k = subst (λ (d : Export). (x : ExternalValue) × (address_in j d.desc ≡ Some x)) (same_Some e d k) (thing_there e.desc h)
 
-    seen_there : (evaluated kept : List Text) (n : ℕ) (v : Text × Entity) → slice_get (evaluated_world m evaluated kept).view n ≡ Some v → (y : Text × Thing) × (seen_as (j ∷ []) v ≡ Some y)
+    seen_there : (evaluated kept : List Text) (n : ℕ) (v : Text × Entity) → slice_get (evaluated_world m evaluated kept).view n ≡ Some v → (y : Text × ExternalValue) × (seen_as (j ∷ []) v ≡ Some y)
     seen_there evaluated kept n v h =
         let e = map_from (λ e. (e.name, record { part = 0; what = e.desc })) (exports_left m evaluated kept) n v h in
         let d = chosen_from (export_left evaluated kept (length (funcs_of m))) m.exports n e.0 e.1 in

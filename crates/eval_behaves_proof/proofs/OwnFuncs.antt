@@ -1,11 +1,11 @@
--- At the address that an imported function stands for, the environment has its own function of that pair and type.
+-- At the address that an imported function denotes, the environment has its own function of that pair and type.
 use Rattle.std.proofs.Common.{◌≡◌, ◌∙◌, sym, ap, ap₂, refl, ℕ, suc, ◌+◌, List, [], ◌∷◌, ◌++◌, map, append-nil, Option, Some, None, Bool, true, false, cond, arith, slice_get}
 use Rattle.std.proofs.lemmas.Bool.{and_parts}
 use Rattle.wasm_tree.specs.declared.types.FuncType.{FuncType}
 use Rattle.wasm_meaning.specs.State.{Pair, Func, Own}
 use Rattle.wasm_meaning.specs.Linking.{same_pair, same_text}
 use Rattle.wasm_tree.specs.SameTypes.{same_func_type}
-use Rattle.wasm_meaning.specs.Environment.{Environment, Offer, OwnKey, FuncKey, TableKey, MemoryKey, GlobalKey, Thing, FuncAt, TableAt}
+use Rattle.wasm_meaning.specs.Environment.{Environment, Offer, OwnKey, FuncKey, TableKey, MemoryKey, GlobalKey, ExternalValue, FuncAt, TableAt}
 use Rattle.wasm_meaning.specs.Environment.{MemoryAt, GlobalAt, Owned, same_key, look_up, owned_at, owned_of, addressed, flat, one_if, own_funcs}
 use Rattle.index_remap.specs.Related.{ListRel, nil, cons}
 use Rattle.index_remap.proofs.Rel.{append_rel}
@@ -26,7 +26,7 @@ module _ (pair : Pair) (t : FuncType) where
   is = same_key (FuncKey pair t)
 
   -- keys of another kind are passed over
-  passed_over : {B : Type 0} (of : Offer → Option B) (key : Offer → B → OwnKey) → ((o : Offer) (b : B) → is (key o b) ≡ false) → (os : List Offer) (thing : ℕ → Thing) (n : ℕ) (rest : Owned) →
+  passed_over : {B : Type 0} (of : Offer → Option B) (key : Offer → B → OwnKey) → ((o : Offer) (b : B) → is (key o b) ≡ false) → (os : List Offer) (thing : ℕ → ExternalValue) (n : ℕ) (rest : Owned) →
       look_up is (addressed thing n (flat (λ o. one_if (key o) (of o)) os) ++ rest) ≡ look_up is rest
   passed_over of key other [] thing n rest = refl
   passed_over {B} of key other (o ∷ os) thing n rest = go (of o) (λ n. passed_over of key other os thing n rest)
@@ -45,12 +45,12 @@ module _ (pair : Pair) (t : FuncType) where
       ∙ passed_over (λ o. o.global) (λ o b. GlobalKey o.pair) (λ o b. refl) env GlobalAt 0 []
 
   -- one that is found
-  pub record FoundOwn (n : ℕ) (fs : List Func) (x : Thing) : Type 0 where
+  pub record FoundOwn (n : ℕ) (fs : List Func) (x : ExternalValue) : Type 0 where
     pub place : ℕ
     pub thing : x ≡ FuncAt (n + place)
     pub own : slice_get fs place ≡ Some (Own pair t)
 
-  found : (n : ℕ) {keys : List OwnKey} {fs : List Func} (rest : Owned) → look_up is rest ≡ None → ListRel IsOwn keys fs → (x : Thing) → look_up is (addressed FuncAt n keys ++ rest) ≡ Some x →
+  found : (n : ℕ) {keys : List OwnKey} {fs : List Func} (rest : Owned) → look_up is rest ≡ None → ListRel IsOwn keys fs → (x : ExternalValue) → look_up is (addressed FuncAt n keys ++ rest) ≡ Some x →
       FoundOwn n fs x
   found n rest none nil x e = absurd (let f = sym none ∙ e in cc)
   found n rest none (cons {a = key} {b = f} {xs = keys} {ys = fs} h hs) x e = go (is key) refl e (found (suc n) rest none hs x)
@@ -75,5 +75,5 @@ module _ (pair : Pair) (t : FuncType) where
           let z : suc n + r.place ≡ n + suc r.place = omega arith in
           record { place = suc r.place; thing = r.thing ∙ ap FuncAt z; own = r.own }
 
-  pub own_found : (env : Environment) (x : Thing) → owned_at (owned_of env) (FuncKey pair t) ≡ Some x → FoundOwn 0 (own_funcs env) x
+  pub own_found : (env : Environment) (x : ExternalValue) → owned_at (owned_of env) (FuncKey pair t) ≡ Some x → FoundOwn 0 (own_funcs env) x
   own_found env x e = found 0 _ (no_other env) (allocated_own env) x e

@@ -16,7 +16,7 @@ use Rattle.eval_spec.specs.Instantiation.{after_start, instantiated, own_inst}
 use Rattle.eval_spec.specs.Evaluation.{called_in_order, evaluated}
 use Rattle.eval_proof.specs.Known.{FuncsOf, QuietCallsAreKnown}
 use Rattle.eval_proof.specs.Alone.{LeavesAlone}
-use Rattle.eval_proof.specs.Led.{QuietCallsLead}
+use Rattle.eval_proof.specs.QuietCalls.{QuietCallsSimulate}
 use Rattle.eval_proof.specs.Laws.{EndsAreReached}
 use Rattle.eval_snapshot_spec.specs.Evaluated.{funcs_named}
 use Rattle.eval_behaves_proof.specs.Worlds.{addresses_of, evaluated_world, with_empty_func}
@@ -51,7 +51,7 @@ pub record BothInstantiated (env : Environment) (m : Module) (constructors kept 
   pub related : StoreRelOff (passed (stands_at m inst) (names_at m inst) []) quiet.unknown quiet.store begun.store
   pub called : ListRel ((passed (stands_at m inst) (names_at m inst) []).of Functions) (start_of m.start ++ funcs_named m constructors) (begun.starts ++ addresses)
 
-module _ (known : QuietCallsAreKnown) (lead : QuietCallsLead) (agree : StepsAgreeOff) (runs : RunsAgreeOff) (reached : EndsAreReached) (env : Environment) (m : Module) (constructors kept : List Text) (t : State) where
+module _ (known : QuietCallsAreKnown) (lead : QuietCallsSimulate) (agree : StepsAgreeOff) (runs : RunsAgreeOff) (reached : EndsAreReached) (env : Environment) (m : Module) (constructors kept : List Text) (t : State) where
   -- then the calls come to their ends in both, and what the quiet run leaves is what the machine leaves; what is not related, or still unknown, is as it was
   pub record QuietRun (b : BothInstantiated env m constructors kept) : Type 0 where
     pub machines : IsTheMachines env m constructors kept t

@@ -16,7 +16,7 @@ use Rattle.wasm_tree.specs.Spaces.{imported_memories, memories_of}
 use Rattle.wasm_meaning.specs.Outcomes.{Outcome, Gives}
 use Rattle.wasm_meaning.specs.State.{Inst, Store}
 use Rattle.wasm_meaning.specs.Touched.{Touched, Bytes}
-use Rattle.wasm_meaning.specs.InTurn.{Added}
+use Rattle.wasm_meaning.specs.Sequential.{Added}
 use Rattle.wasm_meaning.specs.World.{Filled, PlacedSegment, and_then, const_value, joined_stores, run_data_with, run_elem_with, segments_in, store_with}
 use Rattle.world_simulation.specs.Leaves.{elem_copies, data_copies}
 use Rattle.world_simulation.proofs.Allocated.{adds_with, new_memory}

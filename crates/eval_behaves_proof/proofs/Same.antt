@@ -1,4 +1,4 @@
--- Where what the first step makes of a module's constructors corresponds to what another module is instantiated to, both show the same.
+-- Where what the first step makes of a module's constructors corresponds to what another module is instantiated to, both have equal traces.
 use Rattle.std.proofs.Common.{◌∙◌, sym, ℕ, List, [], ◌∷◌, Bool, append-nil, IsTrue}
 use Rattle.wasm_tree.specs.declared.space.Space.{Space}
 use Rattle.wasm_tree.specs.declared.module.Module.{Module}
@@ -8,9 +8,9 @@ use Rattle.wasm_meaning.specs.World.{alone, instantiate, links}
 use Rattle.index_remap.specs.Related.{OneToOne, OptRel}
 use Rattle.index_remap.specs.RelatedRuns.{BegunRel}
 use Rattle.index_remap.specs.Laws.{passed, EntryByEntry}
-use Rattle.world_simulation.specs.Instances.{RelatedBegunShowTheSame}
+use Rattle.world_simulation.specs.Instances.{RelatedBegunHaveEqualTraces}
 use Rattle.eval_behaves_proof.specs.Worlds.{evaluated_begun}
-use Rattle.eval_behaves_proof.specs.Laws.{BehavesAs}
+use Rattle.eval_behaves_proof.specs.Laws.{ObservationallyEquivalent}
 
 -- in an environment, under a relation of addresses that is one to one
 pub record BeginAlike (env : Environment) (m : Module) (constructors kept : List Text) (other : Module) : Type 0 where
@@ -18,13 +18,13 @@ pub record BeginAlike (env : Environment) (m : Module) (constructors kept : List
   pub apart : OneToOne (passed of of [])
   pub begun : OptRel (BegunRel (passed of of []) (EntryByEntry (passed of of []))) (evaluated_begun env m constructors kept) (instantiate env (alone other))
 
-pub alike_show_the_same : RelatedBegunShowTheSame → (m : Module) (name : Text) (names kept : List Text) (other : Module) →
-    ((env : Environment) → IsTrue (is_environment env) → IsTrue (links env (alone m)) → BeginAlike env m (name ∷ names) kept other) → BehavesAs m (name ∷ names) kept other
+pub alike_show_the_same : RelatedBegunHaveEqualTraces → (m : Module) (name : Text) (names kept : List Text) (other : Module) →
+    ((env : Environment) → IsTrue (is_environment env) → IsTrue (links env (alone m)) → BeginAlike env m (name ∷ names) kept other) → ObservationallyEquivalent m (name ∷ names) kept other
 alike_show_the_same same m name names kept other alike env is linked moves n =
     let a = alike env is linked in
     let e = same a.of a.apart env (evaluated_begun env m (name ∷ names) kept) (instantiate env (alone other)) a.begun moves n in
     (([], append-nil _ ∙ e), ([], append-nil _ ∙ sym e))
 
 -- where no constructor is evaluated the module behaves as itself
-pub none_evaluated : (m : Module) (kept : List Text) → BehavesAs m [] kept m
+pub none_evaluated : (m : Module) (kept : List Text) → ObservationallyEquivalent m [] kept m
 none_evaluated m kept env is linked moves n = (([], append-nil _), ([], append-nil _))

@@ -36,7 +36,7 @@ use Rattle.eval_behaves_proof.specs.Worlds.{with_empty_func}
 use Rattle.eval_behaves_proof.proofs.Overwritten.{KnownAfter, copied_off}
 use Rattle.eval_behaves_proof.proofs.Related.{relates}
 use Rattle.eval_behaves_proof.proofs.SlotsTold.{other_table, this_table}
-use Rattle.eval_behaves_proof.proofs.Standing.{R, data_itself, elem_itself, memory_there, offset_stays, table_there, value_there}
+use Rattle.eval_behaves_proof.proofs.Counterparts.{R, data_itself, elem_itself, memory_there, offset_stays, table_there, value_there}
 use Rattle.eval_behaves_proof.proofs.SegmentCopies.{DataCopied, ElemCopied, with_memory, with_table, both_there, data_copied, data_copies, elem_copied, elem_copies, none_imported, went, with_it}
 
 -- ---- both ----

@@ -29,7 +29,7 @@ use Rattle.world_simulation.proofs.Places.{map_length}
 use Rattle.eval_spec.specs.State.{State}
 use Rattle.eval_snapshot_spec.specs.Snapshot.{snapshot}
 use Rattle.eval_behaves_proof.specs.Worlds.{with_empty_func}
-use Rattle.eval_behaves_proof.proofs.Alike.{first_value, second_value, table_shared}
+use Rattle.eval_behaves_proof.proofs.StatesAgree.{first_value, second_value, table_shared}
 use Rattle.eval_behaves_proof.proofs.InRange.{below, each_index}
 use Rattle.eval_behaves_proof.proofs.CopiesAlike.{copies_same, segments_name}
 use Rattle.eval_behaves_proof.proofs.DatasAlike.{AreBytesOf, all, all_is, bytes, second_are_of, second_fits, second_goes}

@@ -1,4 +1,4 @@
--- In an environment where a module with one more function is instantiated, its snapshot is allocated, its imports match and its names stand for what the module's names stand for.
+-- In an environment where a module with one more function is instantiated, its snapshot is allocated, its imports match and its names denote what the module's names denote.
 use Rattle.std.proofs.Common.{◌≡◌, ◌∙◌, sym, ap, ap₂, refl, subst, ℕ, zero, suc, ◌+◌, List, [], ◌∷◌, ◌++◌, map, length, Bool, true, false, cond, Some, None, ⊎_elim, arith, option_and_then, slice_get}
 use Rattle.std.specs.List.{list_any}
 use Rattle.std.proofs.lemmas.List.{length-append}
@@ -24,7 +24,7 @@ use Rattle.wasm_meaning.specs.Linking.{Entity, sites}
 use Rattle.wasm_meaning.specs.Environment.{Environment, all_of}
 use Rattle.wasm_meaning.specs.World.{address_in, alone, defined_count, elem_of, inst_of, is_matched, joined_stores, new_func, new_global, numbers, own_count, own_store, part_store, seen_as, space, stores_from}
 use Rattle.index_remap.specs.Related.{Pairing, OptRel, some, ListRel, nil, cons}
-use Rattle.index_remap.specs.RelatedRuns.{ThingRel, KeyRel, a_func, a_table, a_memory, a_global}
+use Rattle.index_remap.specs.RelatedRuns.{ExternalValueRel, KeyRel, a_func, a_table, a_memory, a_global}
 use Rattle.index_remap.proofs.Rel.{then_rel}
 use Rattle.index_remap_proof.specs.Indices.{ExportNamesOnly, TreeNamesOnly, with_entry}
 use Rattle.world_simulation.specs.Alone.{one, addresses}
@@ -40,7 +40,7 @@ use Rattle.world_simulation.proofs.Stored.{stores_rel}
 use Rattle.eval_spec.specs.State.{State}
 use Rattle.eval_snapshot_spec.specs.Snapshot.{empty_func, export_left, is_among_names, is_kept, snapshot}
 use Rattle.eval_behaves_proof.specs.Worlds.{evaluated_world, exports_left, with_empty_func}
-use Rattle.eval_behaves_proof.proofs.Alike.{R, enough, func_shared, global_shared, last_shared, memory_shared, second_value, table_shared}
+use Rattle.eval_behaves_proof.proofs.StatesAgree.{R, enough, func_shared, global_shared, last_shared, memory_shared, second_value, table_shared}
 use Rattle.eval_behaves_proof.proofs.InRange.{below, each_index}
 use Rattle.eval_behaves_proof.proofs.CopiesAlike.{elem_same, segments_name}
 use Rattle.eval_behaves_proof.proofs.Shared.{Itself, one_named, same, shares_own, within}
@@ -175,7 +175,7 @@ module _ (env : Environment) (m : Module) (s : State) (name : Text) (names kept 
     abbrev Q : Pairing
     Q = R env m s name names kept
 
-    old_export : (d : ExportDesc) → ExportNamesOnly (with_entry (each_index m)) d → OptRel (ThingRel Q) (address_in i d) (address_in j d)
+    old_export : (d : ExportDesc) → ExportNamesOnly (with_entry (each_index m)) d → OptRel (ExternalValueRel Q) (address_in i d) (address_in j d)
     old_export (ex.Func x) h = then_rel
         (one_named (bound m s name names kept env) env (enough env m s name names kept) (func_shared env m s name names kept i j a b x (below (length (funcs_of m)) x h))) (λ _ _ r. some (a_func r))
     old_export (ex.Table x) h = then_rel
@@ -188,26 +188,26 @@ module _ (env : Environment) (m : Module) (s : State) (name : Text) (names kept 
         (λ _ _ r. some (a_global r))
 
     kept_export : (n : ℕ) (e : Export) → slice_get m.exports n ≡ Some e → is_kept (name ∷ names) kept e.name ≡ true →
-        OptRel (ThingRel Q) (address_in i (ex.Func (length (funcs_of m)))) (address_in j (ex.Func (length (funcs_of m))))
+        OptRel (ExternalValueRel Q) (address_in i (ex.Func (length (funcs_of m)))) (address_in j (ex.Func (length (funcs_of m))))
     kept_export n e at h =
         let some_more : length (more m s name names kept) ≡ 1 = ap (λ b. length (cond b (empty_func m ∷ []) [])) (any_passes_from_place (λ e. is_kept (name ∷ names) kept e.name) m.exports n e at h) in
         then_rel (one_named (bound m s name names kept env) env (enough env m s name names kept) (last_shared env m s name names kept i j a b (omega (arith, some_more)))) (λ _ _ r. some (a_func r))
 
     -- an export that is left
     export_alike : (n : ℕ) (e x : Export) → slice_get m.exports n ≡ Some e → export_left (name ∷ names) kept (length (funcs_of m)) e ≡ Some x →
-        OptRel (ThingRel Q) (address_in i x.desc) (address_in j x.desc)
+        OptRel (ExternalValueRel Q) (address_in i x.desc) (address_in j x.desc)
     export_alike n e x at is = by (is_among_names (name ∷ names) e.name) (is_among_names kept e.name) refl refl is
       where
         by : (c k : Bool) → is_among_names (name ∷ names) e.name ≡ c → is_among_names kept e.name ≡ k →
-            cond c (cond k (Some (record e { desc = ex.Func (length (funcs_of m)) })) None) (Some e) ≡ Some x → OptRel (ThingRel Q) (address_in i x.desc) (address_in j x.desc)
-        by true true p q h = subst (λ (x : Export). OptRel (ThingRel Q) (address_in i x.desc) (address_in j x.desc)) (same_Some _ _ h) (kept_export n e at (rw (p, q) refl))
+            cond c (cond k (Some (record e { desc = ex.Func (length (funcs_of m)) })) None) (Some e) ≡ Some x → OptRel (ExternalValueRel Q) (address_in i x.desc) (address_in j x.desc)
+        by true true p q h = subst (λ (x : Export). OptRel (ExternalValueRel Q) (address_in i x.desc) (address_in j x.desc)) (same_Some _ _ h) (kept_export n e at (rw (p, q) refl))
         by true false p q h = absurd (let f = h in cc)
-        by false k p q h = subst (λ (x : Export). OptRel (ThingRel Q) (address_in i x.desc) (address_in j x.desc)) (same_Some _ _ h) (old_export e.desc (named.exports n e at))
+        by false k p q h = subst (λ (x : Export). OptRel (ExternalValueRel Q) (address_in i x.desc) (address_in j x.desc)) (same_Some _ _ h) (old_export e.desc (named.exports n e at))
 
     abbrev seen : Export → Text × Entity
     seen e = (e.name, record { part = 0; what = e.desc })
 
-    each_alike : (es : List Export) → ((n : ℕ) (x : Export) → slice_get es n ≡ Some x → OptRel (ThingRel Q) (address_in i x.desc) (address_in j x.desc)) →
+    each_alike : (es : List Export) → ((n : ℕ) (x : Export) → slice_get es n ≡ Some x → OptRel (ExternalValueRel Q) (address_in i x.desc) (address_in j x.desc)) →
         ListRel (λ x y. OptRel (KeyRel Q) (seen_as (i ∷ []) x) (seen_as (j ∷ []) y)) (map seen es) (map seen es)
     each_alike [] h = nil
     each_alike (e ∷ es) h = cons (then_rel (h 0 e refl) (λ _ _ r. some (record { key = refl; thing = r }))) (each_alike es (λ n. h (suc n)))

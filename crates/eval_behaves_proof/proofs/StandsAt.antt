@@ -1,4 +1,4 @@
--- Indices of what a module defines and their addresses in an environment: which stand for one another in a quiet run.
+-- Indices of what a module defines and their addresses in an environment: which correspond in a quiet run.
 use Rattle.std.proofs.Common.{◌≡◌, ◌∙◌, ap, refl, ℕ, suc, ◌<◌, ◌≤◌, List, [], ◌∷◌, length, true, false, cond, Option, Some, arith, slice_get, IsTrue}
 use Rattle.std.proofs.lemmas.Bool.{eq-eqb, le-ltb, lt-ltb}
 use Rattle.base_lists.specs.Places.{places}

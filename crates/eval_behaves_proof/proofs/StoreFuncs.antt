@@ -26,7 +26,7 @@ use Rattle.eval_spec.specs.State.{State}
 use Rattle.eval_snapshot_proof.proofs.Trees.{CodeLaws}
 use Rattle.eval_snapshot_spec.specs.Snapshot.{snapshot}
 use Rattle.eval_behaves_proof.specs.Worlds.{with_empty_func}
-use Rattle.eval_behaves_proof.proofs.Alike.{R, code_same, enough, first_value, second_value}
+use Rattle.eval_behaves_proof.proofs.StatesAgree.{R, code_same, enough, first_value, second_value}
 use Rattle.eval_behaves_proof.proofs.InRange.{each_index}
 use Rattle.eval_behaves_proof.proofs.CopiesAlike.{copies_itself, copies_same, left_itself, left_same, segments_name}
 use Rattle.eval_behaves_proof.proofs.Shared.{shares_own}

@@ -37,7 +37,7 @@ use Rattle.eval_snapshot_spec.specs.After.{TellsTheSame}
 use Rattle.eval_snapshot_spec.specs.Snapshot.{global_left, globals_left, snapshot}
 use Rattle.eval_snapshot_proof.proofs.Trees.{global_from}
 use Rattle.eval_behaves_proof.specs.Worlds.{with_empty_func}
-use Rattle.eval_behaves_proof.proofs.Alike.{R, enough, first_value, same_imports, same_types, second_value, value_itself, values_same}
+use Rattle.eval_behaves_proof.proofs.StatesAgree.{R, enough, first_value, same_imports, same_types, second_value, value_itself, values_same}
 use Rattle.eval_behaves_proof.proofs.InRange.{each_index}
 use Rattle.eval_behaves_proof.proofs.KnownValues.{Run, constant_again, told_known, untold_unknown}
 use Rattle.eval_behaves_proof.proofs.QuietSegments.{neither}
@@ -125,7 +125,7 @@ module _ (env : Environment) (m : Module) (s : State) (name : Text) (names kept 
           BothRel (GlobalOff (Run m i) (not (is_among e.unknown.globals (place + n)))) o p → Holds n g
       by _ _ f h (both {a = x} {b = y} r) = record { was = x; was_is = f; now = y; now_is = h; type = sym r.type ∙ typed x f; value_known = r.value }
 
-  -- only its own index stands for an address
+  -- only its own index denotes an address
   only_index : (n z : ℕ) → ((Run m i).of Globals z (own + n)) → z ≡ place + n
   only_index n z r =
       let c = counted in

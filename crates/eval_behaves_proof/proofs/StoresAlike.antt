@@ -38,7 +38,7 @@ use Rattle.eval_snapshot_spec.specs.After.{TellsTheSame}
 use Rattle.eval_snapshot_spec.specs.Snapshot.{emptied, is_passive, memory_segments, old_segments, segment_left, segments_left, snapshot}
 use Rattle.eval_snapshot_proof.proofs.Trees.{CodeLaws}
 use Rattle.eval_behaves_proof.specs.Worlds.{with_empty_func}
-use Rattle.eval_behaves_proof.proofs.Alike.{R, first_value, second_value}
+use Rattle.eval_behaves_proof.proofs.StatesAgree.{R, first_value, second_value}
 use Rattle.eval_behaves_proof.proofs.InRange.{each_index}
 use Rattle.eval_behaves_proof.proofs.DatasAlike.{AreBytesOf, all_is, bytes, first_own_stays, memory_at, own, place, second_defined, second_own_stays}
 use Rattle.eval_behaves_proof.proofs.KnownValues.{Run}

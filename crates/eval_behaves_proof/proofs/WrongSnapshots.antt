@@ -1,4 +1,4 @@
--- Snapshots that are wrong: what is seen of them is not seen of the module after its evaluated constructors, by computation.
+-- Snapshots that are wrong: a trace of one is no trace of the module after its evaluated constructors, by computation.
 use Rattle.std.proofs.Common.{◌≡◌, refl, ap, ℕ, List, [], ◌∷◌, Bool, false, None, Some, true≢false}
 use Rattle.std.specs.Prelude.{pos, nat_eq, IsTrue}
 use Rattle.wasm_tree.specs.declared.instr.Instr.{out-Instr}
@@ -15,12 +15,12 @@ use Rattle.wasm_meaning.specs.Environment.{Environment, Number, OwnFunc, is_envi
 use Rattle.wasm_meaning.specs.World.{alone, links}
 use Rattle.wasm_meaning.specs.Run.{Event, Linked, Asked, Returned, Trapped, Got, Done, BadMove, Move, Get, Named, IsPrefix, events}
 use Rattle.eval_behaves_proof.specs.Worlds.{events_evaluated}
-use Rattle.eval_behaves_proof.specs.Laws.{BehavesAs}
+use Rattle.eval_behaves_proof.specs.Laws.{ObservationallyEquivalent}
 use Rattle.eval_behaves_proof.proofs.SmallRuns.{a, c, own, nothing, empty, does, num, exported, mutable_i32, mutable_ref, global, number, setting, setting_left, setting_kept, seven_is_asked, after_setting, nine_is_set, after_setting_kept, storing, storing_left, offering, bytes_are_read, bytes_are_seen, after_storing, reading, reading_left, offering_four, globals_are_read, after_reading, filling, filling_left, it_is_filled, after_nothing}
 
 -- Where what is seen of a module in so many steps does not begin what is seen after the constructors in as many, it does not behave so.
 refused : (m : Module) (evaluated kept : List Text) (other : Module) (env : Environment) (moves : List Move) (n : ℕ) (xs ys : List Event) → IsTrue (is_environment env) → IsTrue (links env (alone m)) →
-    events_evaluated m evaluated kept env moves n ≡ xs → events (alone other) env moves n ≡ ys → (IsPrefix ys xs → ⊥) → BehavesAs m evaluated kept other → ⊥
+    events_evaluated m evaluated kept env moves n ≡ xs → events (alone other) env moves n ≡ ys → (IsPrefix ys xs → ⊥) → ObservationallyEquivalent m evaluated kept other → ⊥
 refused m evaluated kept other env moves n xs ys is linked shown seen apart same = apart (rw (← seen) (rw (← shown) (same env is linked moves n).1))
 
 -- ---- the global keeps its initial value ----
@@ -32,7 +32,7 @@ forgetting_shows : events (alone forgetting) [] seven_is_asked 20 ≡ Linked ∷
 unfolding out-Instr denote.Hole.Carrier.out wrapped
 forgetting_shows = refl
 
-forgetting_is_refused : BehavesAs setting (a ∷ []) [] forgetting → ⊥
+forgetting_is_refused : ObservationallyEquivalent setting (a ∷ []) [] forgetting → ⊥
 unfolding out-Instr denote.Hole.Carrier.out wrapped
 forgetting_is_refused = refused setting (a ∷ []) [] forgetting [] seven_is_asked 20 _ _ refl refl after_setting forgetting_shows (λ p. let k = p.1 in cc)
 
@@ -45,7 +45,7 @@ staying_shows : events (alone staying) [] seven_is_asked 20 ≡ Linked ∷ (numb
 unfolding out-Instr denote.Hole.Carrier.out wrapped
 staying_shows = refl
 
-staying_is_refused : BehavesAs setting (a ∷ []) [] staying → ⊥
+staying_is_refused : ObservationallyEquivalent setting (a ∷ []) [] staying → ⊥
 unfolding out-Instr denote.Hole.Carrier.out wrapped
 staying_is_refused = refused setting (a ∷ []) [] staying [] seven_is_asked 20 _ _ refl refl after_setting staying_shows (λ p. let k = p.1 in cc)
 
@@ -58,7 +58,7 @@ again_shows : events (alone again) [] nine_is_set 20 ≡ Linked ∷ (Done ∷ (R
 unfolding out-Instr denote.Hole.Carrier.out wrapped
 again_shows = refl
 
-again_is_refused : BehavesAs setting (a ∷ []) (a ∷ []) again → ⊥
+again_is_refused : ObservationallyEquivalent setting (a ∷ []) (a ∷ []) again → ⊥
 unfolding out-Instr denote.Hole.Carrier.out wrapped
 again_is_refused = refused setting (a ∷ []) (a ∷ []) again [] nine_is_set 20 _ _ refl refl after_setting_kept again_shows (λ p. let k = p.1 in cc)
 
@@ -75,7 +75,7 @@ restarting_shows : events (alone restarting) offering bytes_are_read 30 ≡ Link
 unfolding out-Instr denote.Hole.Carrier.out wrapped store_from stored little_bytes
 restarting_shows = refl
 
-restarting_is_refused : BehavesAs storing (a ∷ c ∷ []) [] restarting → ⊥
+restarting_is_refused : ObservationallyEquivalent storing (a ∷ c ∷ []) [] restarting → ⊥
 unfolding out-Instr denote.Hole.Carrier.out wrapped store_from stored little_bytes
 restarting_is_refused = refused storing (a ∷ c ∷ []) [] restarting offering bytes_are_read 30 _ _ refl refl after_storing_longer restarting_shows (λ p. let k = p.1 in cc)
 
@@ -88,7 +88,7 @@ shortened_shows : events (alone shortened) offering bytes_are_read 20 ≡ Linked
 unfolding out-Instr denote.Hole.Carrier.out wrapped store_from stored little_bytes
 shortened_shows = refl
 
-shortened_is_refused : BehavesAs storing (a ∷ c ∷ []) [] shortened → ⊥
+shortened_is_refused : ObservationallyEquivalent storing (a ∷ c ∷ []) [] shortened → ⊥
 unfolding out-Instr denote.Hole.Carrier.out wrapped store_from stored little_bytes
 shortened_is_refused = refused storing (a ∷ c ∷ []) [] shortened offering bytes_are_read 20 _ _ refl refl after_storing shortened_shows (λ p. let k = p.1 in cc)
 
@@ -101,7 +101,7 @@ guessing_shows : events (alone guessing) offering_four globals_are_read 20 ≡ L
 unfolding out-Instr denote.Hole.Carrier.out wrapped
 guessing_shows = refl
 
-guessing_is_refused : BehavesAs reading (a ∷ []) [] guessing → ⊥
+guessing_is_refused : ObservationallyEquivalent reading (a ∷ []) [] guessing → ⊥
 unfolding out-Instr denote.Hole.Carrier.out wrapped
 guessing_is_refused = refused reading (a ∷ []) [] guessing offering_four globals_are_read 20 _ _ refl refl after_reading guessing_shows (λ p. let k = p.1 in cc)
 
@@ -114,7 +114,7 @@ emptying_shows : events (alone emptying) [] it_is_filled 20 ≡ Linked ∷ (Trap
 unfolding out-Instr denote.Hole.Carrier.out wrapped
 emptying_shows = refl
 
-emptying_is_refused : BehavesAs filling (a ∷ []) [] emptying → ⊥
+emptying_is_refused : ObservationallyEquivalent filling (a ∷ []) [] emptying → ⊥
 unfolding out-Instr denote.Hole.Carrier.out wrapped
 emptying_is_refused = refused filling (a ∷ []) [] emptying [] it_is_filled 20 _ _ refl refl after_nothing emptying_shows (λ p. let k = p.1 in cc)
 
@@ -147,6 +147,6 @@ gives_second n (e ∷ (Got (Number k) ∷ es)) = nat_eq n k
 gives_second n es = false
 
 -- so the law asks that segments hold bytes
-loading_left_is_refused : BehavesAs loading (a ∷ []) [] loading_left → ⊥
+loading_left_is_refused : ObservationallyEquivalent loading (a ∷ []) [] loading_left → ⊥
 unfolding out-Instr denote.Hole.Carrier.out wrapped signed
 loading_left_is_refused = refused loading (a ∷ []) [] loading_left [] (Get (Named c) 0 ∷ []) 20 _ _ refl refl after_loading loading_left_shows (λ p. true≢false (ap (gives_second 738197504) p.1))

@@ -1,4 +1,4 @@
--- The quiet run, in whose store each index is an address, as the machine's run in an environment: which address an index stands for there.
+-- The quiet run, in whose store each index is an address, as the machine's run in an environment: which address an index denotes there.
 use Rattle.std.specs.Prelude.{◌≡◌, ℕ, List, [], ◌∷◌, length, Bool, false, not, ◌&&◌, None, Some, slice_get, nat_lt, IsTrue}
 use Rattle.wasm_tree.specs.declared.space.Space.{Space}
 use Rattle.wasm_tree.specs.declared.space.Space.TheVariants.{Types, Functions, Tables, Memories, Globals, ElementSegments, DataSegments}

@@ -13,16 +13,16 @@ use Rattle.eval_snapshot_spec.specs.Snapshot.{snapshot}
 use Rattle.eval_behaves_proof.specs.Worlds.{events_evaluated}
 
 -- In every environment that links the module, whatever is seen in n steps after its evaluated constructors is seen of the other in n, and the other way round.
-abbrev pub BehavesAs : Module → (evaluated kept : List Text) → Module → Type 0
-BehavesAs m evaluated kept other = Same (λ env. IsTrue (links env (alone m))) (events_evaluated m evaluated kept) (events (alone other)) (λ n. n) (λ n. n)
+abbrev pub ObservationallyEquivalent : Module → (evaluated kept : List Text) → Module → Type 0
+ObservationallyEquivalent m evaluated kept other = Same (λ env. IsTrue (links env (alone m))) (events_evaluated m evaluated kept) (events (alone other)) (λ n. n) (λ n. n)
 
 -- So it is with the snapshot in a state that tells what stands after these constructors, where tables of the module have fewer than 2 ^ 32 slots and its data segments hold bytes.
-abbrev pub SnapshotsShowTheSame : Type 0
-SnapshotsShowTheSame = (m : Module) (evaluated kept : List Text) (s : State) → IsValid m → BeginsInRange m → IsAfter m evaluated s → BehavesAs m evaluated kept (snapshot m s evaluated kept)
+abbrev pub SnapshotEquivalent : Type 0
+SnapshotEquivalent = (m : Module) (evaluated kept : List Text) (s : State) → IsValid m → BeginsInRange m → IsAfter m evaluated s → ObservationallyEquivalent m evaluated kept (snapshot m s evaluated kept)
 
 -- where no constructor is evaluated, the module itself
-abbrev pub NoneShowsTheSame : Type 0
-NoneShowsTheSame = (m : Module) (kept : List Text) → BehavesAs m [] kept m
+abbrev pub NoneIsEquivalent : Type 0
+NoneIsEquivalent = (m : Module) (kept : List Text) → ObservationallyEquivalent m [] kept m
 
 -- ---- runs ----
 

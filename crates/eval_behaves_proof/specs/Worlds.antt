@@ -45,7 +45,7 @@ all_called s (a ∷ addresses) = called_to_end s a >>= λ t. all_called t addres
 abbrev pub with_empty_func : Module → Module
 with_empty_func m = record m { funcs = m.funcs ++ empty_func m ∷ [] }
 
--- the names of the snapshot, of which those of evaluated constructors stand for the function that is added
+-- the names of the snapshot, of which those of evaluated constructors denote the function that is added
 abbrev pub exports_left : Module → (evaluated kept : List Text) → List Export
 exports_left m evaluated kept = filter_map (export_left evaluated kept (length (funcs_of m))) m.exports
 

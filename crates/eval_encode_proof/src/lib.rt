@@ -18,7 +18,7 @@ ghost use Rattle.eval_snapshot_spec.specs.Snapshot.{snapshot};
 use eval_numbers_proof::evaluated_numbers_are_in_range;
 use wasm_tree::operands_pass_layer_by_layer;
 use wasm_valid::valid_where_items_hold;
-use wasm_write_proof::spelled_operands_are_in_range;
+use wasm_write_proof::encoded_operands_are_in_range;
 
 /// Where a valid module has its numbers in range, its names in UTF-8 and bytes in its data segments, its snapshot in the state after evaluated constructors has its numbers in range and its names in
 /// UTF-8, if it is valid, has at most one memory and a u32 can count what it has (`range`): so that an `i32.const` (WebAssembly Core 2.0, section 5.4.7) has each value of a global and each offset of
@@ -32,10 +32,10 @@ pub fn snapshots_are_in_range()
     evaluated_numbers_are_in_range();
     operands_pass_layer_by_layer();
     valid_where_items_hold();
-    spelled_operands_are_in_range();
+    encoded_operands_are_in_range();
 }
 
 /// A tree that bytes spell has bytes in its data segments, and in its tables so many slots as an i32 can say (sections 5.5.7 and 5.5.14).
-pub fn spelled_trees_begin_in_range()
+pub fn encoded_trees_begin_in_range()
     ensures { (bytes : List ℕ) (m : Module) (many : Bool) → IsBytes bytes → Spells bytes m many → BeginsInRange m }
 {}

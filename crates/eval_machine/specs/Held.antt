@@ -1,4 +1,4 @@
--- What a value of the machine stands for, and how a part of the machine tells what an instruction comes to.
+-- What a value of the machine denotes, and how a part of the machine tells what an instruction comes to.
 use Rattle.std.specs.Prelude.{◌≡◌, ℕ, Bool, true, false, cond, ◌&&◌, Option, Some, None, Result, Ok, Err, List, [], ◌∷◌, map, slice_set}
 use Rattle.wasm_tree.specs.declared.types.ValType.{ValType}
 use Rattle.wasm_tree.specs.SameTypes.{same_type}

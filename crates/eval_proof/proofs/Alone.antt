@@ -30,7 +30,7 @@ use Rattle.eval_spec.specs.Stops.{changes_table, is_unknown_import, beginning_in
 use Rattle.eval_spec.specs.Quiet.{quiet_step}
 use Rattle.eval_spec.specs.Instantiation.{own_inst}
 use Rattle.eval_proof.specs.Known.{RelatesAllButImports, FramesOf}
-use Rattle.eval_proof.specs.Alone.{LeavesAlone, QuietStepsLeaveAlone}
+use Rattle.eval_proof.specs.Alone.{LeavesAlone, QuietStepsPreserveUnrelated}
 use Rattle.eval_proof.proofs.Operands.{Known, op_known}
 use Rattle.eval_proof.proofs.Quiet.{neither, every_false, every_to, none_held, goes_on_quietly}
 use Rattle.eval_proof.proofs.KnownSteps as steps
@@ -264,7 +264,7 @@ module _ (m : Module) (of named : Space → ℕ → ℕ → Bool) (all : Relates
   code_told i j z [] [] k ws end = just tt
   code_told i j z [] (p ∷ d) k ws c = elim c [ ]
   code_told i j z (o ∷ c) (p ∷ d) k ws (then r rest) = op_told R i j z k.0 ws (op_known R i j k.1 r)
-  code_told i j z (o ∷ c) _ k ws (instead {a = b} e is at listed _ rest) = absurd (steps.none_listed m of named all b listed)
+  code_told i j z (o ∷ c) _ k ws (instead {a = b} e is at listed _ rest) = absurd (steps.no_opaque m of named all b listed)
 
   levels_told : (i j : Inst) (z : Store) (ls ks : List Level) → NextTop i j ls → ListRel (LevelRel R i j) ls ks → AllOf (Told R (SetsTop i ls)) (touched_levels (record { store = z; inst = j }) ks)
   levels_told i j z [] [] k nil = ill_typed
@@ -299,5 +299,5 @@ module _ (m : Module) (of named : Space → ℕ → ℕ → Bool) (all : Relates
   leave_alone touches s r es gs frames q x y fs hs rel st =
       let quiet = goes_on_quietly m s es r gs q in all_at (alone_at touches s r.unknown (Ran r.store gs) es frames quiet.none_held quiet.steps quiet.unknown x fs rel) st
 
-pub quiet_steps_leave_alone : StepsWriteWhatTheyTouch → QuietStepsLeaveAlone
+pub quiet_steps_leave_alone : StepsWriteWhatTheyTouch → QuietStepsPreserveUnrelated
 quiet_steps_leave_alone touches m of named all s r es gs frames q x y fs hs rel st = leave_alone m of named all touches s r es gs frames q x y fs hs rel st

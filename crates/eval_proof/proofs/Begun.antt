@@ -21,7 +21,7 @@ use Rattle.eval_spec.specs.State.{State, Stage, Going, Stopped, Finished, tried}
 use Rattle.eval_spec.specs.Stops.{is_imported, written_after, writes_too_many, test}
 use Rattle.eval_spec.specs.Instantiation.{reads_global, place_in, copied_slots, own_inst, imported_store, value_in, unknown_at_first, none_written, with_elem_mode, with_elem, with_data_mode, with_data, in_order, with_segments, filled_from, instantiated, after_start, booted}
 use Rattle.eval_spec.specs.Evaluation.{called_in_order}
-use Rattle.eval_proof.specs.Budgets.{more_turns, with_turns, HasTurns, GreaterBudgetsDoTheSame}
+use Rattle.eval_proof.specs.Budgets.{more_turns, with_turns, HasTurns, EvaluationIsMonotoneInTheBudget}
 use Rattle.eval_proof.proofs.Budgets.{call_same, kept_turns, calls_same}
 
 module _ (m : Module) (d : ℕ) where
@@ -87,6 +87,6 @@ module _ (m : Module) (d : ℕ) where
   booted_same : (turns : ℕ) → HasTurns (booted m turns) → booted m (turns + d) ≡ with_turns d (booted m turns)
   booted_same turns q = ap (λ t. after_start m t m.start) (instantiated_same turns) ∙ start_same (instantiated m turns) m.start q
 
-pub greater_budgets_do_the_same : GreaterBudgetsDoTheSame
-greater_budgets_do_the_same m turns d funcs q =
+pub evaluation_is_monotone_in_the_budget : EvaluationIsMonotoneInTheBudget
+evaluation_is_monotone_in_the_budget m turns d funcs q =
     ap (λ t. called_in_order m t funcs) (booted_same m d turns (kept_turns m d (booted m turns) funcs q)) ∙ calls_same m d (booted m turns) funcs q

@@ -80,11 +80,11 @@ module _ (m : Module) (of named : Space → ℕ → ℕ → Bool) (all : Relates
   step_reads s (Growing g ∷ es) n = tt
   step_reads s [] n = tt
 
-  pub none_listed : (a : ℕ) → ¬ R.listed a
-  none_listed a p = true≢false (sym p)
+  pub no_opaque : (a : ℕ) → ¬ R.listed a
+  no_opaque a p = true≢false (sym p)
 
   pub skips : (s : Store) (es : List Entry) → TopSkips R s es
-  skips s (Running f ∷ es) = λ x _. none_called R none_listed x
+  skips s (Running f ∷ es) = λ x _. none_called R no_opaque x
   skips s (Mark ∷ es) = tt
   skips s (Opening xs ∷ es) = tt
   skips s (Waiting ts ∷ es) = tt

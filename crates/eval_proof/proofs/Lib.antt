@@ -12,5 +12,5 @@ mod KnownCalls
 mod Whole
 mod Machines
 mod Alone
-mod Led
+mod QuietCallsSimulate
 mod Relations

@@ -15,7 +15,7 @@ use Rattle.wasm_meaning.specs.Outcomes.{Outcome, Gives}
 use Rattle.wasm_meaning.specs.State.{Store}
 use Rattle.wasm_meaning.specs.Touched.{Touched, Bytes}
 use Rattle.wasm_meaning.specs.World.{Filled, PlacedSegment, segments_in, store_with, joined_stores, run_elem_with, run_data_with, and_then, one_by_one}
-use Rattle.wasm_meaning.specs.InTurn.{own_segments}
+use Rattle.wasm_meaning.specs.Sequential.{own_segments}
 use Rattle.eval_spec.specs.declared.stop.Stop.TheVariants as why
 use Rattle.eval_spec.specs.State.{State, Stage, Going, Stopped, Finished, Test, first_held, stopped_or}
 use Rattle.eval_spec.specs.Stops.{written_after}

@@ -23,7 +23,7 @@ address_at i ElementSegments n = slice_get i.elems n
 address_at i DataSegments n = slice_get i.datas n
 
 module _ (R : Pairing) (i j : Inst) where
-  -- what it may name as one is related
+  -- what it has in the code relation is related
   abbrev pub Known : Operand → Type 0
   Known x = (a b : ℕ) → address_at i x.space x.index ≡ Some a → R.named x.space a b → R.of x.space a b
 

@@ -25,7 +25,7 @@ pub record LeavesAlone (R : Pairing) (u : Unknowns) (before after : Store) : Typ
   pub datas : (b : ℕ) → ((a : ℕ) → ¬ R.of DataSegments a b) → slice_get after.datas b ≡ slice_get before.datas b
 
 -- A quiet step leaves alone, in any store over which related entries step, what is not related and what is unknown after it.
-abbrev pub QuietStepsLeaveAlone : Type 0
-QuietStepsLeaveAlone =
+abbrev pub QuietStepsPreserveUnrelated : Type 0
+QuietStepsPreserveUnrelated =
     (m : Module) (of named : Space → ℕ → ℕ → Bool) → RelatesAllButImports m of named → (s r : State) (es gs : List Entry) → FramesOf (own_inst m) es → quiet_step m s es ≡ Going r gs →
     (x y : Store) (fs hs : List Entry) → ListRel (EntryRel (passed of named [])) es fs → step x fs ≡ Gives (Ran y hs) → LeavesAlone (passed of named []) r.unknown x y

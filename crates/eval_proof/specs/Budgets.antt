@@ -19,6 +19,6 @@ abbrev pub HasTurns : Stage → Type 0
 HasTurns t = ¬ (stop_of t ≡ Some why.Steps)
 
 -- With a greater budget an evaluation comes to the same and leaves as many turns more, unless it stops for want of turns.
-abbrev pub GreaterBudgetsDoTheSame : Type 0
-GreaterBudgetsDoTheSame =
+abbrev pub EvaluationIsMonotoneInTheBudget : Type 0
+EvaluationIsMonotoneInTheBudget =
     (m : Module) (turns d : ℕ) (funcs : List ℕ) → HasTurns (evaluated_within m turns funcs) → evaluated_within m (turns + d) funcs ≡ with_turns d (evaluated_within m turns funcs)

@@ -15,7 +15,7 @@ use Rattle.eval_spec.specs.Stops.{is_imported}
 use Rattle.eval_spec.specs.Quiet.{ComesTo}
 use Rattle.eval_spec.specs.Instantiation.{own_inst}
 
--- whatever code may name as one is related, but for imported tables, memories and globals
+-- whatever is in the code relation is related, but for imported tables, memories and globals
 abbrev pub RelatesAllButImports : Module → (of named : Space → ℕ → ℕ → Bool) → Type 0
 RelatesAllButImports m of named = (k : Space) (a b : ℕ) → not (same_space k Functions) && is_imported m k a ≡ false → IsTrue (named k a b) → IsTrue (of k a b)
 

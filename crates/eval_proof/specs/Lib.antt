@@ -3,4 +3,4 @@ pub mod Known
 pub mod Budgets
 pub mod Machines
 pub mod Alone
-pub mod Led
+pub mod QuietCalls

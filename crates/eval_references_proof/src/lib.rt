@@ -4,14 +4,14 @@
 ghost use Rattle.eval_references_proof.specs.References.{CallsKeepRefs, CallsKeepTypes, EvaluatedGlobalsAreTyped, EvaluatedRefsAreThere};
 
 use index_remap::steps_agree;
-use wasm_meaning::steps_write_what_they_touch;
+use wasm_meaning::steps_write_only_touched_places;
 
 /// In each state to which an evaluation of a valid module comes (WebAssembly Core 2.0, sections 4.5.4 and 4.5.5), each function to which the value of a global refers is one of the module, imported or defined.
 pub fn evaluated_references_are_there()
     ensures there { EvaluatedRefsAreThere }
 {
     steps_agree();
-    steps_write_what_they_touch();
+    steps_write_only_touched_places();
 }
 
 /// In each such state the value of each global has the type of the global.
@@ -19,7 +19,7 @@ pub fn evaluated_globals_are_typed()
     ensures typed { EvaluatedGlobalsAreTyped }
 {
     steps_agree();
-    steps_write_what_they_touch();
+    steps_write_only_touched_places();
 }
 
 /// Both stay so in a call that comes to its end: types from any state, and references from one with functions, tables and element segments as the instantiation leaves them.
@@ -28,5 +28,5 @@ pub fn calls_keep_values_of_globals()
     ensures types { CallsKeepTypes }
 {
     steps_agree();
-    steps_write_what_they_touch();
+    steps_write_only_touched_places();
 }

@@ -53,7 +53,7 @@ module _ (a k : Bool) (e : Export) (empty : ℕ) where
       by true h = cc
       by false h = refl
 
--- of all exports, each with what it stands for, those that stay
+-- of all exports, each with what it denotes, those that stay
 pub exports_left_are : (evaluated kept : List Text) (empty : ℕ) (es : List Export) → keeping (map (stays evaluated kept) es) (map (redirected evaluated empty) es) ≡ filter_map (export_left evaluated kept empty) es
 exports_left_are evaluated kept empty [] = refl
 exports_left_are evaluated kept empty (e ∷ es) =

@@ -22,7 +22,7 @@ HasEvaluated evaluated kept all = (name : List ℕ) → get_by (λ k. slice_cmp 
 abbrev pub stays : (evaluated kept : List Text) → Export → Bool
 stays evaluated kept e = not (is_among_names evaluated e.name) || is_among_names kept e.name
 
--- an evaluated constructor's stands for the empty function
+-- an evaluated constructor's denotes the empty function
 abbrev pub redirected : (evaluated : List Text) → (empty : ℕ) → Export → Export
 redirected evaluated empty e = cond (is_among_names evaluated e.name) (record e { desc = ex.Func empty }) e
 

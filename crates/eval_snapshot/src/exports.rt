@@ -35,7 +35,7 @@ pub(crate) fn any_kept(exports: &[Export], names: &BTreeMap<&str, bool>) -> bool
     false
 }
 
-// Lets the export of an evaluated constructor stand for the empty function. Whether it stays.
+// Lets the export of an evaluated constructor denote the empty function. Whether it stays.
 fn redirect(export: &mut Export, names: &BTreeMap<&str, bool>, empty: u32) -> bool
     ensures redirected { (evaluated kept : List Text) → HasEvaluated evaluated kept names.now → export.new ≡ redirected evaluated empty export.old }
     ensures stays { (evaluated kept : List Text) → HasEvaluated evaluated kept names.now → result ≡ stays evaluated kept export.old }

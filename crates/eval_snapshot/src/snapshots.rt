@@ -8,13 +8,13 @@ ghost use Rattle.eval_numbers_proof.specs.Ranges.{BeginsInRange};
 ghost use Rattle.eval_machine.specs.Kept.{Fits, state_in};
 ghost use Rattle.eval_snapshot_spec.specs.Snapshot as spec;
 ghost use Rattle.eval_snapshot_spec.specs.After.{IsAfter};
-ghost use Rattle.eval_behaves_proof.specs.Laws.{BehavesAs};
+ghost use Rattle.eval_behaves_proof.specs.Laws.{ObservationallyEquivalent};
 ghost use Rattle.eval_snapshot.specs.Outcome.{SnapshotGives, first_counts as first_counts_of};
 ghost use Rattle.eval_snapshot.specs.declared.faults.SnapshotFault.TheVariants.{NoMemory as OutOfMemory, TooMany as OverLimit};
 
 use crate::faults::SnapshotFault;
 use crate::tree::tree;
-use eval_behaves_proof::snapshots_show_the_same;
+use eval_behaves_proof::snapshot_equivalent;
 use eval_machine::Machine;
 use eval_snapshot_proof::snapshots_are_valid;
 use eval_suits_proof::evaluated_states_suit;
@@ -88,7 +88,7 @@ fn tree_after(
 /// Each defined global has its value as a constant; one whose value is unknown keeps its initialiser. What the memory holds that the module defines becomes active
 /// data segments, in which fewer than 256 zero bytes stand in a row. Where a body has `memory.init` or `data.drop`, the old segments come first, each at its place: a
 /// passive one that was not dropped stays, every other becomes passive and empty; elsewhere they are left out. The start is removed, and so is the export of each
-/// evaluated constructor, unless its name is to be kept: then it stands for one function more, the last one, with an empty body and the first type that takes and
+/// evaluated constructor, unless its name is to be kept: then it denotes one function more, the last one, with an empty body and the first type that takes and
 /// gives nothing. Functions that `ref.func` names in a body and that nothing else declares any more are declared last (WebAssembly Core 2.0, sections 2.5 and 3.4.10).
 /// Where no constructor was evaluated it is the module as it is, with its start.
 ///
@@ -105,12 +105,12 @@ pub fn snapshot(
     requires after { IsAfter input evaluated.now (state_in input machine.now) }
     ensures tree { IfOk result (λ valid. SnapshotGives input (state_in input machine.now) evaluated.now kept.now (Ok valid)) }
     // What an embedder sees of it, in each environment that links the input, is what it sees of the input after these constructors.
-    ensures behaves { IfOk result (λ valid. BeginsInRange input → BehavesAs input evaluated.now kept.now valid) }
+    ensures behaves { IfOk result (λ valid. BeginsInRange input → ObservationallyEquivalent input evaluated.now kept.now valid) }
     ensures fault { IfErr result (λ f. (f ≡ OutOfMemory) ⊎ SnapshotGives input (state_in input machine.now) evaluated.now kept.now (Err f)) }
 {
     snapshots_are_valid();
     evaluated_states_suit();
-    snapshots_show_the_same();
+    snapshot_equivalent();
     let made = tree_after(
         alloc,
         input.into_module(),

@@ -62,7 +62,7 @@ first_kept_left = record three { funcs = three.funcs ++ func [] ∷ []; exports 
 first_kept_refs : declared first_kept_left ≡ first_kept_left
 first_kept_refs = search (rules, the_lemmas)
 
--- its export is kept, and stands for a new function with an empty body
+-- its export is kept, and denotes a new function with an empty body
 pub first_kept : evaluated_tree three (a ∷ b ∷ c ∷ []) (a ∷ []) ≡ first_kept_left
 unfolding out-Instr denote.Hole.Carrier.out wrapped signed store_from stored little_bytes
 first_kept = made three a [] (a ∷ []) false first_kept_left first_kept_left three_names_no_data first_kept_refs (a ∷ b ∷ c ∷ []) refl refl
@@ -197,7 +197,7 @@ declared_too_out = record named { funcs = named.funcs ++ func [] ∷ []; exports
 declared_too_refs : declared declared_too_left ≡ declared_too_out
 declared_too_refs = search (rules, the_lemmas)
 
--- and where its export stands for the empty function
+-- and where its export denotes the empty function
 declared_too : evaluated_tree named (a ∷ []) (a ∷ []) ≡ declared_too_out
 unfolding out-Instr denote.Hole.Carrier.out wrapped signed store_from stored little_bytes
 declared_too = made named a [] (a ∷ []) false declared_too_left declared_too_out named_names_no_data declared_too_refs (a ∷ []) refl refl

@@ -69,7 +69,7 @@ exports_of_evaluated_constructors_stay e = let f = ap (λ m. m.exports) (sym fir
 exports_of_stopped_constructors_go : ¬ (evaluated_tree three (a ∷ b ∷ c ∷ []) [] ≡ record three { exports = export c 3 ∷ []; datas = at 1024 (42 ∷ []) ∷ [] })
 exports_of_stopped_constructors_go e = let f = ap (λ m. m.exports) (sym first_evaluated ∙ e) in cc
 
--- wrong: an export that is kept stands for the constructor, and so runs it again, and the empty function is there for nothing
+-- wrong: an export that is kept denotes the constructor, and so runs it again, and the empty function is there for nothing
 kept_exports_run_the_constructor : ¬ (evaluated_tree three (a ∷ b ∷ c ∷ []) (a ∷ []) ≡ record first_kept_left { exports = three.exports })
 kept_exports_run_the_constructor e = true≢false (ap (λ m. each_same nat_eq (map (λ e. index_of_export e.desc) m.exports) (4 ∷ 2 ∷ 3 ∷ [])) (sym first_kept ∙ e))
 

@@ -71,7 +71,7 @@ is_among_names names name = list_any (same_text name) names
 abbrev pub is_kept : (evaluated kept : List Text) → Text → Bool
 is_kept evaluated kept name = is_among_names evaluated name && is_among_names kept name
 
--- the export of an evaluated constructor is removed, unless it is to be kept: then it stands for the function of this index
+-- the export of an evaluated constructor is removed, unless it is to be kept: then it denotes the function of this index
 abbrev pub export_left : (evaluated kept : List Text) → (empty : ℕ) → Export → Option Export
 export_left evaluated kept empty e =
     cond (is_among_names evaluated e.name) (cond (is_among_names kept e.name) (Some (record e { desc = ex.Func empty })) None) (Some e)

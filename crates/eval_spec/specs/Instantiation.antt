@@ -59,7 +59,7 @@ imported_store m = record {
   datas = [];
 }
 
--- the value of a constant expression; a `global.get`, whose value is unknown, has that which stands for it
+-- the value of a constant expression; a `global.get`, whose value is unknown, has that which replaces it
 abbrev pub value_in : Module → ConstExpr → Option Val
 value_in m expr = const_value (imported_store m).globals (own_inst m) expr
 

@@ -123,7 +123,7 @@ further_turns o env vs = write_turns (touched_by o env vs)
 
 -- ---- Depth (section 4.4.9 and 4.4.10) ----
 
--- the frames and labels that are open: of each frame the body's level stands for the frame itself, and the others are those of the blocks, loops and ifs that it is in
+-- the frames and labels that are open: of each frame the body's level denotes the frame itself, and the others are those of the blocks, loops and ifs that it is in
 abbrev pub stack_depth : List Entry → ℕ
 stack_depth [] = 0
 stack_depth (Running f ∷ es) = length f.levels + stack_depth es

@@ -15,7 +15,7 @@ use Rattle.wasm_meaning.specs.Outcomes.{Gives}
 use Rattle.wasm_meaning.specs.State.{Func, Mark, Store}
 use Rattle.wasm_meaning.specs.Control.{own_of, type_of_func}
 use Rattle.wasm_meaning.specs.Step.{enter}
-use Rattle.wasm_meaning.specs.InTurn.{Added}
+use Rattle.wasm_meaning.specs.Sequential.{Added}
 use Rattle.wasm_meaning.specs.World.{const_value, elem_with, global_with, is_there, joined_stores, new_func, store_with}
 use Rattle.world_simulation.proofs.FuncsAside.{segments_funcs}
 use Rattle.eval_spec.specs.declared.limits.TheConstants.{MOST_TURNS}

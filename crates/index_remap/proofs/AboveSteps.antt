@@ -5,7 +5,7 @@ use Rattle.wasm_meaning.specs.Outcomes.{Outcome, Gives, bind}
 use Rattle.wasm_meaning.specs.State.{Val, Store, Frame, Entry, Running, Mark, Opening, Waiting, Ended, Growing, Caller, Host, Starter, Act, Ends, Next}
 use Rattle.wasm_meaning.specs.Values.{pop_typed}
 use Rattle.wasm_meaning.specs.Step.{enter_at, give, act, perform, step, to_mark}
-use Rattle.index_remap.specs.Related.{Pairing, OneToOneWhereWritten, BothRel, ResRel, done, trap, wrong, ListRel, nil, cons, ValRel, FuncRel, StoreRel, FrameRel, EntryRel, running, mark, opening, waiting, ended, growing, goes, calls, asks_grow, ends, NextRel, NextRelBy, ran, asked, asked_grow, loads, returned, NotListed, TopSkips}
+use Rattle.index_remap.specs.Related.{Pairing, OneToOneWhereWritten, BothRel, ResRel, done, trap, wrong, ListRel, nil, cons, ValRel, FuncRel, StoreRel, FrameRel, EntryRel, running, mark, opening, waiting, ended, growing, goes, calls, asks_grow, ends, NextRel, NextRelBy, ran, asked, asked_grow, loads, returned, NotOpaque, TopSkips}
 use Rattle.index_remap.specs.Laws.{Above, NeedsBelow, Touches, EntriesKnown, ends_trap, NoMark}
 use Rattle.index_remap.specs.Unknown.{Unknowns, none_unknown, StoreRelOff, StepReadsKnown, left_after, left_unknown, ActOff, NextOff}
 use Rattle.index_remap.proofs.Rel.{there, same_there, bind_rel, bind_found, bind_is, res_map}
@@ -67,7 +67,7 @@ module _ (R : Pairing) (apart : OneToOneWhereWritten R) (cs ds : List Entry) whe
     give_rel s v (ended w) e = wrong
     give_rel s v (growing n) e = wrong
 
-    -- to what stands below, where anything does
+    -- to what is on the stack below, where anything does
     give_below : {s t : Store} {vs ws : List Val} {es fs : List Entry} (us : List Val) → S s t → ListRel (ValRel R) vs ws → ListRel (EntryRel R) es fs → NeedsBelow es cs ds (Ends us) →
         ResRel (NextRelBy R S Both) (give s vs (es ++ cs)) (give t ws (fs ++ ds))
     give_below {s} {t} {vs = vs} {ws = ws} us h v nil needs = subst (λ xs. ResRel (NextRelBy R S Both) (give s vs xs) (give t ws ds)) (sym needs.0) (subst (λ ys. ResRel (NextRelBy R S Both) (give s vs []) (give t ws ys)) (sym needs.1) wrong)
@@ -84,7 +84,7 @@ module _ (R : Pairing) (apart : OneToOneWhereWritten R) (cs ds : List Entry) whe
 
   -- of stores that are related off a set
   module _ (off : Unknowns) where
-    perform_off : {s t : Store} {f g : Frame} {x y : Act} {es fs : List Entry} → StoreRelOff R off s t → FrameRel R f g → ActOff R off f.inst g.inst x y → ListRel (EntryRel R) es fs → NotListed R x → NeedsBelow es cs ds x →
+    perform_off : {s t : Store} {f g : Frame} {x y : Act} {es fs : List Entry} → StoreRelOff R off s t → FrameRel R f g → ActOff R off f.inst g.inst x y → ListRel (EntryRel R) es fs → NotOpaque R x → NeedsBelow es cs ds x →
         ResRel (NextOff R (left_after off (Gives x)) Both) (perform s f (es ++ cs) x) (perform t g (fs ++ ds) y)
     perform_off s f (goes c r) e free needs = done (ran (changed_off R apart off s c) (push _ _ _ _ _ _ (running (frame_rel R apart f r)) (above e)))
     perform_off s f (calls n v r) e free needs =

@@ -8,10 +8,10 @@ use Rattle.wasm_meaning.specs.Values.{pop_typed}
 use Rattle.wasm_meaning.specs.Step.{act, give, give_levels, perform, step, to_mark}
 use Rattle.wasm_meaning.specs.Run.{Run, Out, Steps, trapped_to, made, transition_at, run_after, transition, tick}
 use Rattle.wasm_meaning.proofs.Outcomes.{all_at}
-use Rattle.index_remap.specs.Related.{Pairing, OneToOne, ResRel, done, trap, wrong, ListRel, ValRel, FrameRel, EntryRel, running, mark, opening, waiting, ended, growing, goes, calls, asks_grow, ends, ActRel, NotListed, NextRel}
+use Rattle.index_remap.specs.Related.{Pairing, OneToOne, ResRel, done, trap, wrong, ListRel, ValRel, FrameRel, EntryRel, running, mark, opening, waiting, ended, growing, goes, calls, asks_grow, ends, ActRel, NotOpaque, NextRel}
 use Rattle.index_remap.specs.RelatedRuns.{RunRel}
 use Rattle.index_remap.specs.Laws.{EntriesKnown}
-use Rattle.index_remap.specs.ListedRuns.{TickSkips, calls_placeholder, RunsStepTogether}
+use Rattle.index_remap.specs.OpaqueRuns.{TickSkips, calls_placeholder, RunsStepTogether}
 use Rattle.index_remap.specs.Trampolines.{passing, WithPassing, nil, cons, through, FramesBetween, AnsweredInTwo, HaveTypes}
 use Rattle.index_remap.specs.Related as related
 use Rattle.index_remap.proofs.Rel.{written, bind_rel_is, length_rel, PairRel}
@@ -140,7 +140,7 @@ module _ (R : Pairing) (apart : OneToOne R) where
       two : {f g k : Frame} {xs ys : List Entry} {us ws : List Val} → es ≡ Running f ∷ xs → fs ≡ Running g ∷ (Running k ∷ ys) → ListRel (ValRel R) us ws → WithPassing R xs ys → step r.store es ≡ give r.store us xs →
           (held : Frame) → step q.store fs ≡ Gives (Ran q.store (Running held ∷ ys)) → step q.store (Running held ∷ ys) ≡ give q.store ws ys → Answer es fs
 
-    goes_on : {f g : Frame} {x y : Act} {xs ys : List Entry} (inst : Inst) (locals : List Val) → FrameRel R f g → WithPassing R xs ys → ActRel R f.inst g.inst x y → NotListed R x → (IsEnd x → ⊥) → ResRel (NextRel R Both) (perform r.store f xs x) (perform q.store g (Running (passing inst locals g.results) ∷ ys) y)
+    goes_on : {f g : Frame} {x y : Act} {xs ys : List Entry} (inst : Inst) (locals : List Val) → FrameRel R f g → WithPassing R xs ys → ActRel R f.inst g.inst x y → NotOpaque R x → (IsEnd x → ⊥) → ResRel (NextRel R Both) (perform r.store f xs x) (perform q.store g (Running (passing inst locals g.results) ∷ ys) y)
     goes_on inst locals p e a free on = perform_rel R apart (WithPassing R) between r.phase r.store q.store h.store a (unchanged R apart (WithPassing R) between r q h (through p inst locals e)) free (λ ends. absurd (on ends))
 
     -- the frames on top end: the second's gives its values to the frame that passes them on
@@ -154,7 +154,7 @@ module _ (R : Pairing) (apart : OneToOne R) where
         (ap (λ a. bind a (perform q.store g second)) y_is ∙ ap (λ p. bind p (λ p. give q.store p.0 second)) (sym n_is)) (passes_on q.store inst locals g.results given.0 ys (all_at (pop_typed_all g.results ws) (sym n_is)))
 
     -- what the frames on top come to, where under that of the second another passes its results on
-    from_acts : {f g : Frame} {x y : Outcome Act} {xs ys : List Entry} (inst : Inst) (locals : List Val) → FrameRel R f g → WithPassing R xs ys → x ≡ act r.store f → y ≡ act q.store g → ((z : Act) → x ≡ Gives z → NotListed R z) → ResRel (ActRel R f.inst g.inst) x y →
+    from_acts : {f g : Frame} {x y : Outcome Act} {xs ys : List Entry} (inst : Inst) (locals : List Val) → FrameRel R f g → WithPassing R xs ys → x ≡ act r.store f → y ≡ act q.store g → ((z : Act) → x ≡ Gives z → NotOpaque R z) → ResRel (ActRel R f.inst g.inst) x y →
         Answer (Running f ∷ xs) (Running g ∷ (Running (passing inst locals g.results) ∷ ys))
     from_acts inst locals p e x_is y_is free trap = one (rw (← x_is, ← y_is) trap)
     from_acts inst locals p e x_is y_is free wrong = one (rw (← x_is, ← y_is) wrong)

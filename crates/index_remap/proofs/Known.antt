@@ -1,4 +1,4 @@
--- Where whatever code may name as one is related, the next instruction names related addresses.
+-- Where whatever is in the code relation is related, the next instruction names related addresses.
 use Rattle.std.proofs.Common.{ℕ, List, [], ◌∷◌, Option, true, false}
 use Rattle.wasm_tree.specs.declared.space.Space.{Space}
 use Rattle.wasm_tree.specs.declared.instr.Instr.{Instr}

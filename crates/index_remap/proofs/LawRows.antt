@@ -14,7 +14,7 @@ use Rattle.wasm_meaning.specs.State.{FuncRef, Val, Num, Ref, Inst, Func, Code, S
 use Rattle.wasm_meaning.specs.Control.{type_at, own_at}
 use Rattle.wasm_meaning.specs.Step.{step}
 use Rattle.index_remap.specs.Related
-use Rattle.index_remap.specs.Related.{Pairing, OneToOne, OneToOneWhereWritten, is_written, some, ResRel, BothRel, both, ListRel, nil, cons, RefRel, ValRel, number, CodeRel, end, then, instead, FuncRel, defined, TableRel, ElemRel, StoreRel, EntryRel, running, NextRel, NotListed, TopSkips}
+use Rattle.index_remap.specs.Related.{Pairing, OneToOne, OneToOneWhereWritten, is_written, some, ResRel, BothRel, both, ListRel, nil, cons, RefRel, ValRel, number, CodeRel, end, then, instead, FuncRel, defined, TableRel, ElemRel, StoreRel, EntryRel, running, NextRel, NotOpaque, TopSkips}
 use Rattle.index_remap.specs.Laws.{passed, Above}
 use Rattle.index_remap.proofs.AboveSteps.{step_above}
 use Rattle.index_remap.proofs.Known.{entries_known}
@@ -313,16 +313,16 @@ abbrev refers : List Instr → List Instr
 refers rest = i.RefFunc 0 ∷ (i.Drop ∷ rest)
 
 -- what the step comes to, where it comes to something, is no such call
-abbrev NoneListed : Outcome Act → Type 0
-NoneListed (Gives x) = NotListed L x
-NoneListed _ = Unit {0}
+abbrev NoOpaque : Outcome Act → Type 0
+NoOpaque (Gives x) = NotOpaque L x
+NoOpaque _ = Unit {0}
 
 a_listed_function_is_named : ResRel (NextRel L (Above L [] [])) (step it_traps (runs in_one [] (refers (i.Call 0 ∷ [])) ∷ [])) (step one_function (runs in_one [] (refers (i.Nop ∷ (i.Nop ∷ []))) ∷ []))
 unfolding out-Instr denote.Hole.Carrier.out
 a_listed_function_is_named =
     let e : EntryRel L (runs in_one [] (refers (i.Call 0 ∷ []))) (runs in_one [] (refers (i.Nop ∷ (i.Nop ∷ [])))) =
     running (record { locals = nil; results = refl; levels = cons (record { values = nil; code = then (Related.ref_func (some refl)) (then Related.drop (instead (i.Nop ∷ (i.Nop ∷ [])) refl refl refl refl end)); gives = refl; takes = refl; back = end }) nil }) in
-    steps_of_one L listed_apart (λ k a b p. p) it_traps one_function (runs in_one [] (refers (i.Call 0 ∷ []))) (runs in_one [] (refers (i.Nop ∷ (i.Nop ∷ [])))) listed_related e (λ x e. subst NoneListed e tt)
+    steps_of_one L listed_apart (λ k a b p. p) it_traps one_function (runs in_one [] (refers (i.Call 0 ∷ []))) (runs in_one [] (refers (i.Nop ∷ (i.Nop ∷ [])))) listed_related e (λ x e. subst NoOpaque e tt)
 
 a_reference_to_it : (s : Store) (rest : List Instr) → step s (runs in_one [] (refers rest) ∷ []) ≡ Gives (Ran s (runs in_one (Ref (FuncRef (Some 0)) ∷ []) (i.Drop ∷ rest) ∷ []))
 unfolding out-Instr denote.Hole.Carrier.out

@@ -26,7 +26,7 @@ pub mod Rows
 pub mod Lower
 pub mod Instructions
 pub mod Replacing
-pub mod Unlisted
+pub mod NotOpaque
 pub mod RenumberedCode
 pub mod ItselfCode
 pub mod Unknown

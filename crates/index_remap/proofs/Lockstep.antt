@@ -6,7 +6,7 @@ use Rattle.wasm_meaning.specs.Run.{Run, tick}
 use Rattle.index_remap.specs.Related.{Pairing, OneToOne, ResRel, done, wrong, ListRel, nil, cons, FrameRel, EntryRel, running, mark, opening, waiting, ended, growing, NextRel}
 use Rattle.index_remap.specs.RelatedRuns.{RunRel}
 use Rattle.index_remap.specs.Laws.{EntryByEntry, EntriesKnown}
-use Rattle.index_remap.specs.ListedRuns.{TickSkips, RunsStepTogether}
+use Rattle.index_remap.specs.OpaqueRuns.{TickSkips, RunsStepTogether}
 use Rattle.index_remap.proofs.Rel.{written, bind_rel_is, PairRel}
 use Rattle.index_remap.proofs.StepsAgree.{TopView, top_none, top_mark, top_opening, top_waiting, top_ended, top_growing, top_running, act_rel}
 use Rattle.index_remap.proofs.Shapes.{Shape, Held, unchanged, perform_rel, together}

@@ -20,8 +20,8 @@ use Rattle.index_remap.specs.Renumbered.{entry, new_type, renumbered, renumbered
 use Rattle.index_remap.specs.References.{is_among}
 use Rattle.index_remap.specs.CodeNames.{EntryNames, LayerNames}
 use Rattle.wasm_tree.specs.Layers.{Layers, RowLayers, ListLayers}
-use Rattle.index_remap.specs.Replaced.{Labels, Codes, CallReplaced, StandsFor, RowReplaced, Replaced, is_listed_call, OtherNamed, OthersNamed, CodesStand}
-use Rattle.index_remap.proofs.Unlisted.{operands_follow, unlisted_renumbered}
+use Rattle.index_remap.specs.Replaced.{Labels, Codes, CallReplaced, DenotesOne, RowReplaced, Replaced, is_opaque_call, OtherNamed, OthersNamed, ReplacementCodesFit}
+use Rattle.index_remap.proofs.NotOpaque.{operands_follow, unlisted_renumbered}
 
 module _ (R : Pairing) (m : Remap) (x y : Inst) where
   -- it holds no other instructions
@@ -83,8 +83,8 @@ module _ (R : Pairing) (m : Remap) (x y : Inst) where
   one_rel : (o p : Instr) (code c d : List Instr) → code ≡ p ∷ [] → OpRel R x y false (out-Instr o) (out-Instr p) → CodeRel R x y c d → CodeRel R x y (o ∷ c) (code ++ d)
   one_rel o p code c d e h k = subst (λ z. CodeRel R x y (o ∷ c) (z ++ d)) (sym e) (then h k)
 
-  module _ (types : List FuncType) (listed : List ℕ) (codes : Codes) (may : CodesStand R listed codes x y) where
-    block_rel : (b : BlockType) → Every (λ o. OtherNamed R m (is_listed_call listed o) x y o.space o.index) (block_operands b) → BlockRel x y b (new_type m b)
+  module _ (types : List FuncType) (listed : List ℕ) (codes : Codes) (may : ReplacementCodesFit R listed codes x y) where
+    block_rel : (b : BlockType) → Every (λ o. OtherNamed R m (is_opaque_call listed o) x y o.space o.index) (block_operands b) → BlockRel x y b (new_type m b)
     block_rel bt.Empty n = empty
     block_rel (bt.Value t) n = value
     block_rel (bt.Index k) n = indexed n.0
@@ -99,7 +99,7 @@ module _ (R : Pairing) (m : Remap) (x y : Inst) where
     mutual
       unfolding out-Instr denote.Hole.Carrier.out
 
-      stands_rel : (labels : Labels) (o : Instr) (code c d : List Instr) → Layers (OthersNamed R m listed x y) o → StandsFor types m listed codes labels o code → CodeRel R x y c d → CodeRel R x y (o ∷ c) (code ++ d)
+      stands_rel : (labels : Labels) (o : Instr) (code c d : List Instr) → Layers (OthersNamed R m listed x y) o → DenotesOne types m listed codes labels o code → CodeRel R x y c d → CodeRel R x y (o ∷ c) (code ++ d)
       stands_rel labels (Block' ty n body) code c d q (b, k, e) h =
           let held : CodeRel R x y (shown-the_row-Instr-0 n body) b = rw (items_shown-the_row-Instr-0 n body) (row_rel _ body b q.1 k) in
           one_rel (Block' ty n body) (Block (new_type m ty) b) code c d e (rw (i.outs-Block (new_type m ty) b) (Related.block (block_rel ty q.0) held)) h
@@ -129,4 +129,4 @@ named_other R m x y false space n h = h
 
 pub renumbered_rel : (R : Pairing) (m : Remap) (x y : Inst) (os : List Instr) → ListLayers (LayerNames R m x y) os → CodeRel R x y os (renumbered_all m os)
 renumbered_rel R m x y os h =
-    replaced_rel R m x y [] [] (λ labels f. []) (λ labels f a code among. cc) [] os (renumbered_all m os) (operands_follow (λ o. EntryNames R m x y o.space o.index) (λ o. OtherNamed R m (is_listed_call [] o) x y o.space o.index) (λ o. named_other R m x y o.called o.space o.index) os h) (unlisted_renumbered [] m (λ labels f. []) [] os)
+    replaced_rel R m x y [] [] (λ labels f. []) (λ labels f a code among. cc) [] os (renumbered_all m os) (operands_follow (λ o. EntryNames R m x y o.space o.index) (λ o. OtherNamed R m (is_opaque_call [] o) x y o.space o.index) (λ o. named_other R m x y o.called o.space o.index) os h) (unlisted_renumbered [] m (λ labels f. []) [] os)

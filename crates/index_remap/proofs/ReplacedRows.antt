@@ -1,4 +1,4 @@
--- Small code in which calls are replaced: what stands for what, and that a body stays well typed where a branch to a label around the call stands in its place.
+-- Small code in which calls are replaced: what replaces what, and that a body stays well typed where a branch to a label around the call stands in its place.
 use Rattle.std.proofs.Common.{◌≡◌, ℕ, List, [], ◌∷◌, zero, suc, Option, Some, None, refl, sym, ap, subst, arith, rules, true≢false}
 use Rattle.std.specs.Prelude.{Contains}
 use Rattle.wasm_tree.specs.declared.types.FuncType.{FuncType}
@@ -55,7 +55,7 @@ abbrev one_function : Context
 one_function =
     record { types = record { params = []; results = [] } ∷ []; funcs = 0 ∷ []; tables = []; memories = 0; globals = []; elems = []; datas = 0; named = []; locals = []; results = []; labels = [] }
 
--- where the innermost label takes nothing, a branch to it may stand for a call
+-- where the innermost label takes nothing, a branch to it may replace a call
 abbrev branching : Codes
 branching [] f = []
 branching ([] ∷ ls) f = (Br 0 ∷ []) ∷ []

@@ -19,7 +19,7 @@ use Rattle.wasm_tree.specs.Operands.{block_operands}
 use Rattle.wasm_tree.specs.Layers.{Layers, RowLayers, ListLayers}
 use Rattle.index_remap.proofs.Rel.{append_rel}
 use Rattle.index_remap.specs.Agreement.{OperandAgrees, LayerAgrees, SameFrame, labelled}
-use Rattle.index_remap.specs.Replaced.{Labels, Codes, CallReplaced, block_label, loop_label, StandsFor, RowReplaced, Replaced, is_listed_call, OthersAgree, CodesHaveTypes}
+use Rattle.index_remap.specs.Replaced.{Labels, Codes, CallReplaced, block_label, loop_label, DenotesOne, RowReplaced, Replaced, is_opaque_call, OthersAgree, CodesHaveTypes}
 use Rattle.index_remap.proofs.Instructions.{plain_kept, type_kept}
 use Rattle.index_remap.proofs.Keeping.{then_is}
 use Rattle.index_remap.proofs.Lower.{Lower, lower_self, lower_on, lower_match, match_lower, fits_lower, leads_lower, leads_over, leads_on}
@@ -56,7 +56,7 @@ row_ends : {n : _} (c d : Context) (is : Row_of-Instr n) (js : List Instr) (ps r
 row_ends c d is js ps rs k (last, l, a) = ends_from d js ps rs (lower_ends d js last ps rs a (k (operands ps) last (operands ps) l (lower_self (operands ps))))
 
 -- a block itself calls nothing
-calls_none : (listed : List ℕ) (ty : BlockType) → list_any (is_listed_call listed) (block_operands ty) ≡ false
+calls_none : (listed : List ℕ) (ty : BlockType) → list_any (is_opaque_call listed) (block_operands ty) ≡ false
 calls_none listed bt.Empty = refl
 calls_none listed (bt.Value t) = refl
 calls_none listed (bt.Index i) = refl
@@ -80,7 +80,7 @@ module _ (m : Remap) (listed : List ℕ) (codes : Codes) (c d : Context) (locals
   mutual
     unfolding out-Instr denote.Hole.Carrier.out
 
-    stands : (ls : Labels) (i : Instr) (code : List Instr) (s t r : Stack) → Layers (OthersAgree m listed c d) i → StandsFor c.types m listed codes ls i code → Fits (labelled c ls) i s t → Lower r s →
+    stands : (ls : Labels) (i : Instr) (code : List Instr) (s t r : Stack) → Layers (OthersAgree m listed c d) i → DenotesOne c.types m listed codes ls i code → Fits (labelled c ls) i s t → Lower r s →
         (u : Stack) × LeadsAll (labelled d ls) code r u × Lower u t
     stands ls (Block' ty n body) code s t r q (b, k, e) (f, g, w, a) l =
         let here : Every (λ o. OperandAgrees m c d o.space o.called o.index) (block_operands ty) = subst (LayerAgrees m c d) (outs-Block' ty n body) (q.0 (calls_none listed ty)) in

@@ -1,4 +1,4 @@
--- Related runs show the same events.
+-- Related runs have equal traces.
 use Rattle.std.proofs.Common.{◌≡◌, ℕ, ◌^◌, List, [], ◌∷◌, Option, Some, None, Bool, true, false, cond, option_and_then, slice_get, refl, ap, subst, ◌∙◌}
 use Rattle.wasm_tree.specs.declared.space.Space.TheVariants.{Functions, Memories}
 use Rattle.std.specs.Prelude.{nat_eq, nat_lt}
@@ -14,12 +14,12 @@ use Rattle.wasm_meaning.specs.Memory.{memory_may_grow}
 use Rattle.wasm_meaning.specs.Tables.{table_may_grow}
 use Rattle.wasm_meaning.specs.Step.{give, enter_at, step}
 use Rattle.wasm_meaning.specs.Linking.{same_text}
-use Rattle.wasm_meaning.specs.Environment.{Shown, Number, Null, OwnFunc, ExternNumber, Function, Thing, FuncKey, TableKey, MemoryKey, GlobalKey, Owned, same_key, look_up, owned_at, func_of, func_value, received, received_ref, received_all}
+use Rattle.wasm_meaning.specs.Environment.{Shown, Number, Null, OwnFunc, ExternNumber, Function, ExternalValue, FuncKey, TableKey, MemoryKey, GlobalKey, Owned, same_key, look_up, owned_at, func_of, func_value, received, received_ref, received_all}
 use Rattle.wasm_meaning.specs.World.{Begun}
 use Rattle.wasm_meaning.specs.Run.{Event, InstanceTrapped, Returned, Asked, Got, Place, TableOf, MemoryOf, GlobalOf, Named, Move, Call, Invoke, Take, Answer, Refuse, Grant, Deny, Get, Size, Set, Extend, Phase, Pending, Opened, Closed, Run, Out, Transition, Steps, Makes, made, place_at, trapped_at, trapped_to, showing, run_after, called, is_mark, delivered, grown_table, answered, refused, with_change, granted, decided, shows, got, size_of, does, byte_of, set, extended, moved, at_entries, or_bad, or_closed, next_move, began, view_of, nothing_in, started, open_next, is_taken_closed, closed_move, in_phase, transition_at}
 use Rattle.index_remap.specs.Related.{Pairing, OneToOne, OptRel, none, some, ResRel, done, trap, wrong, ListRel, nil, cons, RefRel, func, extern, ValRel, number, reference, TableRel, StoreRel, mark, opening, waiting, ended, growing, ChangeRel, set_global, set_memory, set_table, GrowthRel, memory_grows, table_grows, NextRel, ran, asked, asked_grow, loads, returned}
-use Rattle.index_remap.specs.RelatedRuns.{ThingRel, a_func, a_table, a_memory, a_global, KeyRel, BegunRel, PhaseRel, fresh, pending, opened, closed, RunRel, OutRel}
-use Rattle.index_remap.specs.ListedRuns.{MoveSkips, NextMoveSkips, TickSkips, calls_placeholder}
+use Rattle.index_remap.specs.RelatedRuns.{ExternalValueRel, a_func, a_table, a_memory, a_global, KeyRel, BegunRel, PhaseRel, fresh, pending, opened, closed, RunRel, OutRel}
+use Rattle.index_remap.specs.OpaqueRuns.{MoveSkips, NextMoveSkips, TickSkips, calls_placeholder}
 use Rattle.index_remap.proofs.Rel.{written, there, then_rel, then_rel_is, then_same, either_rel, PairRel, IfThere, absent, present, then_all, any_there, all_there, get_rel, append_rel, length_rel, copies_rel, overwrite_rel}
 use Rattle.index_remap.proofs.ValueSteps.{Fits}
 use Rattle.index_remap.proofs.Shown.{show_rel, show_all_rel}
@@ -40,11 +40,11 @@ module _ (R : Pairing) (apart : OneToOne R) (B C : Store → Store → List Entr
 
   -- ---- values received ----
 
-  look_rel : {K : Type 0} (is : K → Bool) {xs ys : List (K × Thing)} → ListRel (KeyRel R) xs ys → OptRel (ThingRel R) (look_up is xs) (look_up is ys)
+  look_rel : {K : Type 0} (is : K → Bool) {xs ys : List (K × ExternalValue)} → ListRel (KeyRel R) xs ys → OptRel (ExternalValueRel R) (look_up is xs) (look_up is ys)
   look_rel is nil = none
   look_rel is (cons {b = b} o os) = rw o.key (either_rel (is b.0) (some o.thing) (look_rel is os))
 
-  func_of_rel : {x y : Thing} → ThingRel R x y → OptRel (R.of Functions) (func_of x) (func_of y)
+  func_of_rel : {x y : ExternalValue} → ExternalValueRel R x y → OptRel (R.of Functions) (func_of x) (func_of y)
   func_of_rel (a_func n) = some n
   func_of_rel (a_table n) = none
   func_of_rel (a_memory n) = none
@@ -200,13 +200,13 @@ module _ (R : Pairing) (apart : OneToOne R) (B C : Store → Store → List Entr
   shows_rel : {r q : Run} {v w : Val} → RunRel R B F r q → ValRel R v w → OptRel TransitionRel (shows r v) (shows q w)
   shows_rel h v = let x = show_rel R apart h.store h.shown v in some (makes (record { event = ap (λ s. Some (Got s)) x.same; run = shown_rel h x.shown }))
 
-  got_rel : {r q : Run} {x y : Thing} (n : ℕ) → RunRel R B F r q → ThingRel R x y → OptRel TransitionRel (got r x n) (got q y n)
+  got_rel : {r q : Run} {x y : ExternalValue} (n : ℕ) → RunRel R B F r q → ExternalValueRel R x y → OptRel TransitionRel (got r x n) (got q y n)
   got_rel n h (a_func p) = none
   got_rel n h (a_table p) = then_rel (there (h.store.tables p)) (λ _ _ t. then_rel (get_rel t.slots n) (λ _ _ v. shows_rel h (reference v)))
   got_rel n h (a_memory p) = then_memory_at h p (λ m. then_same (slice_get m.bytes n) (λ b. shows_rel h (number {w = W32})))
   got_rel n h (a_global p) = then_rel (there (h.store.globals p)) (λ _ _ g. either_rel (nat_eq n 0) (shows_rel h g.value) none)
 
-  size_rel : {r q : Run} {x y : Thing} → RunRel R B F r q → ThingRel R x y → OptRel TransitionRel (size_of r x) (size_of q y)
+  size_rel : {r q : Run} {x y : ExternalValue} → RunRel R B F r q → ExternalValueRel R x y → OptRel TransitionRel (size_of r x) (size_of q y)
   size_rel h (a_func p) = none
   size_rel h (a_table p) = then_rel (there (h.store.tables p)) (λ _ _ t. shows_rel h (num_eq (length_rel t.slots)))
   size_rel h (a_memory p) = then_memory_at h p (λ m. shows_rel h (number {w = W32}))
@@ -215,7 +215,7 @@ module _ (R : Pairing) (apart : OneToOne R) (B C : Store → Store → List Entr
   does_rel : {r q : Run} {c d : Change} → RunRel R B F r q → ChangeRel R c d → OptRel TransitionRel (does r c) (does q d)
   does_rel h c = some (makes (record { event = refl; run = change_rel h c }))
 
-  set_rel : {r q : Run} {x y : Thing} (n : ℕ) (v : Shown) → RunRel R B F r q → ThingRel R x y → OptRel TransitionRel (set r x n v) (set q y n v)
+  set_rel : {r q : Run} {x y : ExternalValue} (n : ℕ) (v : Shown) → RunRel R B F r q → ExternalValueRel R x y → OptRel TransitionRel (set r x n v) (set q y n v)
   set_rel n v h (a_func p) = none
   set_rel {r} {q} n v h (a_table p) =
       then_rel (there (h.store.tables p)) (λ t u x. then_rel (at_type x.type (received_ref_rel u.ty v h.owned h.shown)) (λ _ _ v. then_rel (overwrite_rel n x.slots (cons v nil)) (λ _ _ s.
@@ -231,13 +231,13 @@ module _ (R : Pairing) (apart : OneToOne R) (B C : Store → Store → List Entr
   null_rel reft.Func = func none
   null_rel reft.Extern = extern
 
-  extended_rel : {r q : Run} {x y : Thing} (n : ℕ) → RunRel R B F r q → ThingRel R x y → OptRel TransitionRel (extended r x n) (extended q y n)
+  extended_rel : {r q : Run} {x y : ExternalValue} (n : ℕ) → RunRel R B F r q → ExternalValueRel R x y → OptRel TransitionRel (extended r x n) (extended q y n)
   extended_rel n h (a_func p) = none
   extended_rel {r} {q} n h (a_table {a = a1} {b = b1} p) = then_rel (there (h.store.tables p)) (λ t u x. subst (λ b. OptRel TransitionRel (cond (table_may_grow t n) (does r (SetTable a1 (grown_table t n (null_of t.ty)))) None) (cond b (does q (SetTable b1 (grown_table u n (null_of u.ty)))) None)) (may_same t u n (length_rel x.slots) x.most) (either_rel (table_may_grow t n) (does_rel h (set_table p (table_grown n x (subst (λ z. RefRel R (null_of t.ty) (null_of z)) x.type (null_rel t.ty))))) none))
   extended_rel n h (a_memory p) = then_memory_at h p (λ m. either_rel (memory_may_grow m n) (does_rel h (set_memory p)) none)
   extended_rel n h (a_global p) = none
 
-  place_at_rel : {r q : Run} (p : Place) → RunRel R B F r q → OptRel (ThingRel R) (place_at r p) (place_at q p)
+  place_at_rel : {r q : Run} (p : Place) → RunRel R B F r q → OptRel (ExternalValueRel R) (place_at r p) (place_at q p)
   place_at_rel (TableOf p) h = look_rel (same_key (TableKey p)) h.owned
   place_at_rel (MemoryOf p) h = look_rel (same_key (MemoryKey p)) h.owned
   place_at_rel (GlobalOf p) h = look_rel (same_key (GlobalKey p)) h.owned

@@ -1,15 +1,15 @@
--- Where the list is empty no step begins a call of a function of it: runs from related states, where all is related, show the same events.
+-- Where the list is empty no step begins a call of a function of it: runs from related states, where all is related, have equal traces.
 use Rattle.std.proofs.Common.{◌≡◌, ℕ, List, [], ◌∷◌, Bool, refl, sym}
 use Rattle.wasm_tree.specs.declared.space.Space.{Space}
 use Rattle.std.proofs.lemmas.Bool.{true≢false}
 use Rattle.wasm_meaning.specs.State.{Store, Entry, Running, Mark, Opening, Waiting, Ended, Growing, Act}
-use Rattle.wasm_meaning.specs.Environment.{Thing}
+use Rattle.wasm_meaning.specs.Environment.{ExternalValue}
 use Rattle.wasm_meaning.specs.State.{Text}
 use Rattle.wasm_meaning.specs.Run.{Move, Call, Invoke, Run, tick, events_of}
 use Rattle.base_simulation.proofs.Lockstep.{lockstep}
 use Rattle.index_remap.specs.Related.{Pairing, OneToOne, TopSkips}
 use Rattle.index_remap.specs.Laws.{passed, NeedsBelow, Touches, EntryByEntry, RelatedRuns}
-use Rattle.index_remap.specs.ListedRuns.{MoveSkips, NextMoveSkips, TickSkips, RunsStepTogether}
+use Rattle.index_remap.specs.OpaqueRuns.{MoveSkips, NextMoveSkips, TickSkips, RunsStepTogether}
 use Rattle.index_remap.proofs.Known.{entries_known}
 use Rattle.index_remap.proofs.StepsAgree.{none_called}
 use Rattle.index_remap.proofs.Lockstep.{ticks_together}
@@ -37,11 +37,11 @@ module _ (of : Space → ℕ → ℕ → Bool) where
   abbrev R : Pairing
   R = passed of of []
 
-  none_listed : (a : ℕ) → ¬ R.listed a
-  none_listed a p = true≢false (sym p)
+  no_opaque : (a : ℕ) → ¬ R.listed a
+  no_opaque a p = true≢false (sym p)
 
   pub skips : (s : Store) (es : List Entry) → TopSkips R s es
-  skips s (Running f ∷ es) = λ x _. none_called R none_listed x
+  skips s (Running f ∷ es) = λ x _. none_called R no_opaque x
   skips s [] = tt
   skips s (Mark ∷ es) = tt
   skips s (Opening xs ∷ es) = tt
@@ -49,12 +49,12 @@ module _ (of : Space → ℕ → ℕ → Bool) where
   skips s (Ended vs ∷ es) = tt
   skips s (Growing g ∷ es) = tt
 
-  move_skips : (view : List (Text × Thing)) (shown : List ℕ) (m : Move) → MoveSkips R view shown m
-  move_skips view shown (Call name xs) = λ a _. none_listed a
-  move_skips view shown (Invoke number xs) = λ a _. none_listed a
+  move_skips : (view : List (Text × ExternalValue)) (shown : List ℕ) (m : Move) → MoveSkips R view shown m
+  move_skips view shown (Call name xs) = λ a _. no_opaque a
+  move_skips view shown (Invoke number xs) = λ a _. no_opaque a
   move_skips view shown _ = tt
 
-  moves_skip : (view : List (Text × Thing)) (shown : List ℕ) (ms : List Move) → NextMoveSkips R view shown ms
+  moves_skip : (view : List (Text × ExternalValue)) (shown : List ℕ) (ms : List Move) → NextMoveSkips R view shown ms
   moves_skip view shown [] = tt
   moves_skip view shown (m ∷ ms) = move_skips view shown m
 
@@ -62,7 +62,7 @@ module _ (of : Space → ℕ → ℕ → Bool) where
   tick_skips r [] = λ _. moves_skip r.view r.shown r.moves
   tick_skips r (Waiting ts ∷ es) = moves_skip r.view r.shown r.moves
   tick_skips r (Opening [] ∷ es) = tt
-  tick_skips r (Opening (a ∷ more) ∷ es) = none_listed a
+  tick_skips r (Opening (a ∷ more) ∷ es) = no_opaque a
   tick_skips r (Running f ∷ es) = skips r.store (Running f ∷ es)
   tick_skips r (Mark ∷ es) = tt
   tick_skips r (Ended vs ∷ es) = tt

@@ -1,4 +1,4 @@
--- Runs whose stacks are related by a relation that pushing an entry keeps, and putting others in place of frames on top: one step of each shows the same, leaves them
+-- Runs whose stacks are related by a relation that pushing an entry keeps, and putting others in place of frames on top: one step of each gives the same event, leaves them
 -- related, and leaves what has no partner.
 use Rattle.std.proofs.Common.{◌≡◌, List, [], ◌∷◌, refl}
 use Rattle.wasm_meaning.specs.Outcomes.{Outcome}
@@ -6,9 +6,9 @@ use Rattle.wasm_meaning.specs.State.{Val, Store, Change, Level, Frame, Entry, Ru
 use Rattle.wasm_meaning.specs.Step.{changed, give, give_levels, perform, step, to_mark}
 use Rattle.wasm_meaning.specs.Run.{Phase, Run, Out, is_mark, run_after, transition, tick}
 use Rattle.wasm_meaning.proofs.Outcomes.{all_at}
-use Rattle.index_remap.specs.Related.{Pairing, OneToOne, none, some, ResRel, done, trap, wrong, ListRel, nil, cons, ValRel, StoreRel, LevelRel, FrameRel, EntryRel, growing, ActRel, goes, calls, asks_grow, ends, ChangeRel, NextRel, ran, asked_grow, returned, NotListed}
+use Rattle.index_remap.specs.Related.{Pairing, OneToOne, none, some, ResRel, done, trap, wrong, ListRel, nil, cons, ValRel, StoreRel, LevelRel, FrameRel, EntryRel, growing, ActRel, goes, calls, asks_grow, ends, ChangeRel, NextRel, ran, asked_grow, returned, NotOpaque}
 use Rattle.index_remap.specs.RelatedRuns.{turned, PhaseRel, fresh, pending, opened, closed, KeepsOthers, IsBegun, RunRel, OutRel}
-use Rattle.index_remap.specs.ListedRuns.{TickSkips, calls_placeholder, RunsStepTogether}
+use Rattle.index_remap.specs.OpaqueRuns.{TickSkips, calls_placeholder, RunsStepTogether}
 use Rattle.index_remap.proofs.Rel.{written, there, same_there, bind_rel, bind_found, bind_is, bind_rel_is, PairRel}
 use Rattle.index_remap.proofs.ValueSteps.{pop_typed_all, pop_typed_rel}
 use Rattle.index_remap.proofs.StepsAgree.{Stacks, TopView, top_none, top_mark, top_opening, top_waiting, top_ended, top_growing, top_running, changed_rel, frame_rel, left_rel, frame_given, enter_rel}
@@ -113,8 +113,8 @@ module _ (R : Pairing) (apart : OneToOne R) where
       enters = λ h n free _ _ v b. bind_found (there (h.funcs n free)) (λ _ _ f. done (enter_rel R (written apart) (StoreRel R) Held Held (λ s t es fs b. b) (λ s t e f es fs p b. push p b) h f v b));
     }
 
-    -- what the frame on top does; where it ends, what stands below has to be related
-    pub perform_rel : {s t : Store} {f g : Frame} {x y : Act} {es fs : List Entry} → StoreRel R s t → ActRel R f.inst g.inst x y → Held s t (Running f ∷ es) (Running g ∷ fs) → NotListed R x → (IsEnd x → E es fs) → ResRel (NextRel R Held) (perform s f es x) (perform t g fs y)
+    -- what the frame on top does; where it ends, what is on the stack below has to be related
+    pub perform_rel : {s t : Store} {f g : Frame} {x y : Act} {es fs : List Entry} → StoreRel R s t → ActRel R f.inst g.inst x y → Held s t (Running f ∷ es) (Running g ∷ fs) → NotOpaque R x → (IsEnd x → E es fs) → ResRel (NextRel R Held) (perform s f es x) (perform t g fs y)
     perform_rel h (goes c r) b free below = done (ran (changed_rel R (written apart) h c) (changes c (with_stack b (shape.again b.stack refl refl (frame_rel R (written apart) (shape.frames b.stack) r)))))
     perform_rel h (calls {vs = vs} n v r) b free below =
         bind_is (same_there (h.types n)) (λ u is. bind_rel_is (pop_typed_rel R u.params v) (λ p q pops z. stacks.enters h n free is (all_at (pop_typed_all u.params vs) pops) z.first

@@ -12,7 +12,7 @@ use Rattle.wasm_meaning.specs.Values.{with_values}
 use Rattle.wasm_meaning.specs.Step.{exec, step_code, step_levels, act, frame_of, give_levels, give, enter, enter_at, to_mark, changed}
 use Rattle.wasm_meaning.specs.Run.{is_mark}
 use Rattle.index_remap.specs.Related
-use Rattle.index_remap.specs.Related.{Pairing, OneToOneWhereWritten, OptRel, none, some, ResRel, done, wrong, ListRel, nil, cons, ValRel, OpRel, CodeRel, end, then, instead, FuncRel, defined, own, slot, TableRel, GlobalRel, ElemRel, StoreRel, LevelRel, FrameRel, EntryRel, mark, opening, waiting, growing, BodyRel, GrowthRel, ChangeRel, keep, set_global, set_memory, set_table, drop_elem, drop_data, ActRel, goes, calls, asks_grow, ends, NextRel, NextRelBy, ran, asked, asked_grow, loads, returned, NotListed, TopSkips, NextKnown, TopKnown}
+use Rattle.index_remap.specs.Related.{Pairing, OneToOneWhereWritten, OptRel, none, some, ResRel, done, wrong, ListRel, nil, cons, ValRel, OpRel, CodeRel, end, then, instead, FuncRel, defined, own, slot, TableRel, GlobalRel, ElemRel, StoreRel, LevelRel, FrameRel, EntryRel, mark, opening, waiting, growing, BodyRel, GrowthRel, ChangeRel, keep, set_global, set_memory, set_table, drop_elem, drop_data, ActRel, goes, calls, asks_grow, ends, NextRel, NextRelBy, ran, asked, asked_grow, loads, returned, NotOpaque, TopSkips, NextKnown, TopKnown}
 use Rattle.index_remap.specs.Unknown.{Unknowns, none_unknown, StoreRelOff, read_by, read_next, read_levels, ReadsKnown, known, ActOff}
 use Rattle.index_remap.specs.Groups.{Group, Values, Memories, Control, group_of, GroupAgrees}
 use Rattle.index_remap.proofs.Rel.{PairRel, onto_rel, append_rel, res_map}
@@ -30,7 +30,7 @@ each_group Memories = memories_agree
 each_group Control = control_agrees
 
 -- where no function is on the list, no call of one begins
-pub none_called : (R : Pairing) → ((a : ℕ) → ¬ R.listed a) → (x : Act) → NotListed R x
+pub none_called : (R : Pairing) → ((a : ℕ) → ¬ R.listed a) → (x : Act) → NotOpaque R x
 none_called R plain (Goes c f) = tt
 none_called R plain (Calls a vs h) = plain a
 none_called R plain (AsksGrow g m n f) = tt
@@ -40,22 +40,22 @@ module _ (R : Pairing) (off : Unknowns) (ev ew : Env) (st : StoreRelOff R off ev
   exec_rel : {h k : Body} {o p : Instr-F Instr} → BodyRel R ev.inst ew.inst h k → OpRel R ev.inst ew.inst true o p → ReadsKnown off (read_by o ev h.values) → ResRel (ActOff R off ev.inst ew.inst) (exec o ev h) (exec p ew k)
   exec_rel {h} {k} {o} {p} r q reads = each_group (group_of o) R off ev ew st h k r o p q reads refl
 
-  step_code_rel : {h k : Body} {c d : List Instr} → BodyRel R ev.inst ew.inst h k → CodeRel R ev.inst ew.inst c d → ((x : Act) → step_code ev h c ≡ Gives x → NotListed R x) → NextKnown R ev.inst ew.inst c d → ReadsKnown off (read_next ev h.values c) → ResRel (ActOff R off ev.inst ew.inst) (step_code ev h c) (step_code ew k d)
+  step_code_rel : {h k : Body} {c d : List Instr} → BodyRel R ev.inst ew.inst h k → CodeRel R ev.inst ew.inst c d → ((x : Act) → step_code ev h c ≡ Gives x → NotOpaque R x) → NextKnown R ev.inst ew.inst c d → ReadsKnown off (read_next ev h.values c) → ResRel (ActOff R off ev.inst ew.inst) (step_code ev h c) (step_code ew k d)
   step_code_rel r end f u reads = end_level_rel R off ev ew st r
   step_code_rel r (then o c) f u reads = exec_rel (record { locals = r.locals; values = r.values; rest = c; gives = r.gives; takes = r.takes; back = r.back; outer = r.outer }) (u o) reads
   step_code_rel {h} r (instead {a = a} {c = c} x p e l _ _) f u reads =
       let called : Body = record h { rest = c } in
       absurd (f (Calls a h.values called) (ap (λ o. exec o ev called) p ∙ ap (λ found. bind (or_ill_typed found) (call_address called)) e) l)
 
-  step_levels_rel : {vs ws : List Val} {ls ms : List Level} → ListRel (ValRel R) vs ws → ListRel (LevelRel R ev.inst ew.inst) ls ms → ((x : Act) → step_levels ev vs ls ≡ Gives x → NotListed R x) → TopKnown R ev.inst ew.inst ls ms → ReadsKnown off (read_levels ev ls) → ResRel (ActOff R off ev.inst ew.inst) (step_levels ev vs ls) (step_levels ew ws ms)
+  step_levels_rel : {vs ws : List Val} {ls ms : List Level} → ListRel (ValRel R) vs ws → ListRel (LevelRel R ev.inst ew.inst) ls ms → ((x : Act) → step_levels ev vs ls ≡ Gives x → NotOpaque R x) → TopKnown R ev.inst ew.inst ls ms → ReadsKnown off (read_levels ev ls) → ResRel (ActOff R off ev.inst ew.inst) (step_levels ev vs ls) (step_levels ew ws ms)
   step_levels_rel v nil free u reads = wrong
   step_levels_rel v (cons l ls) free u reads = step_code_rel (record { locals = v; values = l.values; rest = end; gives = l.gives; takes = l.takes; back = l.back; outer = ls }) l.code free u reads
 
 module _ (R : Pairing) (apart : OneToOneWhereWritten R) where
-  pub act_off : {s t : Store} {f g : Frame} (off : Unknowns) → StoreRelOff R off s t → FrameRel R f g → ((x : Act) → act s f ≡ Gives x → NotListed R x) → TopKnown R f.inst g.inst f.levels g.levels → ReadsKnown off (read_levels (record { store = s; inst = f.inst }) f.levels) → ResRel (ActOff R off f.inst g.inst) (act s f) (act t g)
+  pub act_off : {s t : Store} {f g : Frame} (off : Unknowns) → StoreRelOff R off s t → FrameRel R f g → ((x : Act) → act s f ≡ Gives x → NotOpaque R x) → TopKnown R f.inst g.inst f.levels g.levels → ReadsKnown off (read_levels (record { store = s; inst = f.inst }) f.levels) → ResRel (ActOff R off f.inst g.inst) (act s f) (act t g)
   act_off {s} {t} {f} {g} off p q free u reads = step_levels_rel R off (record { store = s; inst = f.inst }) (record { store = t; inst = g.inst }) p q.locals q.levels free u reads
 
-  pub act_rel : {s t : Store} {f g : Frame} → StoreRel R s t → FrameRel R f g → ((x : Act) → act s f ≡ Gives x → NotListed R x) → TopKnown R f.inst g.inst f.levels g.levels → ResRel (ActRel R f.inst g.inst) (act s f) (act t g)
+  pub act_rel : {s t : Store} {f g : Frame} → StoreRel R s t → FrameRel R f g → ((x : Act) → act s f ≡ Gives x → NotOpaque R x) → TopKnown R f.inst g.inst f.levels g.levels → ResRel (ActRel R f.inst g.inst) (act s f) (act t g)
   act_rel {s} {t} p q free u = res_map (λ _ _ a. act_known R a) (act_off none_unknown (to_off R s t p) q free u (λ r _. all_is_known r))
 
   pub changed_rel : {s t : Store} {c d : Change} → StoreRel R s t → ChangeRel R c d → StoreRel R (changed s c) (changed t d)
@@ -71,7 +71,7 @@ module _ (R : Pairing) (apart : OneToOneWhereWritten R) where
   pub frame_given : {f g : Frame} {l m : Level} {ls ms : List Level} {vs ws : List Val} → FrameRel R f g → LevelRel R f.inst g.inst l m → ListRel (LevelRel R f.inst g.inst) ls ms → ListRel (ValRel R) vs ws → FrameRel R (record f { levels = record l { values = onto vs l.values } ∷ ls }) (record g { levels = record m { values = onto ws m.values } ∷ ms })
   frame_given f l ls v = record { locals = f.locals; results = f.results; levels = cons (record { values = onto_rel v l.values; code = l.code; gives = l.gives; takes = l.takes; back = l.back }) ls }
 
-  -- what is known of the entry on top, where C relates what stands below
+  -- what is known of the entry on top, where C relates what is on the stack below
   pub data TopView (C : Store → Store → List Entry → List Entry → Type 0) (s t : Store) : List Entry → List Entry → Type 0 where
     top_none : C s t [] [] → TopView C s t [] []
     top_mark : {es fs : List Entry} → C s t es fs → TopView C s t (Mark ∷ es) (Mark ∷ fs)
@@ -81,7 +81,7 @@ module _ (R : Pairing) (apart : OneToOneWhereWritten R) where
     top_growing : {g h : Growth} {es fs : List Entry} → GrowthRel R g h → C s t es fs → TopView C s t (Growing g ∷ es) (Growing h ∷ fs)
     top_running : {f g : Frame} {es fs : List Entry} → TopView C s t (Running f ∷ es) (Running g ∷ fs)
 
-  -- relations of whole configurations (B) and of what stands below (C), which calls and ends keep
+  -- relations of whole configurations (B) and of what is on the stack below (C), which calls and ends keep
   pub record Stacks (B C : Store → Store → List Entry → List Entry → Type 0) : Type 0 where
     pub steady : {s t : Store} {es fs : List Entry} → C s t es fs → B s t es fs
     pub cleared : {s t : Store} {es fs : List Entry} → B s t es fs → C s t [] []

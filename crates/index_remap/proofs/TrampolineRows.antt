@@ -19,10 +19,10 @@ use Rattle.wasm_meaning.specs.Environment.{Number}
 use Rattle.wasm_meaning.specs.Step.{enter_at, step}
 use Rattle.wasm_meaning.specs.Run.{Returned, Opened, Run, tick}
 use Rattle.index_remap.specs.Related
-use Rattle.index_remap.specs.Related.{Pairing, OneToOne, EntryRel, running, NotListed, some, ResRel, done, BothRel, both, ListRel, nil, cons, ValRel, number, CodeRel, end, then, StoreRel, NextRel}
+use Rattle.index_remap.specs.Related.{Pairing, OneToOne, EntryRel, running, NotOpaque, some, ResRel, done, BothRel, both, ListRel, nil, cons, ValRel, number, CodeRel, end, then, StoreRel, NextRel}
 use Rattle.index_remap.specs.RelatedRuns.{opened}
 use Rattle.index_remap.specs.Laws.{passed, EntryByEntry}
-use Rattle.index_remap.specs.ListedRuns.{TickSkips, RunsStepTogether}
+use Rattle.index_remap.specs.OpaqueRuns.{TickSkips, RunsStepTogether}
 use Rattle.index_remap.specs.Trampolines.{passing, WithPassing, through, AnsweredInTwo, FramesBetween, slot_call, trampoline, InSlot, go_on, CodeAt}
 use Rattle.index_remap.specs.Trampolines as between
 use Rattle.index_remap.proofs.Known.{entries_known}
@@ -98,7 +98,7 @@ another_type_traps es = refl
 
 -- ---- the law ----
 
--- function 0 stands for its trampoline, and is on the list
+-- function 0 denotes its trampoline, and is on the list
 abbrev zero_alone : Space → ℕ → ℕ → Bool
 zero_alone Functions zero zero = true
 zero_alone _ _ _ = false
@@ -198,9 +198,9 @@ abbrev in_run : Store → List Entry → Run
 in_run s es = record { store = s; entries = es; phase = Opened; shown = []; view = []; owned = []; moves = [] }
 
 -- what the step comes to is no call of a function of the list
-abbrev NoneListed : Outcome Act → Type 0
-NoneListed (Gives x) = NotListed L x
-NoneListed _ = Unit {0}
+abbrev NoOpaque : Outcome Act → Type 0
+NoOpaque (Gives x) = NotOpaque L x
+NoOpaque _ = Unit {0}
 
 -- a reference to the function of the list is taken
 abbrev refers : Entry
@@ -210,7 +210,7 @@ a_reference_is_taken : RunsStepTogether L (EntryByEntry L) (in_run direct (refer
 unfolding out-Instr denote.Hole.Carrier.out
 a_reference_is_taken =
     let e : EntryRel L refers refers = running (record { locals = cons number nil; results = refl; levels = cons (record { values = nil; code = then (Related.ref_func (some refl)) end; gives = refl; takes = refl; back = end }) nil }) in
-    ticks_together L apart (in_run direct (refers ∷ [])) (in_run by_slot (refers ∷ [])) (record { store = related; entries = cons e nil; phase = opened; shown = nil; view = nil; owned = nil; moves = refl }) (λ x is. subst NoneListed is tt)
+    ticks_together L apart (in_run direct (refers ∷ [])) (in_run by_slot (refers ∷ [])) (record { store = related; entries = cons e nil; phase = opened; shown = nil; view = nil; owned = nil; moves = refl }) (λ x is. subst NoOpaque is tt)
     (entries_known L (λ k a b h. h) (refers ∷ []) (refers ∷ []))
 
 -- the function ends, in the second under the frame of its trampoline
@@ -221,7 +221,7 @@ it_ends_alike : AnsweredInTwo L (in_run direct (in_it seven [] ∷ (Mark ∷ [])
 it_ends_alike =
     let stacks : WithPassing L (in_it seven [] ∷ (Mark ∷ [])) under_the_trampoline =
     through (record { locals = cons number nil; results = refl; levels = cons (record { values = cons number nil; code = end; gives = refl; takes = refl; back = end }) nil }) inst seven (between.WithPassing.cons Related.mark between.WithPassing.nil) in
-    not_seen L apart (in_run direct (in_it seven [] ∷ (Mark ∷ []))) (in_run by_slot under_the_trampoline) (record { store = related; entries = stacks; phase = opened; shown = nil; view = nil; owned = nil; moves = refl }) (λ x is. subst NoneListed is tt)
+    not_seen L apart (in_run direct (in_it seven [] ∷ (Mark ∷ []))) (in_run by_slot under_the_trampoline) (record { store = related; entries = stacks; phase = opened; shown = nil; view = nil; owned = nil; moves = refl }) (λ x is. subst NoOpaque is tt)
     (entries_known L (λ k a b h. h) (in_it seven [] ∷ (Mark ∷ [])) under_the_trampoline)
 
 -- a frame that waits for fewer results is none that passes these on

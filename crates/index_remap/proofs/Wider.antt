@@ -4,12 +4,12 @@ use Rattle.wasm_tree.specs.declared.space.Space.{Space}
 use Rattle.wasm_tree.specs.declared.instr.Instr.{Instr}
 use Rattle.wasm_tree.specs.declared.instr.Instr.TheOpen.{Instr-F}
 use Rattle.wasm_meaning.specs.State.{RefVal, Val, Inst, Func, Store, Level, Frame, Growth, Entry}
-use Rattle.wasm_meaning.specs.Environment.{Thing}
+use Rattle.wasm_meaning.specs.Environment.{ExternalValue}
 use Rattle.wasm_meaning.specs.World.{Begun}
 use Rattle.wasm_meaning.specs.Run.{Phase, Run}
 use Rattle.index_remap.specs.Related
 use Rattle.index_remap.specs.Related.{Pairing, by, OptRel, none, some, ListRel, nil, cons, RefRel, func, extern, ValRel, number, reference, OpRel, CodeRel, end, then, instead, FuncRel, defined, own, slot, StoreRel, LevelRel, FrameRel, GrowthRel, memory_grows, table_grows, EntryRel, running, mark, opening, waiting, ended, growing}
-use Rattle.index_remap.specs.RelatedRuns.{ThingRel, a_func, a_table, a_memory, a_global, KeyRel, BegunRel, PhaseRel, fresh, pending, opened, closed, RunRel}
+use Rattle.index_remap.specs.RelatedRuns.{ExternalValueRel, a_func, a_table, a_memory, a_global, KeyRel, BegunRel, PhaseRel, fresh, pending, opened, closed, RunRel}
 use Rattle.index_remap.specs.Trampolines.{WithPassing, through, FramesBetween}
 use Rattle.index_remap.specs.Trampolines as between
 use Rattle.index_remap.proofs.Rel.{both_map}
@@ -139,13 +139,13 @@ module _ (R : Pairing) (Stands : Inst → ℕ → List Instr → Type 0) (may : 
 
   -- ---- runs ----
 
-  thing_wider : {x y : Thing} → ThingRel R x y → ThingRel W x y
+  thing_wider : {x y : ExternalValue} → ExternalValueRel R x y → ExternalValueRel W x y
   thing_wider (a_func a) = a_func a
   thing_wider (a_table a) = a_table a
   thing_wider (a_memory a) = a_memory a
   thing_wider (a_global a) = a_global a
 
-  keys_wider : {K : Type 0} {xs ys : List (K × Thing)} → ListRel (KeyRel R) xs ys → ListRel (KeyRel W) xs ys
+  keys_wider : {K : Type 0} {xs ys : List (K × ExternalValue)} → ListRel (KeyRel R) xs ys → ListRel (KeyRel W) xs ys
   keys_wider = each (λ _ _ k. record { key = k.key; thing = thing_wider k.thing })
 
   begun_wider : {b c : Begun} → BegunRel R (FramesBetween R) b c → BegunRel W (FramesBetween W) b c

@@ -1,4 +1,4 @@
--- What a body names: each index and its entry in the map stand for addresses that code may name as one, or for equal types, or neither is there.
+-- What a body names: each index and its entry in the map denote addresses in the code relation, or for equal types, or neither is there.
 use Rattle.std.specs.Prelude.{ℕ}
 use Rattle.base_lists.specs.Every.{Every}
 use Rattle.wasm_tree.specs.declared.space.Space.{Space}
@@ -11,7 +11,7 @@ use Rattle.index_remap.specs.declared.remap.Remap.{Remap}
 use Rattle.index_remap.specs.Renumbered.{entry}
 use Rattle.index_remap.specs.Related.{Pairing, Names, SameType}
 
--- the index and its entry stand for addresses that code may name as one, or for equal types, or neither is there
+-- the index and its entry denote addresses in the code relation, or for equal types, or neither is there
 abbrev pub EntryNames : Pairing → Remap → Inst → Inst → Space → ℕ → Type 0
 EntryNames R m i j Types x = SameType i j x (entry m Types x)
 EntryNames R m i j Functions x = Names R.named Functions i.funcs j.funcs x (entry m Functions x)

@@ -19,14 +19,14 @@ use Rattle.index_remap.specs.Renumbered.{renumbered_all}
 use Rattle.index_remap.specs.CodeNames.{LayerNames}
 use Rattle.wasm_tree.specs.Layers.{ListLayers}
 use Rattle.index_remap.specs.Agreement.{SameFrame}
-use Rattle.index_remap.specs.Replaced.{Labels, Codes, Replaced, OthersAgree, OthersNamed, CodesStand, CodesHaveTypes}
+use Rattle.index_remap.specs.Replaced.{Labels, Codes, Replaced, OthersAgree, OthersNamed, ReplacementCodesFit, CodesHaveTypes}
 use Rattle.index_remap.specs.Related.{CodeRel, Pairing, OneToOne, OneToOneWhereWritten, ResRel, ListRel, ValRel, StoreRel, EntryRel, NextRel, TopSkips, TopKnown}
 
 -- the code that may stand in place of a call, over an instance: that which passes a test
 abbrev pub Test : Type 0
 Test = Inst → (function : ℕ) → List Instr → Bool
 
--- the addresses that pass the first test are related, and code may name as one those that pass the second; of the functions of a list only the types are known
+-- the addresses that pass the first test are related, and those that pass the second are in the code relation; of the functions of a list only the types are known
 -- and whose they are, and code that passes the last test may stand in place of calls of them
 abbrev pub passed_with : (of named : Space → ℕ → ℕ → Bool) → List ℕ → Test → Pairing
 passed_with of named l stands = record { of = λ k a b. IsTrue (of k a b); named = λ k a b. IsTrue (named k a b); listed = λ a. IsTrue (list_any (nat_eq a) l); stands = λ j a e. IsTrue (stands j a e) }
@@ -47,7 +47,7 @@ pub record Above (R : Pairing) (cs ds : List Entry) (s t : Store) (es fs : List 
 abbrev pub NoneBelow : (cs ds : List Entry) → Type 0
 NoneBelow cs ds = (cs ≡ []) × (ds ≡ [])
 
--- a step that ends a frame touches what stands below it as well, where anything does
+-- a step that ends a frame touches what is on the stack below it as well, where anything does
 abbrev pub NeedsBelow : (es cs ds : List Entry) → Act → Type 0
 NeedsBelow (e ∷ es) cs ds (Ends vs) = Unit {0}
 NeedsBelow [] cs ds (Ends vs) = NoneBelow cs ds
@@ -73,11 +73,11 @@ StepsAgree =
     StoreRel (passed of named l) s t → ListRel (EntryRel (passed of named l)) es fs → Touches s es cs ds → TopSkips (passed of named l) s es → EntriesKnown (passed of named l) es fs →
     ResRel (NextRel (passed of named l) (Above (passed of named l) cs ds)) (step s (es ++ cs)) (step t (fs ++ ds))
 
--- where code may name as one only addresses that are related, whatever instruction comes next names related ones
+-- where only related addresses are in the code relation, whatever instruction comes next names related ones
 abbrev pub NamedAreKnown : Type 0
 NamedAreKnown = (of named : Space → ℕ → ℕ → Bool) (l : List ℕ) → ((k : Space) (a b : ℕ) → IsTrue (named k a b) → IsTrue (of k a b)) → (es fs : List Entry) → EntriesKnown (passed of named l) es fs
 
--- Of related values in stores that correspond under a one-to-one relation, functions included, the embedder is shown the same, where the functions that were shown
+-- Of related values in stores that correspond under a one-to-one relation, functions included, the embedder is shown equal values, where the functions that were shown
 -- before are related, number by number; and so are they again.
 abbrev pub ShownAgree : Type 0
 ShownAgree =
@@ -94,7 +94,7 @@ abbrev pub NoMark : List Entry → Type 0
 NoMark [] = Unit {0}
 NoMark (e ∷ es) = (ends_trap e ≡ false) × NoMark es
 
--- A trap removes everything down to the nearest mark. Where these marks are related the same waits there, and what stands below them is left; nothing above needs
+-- A trap removes everything down to the nearest mark. Where these marks are related the same waits there, and what is on the stack below them is left; nothing above needs
 -- to be related.
 abbrev pub TrapsAgree : Type 0
 TrapsAgree =
@@ -108,18 +108,18 @@ TypingIsKept =
     (m : Remap) (listed : List ℕ) (codes : Codes) (c d : Context) (is js : List Instr) (ps rs : List ValType) → SameFrame c d → ListLayers (OthersAgree m listed c d) is → CodesHaveTypes listed codes c d →
     Replaced c.types m listed codes c.labels is js → WellTyped c is ps rs → WellTyped d js ps rs
 
--- Such code is related to the body, where each index that the other instructions name and its entry stand for addresses that code may name as one, or for equal types,
+-- Such code is related to the body, where each index that the other instructions name and its entry denote addresses in the code relation, or for equal types,
 -- or neither is there, and each function whose call is replaced is at an address of the list, in place of whose calls its codes may stand.
 abbrev pub ReplacedCodeIsRelated : Type 0
 ReplacedCodeIsRelated =
     (of named : Space → ℕ → ℕ → Bool) (l : List ℕ) (stands : Test) (m : Remap) (i j : Inst) (types : List FuncType) (labels : Labels) (listed : List ℕ) (codes : Codes) (is js : List Instr) →
-    CodesStand (passed_with of named l stands) listed codes i j → ListLayers (OthersNamed (passed_with of named l stands) m listed i j) is → Replaced types m listed codes labels is js → CodeRel (passed_with of named l stands) i j is js
+    ReplacementCodesFit (passed_with of named l stands) listed codes i j → ListLayers (OthersNamed (passed_with of named l stands) m listed i j) is → Replaced types m listed codes labels is js → CodeRel (passed_with of named l stands) i j is js
 
 -- With no function on the list the body with other indices is such code.
-abbrev pub UnlistedAreRenumbered : Type 0
-UnlistedAreRenumbered = (types : List FuncType) (m : Remap) (codes : Codes) (labels : Labels) (is : List Instr) → Replaced types m [] codes labels is (renumbered_all m is)
+abbrev pub NotOpaqueAreRenumbered : Type 0
+NotOpaqueAreRenumbered = (types : List FuncType) (m : Remap) (codes : Codes) (labels : Labels) (is : List Instr) → Replaced types m [] codes labels is (renumbered_all m is)
 
--- A body is related to itself with other indices, where each index and its entry stand for addresses that code may name as one, or for equal types, or neither is
+-- A body is related to itself with other indices, where each index and its entry denote addresses in the code relation, or for equal types, or neither is
 -- there.
 abbrev pub RenumberedCodeIsRelated : Type 0
 RenumberedCodeIsRelated =
@@ -137,12 +137,12 @@ RelatedRuns R = RunRel R (EntryByEntry R) (EntryByEntry R)
 abbrev pub RelatedOuts : Pairing → Out → Out → Type 0
 RelatedOuts R = OutRel R (EntryByEntry R) (EntryByEntry R)
 
--- Where the relation is one to one, functions included, all that code names is related and no function is set apart, related runs show the same events.
-abbrev pub RelatedRunsShowTheSame : Type 0
-RelatedRunsShowTheSame =
+-- Where the relation is one to one, functions included, all that code names is related and no function is opaque, related runs have equal traces.
+abbrev pub RelatedRunsHaveEqualTraces : Type 0
+RelatedRunsHaveEqualTraces =
     (of : Space → ℕ → ℕ → Bool) → OneToOne (passed of of []) → (r q : Run) → RelatedRuns (passed of of []) r q → (n : ℕ) → events_of tick r n ≡ events_of tick q n
 
--- One step of each of two such runs shows the same, and leaves them related.
+-- One step of each of two such runs gives the same event, and leaves them related.
 abbrev pub RelatedTicksAgree : Type 0
 RelatedTicksAgree =
     (of : Space → ℕ → ℕ → Bool) → OneToOne (passed of of []) → (r q : Run) → RelatedRuns (passed of of []) r q →
@@ -163,6 +163,6 @@ pub record NamesItself (R : Pairing) (i : Inst) : Type 0 where
   pub elems : (n a : ℕ) → slice_get i.elems n ≡ Some a → R.named ElementSegments a a
   pub datas : (n a : ℕ) → slice_get i.datas n ≡ Some a → R.named DataSegments a a
 
--- Code is related to itself over an instance whose addresses code may name as one with themselves.
+-- Code is related to itself over an instance whose addresses are in the code relation with themselves.
 abbrev pub CodeIsRelatedToItself : Type 0
 CodeIsRelatedToItself = (of named : Space → ℕ → ℕ → Bool) (l : List ℕ) (i : Inst) (code : List Instr) → NamesItself (passed of named l) i → CodeRel (passed of named l) i i code code

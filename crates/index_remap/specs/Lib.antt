@@ -7,7 +7,7 @@ pub mod RelatedRuns
 pub mod Agreement
 pub mod Replaced
 pub mod Laws
-pub mod ListedRuns
+pub mod OpaqueRuns
 pub mod Trampolines
 pub mod Wider
 pub mod Unknown

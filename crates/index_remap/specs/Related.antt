@@ -21,11 +21,11 @@ use Rattle.wasm_meaning.specs.State.{Pair, RefVal, FuncRef, ExternRef, Val, Num,
 use Rattle.wasm_meaning.specs.Control.{type_at, own_at}
 use Rattle.wasm_meaning.specs.Step.{act}
 
--- related addresses, addresses that code may name as one, and the functions of a list, of which only the type is known and whose they are; and the code that may stand
+-- related addresses, addresses in the code relation, and the functions of a list, of which only the type is known and whose they are; and the code that may stand
 -- in place of a call of one of them, over an instance of the second
 pub record Pairing : Type 1 where
   pub of : Space → ℕ → ℕ → Type 0
-  -- addresses that code may name as one: of those that are not related nothing is known
+  -- addresses in the code relation: of those that are not related nothing is known
   pub named : Space → ℕ → ℕ → Type 0
   pub listed : ℕ → Type 0
   pub stands : Inst → (function : ℕ) → List Instr → Type 0
@@ -94,7 +94,7 @@ pub record ArgRel (N : Space → ℕ → ℕ → Type 0) (i j : Inst) (a b : Mem
   pub memory : Names N Memories i.mems j.mems a.memory b.memory
 
 mutual
-  -- the second is the first with other indices: what comes next (true) names related addresses, other code such as code may name as one, and both equal types;
+  -- the second is the first with other indices: what comes next (true) names related addresses, other code such as are in the code relation, and both equal types;
   -- alignments are left aside
   pub data OpRel (R : Pairing) (i j : Inst) : Bool → Instr-F Instr → Instr-F Instr → Type 0 where
     unreachable : {w : Bool} → OpRel R i j w Instr-F.Unreachable Instr-F.Unreachable
@@ -240,13 +240,13 @@ abbrev pub NextRel : Pairing → (Store → Store → List Entry → List Entry 
 NextRel R = NextRelBy R (StoreRel R)
 
 -- it begins no call of a function of the list
-abbrev pub NotListed : Pairing → Act → Type 0
-NotListed R (Calls a vs h) = ¬ R.listed a
-NotListed R _ = Unit {0}
+abbrev pub NotOpaque : Pairing → Act → Type 0
+NotOpaque R (Calls a vs h) = ¬ R.listed a
+NotOpaque R _ = Unit {0}
 
 -- the next step begins no call of a function of the list, directly or through a table
 abbrev pub TopSkips : Pairing → Store → List Entry → Type 0
-TopSkips R s (Running f ∷ es) = (x : Act) → act s f ≡ Gives x → NotListed R x
+TopSkips R s (Running f ∷ es) = (x : Act) → act s f ≡ Gives x → NotOpaque R x
 TopSkips R s _ = Unit {0}
 
 -- the instructions that come next, where they are related as other code is, name related addresses

@@ -3,20 +3,20 @@ use Rattle.std.proofs.Common.{◌≡◌, ℕ, List, [], ◌∷◌, Option, slice
 use Rattle.wasm_tree.specs.declared.space.Space.{Space}
 use Rattle.wasm_tree.specs.declared.space.Space.TheVariants.{Functions, Tables, Memories, Globals, ElementSegments, DataSegments}
 use Rattle.wasm_meaning.specs.State.{Text, Store, Entry, Opening}
-use Rattle.wasm_meaning.specs.Environment.{Thing, FuncAt, TableAt, MemoryAt, GlobalAt}
+use Rattle.wasm_meaning.specs.Environment.{ExternalValue, FuncAt, TableAt, MemoryAt, GlobalAt}
 use Rattle.wasm_meaning.specs.World.{Begun}
 use Rattle.wasm_meaning.specs.Run.{Phase, Fresh, Pending, Opened, Closed, Run, Out}
 use Rattle.index_remap.specs.Related.{Pairing, OptRel, ListRel, StoreRel}
 
-pub data ThingRel (R : Pairing) : Thing → Thing → Type 0 where
-  a_func : {a b : ℕ} → R.of Functions a b → ThingRel R (FuncAt a) (FuncAt b)
-  a_table : {a b : ℕ} → R.of Tables a b → ThingRel R (TableAt a) (TableAt b)
-  a_memory : {a b : ℕ} → R.of Memories a b → ThingRel R (MemoryAt a) (MemoryAt b)
-  a_global : {a b : ℕ} → R.of Globals a b → ThingRel R (GlobalAt a) (GlobalAt b)
+pub data ExternalValueRel (R : Pairing) : ExternalValue → ExternalValue → Type 0 where
+  a_func : {a b : ℕ} → R.of Functions a b → ExternalValueRel R (FuncAt a) (FuncAt b)
+  a_table : {a b : ℕ} → R.of Tables a b → ExternalValueRel R (TableAt a) (TableAt b)
+  a_memory : {a b : ℕ} → R.of Memories a b → ExternalValueRel R (MemoryAt a) (MemoryAt b)
+  a_global : {a b : ℕ} → R.of Globals a b → ExternalValueRel R (GlobalAt a) (GlobalAt b)
 
-pub record KeyRel (R : Pairing) {K : Type 0} (x y : K × Thing) : Type 0 where
+pub record KeyRel (R : Pairing) {K : Type 0} (x y : K × ExternalValue) : Type 0 where
   pub key : x.0 ≡ y.0
-  pub thing : ThingRel R x.1 y.1
+  pub thing : ExternalValueRel R x.1 y.1
 
 -- the same is shown, and the functions that were shown are related, number by number
 pub record ShowRel (R : Pairing) {A : Type 0} (x y : A × List ℕ) : Type 0 where
@@ -34,7 +34,7 @@ pub record BegunRel (R : Pairing) (B : Store → Store → List Entry → List E
 
 pub data PhaseRel (R : Pairing) (B : Store → Store → List Entry → List Entry → Type 0) : Phase → Phase → Type 0 where
   fresh : {b c : Option Begun} → OptRel (BegunRel R B) b c → PhaseRel R B (Fresh b) (Fresh c)
-  pending : {vs ws : List (Text × Thing)} → ListRel (KeyRel R) vs ws → PhaseRel R B (Pending vs) (Pending ws)
+  pending : {vs ws : List (Text × ExternalValue)} → ListRel (KeyRel R) vs ws → PhaseRel R B (Pending vs) (Pending ws)
   opened : PhaseRel R B Opened Opened
   closed : PhaseRel R B Closed Closed
 

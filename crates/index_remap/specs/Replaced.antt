@@ -19,13 +19,13 @@ use Rattle.index_remap.specs.CodeNames.{EntryNames}
 use Rattle.index_remap.specs.Related.{Pairing}
 use Rattle.index_remap.specs.Agreement.{LayerAgrees, func_type, labelled}
 
--- ---- what stands for the instructions of a body ----
+-- ---- what replaces the instructions of a body ----
 
 -- the types of the labels around an instruction, the innermost first (section 3.1.1)
 abbrev pub Labels : Type 0
 Labels = List (List ValType)
 
--- the codes that may stand for a call of a function under these labels, each of which is a list of instructions
+-- the codes that may replace a call of a function under these labels, each of which is a list of instructions
 abbrev pub Codes : Type 0
 Codes = Labels → ℕ → List (List Instr)
 
@@ -45,75 +45,75 @@ loop_label (Some f) = f.params
 
 module _ (types : List FuncType) (m : Remap) (listed : List ℕ) (codes : Codes) where
   abbrev mutual
-    -- the code stands for the instruction under these labels; a block has its new type, and holds what stands for what it
+    -- the code replaces the instruction under these labels; a block has its new type, and holds what replaces what it
     -- held, under one label more
-    pub StandsFor : Labels → Instr → List Instr → Type 0
-    StandsFor labels (Block' ty n body) code = (b : List Instr) × RowReplaced (block_label (signature_of types ty) ∷ labels) body b × (code ≡ Block (new_type m ty) b ∷ [])
-    StandsFor labels (Loop' ty n body) code = (b : List Instr) × RowReplaced (loop_label (signature_of types ty) ∷ labels) body b × (code ≡ Loop (new_type m ty) b ∷ [])
-    StandsFor labels (If' ty n body k other) code =
+    pub DenotesOne : Labels → Instr → List Instr → Type 0
+    DenotesOne labels (Block' ty n body) code = (b : List Instr) × RowReplaced (block_label (signature_of types ty) ∷ labels) body b × (code ≡ Block (new_type m ty) b ∷ [])
+    DenotesOne labels (Loop' ty n body) code = (b : List Instr) × RowReplaced (loop_label (signature_of types ty) ∷ labels) body b × (code ≡ Loop (new_type m ty) b ∷ [])
+    DenotesOne labels (If' ty n body k other) code =
         (b o : List Instr) × RowReplaced (block_label (signature_of types ty) ∷ labels) body b × RowReplaced (block_label (signature_of types ty) ∷ labels) other o × (code ≡ If (new_type m ty) b o ∷ [])
-    StandsFor labels (Call f) code = CallReplaced m (is_among listed f) codes labels f code
-    StandsFor labels Unreachable code = code ≡ renumbered m Unreachable ∷ []
-    StandsFor labels Nop code = code ≡ renumbered m Nop ∷ []
-    StandsFor labels (Br target) code = code ≡ renumbered m (Br target) ∷ []
-    StandsFor labels (BrIf target) code = code ≡ renumbered m (BrIf target) ∷ []
-    StandsFor labels (BrTable targets last) code = code ≡ renumbered m (BrTable targets last) ∷ []
-    StandsFor labels Return code = code ≡ renumbered m Return ∷ []
-    StandsFor labels (CallIndirect ty table) code = code ≡ renumbered m (CallIndirect ty table) ∷ []
-    StandsFor labels Drop code = code ≡ renumbered m Drop ∷ []
-    StandsFor labels Select code = code ≡ renumbered m Select ∷ []
-    StandsFor labels (SelectTyped tys) code = code ≡ renumbered m (SelectTyped tys) ∷ []
-    StandsFor labels (LocalGet local) code = code ≡ renumbered m (LocalGet local) ∷ []
-    StandsFor labels (LocalSet local) code = code ≡ renumbered m (LocalSet local) ∷ []
-    StandsFor labels (LocalTee local) code = code ≡ renumbered m (LocalTee local) ∷ []
-    StandsFor labels (GlobalGet global) code = code ≡ renumbered m (GlobalGet global) ∷ []
-    StandsFor labels (GlobalSet global) code = code ≡ renumbered m (GlobalSet global) ∷ []
-    StandsFor labels (TableGet table) code = code ≡ renumbered m (TableGet table) ∷ []
-    StandsFor labels (TableSet table) code = code ≡ renumbered m (TableSet table) ∷ []
-    StandsFor labels (Load op arg) code = code ≡ renumbered m (Load op arg) ∷ []
-    StandsFor labels (Store op arg) code = code ≡ renumbered m (Store op arg) ∷ []
-    StandsFor labels (MemorySize memory) code = code ≡ renumbered m (MemorySize memory) ∷ []
-    StandsFor labels (MemoryGrow memory) code = code ≡ renumbered m (MemoryGrow memory) ∷ []
-    StandsFor labels (I32Const value) code = code ≡ renumbered m (I32Const value) ∷ []
-    StandsFor labels (I64Const value) code = code ≡ renumbered m (I64Const value) ∷ []
-    StandsFor labels (Un op) code = code ≡ renumbered m (Un op) ∷ []
-    StandsFor labels (Bin op) code = code ≡ renumbered m (Bin op) ∷ []
-    StandsFor labels (RefNull ty) code = code ≡ renumbered m (RefNull ty) ∷ []
-    StandsFor labels RefIsNull code = code ≡ renumbered m RefIsNull ∷ []
-    StandsFor labels (RefFunc func) code = code ≡ renumbered m (RefFunc func) ∷ []
-    StandsFor labels (MemoryInit segment memory) code = code ≡ renumbered m (MemoryInit segment memory) ∷ []
-    StandsFor labels (DataDrop segment) code = code ≡ renumbered m (DataDrop segment) ∷ []
-    StandsFor labels (MemoryCopy to from) code = code ≡ renumbered m (MemoryCopy to from) ∷ []
-    StandsFor labels (MemoryFill memory) code = code ≡ renumbered m (MemoryFill memory) ∷ []
-    StandsFor labels (TableInit segment table) code = code ≡ renumbered m (TableInit segment table) ∷ []
-    StandsFor labels (ElemDrop segment) code = code ≡ renumbered m (ElemDrop segment) ∷ []
-    StandsFor labels (TableCopy to from) code = code ≡ renumbered m (TableCopy to from) ∷ []
-    StandsFor labels (TableGrow table) code = code ≡ renumbered m (TableGrow table) ∷ []
-    StandsFor labels (TableSize table) code = code ≡ renumbered m (TableSize table) ∷ []
-    StandsFor labels (TableFill table) code = code ≡ renumbered m (TableFill table) ∷ []
+    DenotesOne labels (Call f) code = CallReplaced m (is_among listed f) codes labels f code
+    DenotesOne labels Unreachable code = code ≡ renumbered m Unreachable ∷ []
+    DenotesOne labels Nop code = code ≡ renumbered m Nop ∷ []
+    DenotesOne labels (Br target) code = code ≡ renumbered m (Br target) ∷ []
+    DenotesOne labels (BrIf target) code = code ≡ renumbered m (BrIf target) ∷ []
+    DenotesOne labels (BrTable targets last) code = code ≡ renumbered m (BrTable targets last) ∷ []
+    DenotesOne labels Return code = code ≡ renumbered m Return ∷ []
+    DenotesOne labels (CallIndirect ty table) code = code ≡ renumbered m (CallIndirect ty table) ∷ []
+    DenotesOne labels Drop code = code ≡ renumbered m Drop ∷ []
+    DenotesOne labels Select code = code ≡ renumbered m Select ∷ []
+    DenotesOne labels (SelectTyped tys) code = code ≡ renumbered m (SelectTyped tys) ∷ []
+    DenotesOne labels (LocalGet local) code = code ≡ renumbered m (LocalGet local) ∷ []
+    DenotesOne labels (LocalSet local) code = code ≡ renumbered m (LocalSet local) ∷ []
+    DenotesOne labels (LocalTee local) code = code ≡ renumbered m (LocalTee local) ∷ []
+    DenotesOne labels (GlobalGet global) code = code ≡ renumbered m (GlobalGet global) ∷ []
+    DenotesOne labels (GlobalSet global) code = code ≡ renumbered m (GlobalSet global) ∷ []
+    DenotesOne labels (TableGet table) code = code ≡ renumbered m (TableGet table) ∷ []
+    DenotesOne labels (TableSet table) code = code ≡ renumbered m (TableSet table) ∷ []
+    DenotesOne labels (Load op arg) code = code ≡ renumbered m (Load op arg) ∷ []
+    DenotesOne labels (Store op arg) code = code ≡ renumbered m (Store op arg) ∷ []
+    DenotesOne labels (MemorySize memory) code = code ≡ renumbered m (MemorySize memory) ∷ []
+    DenotesOne labels (MemoryGrow memory) code = code ≡ renumbered m (MemoryGrow memory) ∷ []
+    DenotesOne labels (I32Const value) code = code ≡ renumbered m (I32Const value) ∷ []
+    DenotesOne labels (I64Const value) code = code ≡ renumbered m (I64Const value) ∷ []
+    DenotesOne labels (Un op) code = code ≡ renumbered m (Un op) ∷ []
+    DenotesOne labels (Bin op) code = code ≡ renumbered m (Bin op) ∷ []
+    DenotesOne labels (RefNull ty) code = code ≡ renumbered m (RefNull ty) ∷ []
+    DenotesOne labels RefIsNull code = code ≡ renumbered m RefIsNull ∷ []
+    DenotesOne labels (RefFunc func) code = code ≡ renumbered m (RefFunc func) ∷ []
+    DenotesOne labels (MemoryInit segment memory) code = code ≡ renumbered m (MemoryInit segment memory) ∷ []
+    DenotesOne labels (DataDrop segment) code = code ≡ renumbered m (DataDrop segment) ∷ []
+    DenotesOne labels (MemoryCopy to from) code = code ≡ renumbered m (MemoryCopy to from) ∷ []
+    DenotesOne labels (MemoryFill memory) code = code ≡ renumbered m (MemoryFill memory) ∷ []
+    DenotesOne labels (TableInit segment table) code = code ≡ renumbered m (TableInit segment table) ∷ []
+    DenotesOne labels (ElemDrop segment) code = code ≡ renumbered m (ElemDrop segment) ∷ []
+    DenotesOne labels (TableCopy to from) code = code ≡ renumbered m (TableCopy to from) ∷ []
+    DenotesOne labels (TableGrow table) code = code ≡ renumbered m (TableGrow table) ∷ []
+    DenotesOne labels (TableSize table) code = code ≡ renumbered m (TableSize table) ∷ []
+    DenotesOne labels (TableFill table) code = code ≡ renumbered m (TableFill table) ∷ []
 
     -- the same for the instructions of a block
     pub RowReplaced : {n : _} → Labels → Row_of-Instr n → List Instr → Type 0
     RowReplaced labels end_of-Instr js = js ≡ []
-    RowReplaced labels (more_of-Instr i is) js = (code rest : List Instr) × StandsFor labels i code × RowReplaced labels is rest × (js ≡ code ++ rest)
+    RowReplaced labels (more_of-Instr i is) js = (code rest : List Instr) × DenotesOne labels i code × RowReplaced labels is rest × (js ≡ code ++ rest)
 
   -- the second is the first with other indices, and with one of the codes of its function in place of each call of one on the list, in blocks as well; these
   -- labels stand around it, and these are the types that its blocks name
   abbrev pub Replaced : Labels → List Instr → List Instr → Type 0
   Replaced labels [] js = js ≡ []
-  Replaced labels (i ∷ is) js = (code rest : List Instr) × StandsFor labels i code × Replaced labels is rest × (js ≡ code ++ rest)
+  Replaced labels (i ∷ is) js = (code rest : List Instr) × DenotesOne labels i code × Replaced labels is rest × (js ≡ code ++ rest)
 
 -- ---- the other instructions ----
 
 -- a call of a function of the list
-abbrev pub is_listed_call : List ℕ → Operand → Bool
-is_listed_call listed o = o.called && is_among listed o.index
+abbrev pub is_opaque_call : List ℕ → Operand → Bool
+is_opaque_call listed o = o.called && is_among listed o.index
 
 -- each index that the layer itself names agrees with its entry, but the function of a call that is replaced, which needs none
 abbrev pub OthersAgree : Remap → List ℕ → Context → Context → Instr-F Instr → Type 0
-OthersAgree m listed c d l = list_any (is_listed_call listed) (operands l) ≡ false → LayerAgrees m c d l
+OthersAgree m listed c d l = list_any (is_opaque_call listed) (operands l) ≡ false → LayerAgrees m c d l
 
--- the function of a call that is replaced is at an address of the list; any other index and its entry stand for addresses that code may name as one, or for
+-- the function of a call that is replaced is at an address of the list; any other index and its entry denote addresses in the code relation, or for
 -- equal types, or neither is there
 abbrev pub OtherNamed : Pairing → Remap → Bool → Inst → Inst → Space → ℕ → Type 0
 OtherNamed R m true i j space x = (a : ℕ) × (slice_get i.funcs x ≡ Some a) × R.listed a
@@ -121,11 +121,11 @@ OtherNamed R m false i j space x = EntryNames R m i j space x
 
 -- so does each index that the layer itself names
 abbrev pub OthersNamed : Pairing → Remap → List ℕ → Inst → Inst → Instr-F Instr → Type 0
-OthersNamed R m listed i j layer = Every (λ o. OtherNamed R m (is_listed_call listed o) i j o.space o.index) (operands layer)
+OthersNamed R m listed i j layer = Every (λ o. OtherNamed R m (is_opaque_call listed o) i j o.space o.index) (operands layer)
 
--- each code that may stand for a call of a function on the list is such as may stand in place of one, over the second instance
-abbrev pub CodesStand : Pairing → List ℕ → Codes → Inst → Inst → Type 0
-CodesStand R listed codes i j = (labels : Labels) (f a : ℕ) (code : List Instr) → IsTrue (is_among listed f) → Contains (codes labels f) code → slice_get i.funcs f ≡ Some a → R.stands j a code
+-- each code that may replace a call of a function on the list is such as may stand in place of one, over the second instance
+abbrev pub ReplacementCodesFit : Pairing → List ℕ → Codes → Inst → Inst → Type 0
+ReplacementCodesFit R listed codes i j = (labels : Labels) (f a : ℕ) (code : List Instr) → IsTrue (is_among listed f) → Contains (codes labels f) code → slice_get i.funcs f ≡ Some a → R.stands j a code
 
 -- ---- what it needs to stay well typed ----
 

@@ -18,7 +18,7 @@ use Rattle.wasm_meaning.specs.Run.{Run, transition, tick}
 use Rattle.index_remap.specs.Related.{Pairing, OneToOne, ResRel, ListRel, ValRel, CodeRel, StoreRel, FrameRel, EntryRel, NextRel}
 use Rattle.index_remap.specs.RelatedRuns.{turned, KeepsOthers, IsBegun, RunRel}
 use Rattle.index_remap.specs.Laws.{Test, passed_with, EntriesKnown}
-use Rattle.index_remap.specs.ListedRuns.{TickSkips, calls_placeholder}
+use Rattle.index_remap.specs.OpaqueRuns.{TickSkips, calls_placeholder}
 
 -- ---- frames between ----
 
@@ -47,8 +47,8 @@ pub record AnsweredInTwo (R : Pairing) (r q : Run) : Type 0 where
   pub second : IsBegun r.phase → KeepsOthers R q.store (state_after tick q (suc further)).store
 
 -- A step of the first that begins no call of a function of the list, where the next instructions name related addresses.
-abbrev pub FramesBetweenAreNotSeen : Type 0
-FramesBetweenAreNotSeen =
+abbrev pub PassingFramesStutter : Type 0
+PassingFramesStutter =
     (of named : Space → ℕ → ℕ → Bool) (l : List ℕ) (stands : Test) → OneToOne (passed_with of named l stands) → (r q : Run) → RunRel (passed_with of named l stands) (FramesBetween (passed_with of named l stands)) (FramesBetween (passed_with of named l stands)) r q →
     TickSkips (passed_with of named l stands) r r.entries → EntriesKnown (passed_with of named l stands) r.entries q.entries → AnsweredInTwo (passed_with of named l stands) r q
 

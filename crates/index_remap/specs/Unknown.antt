@@ -1,5 +1,5 @@
 -- Places of a store of which nothing is known, beside a relation of addresses: whatever stands there, it need not be related. What is imported is no such place:
--- it has an address that code may name as one in both stores, and is not related.
+-- it has an address in the code relation in both stores, and is not related.
 use Rattle.std.proofs.Common.{◌≡◌, ℕ, suc, ◌+◌, ◌<◌, ◌≤◌, List, [], ◌∷◌, ◌++◌, length, Bool, true, false, not, slice_get, Some}
 use Rattle.std.specs.Prelude.{nat_eq, ◌↔◌, ◌&&◌}
 use Rattle.std.specs.List.{list_any, filter}

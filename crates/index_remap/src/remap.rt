@@ -73,7 +73,7 @@ pub(crate) fn renumber_import_desc(desc: ImportDesc, map: &Remap) -> ImportDesc
     }
 }
 
-/// What an export stands for, with another index (WebAssembly Core 2.0, section 2.5.10). The map needs an entry for it.
+/// What an export denotes, with another index (WebAssembly Core 2.0, section 2.5.10). The map needs an entry for it.
 pub fn renumber_export_desc(desc: ExportDesc, map: &Remap) -> ExportDesc
     requires { IsTrue (fits_export_desc map.now desc) }
     ensures { result ≡ new_export_desc map.now desc }

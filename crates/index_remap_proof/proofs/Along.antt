@@ -8,8 +8,8 @@ use Rattle.index_remap.specs.declared.remap.Remap.{Remap}
 use Rattle.index_remap.specs.Renumbered.{renumbered_all}
 use Rattle.index_remap.specs.Agreement.{OperandAgrees, LayerAgrees, SameFrame}
 use Rattle.index_remap.specs.Replaced.{OthersAgree}
-use Rattle.index_remap.specs.Laws.{TypingIsKept, UnlistedAreRenumbered}
-use Rattle.index_remap.proofs.Unlisted.{all_follow, operands_follow}
+use Rattle.index_remap.specs.Laws.{TypingIsKept, NotOpaqueAreRenumbered}
+use Rattle.index_remap.proofs.NotOpaque.{all_follow, operands_follow}
 use Rattle.index_remap_proof.specs.Indices.{Indices, LayerNamesOnly}
 use Rattle.index_remap_proof.specs.Along.{AgreesAlong}
 
@@ -18,7 +18,7 @@ all_along m kept c d k = operands_follow (λ o. IsTrue (kept o.space o.index)) (
 
 -- ---- the law of code in which calls are replaced, with no function on the list ----
 
-module _ (typed : TypingIsKept) (unlisted : UnlistedAreRenumbered) where
+module _ (typed : TypingIsKept) (unlisted : NotOpaqueAreRenumbered) where
   pub kept_by_index : (m : Remap) (c d : Context) (is : List Instr) (ps rs : List ValType) → SameFrame c d → ListLayers (LayerAgrees m c d) is → WellTyped c is ps rs → WellTyped d (renumbered_all m is) ps rs
   kept_by_index m c d is ps rs same h =
       typed m [] (λ labels f. []) c d is (renumbered_all m is) ps rs same (all_follow (LayerAgrees m c d) (OthersAgree m [] c d) (λ l k e. k) is h) (λ labels f code k. absurd (true≢false (sym k)))

@@ -1,4 +1,4 @@
--- Items that stand for others hold where those hold.
+-- Items that come from others are valid where those are.
 use Rattle.std.proofs.Common.{◌≡◌, ℕ, ◌<◌, ◌≤◌, Bool, true, false, ◌&&◌, not, nat_lt, List, [], length, Some, refl, sym, ap, ◌∙◌, subst, arith, IsTrue}
 use Rattle.std.specs.Prelude.{slice_get, slice_index, replicate}
 use Rattle.std.proofs.lemmas.Bool.{ltb-true, lt-ltb}
@@ -35,7 +35,7 @@ use Rattle.wasm_tree.specs.Layers.{ListLayers}
 use Rattle.index_remap.specs.Agreement.{OperandAgrees}
 use Rattle.index_remap_proof.specs.Indices.{Indices, LayerNamesOnly, ConstNamesOnly, ImportNamesOnly, ExportNamesOnly}
 use Rattle.index_remap_proof.specs.Along.{AgreesAlong}
-use Rattle.index_remap_proof.specs.Trees.{TreesAgree, RefsAgree, ReadsImport, ConstStands, ElemModeStands, DataModeStands, ItemStands, active, passive, declarative}
+use Rattle.index_remap_proof.specs.Trees.{TreesAgree, RefsAgree, ReadsImport, ConstComesFrom, ElemModeComesFrom, DataModeComesFrom, ItemComesFrom, active, passive, declarative}
 use Rattle.index_remap_proof.specs.ButForReferences.{any_named, HoldsButForReferences}
 use Rattle.index_remap_proof.proofs.Lists.{place_kept, named_within}
 use Rattle.base_lists.proofs.Places.{replicate_at}
@@ -46,7 +46,7 @@ abbrev pub BodiesAreKept : Type 0
 BodiesAreKept = (m : Remap) (kept : Indices) (c d : Context) (is : List Instr) (ps rs : List ValType) → AgreesAlong m kept c d → ListLayers (LayerNamesOnly kept) is → WellTyped c is ps rs → WellTyped d (renumbered_all m is) ps rs
 
 module _ (m : Remap) (kept : Indices) (t u : Module) (k : TreesAgree m kept t u) where
-  pub const_kept : (e : ConstExpr) → ConstNamesOnly kept e → ReadsImport m u e → ConstStands t u e (new_const m e)
+  pub const_kept : (e : ConstExpr) → ConstNamesOnly kept e → ReadsImport m u e → ConstComesFrom t u e (new_const m e)
   const_kept (const.I32 v) h r ty e = e
   const_kept (const.I64 v) h r ty e = e
   const_kept (const.Null q) h r ty e = e
@@ -82,12 +82,12 @@ module _ (m : Remap) (kept : Indices) (t u : Module) (k : TreesAgree m kept t u)
   export_kept (ex.Memory i) h p = k.memories i h p
   export_kept (ex.Global i) h p = globals_within i h p
 
-  elem_mode_kept : (ty : RefType) (a b : ElemMode) → ElemModeStands m kept t u a b → ElemModeHolds t ty a → ElemModeHolds u ty b
+  elem_mode_kept : (ty : RefType) (a b : ElemMode) → ElemModeComesFrom m kept t u a b → ElemModeHolds t ty a → ElemModeHolds u ty b
   elem_mode_kept ty a b (active {table} h c) p = (k.tables table h ty p.0, c _ p.1)
   elem_mode_kept ty a b passive p = tt
   elem_mode_kept ty a b declarative p = tt
 
-  data_mode_kept : (a b : DataMode) → DataModeStands m kept t u a b → DataModeHolds t a → DataModeHolds u b
+  data_mode_kept : (a b : DataMode) → DataModeComesFrom m kept t u a b → DataModeHolds t a → DataModeHolds u b
   data_mode_kept a b (active {memory} h c) p = (k.memories memory h p.0, c _ p.1)
   data_mode_kept a b passive p = tt
 
@@ -117,7 +117,7 @@ module _ (m : Remap) (kept : Indices) (t u : Module) (k : TreesAgree m kept t u)
   NoBody kind.Body = ⊥
   NoBody _ = Unit {0}
 
-  item_kept : (n : ItemKind) (i j : ℕ) → NoBody n → ItemStands m kept t u n i j → HoldsAt t n i → HoldsAt u n j
+  item_kept : (n : ItemKind) (i j : ℕ) → NoBody n → ItemComesFrom m kept t u n i j → HoldsAt t n i → HoldsAt u n j
   item_kept kind.Import i j o (x, y, at, new, h, e) (z, it, p) =
       let same : z ≡ x = cc in
       (y, new, subst (ImportHolds u) (sym e) (import_kept x.desc h (subst (λ w. ImportHolds t w.desc) same p)))
@@ -145,7 +145,7 @@ module _ (m : Remap) (kept : Indices) (t u : Module) (k : TreesAgree m kept t u)
       (b, new, data_mode_kept a.mode b.mode mode (subst (λ w. DataModeHolds t w.mode) same p))
   item_kept kind.Body i j o s p = absurd o
 
-  pub items_kept : BodiesAreKept → (n : ItemKind) (i j : ℕ) → RefsAgree m kept t u → ItemStands m kept t u n i j → HoldsAt t n i → HoldsAt u n j
+  pub items_kept : BodiesAreKept → (n : ItemKind) (i j : ℕ) → RefsAgree m kept t u → ItemComesFrom m kept t u n i j → HoldsAt t n i → HoldsAt u n j
   items_kept law kind.Body i j r (f, at, h, new) (z, ft, it, ty, w) =
       let same : z ≡ f = cc in
       let ty' : slice_get t.types f.ty ≡ Some ft = subst (λ (g : Func). slice_get t.types g.ty ≡ Some ft) same ty in
@@ -153,7 +153,7 @@ module _ (m : Remap) (kept : Indices) (t u : Module) (k : TreesAgree m kept t u)
       (new_func m f, ft, new, k.types f.ty h.0 ft ty', law m kept (body_context t f ft) (body_context u (new_func m f) ft) f.body [] ft.results (agrees f ft r) h.1 w')
   items_kept law n i j r s p = item_kept n i j tt s p
 
-  pub items_weakly : BodiesAreKept → (n : ItemKind) (i j : ℕ) → ItemStands m kept t u n i j → HoldsAt t n i → HoldsButForReferences u n j
+  pub items_weakly : BodiesAreKept → (n : ItemKind) (i j : ℕ) → ItemComesFrom m kept t u n i j → HoldsAt t n i → HoldsButForReferences u n j
   items_weakly law kind.Body i j (f, at, h, new) (z, ft, it, ty, w) =
       let same : z ≡ f = cc in
       let ty' : slice_get t.types f.ty ≡ Some ft = subst (λ (g : Func). slice_get t.types g.ty ≡ Some ft) same ty in

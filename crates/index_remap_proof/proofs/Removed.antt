@@ -20,11 +20,11 @@ use Rattle.index_remap.specs.Renumbered.{renumbered}
 use Rattle.wasm_tree.specs.Layers.{Layers}
 use Rattle.index_remap.specs.Agreement.{Keeps}
 use Rattle.index_remap_proof.specs.Indices.{Indices, LayerNamesOnly}
-use Rattle.index_remap_proof.specs.Trees.{TreesAgree, RefsAgree, EachStands}
+use Rattle.index_remap_proof.specs.Trees.{TreesAgree, RefsAgree, EachItemComesFrom}
 
 -- what the clause `trees` of `renumbered_trees_are_valid` says
 abbrev TreesStayValid : Type 0
-TreesStayValid = (m : Remap) (kept : Indices) (t u : Module) → IsValid t → TreesAgree m kept t u → RefsAgree m kept t u → EachStands m kept t u → IsValid u
+TreesStayValid = (m : Remap) (kept : Indices) (t u : Module) → IsValid t → TreesAgree m kept t u → RefsAgree m kept t u → EachItemComesFrom m kept t u → IsValid u
 
 abbrev gives_number : FuncType
 gives_number = record { params = []; results = I32 ∷ [] }
@@ -117,7 +117,7 @@ call_named = (refl, tt)
 call_renumbered : renumbered map (Call 2) ≡ Call 1
 call_renumbered = search (rules, the_lemmas)
 
-each_stands : EachStands map kept before after
+each_stands : EachItemComesFrom map kept before after
 each_stands kind.Func zero lt = (0, omega arith, (code 1 (Call 2 ∷ []), code 1 (Call 1 ∷ []), refl, refl, refl, refl))
 each_stands kind.Func (suc zero) lt = (2, omega arith, (code 1 [], code 1 [], refl, refl, refl, refl))
 each_stands kind.Func (suc (suc j)) lt = absurd (omega arith)

@@ -1,4 +1,4 @@
--- A valid tree with other indices: each item stands for the one that it was. And the indices that a valid tree names.
+-- A valid tree with other indices: each item comes from the one that it was. And the indices that a valid tree names.
 use Rattle.std.proofs.Common.{◌≡◌, ℕ, zero, suc, ◌<◌, ◌↔◌, Bool, true, ◌&&◌, List, [], ◌∷◌, ◌++◌, length, map, take, Option, Some, None, refl, sym, ap, ap₂, ◌∙◌, subst, arith}
 use Rattle.std.specs.Prelude.{slice_get, slice_index, Contains, option_map}
 use Rattle.std.specs.List.{flat_map, filter_map, cons_option}
@@ -29,7 +29,7 @@ use Rattle.index_remap.specs.declared.remap.Remap.{Remap}
 use Rattle.index_remap.specs.Renumbered.{has, has_entry, fits_const, fits_func, fits_import, fits_import_desc, fits_global, fits_export, fits_export_desc, fits_elem, fits_elem_mode, fits_data, fits_data_mode, fits_start, fits_tree, new_const, new_func, new_import, new_global, new_export, new_export_desc, new_elem, new_elem_mode, new_data, new_data_mode, new_start, renumbered_tree}
 use Rattle.index_remap.specs.References.{is_among}
 use Rattle.index_remap_proof.specs.Indices.{Indices, with_entry, ConstNamesOnly, ImportNamesOnly, ExportNamesOnly, ElemModeNamesOnly, DataModeNamesOnly, FuncNamesOnly, TreeNamesOnly}
-use Rattle.index_remap_proof.specs.Trees.{TreesAgree, RefsAgree, ImportsAgree, ReadsImport, ConstStands, ElemModeStands, DataModeStands, ItemsStand, ItemStands, EachStands, active, passive, declarative}
+use Rattle.index_remap_proof.specs.Trees.{TreesAgree, RefsAgree, ImportsAgree, ReadsImport, ConstComesFrom, ElemModeComesFrom, DataModeComesFrom, ItemsComeFrom, ItemComesFrom, EachItemComesFrom, active, passive, declarative}
 use Rattle.index_remap_proof.specs.ButForReferences.{IsValidButForReferences}
 use Rattle.index_remap_proof.proofs.Lists.{left_true, right_true, among_map, marked, is_marked, named_within, only_true}
 use Rattle.base_lists.proofs.Places.{slice_get_there, map_at, map_from}
@@ -168,16 +168,16 @@ module _ (law : PassesLayerByLayer) (m : Remap) where
         data_modes = λ i a at. data_mode_named a.mode (list_all_each (fits_data m) t.datas parts.6 i a at);
       }
 
--- ---- a tree each of whose items stands for one of a valid tree ----
+-- ---- a tree each of whose items comes from one of a valid tree ----
 
-module _ (law : ValidWhereItemsHold) (bodies : BodiesAreKept) (m : Remap) (kept : Indices) (t u : Module) (k : TreesAgree m kept t u) (valid : IsValid t) (each : EachStands m kept t u) where
+module _ (law : ValidWhereItemsHold) (bodies : BodiesAreKept) (m : Remap) (kept : Indices) (t u : Module) (k : TreesAgree m kept t u) (valid : IsValid t) (each : EachItemComesFrom m kept t u) where
   pub standing_valid : RefsAgree m kept t u → IsValid u
   standing_valid refs = (law u).1 (λ n j lt. let s = each n j lt in items_kept m kept t u k bodies n s.0 j refs s.2 ((law t).0 valid n s.0 s.1))
 
   pub standing_weakly : IsValidButForReferences u
   standing_weakly n j lt = let s = each n j lt in items_weakly m kept t u k bodies n s.0 j s.2 ((law t).0 valid n s.0 s.1)
 
--- ---- each item stands for the one that it was ----
+-- ---- each item comes from the one that it was ----
 
 module _ (m : Remap) (kept : Indices) (t : Module) (k : TreesAgree m kept t (renumbered_tree m t)) (imports : ImportsAgree m kept t (renumbered_tree m t)) (names : TreeNamesOnly kept t) where
   abbrev u : Module
@@ -198,24 +198,24 @@ module _ (m : Remap) (kept : Indices) (t : Module) (k : TreesAgree m kept t (ren
       let z = and_then_is (slice_get (globals_of t) g) _ ty e in
       imports g h (ltb-true _ _ (left_true _ _ (only_true _ _ ty z.2)))
 
-  const_stands : (e : ConstExpr) → ConstNamesOnly kept e → ConstStands t u e (new_const m e)
+  const_stands : (e : ConstExpr) → ConstNamesOnly kept e → ConstComesFrom t u e (new_const m e)
   const_stands e h ty is = const_kept m kept t u k e h (reads e ty h is) ty is
 
-  elem_mode_stands : (mode : ElemMode) → ElemModeNamesOnly kept mode → ElemModeStands m kept t u mode (new_elem_mode m mode)
+  elem_mode_stands : (mode : ElemMode) → ElemModeNamesOnly kept mode → ElemModeComesFrom m kept t u mode (new_elem_mode m mode)
   elem_mode_stands (elem.Active table offset) h = active h.0 (const_stands offset h.1)
   elem_mode_stands elem.Passive h = passive
   elem_mode_stands elem.Declarative h = declarative
 
-  data_mode_stands : (mode : DataMode) → DataModeNamesOnly kept mode → DataModeStands m kept t u mode (new_data_mode m mode)
+  data_mode_stands : (mode : DataMode) → DataModeNamesOnly kept mode → DataModeComesFrom m kept t u mode (new_data_mode m mode)
   data_mode_stands («data».Active memory offset) h = active h.0 (const_stands offset h.1)
   data_mode_stands «data».Passive h = passive
 
-  items_stand : (i : ℕ) (a : ElemSeg) → slice_get t.elems i ≡ Some a → ItemsStand t u a (new_elem m a)
+  items_stand : (i : ℕ) (a : ElemSeg) → slice_get t.elems i ≡ Some a → ItemsComeFrom t u a (new_elem m a)
   items_stand i a at p d e =
       let r = map_from (new_const m) a.items p d e in
-      (p, r.0, r.1, subst (ConstStands t u r.0) r.2 (const_stands r.0 (names.items i p a r.0 at r.1)))
+      (p, r.0, r.1, subst (ConstComesFrom t u r.0) r.2 (const_stands r.0 (names.items i p a r.0 at r.1)))
 
-  stands : (n : ItemKind) (i : ℕ) → i < count_of u true n → HoldsAt t n i → ItemStands m kept t u n i i
+  stands : (n : ItemKind) (i : ℕ) → i < count_of u true n → HoldsAt t n i → ItemComesFrom m kept t u n i i
   stands kind.Import i lt p =
       let x = got (new_import m) t.imports i lt in
       (x.0, new_import m x.0, x.1, map_at (new_import m) t.imports i x.0 x.1, names.imports i x.0 x.1, refl)

@@ -1,4 +1,4 @@
--- When two trees have the same along a map of indices, and when an item of one stands for an item of the other.
+-- When two trees have the same along a map of indices, and when an item of one comes from an item of the other.
 use Rattle.std.specs.Prelude.{◌≡◌, ℕ, ◌<◌, ◌≤◌, true, IsTrue, length, map, take, Contains, Some, slice_get, slice_index}
 use Rattle.wasm_tree.specs.declared.space.Space.TheVariants.{Types, Functions, Tables, Memories, Globals, ElementSegments, DataSegments}
 use Rattle.wasm_tree.specs.declared.module.ConstExpr.{ConstExpr}
@@ -66,46 +66,46 @@ ReadsImport m u (const.Func func) = Unit {0}
 ReadsImport m u (const.Global global) = slice_index m.globals global < length (imported_globals u.imports)
 
 -- d has in u the type that e has in t, if e has one
-abbrev pub ConstStands : Module → Module → ConstExpr → ConstExpr → Type 0
-ConstStands t u e d = Keeps (const_type t e) (const_type u d)
+abbrev pub ConstComesFrom : Module → Module → ConstExpr → ConstExpr → Type 0
+ConstComesFrom t u e d = Keeps (const_type t e) (const_type u d)
 
 -- ---- items ----
 
-pub data ElemModeStands (m : Remap) (kept : Indices) (t u : Module) : ElemMode → ElemMode → Type 0 where
-  active : {table : ℕ} {e d : ConstExpr} → IsTrue (kept Tables table) → ConstStands t u e d → ElemModeStands m kept t u (elem.Active table e) (elem.Active (slice_index m.tables table) d)
-  passive : ElemModeStands m kept t u elem.Passive elem.Passive
-  declarative : ElemModeStands m kept t u elem.Declarative elem.Declarative
+pub data ElemModeComesFrom (m : Remap) (kept : Indices) (t u : Module) : ElemMode → ElemMode → Type 0 where
+  active : {table : ℕ} {e d : ConstExpr} → IsTrue (kept Tables table) → ConstComesFrom t u e d → ElemModeComesFrom m kept t u (elem.Active table e) (elem.Active (slice_index m.tables table) d)
+  passive : ElemModeComesFrom m kept t u elem.Passive elem.Passive
+  declarative : ElemModeComesFrom m kept t u elem.Declarative elem.Declarative
 
-pub data DataModeStands (m : Remap) (kept : Indices) (t u : Module) : DataMode → DataMode → Type 0 where
-  active : {memory : ℕ} {e d : ConstExpr} → IsTrue (kept Memories memory) → ConstStands t u e d → DataModeStands m kept t u («data».Active memory e) («data».Active (slice_index m.mems memory) d)
-  passive : DataModeStands m kept t u «data».Passive «data».Passive
+pub data DataModeComesFrom (m : Remap) (kept : Indices) (t u : Module) : DataMode → DataMode → Type 0 where
+  active : {memory : ℕ} {e d : ConstExpr} → IsTrue (kept Memories memory) → ConstComesFrom t u e d → DataModeComesFrom m kept t u («data».Active memory e) («data».Active (slice_index m.mems memory) d)
+  passive : DataModeComesFrom m kept t u «data».Passive «data».Passive
 
 -- each item of the second has the type of an item of the first, if that has one
-abbrev pub ItemsStand : Module → Module → ElemSeg → ElemSeg → Type 0
-ItemsStand t u a b = (p : ℕ) (d : ConstExpr) → slice_get b.items p ≡ Some d → (q : ℕ) × (e : ConstExpr) × (slice_get a.items q ≡ Some e) × ConstStands t u e d
+abbrev pub ItemsComeFrom : Module → Module → ElemSeg → ElemSeg → Type 0
+ItemsComeFrom t u a b = (p : ℕ) (d : ConstExpr) → slice_get b.items p ≡ Some d → (q : ℕ) × (e : ConstExpr) × (slice_get a.items q ≡ Some e) × ConstComesFrom t u e d
 
--- The item of u at place j of its kind stands for the item of t at place i: its indices are the entries of the other's, which are all kept, and it is the same
+-- The item of u at place j of its kind comes from the item of t at place i: its indices are the entries of the other's, which are all kept, and it is the same
 -- otherwise, but for what is free: the names of an import, whether a global is mutable, which items of an element segment there are and in what order, and the
 -- bytes of a data segment. A function's locals are looked at with its body alone. In place of a constant expression stands any that has its type, if it has one.
 -- The name of an export is new: no export of u before it has that name. Of memories there are no more.
-abbrev pub ItemStands : Remap → Indices → Module → Module → ItemKind → ℕ → ℕ → Type 0
-ItemStands m kept t u kind.Import i j =
+abbrev pub ItemComesFrom : Remap → Indices → Module → Module → ItemKind → ℕ → ℕ → Type 0
+ItemComesFrom m kept t u kind.Import i j =
     (x y : Import) × (slice_get t.imports i ≡ Some x) × (slice_get u.imports j ≡ Some y) × ImportNamesOnly kept x.desc × (y.desc ≡ new_import_desc m x.desc)
-ItemStands m kept t u kind.Memories i j = length (memories_of u) ≤ length (memories_of t)
-ItemStands m kept t u kind.Func i j =
+ItemComesFrom m kept t u kind.Memories i j = length (memories_of u) ≤ length (memories_of t)
+ItemComesFrom m kept t u kind.Func i j =
     (f g : Func) × (slice_get t.funcs i ≡ Some f) × (slice_get u.funcs j ≡ Some g) × IsTrue (kept Types f.ty) × (g.ty ≡ slice_index m.types f.ty)
-ItemStands m kept t u kind.Table i j = slice_get u.tables j ≡ slice_get t.tables i
-ItemStands m kept t u kind.Memory i j = slice_get u.mems j ≡ slice_get t.mems i
-ItemStands m kept t u kind.Global i j =
-    (g h : GlobalDef) × (slice_get t.globals i ≡ Some g) × (slice_get u.globals j ≡ Some h) × (h.ty.ty ≡ g.ty.ty) × ConstStands t u g.init h.init
-ItemStands m kept t u kind.Export i j =
+ItemComesFrom m kept t u kind.Table i j = slice_get u.tables j ≡ slice_get t.tables i
+ItemComesFrom m kept t u kind.Memory i j = slice_get u.mems j ≡ slice_get t.mems i
+ItemComesFrom m kept t u kind.Global i j =
+    (g h : GlobalDef) × (slice_get t.globals i ≡ Some g) × (slice_get u.globals j ≡ Some h) × (h.ty.ty ≡ g.ty.ty) × ConstComesFrom t u g.init h.init
+ItemComesFrom m kept t u kind.Export i j =
     (e f : Export) × (slice_get t.exports i ≡ Some e) × (slice_get u.exports j ≡ Some f) × ExportNamesOnly kept e.desc × (f.desc ≡ new_export_desc m e.desc) × (Contains (map (λ x. x.name) (take j u.exports)) f.name → ⊥)
-ItemStands m kept t u kind.Start i j = (x : ℕ) × (t.start ≡ Some x) × IsTrue (kept Functions x) × (u.start ≡ Some (slice_index m.funcs x))
-ItemStands m kept t u kind.Elem i j =
-    (a b : ElemSeg) × (slice_get t.elems i ≡ Some a) × (slice_get u.elems j ≡ Some b) × (b.ty ≡ a.ty) × ItemsStand t u a b × ElemModeStands m kept t u a.mode b.mode
-ItemStands m kept t u kind.Segment i j = (a b : DataSeg) × (slice_get t.datas i ≡ Some a) × (slice_get u.datas j ≡ Some b) × DataModeStands m kept t u a.mode b.mode
-ItemStands m kept t u kind.Body i j = (f : Func) × (slice_get t.funcs i ≡ Some f) × FuncNamesOnly kept f × (slice_get u.funcs j ≡ Some (new_func m f))
+ItemComesFrom m kept t u kind.Start i j = (x : ℕ) × (t.start ≡ Some x) × IsTrue (kept Functions x) × (u.start ≡ Some (slice_index m.funcs x))
+ItemComesFrom m kept t u kind.Elem i j =
+    (a b : ElemSeg) × (slice_get t.elems i ≡ Some a) × (slice_get u.elems j ≡ Some b) × (b.ty ≡ a.ty) × ItemsComeFrom t u a b × ElemModeComesFrom m kept t u a.mode b.mode
+ItemComesFrom m kept t u kind.Segment i j = (a b : DataSeg) × (slice_get t.datas i ≡ Some a) × (slice_get u.datas j ≡ Some b) × DataModeComesFrom m kept t u a.mode b.mode
+ItemComesFrom m kept t u kind.Body i j = (f : Func) × (slice_get t.funcs i ≡ Some f) × FuncNamesOnly kept f × (slice_get u.funcs j ≡ Some (new_func m f))
 
--- each item of u stands for an item of t, which may have others
-abbrev pub EachStands : Remap → Indices → Module → Module → Type 0
-EachStands m kept t u = (k : ItemKind) (j : ℕ) → j < count_of u true k → (i : ℕ) × (i < count_of t true k) × ItemStands m kept t u k i j
+-- each item of u comes from an item of t, which may have others
+abbrev pub EachItemComesFrom : Remap → Indices → Module → Module → Type 0
+EachItemComesFrom m kept t u = (k : ItemKind) (j : ℕ) → j < count_of u true k → (i : ℕ) × (i < count_of t true k) × ItemComesFrom m kept t u k i j

@@ -18,7 +18,7 @@ ghost use Rattle.index_remap.specs.References.{declared};
 ghost use Rattle.index_remap.specs.Agreement.{LayerAgrees, SameFrame};
 ghost use Rattle.index_remap_proof.specs.Indices.{ConstNamesOnly, Indices, LayerNamesOnly, TreeNamesOnly, with_entry};
 ghost use Rattle.index_remap_proof.specs.Along.{AgreesAlong, CoversContext};
-ghost use Rattle.index_remap_proof.specs.Trees.{ConstStands, Covers, EachStands, ImportsAgree, ItemStands, ReadsImport, RefsAgree, TreesAgree};
+ghost use Rattle.index_remap_proof.specs.Trees.{ConstComesFrom, Covers, EachItemComesFrom, ImportsAgree, ItemComesFrom, ReadsImport, RefsAgree, TreesAgree};
 ghost use Rattle.index_remap_proof.specs.ButForReferences.{HoldsButForReferences, IsValidButForReferences};
 
 use index_remap::steps_agree;
@@ -34,7 +34,7 @@ use wasm_valid::valid_where_items_hold;
 pub fn renumbering_keeps_typing()
     ensures bodies { (m : Remap) (kept : Indices) (c d : Context) (is : List Instr) (ps rs : List ValType) → AgreesAlong m kept c d → ListLayers (LayerNamesOnly kept) is → WellTyped c is ps rs → WellTyped d (renumbered_all m is) ps rs }
     ensures by_index { (m : Remap) (c d : Context) (is : List Instr) (ps rs : List ValType) → SameFrame c d → ListLayers (LayerAgrees m c d) is → WellTyped c is ps rs → WellTyped d (renumbered_all m is) ps rs }
-    ensures constants { (m : Remap) (kept : Indices) (t u : Module) (e : ConstExpr) → TreesAgree m kept t u → ConstNamesOnly kept e → ReadsImport m u e → ConstStands t u e (new_const m e) }
+    ensures constants { (m : Remap) (kept : Indices) (t u : Module) (e : ConstExpr) → TreesAgree m kept t u → ConstNamesOnly kept e → ReadsImport m u e → ConstComesFrom t u e (new_const m e) }
     ensures entries { (m : Remap) (c : Context) (is : List Instr) (ps rs : List ValType) → CoversContext m c → WellTyped c is ps rs → IsTrue (fits_all m is) }
     ensures tree_entries { (m : Remap) (t : Module) → IsValid t → Covers m t → IsTrue (fits_tree m t) }
     ensures named { (m : Remap) (is : List Instr) → IsTrue (fits_all m is) → ListLayers (LayerNamesOnly (with_entry m)) is }
@@ -45,15 +45,15 @@ pub fn renumbering_keeps_typing()
     valid_where_items_hold();
 }
 
-/// An item that stands for one that holds, holds, where each index of a set agrees with its entry and the item names only these (`items`); where references are yet
-/// to be declared, it holds but for references (`undeclared`). So a tree each of whose items stands for one of a valid tree is valid (`trees`), or is so but for
+/// An item that comes from a valid one is valid, where each index of a set agrees with its entry and the item names only these (`items`); where references are yet
+/// to be declared, it holds but for references (`undeclared`). So a tree each of whose items comes from one of a valid tree is valid (`trees`), or is so but for
 /// references (`undeclared_trees`): others of the valid tree may be gone, from anywhere, as nothing is asked of an index that is not of the set. One with the same
 /// items, each index replaced by its entry, is valid where also the imported globals of the set stay imported (`renumbered`).
 pub fn renumbered_trees_are_valid()
-    ensures items { (m : Remap) (kept : Indices) (t u : Module) (k : ItemKind) (i j : ℕ) → TreesAgree m kept t u → RefsAgree m kept t u → ItemStands m kept t u k i j → HoldsAt t k i → HoldsAt u k j }
-    ensures undeclared { (m : Remap) (kept : Indices) (t u : Module) (k : ItemKind) (i j : ℕ) → TreesAgree m kept t u → ItemStands m kept t u k i j → HoldsAt t k i → HoldsButForReferences u k j }
-    ensures trees { (m : Remap) (kept : Indices) (t u : Module) → IsValid t → TreesAgree m kept t u → RefsAgree m kept t u → EachStands m kept t u → IsValid u }
-    ensures undeclared_trees { (m : Remap) (kept : Indices) (t u : Module) → IsValid t → TreesAgree m kept t u → EachStands m kept t u → IsValidButForReferences u }
+    ensures items { (m : Remap) (kept : Indices) (t u : Module) (k : ItemKind) (i j : ℕ) → TreesAgree m kept t u → RefsAgree m kept t u → ItemComesFrom m kept t u k i j → HoldsAt t k i → HoldsAt u k j }
+    ensures undeclared { (m : Remap) (kept : Indices) (t u : Module) (k : ItemKind) (i j : ℕ) → TreesAgree m kept t u → ItemComesFrom m kept t u k i j → HoldsAt t k i → HoldsButForReferences u k j }
+    ensures trees { (m : Remap) (kept : Indices) (t u : Module) → IsValid t → TreesAgree m kept t u → RefsAgree m kept t u → EachItemComesFrom m kept t u → IsValid u }
+    ensures undeclared_trees { (m : Remap) (kept : Indices) (t u : Module) → IsValid t → TreesAgree m kept t u → EachItemComesFrom m kept t u → IsValidButForReferences u }
     ensures renumbered { (m : Remap) (kept : Indices) (t : Module) → IsValid t → TreeNamesOnly kept t → TreesAgree m kept t (renumbered_tree m t) → ImportsAgree m kept t (renumbered_tree m t) → IsValid (renumbered_tree m t) }
 {
     renumbering_keeps_typing();

@@ -29,7 +29,7 @@ use Rattle.world_simulation.proofs.Single.{one_inst}
 use Rattle.merge_behaves_proof.specs.Shared.{shared_count}
 use Rattle.merge_behaves_proof.specs.Instances.{SameAddress, SpaceAgrees, PartAgrees, InstancesAgree}
 use Rattle.merge_behaves_proof.proofs.SpaceLaws.{SpaceLaws}
-use Rattle.merge_behaves_proof.proofs.Standing.{defined_low, total, site_address, site_low, Stands, own, stays, import_stands, entry_stands}
+use Rattle.merge_behaves_proof.proofs.Counterparts.{defined_low, total, site_address, site_low, Stands, own, stays, import_stands, entry_stands}
 use Rattle.merge_behaves_proof.proofs.MergedAlone.{joined_keeps, joined_types, staying_kind, names_of, merged_space, elems_many, datas_many}
 use Rattle.base_lists.proofs.Filtered.{place_there}
 use Rattle.base_lists.proofs.Numbers.{length-numbers, numbers_at}

@@ -1,5 +1,5 @@
 pub mod SpaceLaws
-pub mod Standing
+pub mod Counterparts
 pub mod MergedAlone
 pub mod Instances
 pub mod ValueShared

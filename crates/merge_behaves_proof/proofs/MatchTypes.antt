@@ -13,10 +13,10 @@ use Rattle.wasm_meaning.specs.State.{Table, Memory, Global, Store}
 use Rattle.wasm_meaning.specs.Values.{same_func_type}
 use Rattle.wasm_meaning.specs.Control.{type_at}
 use Rattle.wasm_meaning.specs.Linking.{Part, Site, import_at, limits_of, is_outside, linked_end, consed, demands, least, met}
-use Rattle.wasm_meaning.specs.Environment.{Environment, Thing, FuncAt, TableAt, MemoryAt, GlobalAt}
-use Rattle.wasm_meaning.specs.World.{meets, is_match, is_matched, imported_thing, meets_most}
+use Rattle.wasm_meaning.specs.Environment.{Environment, ExternalValue, FuncAt, TableAt, MemoryAt, GlobalAt}
+use Rattle.wasm_meaning.specs.World.{meets, is_match, is_matched, imported_external_value, meets_most}
 use Rattle.index_remap.specs.Related.{Pairing, StoreRel}
-use Rattle.index_remap.specs.RelatedRuns.{ThingRel, a_func, a_table, a_memory, a_global}
+use Rattle.index_remap.specs.RelatedRuns.{ExternalValueRel, a_func, a_table, a_memory, a_global}
 use Rattle.index_remap.proofs.Rel.{length_rel, same_there, there}
 use Rattle.world_simulation.proofs.Places.{then_eq}
 use Rattle.merge_spec.specs.Faults.{External, FuncOf, TableOf, MemoryOf, GlobalOf, asked, asked_at, same_but_limits, meets_limits}
@@ -37,7 +37,7 @@ table_type u = TableOf (record { ty = u.ty; limits = record { min = length u.slo
 abbrev pub memory_type : Memory → External
 memory_type u = MemoryOf (record { min = u.pages; max = u.most })
 
-abbrev pub type_in : Store → Thing → Option External
+abbrev pub type_in : Store → ExternalValue → Option External
 type_in s (FuncAt a) = option_and_then (λ t. Some (FuncOf t)) (type_at s a)
 type_in s (TableAt a) = option_and_then (λ u. Some (table_type u)) (slice_get s.tables a)
 type_in s (MemoryAt a) = option_and_then (λ u. Some (memory_type u)) (slice_get s.mems a)
@@ -48,9 +48,9 @@ pub record Fits (demand type : External) : Type 0 where
   pub same : same_but_limits demand type ≡ true
   pub meets : meets_limits demand type ≡ true
 
--- what an import stands for has a type that is asked for
-pub record FitsAt (s : Store) (demand : External) (o : Option Thing) : Type 0 where
-  pub thing : Thing
+-- what an import denotes has a type that is asked for
+pub record FitsAt (s : Store) (demand : External) (o : Option ExternalValue) : Type 0 where
+  pub thing : ExternalValue
   pub is : o ≡ Some thing
   pub type : External
   pub typed : type_in s thing ≡ Some type
@@ -71,7 +71,7 @@ asks_by m (im.Memory l) x h = rw (← same_Some _ _ h) memory
 asks_by m (im.Global t) x h = rw (← same_Some _ _ h) global
 
 -- what matches has a type that fits
-match_fits : (s : Store) (m : Module) {d : ImportDesc} {x : External} → Asks m d x → (th : Thing) → is_match s m d th ≡ Some true → (y : External) × (type_in s th ≡ Some y) × Fits x y
+match_fits : (s : Store) (m : Module) {d : ImportDesc} {x : External} → Asks m d x → (th : ExternalValue) → is_match s m d th ≡ Some true → (y : External) × (type_in s th ≡ Some y) × Fits x y
 match_fits s m (func {t = t} e) (FuncAt a) h =
     let u = and_then_is (type_at s a) (λ u. Some (same_func_type t u)) true (rw e at h) in
     (FuncOf u.0, ap (option_and_then (λ t. Some (FuncOf t))) u.1, record { same = same_Some _ _ u.2; meets = refl })
@@ -87,20 +87,20 @@ match_fits s m global (GlobalAt a) h =
     (GlobalOf u.0.ty, ap (option_and_then (λ g. Some (GlobalOf g.ty))) u.1, record { same = same_Some _ _ u.2; meets = refl })
 match_fits s m _ _ h = absurd (let k = h in cc)
 
-data Typed (s : Store) : Thing → External → Type 0 where
+data Typed (s : Store) : ExternalValue → External → Type 0 where
   is_func : {a : ℕ} {t : FuncType} → type_at s a ≡ Some t → Typed s (FuncAt a) (FuncOf t)
   is_table : {a : ℕ} {u : Table} → slice_get s.tables a ≡ Some u → Typed s (TableAt a) (table_type u)
   is_memory : {a : ℕ} {u : Memory} → slice_get s.mems a ≡ Some u → Typed s (MemoryAt a) (memory_type u)
   is_global : {a : ℕ} {g : Global} → slice_get s.globals a ≡ Some g → Typed s (GlobalAt a) (GlobalOf g.ty)
 
-typed_by : (s : Store) (th : Thing) (y : External) → type_in s th ≡ Some y → Typed s th y
+typed_by : (s : Store) (th : ExternalValue) (y : External) → type_in s th ≡ Some y → Typed s th y
 typed_by s (FuncAt a) y h = let u = and_then_is (type_at s a) (λ t. Some (FuncOf t)) y h in rw (← same_Some _ _ u.2) (is_func u.1)
 typed_by s (TableAt a) y h = let u = and_then_is (slice_get s.tables a) (λ u. Some (table_type u)) y h in rw (← same_Some _ _ u.2) (is_table u.1)
 typed_by s (MemoryAt a) y h = let u = and_then_is (slice_get s.mems a) (λ u. Some (memory_type u)) y h in rw (← same_Some _ _ u.2) (is_memory u.1)
 typed_by s (GlobalAt a) y h = let u = and_then_is (slice_get s.globals a) (λ g. Some (GlobalOf g.ty)) y h in rw (← same_Some _ _ u.2) (is_global u.1)
 
 -- and what has such a type matches
-fits_match : (s : Store) (m : Module) {d : ImportDesc} {x : External} {th : Thing} {y : External} → Asks m d x → Typed s th y → Fits x y → is_match s m d th ≡ Some true
+fits_match : (s : Store) (m : Module) {d : ImportDesc} {x : External} {th : ExternalValue} {y : External} → Asks m d x → Typed s th y → Fits x y → is_match s m d th ≡ Some true
 fits_match s m (func e) (is_func f) k = rw (e, f) (ap Some k.same)
 fits_match s m table (is_table f) k = rw f (ap Some (and_from _ _ k.same k.meets))
 fits_match s m memory (is_memory f) k = rw f (ap Some k.meets)
@@ -108,7 +108,7 @@ fits_match s m global (is_global f) k = rw f (ap Some k.same)
 fits_match s m _ _ k = absurd (let z = k.same in cc)
 
 -- related entities of related stores have one type
-pub type_same : (R : Pairing) {s z : Store} → StoreRel R s z → {th ts : Thing} → ThingRel R th ts → type_in s th ≡ type_in z ts
+pub type_same : (R : Pairing) {s z : Store} → StoreRel R s z → {th ts : ExternalValue} → ExternalValueRel R th ts → type_in s th ≡ type_in z ts
 type_same R like (a_func r) = rw (same_there (like.types r)) refl
 type_same R {s} {z} like (a_table {a = a} {b = b} r) = then_eq (there (like.tables r)) (λ _ _ r. cc (length_rel r.slots))
 type_same R {s} {z} like (a_memory {a = a} {b = b} r) = then_eq (there (like.mems r)) (λ _ _ e. ap (λ u. Some (memory_type u)) e)
@@ -166,17 +166,17 @@ module _ (env : Environment) (parts : List Part) (s : Store) (t : Site) (i : Imp
       let m = import_site parts t i at in
       asks_by of i.desc x (rw (m.1, m.2) at asks)
 
-  matched_is : is_matched env parts s t ≡ unwrap_or (option_and_then (is_match s of i.desc) (imported_thing env parts t)) false
-  matched_is = ap₂ (λ o p. unwrap_or (option_and_then (λ m. option_and_then (λ i. option_and_then (is_match s m i.desc) (imported_thing env parts t)) p) o) false) (import_site parts t i at).1 at
+  matched_is : is_matched env parts s t ≡ unwrap_or (option_and_then (is_match s of i.desc) (imported_external_value env parts t)) false
+  matched_is = ap₂ (λ o p. unwrap_or (option_and_then (λ m. option_and_then (λ i. option_and_then (is_match s m i.desc) (imported_external_value env parts t)) p) o) false) (import_site parts t i at).1 at
 
-  -- it matches where what it stands for fits what it asks for
-  pub site_fits : is_matched env parts s t ≡ true → FitsAt s x (imported_thing env parts t)
+  -- it matches where what it denotes fits what it asks for
+  pub site_fits : is_matched env parts s t ≡ true → FitsAt s x (imported_external_value env parts t)
   site_fits h =
-      let k = and_then_is (imported_thing env parts t) (is_match s of i.desc) true (unwrap_or_false_is _ (sym matched_is ∙ h)) in
+      let k = and_then_is (imported_external_value env parts t) (is_match s of i.desc) true (unwrap_or_false_is _ (sym matched_is ∙ h)) in
       let y = match_fits s of site_asks k.0 k.2 in
       record { thing = k.0; is = k.1; type = y.0; typed = y.1; fits = y.2 }
 
-  pub fits_site : FitsAt s x (imported_thing env parts t) → is_matched env parts s t ≡ true
+  pub fits_site : FitsAt s x (imported_external_value env parts t) → is_matched env parts s t ≡ true
   fits_site f = matched_is ∙ rw (f.is, fits_match s of site_asks (typed_by s f.thing f.type f.typed) f.fits) refl
 
 -- ---- limits that several imports ask for together: they are met exactly where those of each are ----

@@ -12,8 +12,8 @@ use Rattle.wasm_meaning.specs.State.{Inst, Code, Store}
 use Rattle.wasm_meaning.specs.Values.{null_of, declared}
 use Rattle.wasm_meaning.specs.Control.{type_at}
 use Rattle.wasm_meaning.specs.Linking.{imports_of, module_at, Part, Site, Defined, Outside, import_at, is_outside, sites, linked_end, limits_of, met_limits}
-use Rattle.wasm_meaning.specs.Environment.{Environment, Thing, owned_of, all_of}
-use Rattle.wasm_meaning.specs.World.{base, thing_at, value_of, own_store, stores_from, meets, defined_count, outside_thing, imported_thing, is_matched}
+use Rattle.wasm_meaning.specs.Environment.{Environment, ExternalValue, owned_of, all_of}
+use Rattle.wasm_meaning.specs.World.{base, external_value_at, value_of, own_store, stores_from, meets, defined_count, outside_external_value, imported_external_value, is_matched}
 use Rattle.wasm_meaning.proofs.Slices.{copies_length}
 use Rattle.world_simulation.specs.Definitions.{Instantiated, DefinedAt}
 use Rattle.world_simulation.proofs.Alone.{funcs_counted, tables_counted, memories_counted, globals_counted}
@@ -36,13 +36,13 @@ use Rattle.merge_valid_proof.proofs.Ends.{outside_is}
 use Rattle.merge_valid_proof.proofs.Linked.{import_site}
 use Rattle.merge_valid_proof.proofs.MergedSpaces.{import_is}
 use Rattle.merge_valid_proof.proofs.Same.{site_same}
-use Rattle.world_simulation.specs.Alone.{one, site, thing_in}
+use Rattle.world_simulation.specs.Alone.{one, site, external_value_in}
 use Rattle.world_simulation.proofs.Defined.{defined_at}
 use Rattle.world_simulation.proofs.Places.{all_each}
 use Rattle.merge_behaves_proof.specs.Instances.{InstancesAgree}
 use Rattle.merge_behaves_proof.specs.Shared.{sharing}
 use Rattle.merge_behaves_proof.proofs.SpaceLaws.{SpaceLaws}
-use Rattle.merge_behaves_proof.proofs.Standing.{outside_rel}
+use Rattle.merge_behaves_proof.proofs.Counterparts.{outside_rel}
 use Rattle.merge_behaves_proof.proofs.MergedAlone.{IsStaying, staying_is, demand_of, asked_staying, moved_thing, joined_types, joined_imports}
 use Rattle.base_lists.proofs.Bools.{same_tests}
 use Rattle.base_lists.proofs.Filtered.{is_kept, chosen_from, has_chosen}
@@ -76,7 +76,7 @@ module _ (env : Environment) (w : Instantiated) (s : Store) (made : stores_from 
       rw (x.1, ← code) refl
 
   pub defined_type : (what : ExportDesc) (x : External) → external_of m what ≡ Some x → length (imports_of (space_of_export what) m) ≤ index_of_export what →
-      option_and_then (type_in s) (thing_at (space_of_export what) (address (space_of_export what) (index_of_export what))) ≡ Some x
+      option_and_then (type_in s) (external_value_at (space_of_export what) (address (space_of_export what) (index_of_export what))) ≡ Some x
   defined_type (ex.Func n) x h le =
       let t = and_then_is (type_of_func m n) (λ t. Some (FuncOf t)) x h in
       rw (func_typed n t.0 le t.1) t.2
@@ -112,21 +112,21 @@ module _ (laws : SpaceLaws) (env : Environment) (parts : List Part) (linked : li
   abbrev whole : Module
   whole = joined_module parts mode
 
-  abbrev own : Site → Option Thing
-  own u = outside_thing (owned_of env) parts u
+  abbrev own : Site → Option ExternalValue
+  own u = outside_external_value (owned_of env) parts u
 
   ended : (t : Site) (i : Import) → import_at parts t ≡ Some i → Ended parts t i
   ended = laws.ends parts linked
 
-  -- an import that ends outside stands for what the one stands for which stays
-  thing_outside : (t : Site) (i : Import) (w : EndsOutside parts t i) → imported_thing env parts t ≡ own w.to
+  -- an import that ends outside denotes what the one denotes which stays
+  thing_outside : (t : Site) (i : Import) (w : EndsOutside parts t i) → imported_external_value env parts t ≡ own w.to
   thing_outside t i w = rw w.end (w.same_thing (owned_of env))
 
   -- an import that ends at a staying one
   record EndsAt (u t : Site) : Type 0 where
     demand : External
     asks : asked_at parts t ≡ Some demand
-    thing : imported_thing env parts t ≡ own u
+    thing : imported_external_value env parts t ≡ own u
 
   ends_at : (u t : Site) (i : Import) → import_at parts t ≡ Some i → is_outside u (linked_end parts t) ≡ true → EndsAt u t
   ends_at u t i at h = by (ended t i at)
@@ -153,8 +153,8 @@ module _ (laws : SpaceLaws) (env : Environment) (parts : List Part) (linked : li
     pub site_demands : asked_at (one whole) (site n) ≡ Some (kept y (met_limits parts u))
     site_demands = rw stands (moved_asks (asks_by w.of w.import.desc y (asked_staying parts u w y asks)))
 
-    pub site_thing : imported_thing env (one whole) (site n) ≡ own u
-    site_thing = laws.things env whole n ∙ ap₂ (thing_in env) (joined_types parts mode) stands ∙ moved_thing laws env parts linked u w
+    pub site_thing : imported_external_value env (one whole) (site n) ≡ own u
+    site_thing = laws.things env whole n ∙ ap₂ (external_value_in env) (joined_types parts mode) stands ∙ moved_thing laws env parts linked u w
 
   -- ---- both stores ----
 
@@ -163,11 +163,11 @@ module _ (laws : SpaceLaws) (env : Environment) (parts : List Part) (linked : li
     AllMatch = all_of (is_matched env parts s) (sites parts) ≡ true
 
     -- the environment's own has one type in both
-    own_type : (u : Site) (th : Thing) → own u ≡ Some th → type_in s th ≡ type_in z th
+    own_type : (u : Site) (th : ExternalValue) → own u ≡ Some th → type_in s th ≡ type_in z th
     own_type u th h = type_same (sharing env parts) like (outside_rel env parts laws.own u th h)
 
-    -- the limits of what a staying import stands for meet those that are asked for together
-    met_there : AllMatch → (u : Site) (th : Thing) (type : External) → own u ≡ Some th → type_in s th ≡ Some type → (k : Limits) → limits_in type ≡ Some k → (n : ℕ) (t : Site) (l : Limits) →
+    -- the limits of what a staying import denotes meet those that are asked for together
+    met_there : AllMatch → (u : Site) (th : ExternalValue) (type : External) → own u ≡ Some th → type_in s th ≡ Some type → (k : Limits) → limits_in type ≡ Some k → (n : ℕ) (t : Site) (l : Limits) →
         slice_get (sites parts) n ≡ Some t → is_outside u (linked_end parts t) ≡ true → option_and_then (λ i. limits_of i.desc) (import_at parts t) ≡ Some l → meets k.min k.max l ≡ true
     met_there all u th type is typed k limits n t l stands ends demands =
         let i = (laws.sites parts t).0 n stands in
@@ -231,7 +231,7 @@ module _ (laws : SpaceLaws) (env : Environment) (parts : List Part) (linked : li
           let a = agree.each e.part w.of w.is_part in
           let follows : length (imports_of k w.of) ≤ index_of_export e.what = rw w.kind w.follows in
           let within : index_of_export e.what < length (imports_of k w.of) + defined_count k w.of = rw w.kind w.within in
-          let at_k = thing_at k (base env parts k e.part + (index_of_export e.what - length (imports_of k w.of))) in
+          let at_k = external_value_at k (base env parts k e.part + (index_of_export e.what - length (imports_of k w.of))) in
           let th = and_then_is at_k (type_in s) w.thing (defined_type env (record { parts = parts; insts = insts }) s made e.part w.of a.0 w.is_part a.1 a.2.own_types e.what w.thing w.is follows) in
           fits_site env parts s t i w.demand at w.asks (record {
             thing = th.0;

@@ -1,4 +1,4 @@
--- The merged module alone: its imports are those that stay, and stand for what these stand for in the parts' world; then comes what the parts define.
+-- The merged module alone: its imports are those that stay, and denote what these denote in the parts' world; then comes what the parts define.
 use Rattle.std.proofs.Common.{◌≡◌, ◌∙◌, ap, ap₂, sym, refl, ℕ, ◌+◌, List, ◌++◌, map, length, Option, Some, None, true, arith, option_and_then, slice_get}
 use Rattle.wasm_tree.specs.declared.space.Space.{Space}
 use Rattle.wasm_tree.specs.declared.space.Space.TheVariants.{Functions, Tables, Memories, Globals, DataSegments, ElementSegments}
@@ -12,7 +12,7 @@ use Rattle.wasm_meaning.specs.State.{Text, Pair}
 use Rattle.wasm_meaning.specs.Linking.{Part, Site, has_kind, pair_of, module_at, import_at, sites}
 use Rattle.wasm_tree.specs.Spaces.{space_of_import}
 use Rattle.wasm_meaning.specs.Environment.{Environment, owned_of}
-use Rattle.wasm_meaning.specs.World.{own_count, defined_count, defined_before, address_of, own_key_of, outside_thing, all_there, numbers, space}
+use Rattle.wasm_meaning.specs.World.{own_count, defined_count, defined_before, address_of, own_key_of, outside_external_value, all_there, numbers, space}
 use Rattle.index_remap.specs.References.{declared_refs}
 use Rattle.world_simulation.proofs.Declared.{Keeps, keeps}
 use Rattle.merge_names.specs.declared.mode.Mode.{Mode}
@@ -23,10 +23,10 @@ use Rattle.merge_spec.specs.Joined.{joined_module}
 use Rattle.merge_valid_proof.specs.Ended.{Ended, inside, outside, added_count, is_external}
 use Rattle.merge_valid_proof.proofs.MergedSpaces.{types_are, imports_are, import_is}
 use Rattle.merge_valid_proof.proofs.ByPart.{elems_is, datas_is, by_part_many}
-use Rattle.world_simulation.specs.Alone.{one, key_in, thing_in, address_in, addresses}
+use Rattle.world_simulation.specs.Alone.{one, key_in, external_value_in, address_in, addresses}
 use Rattle.world_simulation.proofs.Places.{map_length}
 use Rattle.merge_behaves_proof.proofs.SpaceLaws.{SpaceLaws}
-use Rattle.merge_behaves_proof.proofs.Standing.{site_address}
+use Rattle.merge_behaves_proof.proofs.Counterparts.{site_address}
 use Rattle.merge_behaves_proof.proofs.MatchTypes.{Asks, func, asks_by}
 use Rattle.base_lists.proofs.Filtered.{kept_is, at_places, of_chosen}
 use Rattle.base_lists.proofs.Options.{and_then_is}
@@ -105,7 +105,7 @@ pub asked_staying : (parts : List Part) (s : Site) (w : IsStaying parts s) (x : 
 asked_staying parts s w x h = rw (w.is_part, w.stands) at h
 
 module _ (laws : SpaceLaws) (env : Environment) (parts : List Part) (linked : link_fault parts true ≡ None) where
-  pub moved_thing : (s : Site) (w : IsStaying parts s) → thing_in env (merged_types parts) (Some (record w.import { desc = merged_desc parts s w.of w.import.desc })) ≡ outside_thing (owned_of env) parts s
+  pub moved_thing : (s : Site) (w : IsStaying parts s) → external_value_in env (merged_types parts) (Some (record w.import { desc = merged_desc parts s w.of w.import.desc })) ≡ outside_external_value (owned_of env) parts s
   moved_thing s w =
       let x = demand_of (laws.ends parts linked s w.import w.at) in
       rw (moved_key laws parts s w.of w.is_part (pair_of w.import) (asks_by w.of w.import.desc x.0 (asked_staying parts s w x.0 x.1)), w.is_part, w.stands) refl
@@ -114,11 +114,11 @@ module _ (laws : SpaceLaws) (env : Environment) (parts : List Part) (linked : li
   unfolding staying_of
   chosen_addresses k =
       let imports = filter_map (merged_import parts) (staying parts) in
-      at_places (has_kind k) import_of imports 0 (address_in env (merged_types parts) imports k) (λ i y e. ap (λ n. address_in env (merged_types parts) imports k n) (let z : 0 + i ≡ i = omega arith in z) ∙ ap (λ o. option_and_then (address_of k) (thing_in env (merged_types parts) o)) e)
+      at_places (has_kind k) import_of imports 0 (address_in env (merged_types parts) imports k) (λ i y e. ap (λ n. address_in env (merged_types parts) imports k n) (let z : 0 + i ≡ i = omega arith in z) ∙ ap (λ o. option_and_then (address_of k) (external_value_in env (merged_types parts) o)) e)
       ∙ of_chosen (merged_import parts) (has_kind k) (imports_kind parts k) import_of (site_address env parts k) (staying parts) each
     where
       import_of : Import → Option ℕ
-      import_of i = option_and_then (address_of k) (thing_in env (merged_types parts) (Some i))
+      import_of i = option_and_then (address_of k) (external_value_in env (merged_types parts) (Some i))
 
       each : (n : ℕ) (s : Site) → slice_get (staying parts) n ≡ Some s → (i : Import) × (merged_import parts s ≡ Some i) × (has_kind k i ≡ imports_kind parts k s) × (imports_kind parts k s ≡ true → import_of i ≡ site_address env parts k s)
       each n s h =

@@ -23,7 +23,7 @@ use Rattle.merge_behaves_proof.specs.Shared.{is_shared, sharing}
 use Rattle.merge_behaves_proof.proofs.ValueShared.{names_one}
 use Rattle.wasm_tree.specs.declared.module.ExportDesc.{ExportDesc}
 use Rattle.wasm_meaning.specs.World.{address_in, seen_as, alone}
-use Rattle.index_remap.specs.RelatedRuns.{ThingRel, KeyRel}
+use Rattle.index_remap.specs.RelatedRuns.{ExternalValueRel, KeyRel}
 use Rattle.merge_behaves_proof.proofs.ValueGiven.{Laws}
 use Rattle.world_simulation.specs.Definitions.{FuncsCorrespond}
 use Rattle.wasm_tree.specs.declared.module.Export.{Export}
@@ -88,7 +88,7 @@ module _ (env : Environment) (parts : List Part) (p : ℕ) (m : Module) (i j : I
   entries_name DataSegments x h = names_one env parts DataSegments k.datas x h
 
   -- what an export names
-  pub export_named : (d : ExportDesc) → fits_export_desc r d ≡ true → OptRel (ThingRel R) (address_in i d) (address_in j (new_export_desc r d))
+  pub export_named : (d : ExportDesc) → fits_export_desc r d ≡ true → OptRel (ExternalValueRel R) (address_in i d) (address_in j (new_export_desc r d))
   export_named d h = renamed.export_named (is_shared env parts) r (with_entry r) i j entries_name d (names_only d h)
     where
       names_only : (d : ExportDesc) → fits_export_desc r d ≡ true → ExportNamesOnly (with_entry r) d

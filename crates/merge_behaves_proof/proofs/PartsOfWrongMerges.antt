@@ -1,4 +1,4 @@
--- The parts of the wrong merges can be joined, so that the law `merged_modules_show_the_same` speaks of them: a merge that gives a wrong module breaks it.
+-- The parts of the wrong merges can be joined, so that the law `merged_module_equivalent` speaks of them: a merge that gives a wrong module breaks it.
 use Rattle.std.proofs.Common.{◌≡◌, refl, ap, subst, ◌∙◌, ℕ, zero, suc, List, [], ◌∷◌, Some, None, arith, true}
 use Rattle.std.specs.Prelude.{pos, ◌+◌, length, ◌<◌, ◌^◌, slice_get}
 use Rattle.wasm_tree.specs.declared.types.RefType.TheVariants as reft
@@ -34,7 +34,7 @@ use Rattle.merge_spec.specs.Faults.{link_fault, kept_limits, stays}
 use Rattle.merge_spec.specs.Linked.{AreLinks}
 use Rattle.merge_spec.specs.Parts.{named_modules}
 use Rattle.merge_valid_proof.specs.Joinable.{EachPart, CanBeJoined}
-use Rattle.merge_behaves_proof.specs.Laws.{BehavesAs}
+use Rattle.merge_behaves_proof.specs.Laws.{ObservationallyEquivalent}
 use Rattle.merge_behaves_proof.proofs.WrongMerges.{f, g, nothing, from_i32, empty, code, own_func, two_given, two_parts, starting, two_starts, two_starts_merged, two_starts_have_no_fault, two_starts_join, second_dropped, first_alone, second_first, dropped_starts_are_refused, first_starts_alone_are_refused, starts_in_reverse_are_refused, calling, two_types, two_types_with, two_types_have_no_fault, two_types_join, kept_type_indices_are_refused, own_memory, one_memory, one_memory_from, one_memory_has_no_fault, one_memory_joins, first_limits_are_refused, begins_again, never_ending, no_end, without_start, no_end_has_no_fault, no_end_joins, starts_without_end_are_not_left_out}
 use Rattle.std.proofs.lemmas.Option.{same_Some, slice_get_within}
 
@@ -70,13 +70,13 @@ few_are_bounded x few one locals = record {
     each zero f e = locals f e
     each (suc n) f e = let l = slice_get_within x.funcs (suc n) f e in absurd (omega arith)
 
--- what the law `merged_modules_show_the_same` says, with this merge in the place of `joined_module`
-abbrev ShowsTheSame : (List Part → Mode → Module) → Type 0
-ShowsTheSame merge = (parts : List Part) (how : Mode) → CanBeJoined parts how → BehavesAs parts how (merge parts how)
+-- what the law `merged_module_equivalent` says, with this merge in the place of `joined_module`
+abbrev HasEqualTraces : (List Part → Mode → Module) → Type 0
+HasEqualTraces merge = (parts : List Part) (how : Mode) → CanBeJoined parts how → ObservationallyEquivalent parts how (merge parts how)
 
 -- no merge that gives this module for these parts satisfies it
 abbrev BreaksTheLaw : List Part → Module → Type 0
-BreaksTheLaw parts wrong = (merge : List Part → Mode → Module) → merge parts mode.Refuse ≡ wrong → ShowsTheSame merge → ⊥
+BreaksTheLaw parts wrong = (merge : List Part → Mode → Module) → merge parts mode.Refuse ≡ wrong → HasEqualTraces merge → ⊥
 
 -- What `join` asks of parts and their links, and that it gives a module for them. No body meets its clause `same` that gives this one, of which not the same is seen.
 record BreaksTheClause (given : List given.Part) (wrong : Module) : Type 0 where
@@ -85,7 +85,7 @@ record BreaksTheClause (given : List given.Part) (wrong : Module) : Type 0 where
   are : AreLinks (named_modules given) links
   linked : link_fault (named_modules given) true ≡ None
   few : FewInAll (named_modules given)
-  refused : BehavesAs (named_modules given) mode.Refuse wrong → ⊥
+  refused : ObservationallyEquivalent (named_modules given) mode.Refuse wrong → ⊥
 
 -- both of a wrong module for two parts
 record Breaks (x y wrong : Module) : Type 0 where
@@ -104,9 +104,9 @@ module _ (x y whole : Module) (links : Links) (joins : joined_module (two_parts 
   can_be_joined : CanBeJoined (two_parts x y) mode.Refuse
   can_be_joined = record { valid = valid; bounded = bounded; linked = computed.linked; names = computed.names; sizes = ap over_limit joins ∙ computed.sizes }
 
-  breaks : (wrong : Module) → (BehavesAs (two_parts x y) mode.Refuse wrong → ⊥) → Breaks x y wrong
+  breaks : (wrong : Module) → (ObservationallyEquivalent (two_parts x y) mode.Refuse wrong → ⊥) → Breaks x y wrong
   breaks wrong refused = record {
-    law = λ merge gives law. refused (subst (BehavesAs (two_parts x y) mode.Refuse) gives (law (two_parts x y) mode.Refuse can_be_joined));
+    law = λ merge gives law. refused (subst (ObservationallyEquivalent (two_parts x y) mode.Refuse) gives (law (two_parts x y) mode.Refuse can_be_joined));
     clause = record { joinable = can_be_joined; links = links; are = computed.are; linked = computed.linked; few = record { parts_few = omega arith; entries = computed.few }; refused = refused };
   }
 
@@ -152,7 +152,7 @@ two_starts_are_computed = record { linked = two_starts_have_no_fault; names = re
     few Types = omega arith
     few _ = omega arith
 
-two_starts_break : (wrong : Module) → (BehavesAs two_starts mode.Refuse wrong → ⊥) → Breaks (starting f) (starting g) wrong
+two_starts_break : (wrong : Module) → (ObservationallyEquivalent two_starts mode.Refuse wrong → ⊥) → Breaks (starting f) (starting g) wrong
 two_starts_break = breaks (starting f) (starting g) two_starts_merged own_links two_starts_join (of_both IsValid _ _ (starting_is_valid f) (starting_is_valid g)) (of_both IsBounded _ _ (starting_is_bounded f) (starting_is_bounded g)) two_starts_are_computed
 
 dropped_starts_break_both : Breaks (starting f) (starting g) second_dropped

@@ -1,5 +1,5 @@
 -- What is taken from the crates below.
-use Rattle.world_simulation.specs.Alone.{ImportsStandForTheEnvironments, SpacesAreImportsAndOwn}
+use Rattle.world_simulation.specs.Alone.{ImportsDenoteTheEnvironment, SpacesAreImportsAndOwn}
 use Rattle.world_simulation.specs.Owned.{OwnEntitiesCorrespond}
 use Rattle.merge_valid_proof.specs.Ended.{LinkedImportsEnd, StayingImportsEndThere, SitesAreImports, StayingImportsHavePlaces, NewIndicesArePlaces, DefinedEntitiesHavePlaces, TypesHavePlaces, MergedModulesDefineAll}
 
@@ -12,6 +12,6 @@ pub record SpaceLaws : Type 0 where
   pub defined : DefinedEntitiesHavePlaces
   pub types : TypesHavePlaces
   pub counts : MergedModulesDefineAll
-  pub things : ImportsStandForTheEnvironments
+  pub things : ImportsDenoteTheEnvironment
   pub spaces : SpacesAreImportsAndOwn
   pub own : OwnEntitiesCorrespond

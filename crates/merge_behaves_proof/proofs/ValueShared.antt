@@ -1,4 +1,4 @@
--- The addresses that both worlds have: each stands for itself, and those of the environment's own entities are among them.
+-- The addresses that both worlds have: each is related to itself, and those of the environment's own entities are among them.
 use Rattle.std.proofs.Common.{◌≡◌, ℕ, ◌<◌, List, true, refl, sym, ◌∙◌, arith, slice_get}
 use Rattle.wasm_tree.specs.declared.space.Space.{Space}
 use Rattle.wasm_tree.specs.declared.space.Space.TheVariants.{Functions, Tables, Memories, Globals}

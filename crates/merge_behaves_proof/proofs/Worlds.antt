@@ -1,4 +1,4 @@
--- The world of linked parts and that of their merged module: both are instantiated or neither, and then they show the same.
+-- The world of linked parts and that of their merged module: both are instantiated or neither, and then they have equal traces.
 use Rattle.std.proofs.Common.{option_and_then, ◌≡◌, ◌∙◌, ap, sym, subst, refl, ℕ, ◌+◌, ◌≤◌, List, [], ◌∷◌, length, Option, Some, None, Bool, true, false, cond, arith, append-nil, slice_get}
 use Rattle.wasm_tree.specs.declared.space.Space.TheVariants.{Functions}
 use Rattle.wasm_tree.specs.declared.module.Module.{Module}
@@ -13,7 +13,7 @@ use Rattle.index_remap.specs.Related.{Pairing, OptRel, none, some, ListRel, nil,
 use Rattle.index_remap.specs.RelatedRuns.{BegunRel}
 use Rattle.index_remap.specs.Laws.{EntryByEntry}
 use Rattle.world_simulation.specs.Alone.{one}
-use Rattle.world_simulation.specs.Instances.{RelatedBegunShowTheSame}
+use Rattle.world_simulation.specs.Instances.{RelatedBegunHaveEqualTraces}
 use Rattle.world_simulation.specs.Starts.{NamesStart, CallsEach, OneStartMayCallSeveral}
 use Rattle.world_simulation.proofs.Places.{then_rel, opt_both, all_rel, alike_there}
 use Rattle.merge_names.specs.declared.mode.Mode.{Mode}
@@ -34,7 +34,7 @@ use Rattle.merge_behaves_proof.proofs.Named.{AllFit, view_agrees}
 use Rattle.merge_behaves_proof.proofs.Segments.{elems_in_order, datas_in_order}
 use Rattle.merge_behaves_proof.proofs.Definitions.{definitions_correspond, stores_both}
 use Rattle.world_simulation.specs.Definitions.{DefinitionsCorrespond}
-use Rattle.world_simulation.specs.Simulation.{IsInstantiated, WhatIsInstantiated, AreSimilar, AllocatedStoresCorrespond, SimilarWorldsBeginAlike}
+use Rattle.world_simulation.specs.Simulation.{IsInstantiated, WhatIsInstantiated, AreSimilar, AllocatedStoresCorrespond, CorrespondingWorldsBeginRelated}
 use Rattle.merge_behaves_proof.proofs.Matching.{all_matched}
 use Rattle.merge_behaves_proof.proofs.Starts.{StartsAgree, starts_agree, segments_keep_funcs, caller_code, starts_typed}
 
@@ -67,7 +67,7 @@ both_linked b c x y e = rw e (go c)
 
 -- ---- instantiation ----
 
-module _ (spaces : SpaceLaws) (laws : Laws) (nothing : StartsTakeNothing) (similar_law : SimilarWorldsBeginAlike) (made_law : WhatIsInstantiated) (allocated_law : AllocatedStoresCorrespond) (env : Environment) (parts : List Part) (mode : Mode) (can : CanBeJoined parts mode) where
+module _ (spaces : SpaceLaws) (laws : Laws) (nothing : StartsTakeNothing) (similar_law : CorrespondingWorldsBeginRelated) (made_law : WhatIsInstantiated) (allocated_law : AllocatedStoresCorrespond) (env : Environment) (parts : List Part) (mode : Mode) (can : CanBeJoined parts mode) where
   abbrev R : Pairing
   R = sharing env parts
 
@@ -199,7 +199,7 @@ module _ (env : Environment) (moves : List Move) where
   equal_show : (b c : Option Begun) → ((n : ℕ) → events_of tick (fresh_run env b moves) n ≡ events_of tick (fresh_run env c moves) n) → (n : ℕ) → ShowInFourMore env moves b c n
   equal_show b c e n = (more_steps env c moves _ n (n + 4) (omega arith) (all_of_it (e n)), more_steps env b moves _ n (n + 4) (omega arith) (all_of_it (sym (e n))))
 
-  -- b and x show the same; y shows what x does, in two steps more
+  -- b and x have equal traces; y shows what x does, in two steps more
   called_show : (b x y : Option Begun) → ((n : ℕ) → events_of tick (fresh_run env b moves) n ≡ events_of tick (fresh_run env x moves) n) →
       ((n : ℕ) → IsPrefix (events_of tick (fresh_run env x moves) n) (events_of tick (fresh_run env y moves) (n + 2)) × IsPrefix (events_of tick (fresh_run env y moves) n) (events_of tick (fresh_run env x moves) n)) → (n : ℕ) → ShowInFourMore env moves b y n
   called_show b x y e h n = (
@@ -207,7 +207,7 @@ module _ (env : Environment) (moves : List Move) where
     more_steps env b moves _ n (n + 4) (omega arith) (rw (e n) (h n).1),
   )
 
-module _ (alike : RelatedBegunShowTheSame) (several : OneStartMayCallSeveral) (env : Environment) (parts : List Part) (moves : List Move) where
+module _ (alike : RelatedBegunHaveEqualTraces) (several : OneStartMayCallSeveral) (env : Environment) (parts : List Part) (moves : List Move) where
   both_show : (b c : Begun) → BegunAgree (sharing env parts) b c → (n : ℕ) → ShowInFourMore env moves (Some b) (Some c) n
   both_show b c r n = go r.starts
     where
@@ -227,7 +227,7 @@ module _ (alike : RelatedBegunShowTheSame) (several : OneStartMayCallSeveral) (e
   agreeing_show none n = equal_show env moves None None (λ n. refl) n
   agreeing_show (some r) n = both_show _ _ r n
 
-pub show_the_same : SpaceLaws → Laws → StartsTakeNothing → SimilarWorldsBeginAlike → WhatIsInstantiated → AllocatedStoresCorrespond → RelatedBegunShowTheSame → OneStartMayCallSeveral → (env : Environment) (parts : List Part) (mode : Mode) → CanBeJoined parts mode → (moves : List Move) (n : ℕ) →
+pub show_the_same : SpaceLaws → Laws → StartsTakeNothing → CorrespondingWorldsBeginRelated → WhatIsInstantiated → AllocatedStoresCorrespond → RelatedBegunHaveEqualTraces → OneStartMayCallSeveral → (env : Environment) (parts : List Part) (mode : Mode) → CanBeJoined parts mode → (moves : List Move) (n : ℕ) →
     ShowInFourMore env moves (instantiate env (linked_world parts mode)) (instantiate env (alone (joined_module parts mode))) n
 show_the_same spaces laws nothing similar made allocated alike several env parts mode can moves =
     agreeing_show alike several env parts moves (begun_or_none spaces laws nothing similar made allocated env parts mode can)

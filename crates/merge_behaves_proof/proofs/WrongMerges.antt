@@ -1,4 +1,4 @@
--- Merges that are wrong, of two small parts each, with names: what is seen of the parts is not seen of such a module, by computation.
+-- Merges that are wrong, of two small parts each, with names: a trace of the parts is no trace of such a module, by computation.
 use Rattle.std.proofs.Common.{◌≡◌, refl, ap, ◌∙◌, ℕ, zero, suc, List, [], ◌∷◌, Bool, true, false, Some, None}
 use Rattle.std.specs.Prelude.{pos, ◌+◌, IsTrue}
 use Rattle.wasm_tree.specs.declared.types.RefType.TheVariants as reft
@@ -28,7 +28,7 @@ use Rattle.merge_spec.specs.Joined.{joined_module}
 use Rattle.merge_spec.specs.declared.parts.Part as given
 use Rattle.merge_spec.specs.Parts.{named_modules}
 use Rattle.merge_spec.specs.View.{linked_world, all_entities, merge_view}
-use Rattle.merge_behaves_proof.specs.Laws.{BehavesAs}
+use Rattle.merge_behaves_proof.specs.Laws.{ObservationallyEquivalent}
 
 -- ---- what is common ----
 
@@ -92,13 +92,13 @@ two_answers = Answer [] ∷ answer
 
 -- Where what is seen of the parts does not begin what is seen of a module, in four steps more, the module does not behave as they do.
 refused : (parts : List Part) (wrong : Module) (env : Environment) (moves : List Move) (n : ℕ) (xs ys : List Event) → IsTrue (is_environment env) →
-    events (linked_world parts mode.Refuse) env moves n ≡ xs → events (alone wrong) env moves (n + 4) ≡ ys → (IsPrefix xs ys → ⊥) → BehavesAs parts mode.Refuse wrong → ⊥
+    events (linked_world parts mode.Refuse) env moves n ≡ xs → events (alone wrong) env moves (n + 4) ≡ ys → (IsPrefix xs ys → ⊥) → ObservationallyEquivalent parts mode.Refuse wrong → ⊥
 refused parts wrong env moves n xs ys fit seen shown apart same =
     apart (rw (← seen) (rw (← shown) (same env fit tt moves n).0))
 
 -- The other way round: where what is seen of a module does not begin what is seen of the parts, in four steps more.
 refused_by_more : (parts : List Part) (wrong : Module) (env : Environment) (moves : List Move) (n : ℕ) (xs ys : List Event) → IsTrue (is_environment env) →
-    events (alone wrong) env moves n ≡ xs → events (linked_world parts mode.Refuse) env moves (n + 4) ≡ ys → (IsPrefix xs ys → ⊥) → BehavesAs parts mode.Refuse wrong → ⊥
+    events (alone wrong) env moves n ≡ xs → events (linked_world parts mode.Refuse) env moves (n + 4) ≡ ys → (IsPrefix xs ys → ⊥) → ObservationallyEquivalent parts mode.Refuse wrong → ⊥
 refused_by_more parts wrong env moves n xs ys fit seen shown apart same =
     apart (rw (← seen) (rw (← shown) (same env fit tt moves n).1))
 
@@ -166,17 +166,17 @@ unfolding out-Instr denote.Hole.Carrier.out wrapped
 starts_in_reverse_ask_in_reverse = refl
 
 -- a merge that does not call the second start is refused
-pub dropped_starts_are_refused : BehavesAs two_starts mode.Refuse second_dropped → ⊥
+pub dropped_starts_are_refused : ObservationallyEquivalent two_starts mode.Refuse second_dropped → ⊥
 dropped_starts_are_refused =
     refused two_starts second_dropped both_offered two_answers 10 _ _ refl the_parts_ask_in_order one_start_asks_once (λ p. let k = p.1 in cc)
 
 -- so is one that starts with the first alone
-pub first_starts_alone_are_refused : BehavesAs two_starts mode.Refuse first_alone → ⊥
+pub first_starts_alone_are_refused : ObservationallyEquivalent two_starts mode.Refuse first_alone → ⊥
 first_starts_alone_are_refused =
     refused two_starts first_alone both_offered two_answers 10 _ _ refl the_parts_ask_in_order the_first_start_asks_once (λ p. let k = p.1 in cc)
 
 -- and one that calls the second start first
-pub starts_in_reverse_are_refused : BehavesAs two_starts mode.Refuse second_first → ⊥
+pub starts_in_reverse_are_refused : ObservationallyEquivalent two_starts mode.Refuse second_first → ⊥
 starts_in_reverse_are_refused =
     refused two_starts second_first both_offered two_answers 10 _ _ refl the_parts_ask_in_order starts_in_reverse_ask_in_reverse (λ p. let k : true ≡ false = ap (asks_first f) p.1 in cc)
 
@@ -232,7 +232,7 @@ unfolding out-Instr denote.Hole.Carrier.out wrapped
 a_call_by_the_type_of_another_traps = refl
 
 -- a merge that shares the types and leaves the type index of an indirect call as it was is refused
-pub kept_type_indices_are_refused : BehavesAs two_types mode.Refuse (two_types_with 0) → ⊥
+pub kept_type_indices_are_refused : ObservationallyEquivalent two_types mode.Refuse (two_types_with 0) → ⊥
 kept_type_indices_are_refused =
     refused two_types (two_types_with 0) one_offered answer 9 _ _ refl the_parts_call_through_a_table a_call_by_the_type_of_another_traps (λ p. let k = p.1 in cc)
 
@@ -277,7 +277,7 @@ the_first_limits_ask_for_no_page : events (alone (one_memory_from 0)) no_page []
 the_first_limits_ask_for_no_page = refl
 
 -- a merge that keeps the first limits of a memory that two parts import is refused
-pub first_limits_are_refused : BehavesAs one_memory mode.Refuse (one_memory_from 0) → ⊥
+pub first_limits_are_refused : ObservationallyEquivalent one_memory mode.Refuse (one_memory_from 0) → ⊥
 first_limits_are_refused = refused one_memory (one_memory_from 0) no_page [] 2 _ _ refl the_parts_find_no_page the_first_limits_ask_for_no_page (λ p. let k = p.1 in cc)
 
 -- ---- a start that does not end ----
@@ -312,7 +312,7 @@ unfolding all_entities merge_view
 the_parts_do_not_link = simp (i.outs-Loop, i.outs-Br) refl
 
 -- a merge that leaves out a start which does not end is refused, since it shows what the parts do not
-pub starts_without_end_are_not_left_out : BehavesAs no_end mode.Refuse without_start → ⊥
+pub starts_without_end_are_not_left_out : ObservationallyEquivalent no_end mode.Refuse without_start → ⊥
 starts_without_end_are_not_left_out = refused_by_more no_end without_start [] [] 2 _ _ refl without_the_start_it_links the_parts_do_not_link (λ p. cc)
 
 -- The other half would not refuse it: by whatever moves, nothing is seen of the parts here in any number of steps.

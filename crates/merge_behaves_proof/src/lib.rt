@@ -1,7 +1,7 @@
 //! That a merged module behaves as its parts linked by name, as a law.
 #![tactic(auto)]
 
-ghost use Rattle.merge_behaves_proof.specs.Laws.{MergedModulesShowTheSame};
+ghost use Rattle.merge_behaves_proof.specs.Laws.{MergedModuleEquivalent};
 
 use index_remap::steps_agree;
 use merge_valid_proof::{
@@ -9,23 +9,24 @@ use merge_valid_proof::{
 };
 use wasm_valid::valid_where_items_hold;
 use world_simulation::{
-    code_that_fits_is_named, imports_of_one_module_stay, one_start_may_call_several,
-    own_entities_correspond, related_instances_show_the_same, similar_worlds_show_the_same,
+    corresponding_worlds_have_equal_traces, imports_of_one_module_denote_the_environment,
+    one_start_for_several_equivalent, own_entities_correspond, related_instances_have_equal_traces,
+    remapped_code_is_related,
 };
 
-/// Where valid parts can be joined, their world, linked by name, and the world of the merged module alone show the same events to each embedder, in at most
+/// Where valid parts can be joined, their world, linked by name, and the world of the merged module alone have equal traces to each embedder, in at most
 /// four steps more (WebAssembly Core 2.0, section 4.5.4, for several modules together).
-pub fn merged_modules_show_the_same()
-    ensures same { MergedModulesShowTheSame }
+pub fn merged_module_equivalent()
+    ensures equivalent { MergedModuleEquivalent }
 {
     valid_where_items_hold();
     steps_agree();
-    imports_of_one_module_stay();
+    imports_of_one_module_denote_the_environment();
     own_entities_correspond();
-    code_that_fits_is_named();
-    related_instances_show_the_same();
-    similar_worlds_show_the_same();
-    one_start_may_call_several();
+    remapped_code_is_related();
+    related_instances_have_equal_traces();
+    corresponding_worlds_have_equal_traces();
+    one_start_for_several_equivalent();
     merged_modules_are_valid();
     maps_have_entries();
     linked_imports_have_ends();

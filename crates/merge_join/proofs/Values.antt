@@ -1,4 +1,4 @@
--- What stands for the imported globals of a part, one import after the other.
+-- What replaces the imported globals of a part, one import after the other.
 use Rattle.std.proofs.Common.{◌≡◌, ◌∙◌, ap, sym, subst, refl, ℕ, ◌+◌, ◌<◌, List, [], ◌∷◌, ◌++◌, length, take, drop, Some, None, true, false, ◌&&◌, not, nat_lt, arith, slice_get, get_or, option_and_then, append_assoc, append-nil, ◌⊎◌, inl, inr}
 use Rattle.std.specs.List.{cons_option}
 use Rattle.std.proofs.lemmas.Bool.{cases_order}
@@ -82,11 +82,11 @@ no_global (im.Global t) never = absurd (never t refl)
 pub none_more : (is : List Import) (n : ℕ) (i : Import) → n < length is → i ≡ get_or is n i → global_of i.desc ≡ None → length (imported_globals (take (n + 1) is)) ≡ length (imported_globals (take n is))
 none_more is n i lt here none = ap length (imported_next is n i lt here ∙ ap (λ o. imported_globals (take n is) ++ cons_option o []) none ∙ append-nil (imported_globals (take n is)))
 
--- what stands for the globals before this one
-abbrev pub StandFor : List Part → ℕ → ℕ → List ConstExpr → Type 0
-StandFor ps p count values = (x : ℕ) → x < count → HasType ps p (const.Global x) → slice_get values x ≡ Some (merged_const ps p (const.Global x))
+-- what replaces the globals before this one
+abbrev pub Denotes : List Part → ℕ → ℕ → List ConstExpr → Type 0
+Denotes ps p count values = (x : ℕ) → x < count → HasType ps p (const.Global x) → slice_get values x ≡ Some (merged_const ps p (const.Global x))
 
-pub stand_more : (ps : List Part) (p count : ℕ) (values : List ConstExpr) (value : ConstExpr) → length values ≡ count → (HasType ps p (const.Global count) → value ≡ merged_const ps p (const.Global count)) → StandFor ps p count values → StandFor ps p (count + 1) (values ++ value ∷ [])
+pub stand_more : (ps : List Part) (p count : ℕ) (values : List ConstExpr) (value : ConstExpr) → length values ≡ count → (HasType ps p (const.Global count) → value ≡ merged_const ps p (const.Global count)) → Denotes ps p count values → Denotes ps p (count + 1) (values ++ value ∷ [])
 stand_more ps p count values value long is before x lt typed = case (cases_order x count)
   where
     case : (x ≡ count) ⊎ ((x < count) ⊎ (count < x)) → slice_get (values ++ value ∷ []) x ≡ Some (merged_const ps p (const.Global x))
@@ -96,7 +96,7 @@ stand_more ps p count values value long is before x lt typed = case (cases_order
     case (inr (inr g)) = absurd (omega (arith, lt, g))
 
 -- all of them
-pub stand_all : (ps : List Part) (p : ℕ) (m : Module) (is : List Import) (count : ℕ) (values : List ConstExpr) → module_at ps p ≡ Some m → is ≡ m.imports → count ≡ length (imported_globals is) → StandFor ps p count values → AreValues ps p values
+pub stand_all : (ps : List Part) (p : ℕ) (m : Module) (is : List Import) (count : ℕ) (values : List ConstExpr) → module_at ps p ≡ Some m → is ≡ m.imports → count ≡ length (imported_globals is) → Denotes ps p count values → AreValues ps p values
 stand_all ps p m is count values at same many before x typed =
     let both : Some typed.0 ≡ Some m = sym typed.2 ∙ at in
     let of : typed.0 ≡ m = cc in
@@ -105,11 +105,11 @@ stand_all ps p m is count values at same many before x typed =
 
 -- ---- part after part ----
 
--- what stands for the imported globals of the parts before this one
-abbrev pub StandForEach : List Part → ℕ → List (List ConstExpr) → Type 0
-StandForEach ps count all = (p : ℕ) → p < count → (values : List ConstExpr) × (slice_get all p ≡ Some values) × AreValues ps p values
+-- what replaces the imported globals of the parts before this one
+abbrev pub DenoteEach : List Part → ℕ → List (List ConstExpr) → Type 0
+DenoteEach ps count all = (p : ℕ) → p < count → (values : List ConstExpr) × (slice_get all p ≡ Some values) × AreValues ps p values
 
-pub each_more : (ps : List Part) (count : ℕ) (all : List (List ConstExpr)) (values : List ConstExpr) → length all ≡ count → AreValues ps count values → StandForEach ps count all → StandForEach ps (count + 1) (all ++ values ∷ [])
+pub each_more : (ps : List Part) (count : ℕ) (all : List (List ConstExpr)) (values : List ConstExpr) → length all ≡ count → AreValues ps count values → DenoteEach ps count all → DenoteEach ps (count + 1) (all ++ values ∷ [])
 each_more ps count all values long are before p lt = case (cases_order p count)
   where
     case : (p ≡ count) ⊎ ((p < count) ⊎ (count < p)) → (vs : List ConstExpr) × (slice_get (all ++ values ∷ []) p ≡ Some vs) × AreValues ps p vs

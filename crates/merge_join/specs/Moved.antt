@@ -16,7 +16,7 @@ use Rattle.index_remap.specs.Renumbered.{new_const, new_func}
 use Rattle.merge_spec.specs.Merged.{merged_const}
 use Rattle.merge_join.specs.Reads.{HasType}
 
--- a constant expression with other indices, where these stand for the imported globals, in order
+-- a constant expression with other indices, where these replace the imported globals, in order
 abbrev pub moved_const : Remap → List ConstExpr → ConstExpr → ConstExpr
 moved_const m values (const.I32 v) = new_const m (const.I32 v)
 moved_const m values (const.I64 v) = new_const m (const.I64 v)
@@ -54,7 +54,7 @@ with_moved m values new t =
       datas = t.datas ++ map (moved_data m values) new.datas;
     }
 
--- what stands for each imported global of a part that a constant expression may name
+-- what replaces each imported global of a part that a constant expression may name
 abbrev pub AreValues : List Part → ℕ → List ConstExpr → Type 0
 AreValues ps p values = (x : ℕ) → HasType ps p (const.Global x) → slice_get values x ≡ Some (merged_const ps p (const.Global x))
 

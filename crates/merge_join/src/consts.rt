@@ -57,7 +57,7 @@ fn merged_read(
     }
 }
 
-// What stands for a global that a part imports: what is read through it. It stays where it may change, since no constant expression names it then.
+// What replaces a global that a part imports: what is read through it. It stays where it may change, since no constant expression names it then.
 fn value_of(
     global: u32,
     mutable: bool,
@@ -76,7 +76,7 @@ fn value_of(
     merged_read(global, joining, part, reads)
 }
 
-// What stands for each global that a part imports.
+// What replaces each global that a part imports.
 fn values_of(
     alloc: Global,
     joining: &MappedParts<'_>,
@@ -98,7 +98,7 @@ fn values_of(
     Ok(values)
 }
 
-/// For each part what stands for each global that it imports.
+/// For each part what replaces each global that it imports.
 pub(crate) fn all_values(
     alloc: Global,
     joining: &MappedParts<'_>,

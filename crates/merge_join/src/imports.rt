@@ -19,7 +19,7 @@ use std::alloc::Global;
 use wasm_bytes::{Items, NoMemory};
 use wasm_tree::{Import, ImportDesc, Limits, TableType};
 
-// What a staying import stands for: a function has the new place of its type, tables and memories have the limits that they keep.
+// What a staying import denotes: a function has the new place of its type, tables and memories have the limits that they keep.
 fn merged_desc(desc: ImportDesc, map: &Remap, kept: Option<Limits>) -> ImportDesc
     requires fits { IsTrue (fits_import_desc map.now desc) }
     ensures { result ≡ kept_desc map.now kept desc }

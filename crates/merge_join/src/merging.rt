@@ -6,20 +6,20 @@ ghost use Rattle.merge_spec.specs.Faults.{link_fault};
 ghost use Rattle.merge_spec.specs.Joined.{FewInAll, Joins};
 ghost use Rattle.merge_spec.specs.Linked.{AreLinks};
 ghost use Rattle.merge_spec.specs.Parts.{named_modules};
-ghost use Rattle.merge_behaves_proof.specs.Laws.{BehavesAs};
+ghost use Rattle.merge_behaves_proof.specs.Laws.{ObservationallyEquivalent};
 ghost use Rattle.merge_spec.specs.View.{linked_world};
-ghost use Rattle.world_sequential_proof.specs.Laws.{MayComeInTurn};
+ghost use Rattle.world_sequential_proof.specs.Laws.{SequentialInstantiationEquivalent};
 
 use crate::linked::parts_hold;
 use crate::tree::joined_tree;
-use merge_behaves_proof::merged_modules_show_the_same;
+use merge_behaves_proof::merged_module_equivalent;
 use merge_names::Mode;
 use merge_spec::{JoinFault, Links, Part};
 use merge_valid_proof::merged_modules_are_valid;
 use std::alloc::Global;
 use wasm_bytes::Items;
 use wasm_valid::Valid;
-use world_sequential_proof::turns_are_not_seen;
+use world_sequential_proof::sequential_instantiation_equivalent;
 
 /// The one module that parts whose imports are linked make together.
 ///
@@ -29,7 +29,7 @@ use world_sequential_proof::turns_are_not_seen;
 /// are declared (WebAssembly Core 2.0, sections 2.5 and 3.4.10). The module is valid, and alone it shows each embedder the same as the parts, linked by name,
 /// in at most four steps more (`same`, section 4.5.4 for several modules together). Where each part imports from earlier ones alone, no part after one with a start
 /// has an active segment, no segment traps and the environment links all parts at once, that is also what the parts show when they are instantiated one after the
-/// other (`in_turn`).
+/// other (`sequential`).
 ///
 /// `ExportConflict` comes exactly where the mode is `Refuse` and a name came before, with the first such name; else `TooMany` exactly where a count of
 /// the merged module is above its limit, with the first such count in the order types, imports, functions, tables, memories, globals, exports, element
@@ -44,13 +44,13 @@ pub fn join(
     requires linked { link_fault (named_modules parts) true ≡ None }
     requires few { FewInAll (named_modules parts) }
     ensures joined { IfOk result (λ valid. Joins (named_modules parts) mode (Ok valid)) }
-    ensures same { IfOk result (λ valid. BehavesAs (named_modules parts) mode valid) }
-    ensures in_turn { IfOk result (λ valid. MayComeInTurn (linked_world (named_modules parts) mode)) }
+    ensures equivalent { IfOk result (λ valid. ObservationallyEquivalent (named_modules parts) mode valid) }
+    ensures sequential { IfOk result (λ valid. SequentialInstantiationEquivalent (linked_world (named_modules parts) mode)) }
     ensures fault { IfErr result (λ f. (f ≡ OutOfMemory) ⊎ Joins (named_modules parts) mode (Err f)) }
 {
     merged_modules_are_valid();
-    merged_modules_show_the_same();
-    turns_are_not_seen();
+    merged_module_equivalent();
+    sequential_instantiation_equivalent();
     parts_hold(parts.as_slice());
     let tree = joined_tree(alloc, parts, links, mode)?;
     Ok(Valid::known(tree))

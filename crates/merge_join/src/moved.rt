@@ -20,7 +20,7 @@ pub(crate) trait Moved: Drop {
     /// The map has an entry for each index that it names.
     ghost has_entries: { Maps → Self → Bool };
 
-    /// Makes it what it is in the merged module, where it stands. The values stand for the globals that the part imports, in order.
+    /// Makes it what it is in the merged module, where it stands. The values replace the globals that the part imports, in order.
     fn rewrite(&mut self, map: &Remap, values: &[ConstExpr])
         requires fits { IsTrue (has_entries map.now self.old) }
         ensures { self.new ≡ renewed map.now values.now self.old };

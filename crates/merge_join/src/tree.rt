@@ -32,7 +32,7 @@ use wasm_bytes::{Items, Name, NoMemory};
 use wasm_tree::{ConstExpr, Module};
 
 /// What the merged module is made with: its types, imports, exports and start with the function that calls several, and for each part the map of its indices
-/// and what stands for each global that it imports.
+/// and what replaces each global that it imports.
 #[derive(Drop)]
 pub(crate) struct Plan {
     pub frame: Module,

@@ -92,7 +92,7 @@ grown xs y i f size all here n h = elim (cases_eq n i) [
   | inr ne ↦ got_left xs y n (f n) (all n (omega arith))
 ]
 
--- what a name stands for, one export further from the end
+-- what a name denotes, one export further from the end
 pub exported_step : (e : Export) (es : List Export) (name : List ℕ) → linking.export_named (e ∷ es) name ≡ cond (bytes_eq e.name name) (Some e.desc) (linking.export_named es name)
 exported_step e es name = ap (λ b. cond b (Some e.desc) (linking.export_named es name)) (same_text_is e.name name)
 

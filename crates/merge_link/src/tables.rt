@@ -1,4 +1,4 @@
-// What is looked up in each part: the places of its imports in its index spaces, what its exports stand for, and the numbers of its first import
+// What is looked up in each part: the places of its imports in its index spaces, what its exports denote, and the numbers of its first import
 // and of its first defined global among those of all parts.
 
 ghost use Rattle.std.specs.Prelude.{IfOk, List, Some, length, slice_get, ℕ, ◌<◌, ◌^◌, ◌≡◌};
@@ -30,7 +30,7 @@ pub struct Table<'a> {
     first_global: u32,
 }
 
-// What each name stands for, from the last export to the first, so that the first that bears a name counts.
+// What each name denotes, from the last export to the first, so that the first that bears a name counts.
 fn exported<'a>(
     alloc: Global,
     exports: &'a [Export],

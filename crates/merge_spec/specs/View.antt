@@ -7,7 +7,7 @@ use Rattle.merge_names.specs.declared.mode.Mode.{Mode}
 use Rattle.merge_names.specs.Names.{new_names}
 use Rattle.merge_spec.specs.Merged.{by_part, export_names}
 
--- what the exports of all parts stand for, by part, then in order
+-- what the exports of all parts denote, by part, then in order
 unfoldable pub all_entities : List Part → List Entity
 all_entities parts = by_part (λ p m. map (λ e. record { part = p; what = e.desc }) m.exports) parts
 

@@ -25,7 +25,7 @@ use Rattle.wasm_meaning.specs.Linking.{Part, Site, Outside, Entity, Read, places
 use Rattle.index_remap.specs.declared.remap.Remap.{Remap}
 use Rattle.index_remap.specs.Renumbered.{fits_const, new_const}
 use Rattle.index_remap_proof.specs.Indices.{Indices, with_entry, ConstNamesOnly}
-use Rattle.index_remap_proof.specs.Trees.{TreesAgree, ReadsImport, ConstStands}
+use Rattle.index_remap_proof.specs.Trees.{TreesAgree, ReadsImport, ConstComesFrom}
 use Rattle.index_remap_proof.proofs.Lists.{left_true, right_true, only_true, only_rest}
 use Rattle.merge_spec.specs.Merged.{merged, map_of, merged_read, merged_const, staying_of, place_of_end, new_index}
 use Rattle.merge_valid_proof.specs.Entries.{HasEntry}
@@ -230,9 +230,9 @@ module _ (ends_law : EndsArePaths) (parts : List Part) (names : List (Option Tex
             let r = links.globals d.part of j g is at in
             (r.0, (reads_law parts p e r.0).0 (goes k ((reads_law parts d.part g.init r.0).1 r.1)))
 
-    module _ (constants : (m : Remap) (kept : Indices) (t u : Module) (e : ConstExpr) → TreesAgree m kept t u → ConstNamesOnly kept e → ReadsImport m u e → ConstStands t u e (new_const m e)) where
+    module _ (constants : (m : Remap) (kept : Indices) (t u : Module) (e : ConstExpr) → TreesAgree m kept t u → ConstNamesOnly kept e → ReadsImport m u e → ConstComesFrom t u e (new_const m e)) where
       -- a constant expression becomes one of its type
-      pub const_stands : (p : ℕ) (m : Module) (e : ConstExpr) → module_at parts p ≡ Some m → ConstStands m (merged parts names) e (merged_const parts p e)
+      pub const_stands : (p : ℕ) (m : Module) (e : ConstExpr) → module_at parts p ≡ Some m → ConstComesFrom m (merged parts names) e (merged_const parts p e)
       unfolding merged_const
       const_stands p m e is ty t =
           let r = read_there p e m ty is t in

@@ -13,7 +13,7 @@ use Rattle.wasm_meaning.specs.State.{Pair}
 use Rattle.wasm_meaning.specs.Laws.{EndsArePaths}
 use Rattle.wasm_meaning.specs.Environment.{Owned, MemoryKey, owned_at}
 use Rattle.wasm_meaning.specs.Values.{same_ref, same_type, same_func_type}
-use Rattle.wasm_meaning.specs.World.{same_bool, own_key, own_key_of, outside_thing}
+use Rattle.wasm_meaning.specs.World.{same_bool, own_key, own_key_of, outside_external_value}
 use Rattle.wasm_meaning.specs.Linking.{Part, Site, End, Defined, Outside, Entity, has_kind, import_at, imports_of, pair_of, sites_in, sites, end_of, linked_end, gathered}
 use Rattle.wasm_tree.specs.Spaces.{index_of_export, space_of_import}
 use Rattle.merge_spec.specs.Faults.{External, FuncOf, TableOf, MemoryOf, GlobalOf, asked_at, found, suits, external_of, same_but_limits, meets_limits, stays}
@@ -103,7 +103,7 @@ memory_key m pair (im.Func t) e = absurd (let z = e in cc)
 memory_key m pair (im.Table t) e = absurd (let z = e in cc)
 memory_key m pair (im.Global t) e = absurd (let z = e in cc)
 
-memory_thing : (owned : Owned) (parts : List Part) (u : Site) (j : Import) → import_at parts u ≡ Some j → space_of_import j.desc ≡ Memories → outside_thing owned parts u ≡ owned_at owned (MemoryKey (pair_of j))
+memory_thing : (owned : Owned) (parts : List Part) (u : Site) (j : Import) → import_at parts u ≡ Some j → space_of_import j.desc ≡ Memories → outside_external_value owned parts u ≡ owned_at owned (MemoryKey (pair_of j))
 memory_thing owned parts u j at e =
     let m = import_site parts u j at in
     ap (λ o. option_and_then (λ m. option_and_then (λ i. option_and_then (λ key. owned_at owned key) (own_key m i)) (import_at parts u)) o) m.1
@@ -111,11 +111,11 @@ memory_thing owned parts u j at e =
     ∙ ap (λ o. option_and_then (λ key. owned_at owned key) o) (memory_key m.0 (pair_of j) j.desc e)
 
 -- what is gathered is one of the environment's own
-gathered_thing : (owned : Owned) (parts : List Part) (t : Site) (i : Import) → import_at parts t ≡ Some i → (g : Gathers parts t i) (b : Bool) → has_kind Memories i ≡ b → outside_thing owned parts t ≡ outside_thing owned parts g.to
+gathered_thing : (owned : Owned) (parts : List Part) (t : Site) (i : Import) → import_at parts t ≡ Some i → (g : Gathers parts t i) (b : Bool) → has_kind Memories i ≡ b → outside_external_value owned parts t ≡ outside_external_value owned parts g.to
 gathered_thing owned parts t i at g true e =
     memory_thing owned parts t i at (sym (kind_is Memories (space_of_import i.desc) e)) ∙ ap (λ p. owned_at owned (MemoryKey p)) g.pair
     ∙ sym (memory_thing owned parts g.to g.stays.import g.stays.at (sym (kind_is Memories (space_of_import g.stays.import.desc) (g.memory e))))
-gathered_thing owned parts t i at g false e = ap (outside_thing owned parts) (sym (g.other e))
+gathered_thing owned parts t i at g false e = ap (outside_external_value owned parts) (sym (g.other e))
 
 not_memory : (i : Import) → (space_of_import i.desc ≡ Memories → ⊥) → has_kind Memories i ≡ false
 not_memory i h = by (has_kind Memories i) refl

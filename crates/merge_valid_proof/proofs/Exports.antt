@@ -1,4 +1,4 @@
--- The exports of the merged module stand for exports of parts, under names that differ.
+-- The exports of the merged module come from exports of parts, under names that differ.
 use Rattle.std.proofs.Common.{◌≡◌, ◌∙◌, ap, sym, subst, refl, ℕ, zero, suc, ◌+◌, ◌^◌, ◌<◌, ◌≤◌, List, [], ◌∷◌, ◌++◌, map, take, length, Option, Some, None, arith, option_and_then}
 use Rattle.std.specs.Prelude.{slice_get, Contains}
 use Rattle.std.proofs.lemmas.List.{length-map}
@@ -59,7 +59,7 @@ map_take f zero xs = refl
 map_take f (suc n) [] = refl
 map_take f (suc n) (x ∷ xs) = ap (λ z. f x ∷ z) (map_take f n xs)
 
--- an export of the merged module stands for one of a part
+-- an export of the merged module comes from one of a part
 pub export_from : (parts : List Part) (names : List (Option Text)) (j : ℕ) (e : Export) → slice_get (merged parts names).exports j ≡ Some e →
     (p : ℕ) × (m : Module) × (i : ℕ) × (x : Export) × (module_at parts p ≡ Some m) × (slice_get m.exports i ≡ Some x) × (e.desc ≡ (new_export (map_of parts p m) x).desc)
 unfolding all_exports

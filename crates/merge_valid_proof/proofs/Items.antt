@@ -1,4 +1,4 @@
--- Each item of the merged module holds, but for references: it stands for an item of a part, or it was added.
+-- Each item of the merged module is valid, but for references: it comes from an item of a part, or it was added.
 use Rattle.std.proofs.Common.{◌≡◌, ◌∙◌, ap, ap₂, sym, subst, refl, ℕ, ◌+◌, ◌^◌, ◌<◌, List, map, take, length, Option, Some, true, arith, ◌⊎◌, inl, inr}
 use Rattle.std.specs.Prelude.{slice_get, slice_index, Contains}
 use Rattle.wasm_tree.specs.declared.module.Export.{Export}
@@ -22,7 +22,7 @@ use Rattle.wasm_meaning.specs.Linking.{Part, module_at}
 use Rattle.index_remap.specs.declared.remap.Remap.{Remap}
 use Rattle.index_remap.specs.Renumbered.{new_func}
 use Rattle.index_remap_proof.specs.Indices.{Indices, with_entry, ElemModeNamesOnly, DataModeNamesOnly, TreeNamesOnly}
-use Rattle.index_remap_proof.specs.Trees.{TreesAgree, Covers, ConstStands, ElemModeStands, DataModeStands, ItemsStand, ItemStands, active, passive, declarative}
+use Rattle.index_remap_proof.specs.Trees.{TreesAgree, Covers, ConstComesFrom, ElemModeComesFrom, DataModeComesFrom, ItemsComeFrom, ItemComesFrom, active, passive, declarative}
 use Rattle.index_remap_proof.specs.ButForReferences.{HoldsButForReferences, IsValidButForReferences}
 use Rattle.merge_spec.specs.Merged.{merged, map_of, merged_const, merged_global, merged_elem, merged_elem_mode, merged_data, merged_data_mode, by_part, defined_funcs, start_calls, starts}
 use Rattle.merge_valid_proof.proofs.ByPart.{by_part_back, by_part_flat}
@@ -102,10 +102,10 @@ abbrev pub TreeNames : Type 0
 TreeNames = (m : Remap) (t : Module) → ItemsHold t → Covers m t → TreeNamesOnly (with_entry m) t
 
 abbrev pub Undeclared : Type 0
-Undeclared = (m : Remap) (kept : Indices) (t u : Module) (k : ItemKind) (i j : ℕ) → TreesAgree m kept t u → ItemStands m kept t u k i j → HoldsAt t k i → HoldsButForReferences u k j
+Undeclared = (m : Remap) (kept : Indices) (t u : Module) (k : ItemKind) (i j : ℕ) → TreesAgree m kept t u → ItemComesFrom m kept t u k i j → HoldsAt t k i → HoldsButForReferences u k j
 
 module _ (law : EndsArePaths) (named : TreeNames) (undeclared : Undeclared) (parts : List Part) (names : List (Option Text)) (links : AllAreSuited parts) (valid : (p : ℕ) (m : Module) → module_at parts p ≡ Some m → ItemsHold m)
-    (stands : (p : ℕ) (m : Module) (e : ConstExpr) → module_at parts p ≡ Some m → ConstStands m (merged parts names) e (merged_const parts p e))
+    (stands : (p : ℕ) (m : Module) (e : ConstExpr) → module_at parts p ≡ Some m → ConstComesFrom m (merged parts names) e (merged_const parts p e))
     (differ : (j : ℕ) (e : Export) → slice_get (merged parts names).exports j ≡ Some e → Contains (map (λ x. x.name) (take j (merged parts names).exports)) e.name → ⊥) where
   abbrev whole : Module
   whole = merged parts names
@@ -119,8 +119,8 @@ module _ (law : EndsArePaths) (named : TreeNames) (undeclared : Undeclared) (par
   agree : (p : ℕ) (m : Module) → module_at parts p ≡ Some m → TreesAgree (map_of parts p m) (entered p m) m whole
   agree p m is = trees_agree law parts names links p m is (valid p m is)
 
-  -- what stands for an item of a part holds
-  by_stand : (p : ℕ) (m : Module) (k : ItemKind) (i j : ℕ) → module_at parts p ≡ Some m → i < count_of m true k → ItemStands (map_of parts p m) (entered p m) m whole k i j → HoldsButForReferences whole k j
+  -- what comes from an item of a part is valid
+  by_stand : (p : ℕ) (m : Module) (k : ItemKind) (i j : ℕ) → module_at parts p ≡ Some m → i < count_of m true k → ItemComesFrom (map_of parts p m) (entered p m) m whole k i j → HoldsButForReferences whole k j
   by_stand p m k i j is lt s = undeclared (map_of parts p m) (entered p m) m whole k i j (agree p m is) s (valid p m is k i lt)
 
   func_holds : (j : ℕ) → j < length whole.funcs → HoldsButForReferences whole kind.Func j
@@ -160,7 +160,7 @@ module _ (law : EndsArePaths) (named : TreeNames) (undeclared : Undeclared) (par
       let x = slice_get_there whole.globals j lt in
       let r = comes (λ p m. map (merged_global parts p) m.globals) parts whole.globals j x.0 (globals_are parts names) x.1 in
       let g = map_from (merged_global parts r.part) r.of.globals r.place x.0 r.got in
-      let init : ConstStands r.of whole g.0.init x.0.init = subst (λ (h : GlobalDef). ConstStands r.of whole g.0.init h.init) g.2 (stands r.part r.of g.0.init r.is_part) in
+      let init : ConstComesFrom r.of whole g.0.init x.0.init = subst (λ (h : GlobalDef). ConstComesFrom r.of whole g.0.init h.init) g.2 (stands r.part r.of g.0.init r.is_part) in
       by_stand r.part r.of kind.Global r.place j r.is_part (slice_get_within r.of.globals r.place g.0 g.1) (g.0, x.0, g.1, x.1, ap (λ (h : GlobalDef). h.ty.ty) (sym g.2), init)
 
   export_holds : (j : ℕ) → j < length whole.exports → HoldsButForReferences whole kind.Export j
@@ -172,7 +172,7 @@ module _ (law : EndsArePaths) (named : TreeNames) (undeclared : Undeclared) (par
 
   -- ---- segments ----
 
-  elem_mode_stands : (p : ℕ) (m : Module) (mode : ElemMode) → module_at parts p ≡ Some m → ElemModeNamesOnly (entered p m) mode → ElemModeStands (map_of parts p m) (entered p m) m whole mode (merged_elem_mode parts p (map_of parts p m) mode)
+  elem_mode_stands : (p : ℕ) (m : Module) (mode : ElemMode) → module_at parts p ≡ Some m → ElemModeNamesOnly (entered p m) mode → ElemModeComesFrom (map_of parts p m) (entered p m) m whole mode (merged_elem_mode parts p (map_of parts p m) mode)
   elem_mode_stands p m (elem.Active table offset) is n = active n.0 (stands p m offset is)
   elem_mode_stands p m elem.Passive is n = passive
   elem_mode_stands p m elem.Declarative is n = declarative
@@ -189,14 +189,14 @@ module _ (law : EndsArePaths) (named : TreeNames) (undeclared : Undeclared) (par
         s.1,
         x.1,
         ap (λ (s : ElemSeg). s.ty) (sym s.2),
-        subst (ItemsStand r.of whole s.0) s.2 (items r.part r.of s.0 r.is_part),
-        subst (λ (x : ElemSeg). ElemModeStands (map_of parts r.part r.of) (entered r.part r.of) r.of whole s.0.mode x.mode) s.2 (elem_mode_stands r.part r.of s.0.mode r.is_part ((names_only r.part r.of r.is_part).elem_modes r.place s.0 s.1)),
+        subst (ItemsComeFrom r.of whole s.0) s.2 (items r.part r.of s.0 r.is_part),
+        subst (λ (x : ElemSeg). ElemModeComesFrom (map_of parts r.part r.of) (entered r.part r.of) r.of whole s.0.mode x.mode) s.2 (elem_mode_stands r.part r.of s.0.mode r.is_part ((names_only r.part r.of r.is_part).elem_modes r.place s.0 s.1)),
       )
     where
-      items : (p : ℕ) (m : Module) (s : ElemSeg) → module_at parts p ≡ Some m → ItemsStand m whole s (merged_elem parts p (map_of parts p m) s)
-      items p m s is n d h = let e = map_from (merged_const parts p) s.items n d h in (n, e.0, e.1, subst (ConstStands m whole e.0) e.2 (stands p m e.0 is))
+      items : (p : ℕ) (m : Module) (s : ElemSeg) → module_at parts p ≡ Some m → ItemsComeFrom m whole s (merged_elem parts p (map_of parts p m) s)
+      items p m s is n d h = let e = map_from (merged_const parts p) s.items n d h in (n, e.0, e.1, subst (ConstComesFrom m whole e.0) e.2 (stands p m e.0 is))
 
-  data_mode_stands : (p : ℕ) (m : Module) (mode : DataMode) → module_at parts p ≡ Some m → DataModeNamesOnly (entered p m) mode → DataModeStands (map_of parts p m) (entered p m) m whole mode (merged_data_mode parts p (map_of parts p m) mode)
+  data_mode_stands : (p : ℕ) (m : Module) (mode : DataMode) → module_at parts p ≡ Some m → DataModeNamesOnly (entered p m) mode → DataModeComesFrom (map_of parts p m) (entered p m) m whole mode (merged_data_mode parts p (map_of parts p m) mode)
   data_mode_stands p m («data».Active memory offset) is n = active n.0 (stands p m offset is)
   data_mode_stands p m «data».Passive is n = passive
 
@@ -207,7 +207,7 @@ module _ (law : EndsArePaths) (named : TreeNames) (undeclared : Undeclared) (par
       let s = map_from (merged_data parts r.part (map_of parts r.part r.of)) r.of.datas r.place x.0 r.got in
       let in_datas = slice_get_within r.of.datas r.place s.0 s.1 in
       by_stand r.part r.of kind.Segment r.place j r.is_part in_datas
-      (s.0, x.0, s.1, x.1, subst (λ (x : DataSeg). DataModeStands (map_of parts r.part r.of) (entered r.part r.of) r.of whole s.0.mode x.mode) s.2 (data_mode_stands r.part r.of s.0.mode r.is_part ((names_only r.part r.of r.is_part).data_modes r.place s.0 s.1)))
+      (s.0, x.0, s.1, x.1, subst (λ (x : DataSeg). DataModeComesFrom (map_of parts r.part r.of) (entered r.part r.of) r.of whole s.0.mode x.mode) s.2 (data_mode_stands r.part r.of s.0.mode r.is_part ((names_only r.part r.of r.is_part).data_modes r.place s.0 s.1)))
 
   -- ---- all items ----
 

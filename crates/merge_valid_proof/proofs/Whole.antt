@@ -11,7 +11,7 @@ use Rattle.index_remap.specs.declared.remap.Remap.{Remap}
 use Rattle.index_remap.specs.Renumbered.{fits_tree, new_const}
 use Rattle.index_remap.specs.References.{declared}
 use Rattle.index_remap_proof.specs.Indices.{Indices, with_entry, ConstNamesOnly, TreeNamesOnly}
-use Rattle.index_remap_proof.specs.Trees.{TreesAgree, Covers, ReadsImport, ConstStands}
+use Rattle.index_remap_proof.specs.Trees.{TreesAgree, Covers, ReadsImport, ConstComesFrom}
 use Rattle.index_remap_proof.specs.ButForReferences.{IsValidButForReferences}
 use Rattle.merge_names.specs.declared.mode.Mode.{Mode}
 use Rattle.merge_names.specs.Names.{new_names}
@@ -37,7 +37,7 @@ pub record Laws : Type 0 where
   pub items : (m : Module) → IsValid m ↔ ItemsHold m
   pub entries : (m : Remap) (t : Module) → IsValid t → Covers m t → IsTrue (fits_tree m t)
   pub named : (m : Remap) (t : Module) → IsTrue (fits_tree m t) → TreeNamesOnly (with_entry m) t
-  pub constants : (m : Remap) (kept : Indices) (t u : Module) (e : ConstExpr) → TreesAgree m kept t u → ConstNamesOnly kept e → ReadsImport m u e → ConstStands t u e (new_const m e)
+  pub constants : (m : Remap) (kept : Indices) (t u : Module) (e : ConstExpr) → TreesAgree m kept t u → ConstNamesOnly kept e → ReadsImport m u e → ConstComesFrom t u e (new_const m e)
   pub undeclared : Undeclared
   pub valid : (t : Module) → IsValidButForReferences t → IsValid (declared t)
   pub single : (t : Module) → IsSingle t → IsSingle (declared t)
@@ -61,7 +61,7 @@ module _ (laws : Laws) (parts : List Part) (mode : Mode) (can : CanBeJoined part
   sizes : over_limit (declared (merged parts names)) ≡ None
   sizes = ap over_limit (sym (joined_is parts mode)) ∙ can.sizes
 
-  stands : (p : ℕ) (m : Module) (e : ConstExpr) → module_at parts p ≡ Some m → ConstStands m (merged parts names) e (merged_const parts p e)
+  stands : (p : ℕ) (m : Module) (e : ConstExpr) → module_at parts p ≡ Some m → ConstComesFrom m (merged parts names) e (merged_const parts p e)
   stands p m e is = const_stands laws.ends parts names links laws.reads valid laws.constants p m e is
 
   names_only : TreeNames

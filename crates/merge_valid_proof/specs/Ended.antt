@@ -9,7 +9,7 @@ use Rattle.wasm_meaning.specs.State.{Text}
 use Rattle.wasm_meaning.specs.Linking.{Part, Site, End, Defined, Outside, Entity, module_at, import_at, imports_of, pair_of, sites, end_of, linked_end}
 use Rattle.wasm_tree.specs.Spaces.{index_of_export, space_of_export, space_of_import}
 use Rattle.wasm_meaning.specs.Environment.{Owned}
-use Rattle.wasm_meaning.specs.World.{defined_count, defined_before, outside_thing}
+use Rattle.wasm_meaning.specs.World.{defined_count, defined_before, outside_external_value}
 use Rattle.merge_spec.specs.Faults.{External, asked_at, external_of, same_but_limits, meets_limits, link_fault, stays}
 use Rattle.merge_spec.specs.Merged.{merged, merged_types, map_of, staying_of, place_of_end, new_index, starts, start_calls}
 
@@ -48,7 +48,7 @@ pub record EndsOutside (parts : List Part) (s : Site) (i : Import) : Type 0 wher
   pub pair : pair_of last_import ≡ pair_of import
   pub only_memories : (space_of_import i.desc ≡ Memories → ⊥) → to ≡ last
   -- the same of the environment's own
-  pub same_thing : (owned : Owned) → outside_thing owned parts last ≡ outside_thing owned parts to
+  pub same_thing : (owned : Owned) → outside_external_value owned parts last ≡ outside_external_value owned parts to
   pub demand : External
   pub asks : asked_at parts s ≡ Some demand
   pub thing : External

@@ -12,7 +12,7 @@ use Rattle.wasm_meaning.specs.Outcomes.{Gives}
 use Rattle.wasm_meaning.specs.State.{Inst, Store, Opening, CallsPlaceholder}
 use Rattle.wasm_meaning.specs.Environment.{Environment}
 use Rattle.wasm_meaning.specs.World.{Begun, address_in}
-use Rattle.wasm_meaning.specs.InTurn.{Added, added}
+use Rattle.wasm_meaning.specs.Sequential.{Added, added}
 use Rattle.wasm_meaning.specs.Run.{Move, InstanceTrapped, Out, Steps, Makes, Pending, Closed, began, fresh_run}
 use Rattle.wasm_meaning.specs.Loader.{LoaderWorld, LoaderRun, secondary_of, store_under, supplied, primary_added, begun_of, loader_made, tick_loader, fresh_loader}
 use Rattle.index_remap.specs.RelatedRuns.{IsBegun}

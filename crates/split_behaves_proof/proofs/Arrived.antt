@@ -24,14 +24,14 @@ use Rattle.split_behaves_proof.specs.Worlds.{placeholders_for, type_in}
 use Rattle.split_behaves_proof.specs.Addresses.{defined_address, slot_table_address, split_pairing}
 use Rattle.split_behaves_proof.specs.Answered.{StepAnswered}
 use Rattle.split_behaves_proof.specs.Laws.{CanBeSplit}
-use Rattle.split_behaves_proof.specs.LoadedCode.{InstancesAlike}
+use Rattle.split_behaves_proof.specs.LoadedCode.{InstancesAreRelated}
 use Rattle.split_behaves_proof.specs.States.{Corresponds, SlotHolds, SlotIs, filled, waits}
 use Rattle.split_behaves_proof.proofs.Entered.{Below, first_frame, second_frame, frames_rel, over_them, stands_with, enters_code, first_enters}
 use Rattle.split_behaves_proof.proofs.Entries.{holds}
 use Rattle.split_behaves_proof.proofs.AlwaysLoads.{small}
 use Rattle.split_behaves_proof.proofs.Placeholders.{placeholders_are, moved_typed, slot_stays}
 use Rattle.split_behaves_proof.proofs.Settled.{SettleLaws, w, runs_wider, module_loaded, module_is, load_fills, more, settled_run, settled}
-use Rattle.split_behaves_proof.proofs.Silent.{Silent, at, step_is, silent_state, silent_events, last_state, last_events}
+use Rattle.split_behaves_proof.proofs.Stuttering.{StutteringSteps, at, step_is, stuttering_state, stuttering_events, last_state, last_events}
 
 -- the placeholder of a slot
 placeholder_there : (namespace : ℕ → List ℕ) (m : Module) (from : ℕ) (fs : List ℕ) (p f : ℕ) → slice_get fs p ≡ Some f → slice_get (placeholders_for namespace m from fs) p ≡ Some ((namespace (from + p), decimal (from + p)), type_in m f)
@@ -42,7 +42,7 @@ placeholder_there namespace m from (x ∷ fs) zero f at =
     ap₂ (λ n g. Some ((namespace n, decimal n), type_in m g)) e same
 placeholder_there namespace m from (x ∷ fs) (suc p) f at = let e : suc from + p ≡ from + suc p = omega arith in placeholder_there namespace m (suc from) fs p f at ∙ ap (λ n. Some ((namespace n, decimal n), type_in m f)) e
 
-module _ (laws : SettleLaws) (answered : PlaceholdersAreAnswered) (namespace : ℕ → List ℕ) (names : SplitNames) (m : Module) (moved : List ℕ) (owns : List (List ℕ)) (g : CanBeSplit namespace names m moved owns) (env : Environment) (first second : Inst) (alike : InstancesAlike env m moved first second) (most : ℕ) where
+module _ (laws : SettleLaws) (answered : PlaceholdersAreAnswered) (namespace : ℕ → List ℕ) (names : SplitNames) (m : Module) (moved : List ℕ) (owns : List (List ℕ)) (g : CanBeSplit namespace names m moved owns) (env : Environment) (first second : Inst) (alike : InstancesAreRelated env m moved first second) (most : ℕ) where
   abbrev pub world : LoaderWorld
   world = w laws namespace names m moved owns g env first second alike
 
@@ -78,14 +78,14 @@ module _ (laws : SettleLaws) (answered : PlaceholdersAreAnswered) (namespace : �
     nothing_seen : events_of tick r 1 ≡ []
     nothing_seen = ap (λ (o : Out). noted o.1 []) (first_enters r k ms vs es first_is)
 
-    -- after so many silent steps
-    pub entered : (n : ℕ) → n ≤ most + 2 → Silent (tick_loader world) (suc n) q there → StepAnswered env m moved world first second most r q
+    -- after so many stuttering steps
+    pub entered : (n : ℕ) → n ≤ most + 2 → StutteringSteps (tick_loader world) (suc n) q there → StepAnswered env m moved world first second most r q
     entered n le silent = record {
       further = n;
       bound = le;
-      shown = silent_events (tick_loader world) silent ∙ sym nothing_seen;
+      shown = stuttering_events (tick_loader world) silent ∙ sym nothing_seen;
       loaded = loaded;
-      next = subst (Corresponds env m moved world first second loaded (tick r).0) (sym (silent_state (tick_loader world) silent)) stand;
+      next = subst (Corresponds env m moved world first second loaded (tick r).0) (sym (stuttering_state (tick_loader world) silent)) stand;
     }
 
   -- ---- its placeholder is ----
@@ -174,8 +174,8 @@ module _ (laws : SettleLaws) (answered : PlaceholdersAreAnswered) (namespace : �
       nothing_seen_then : events_of tick r 1 ≡ []
       nothing_seen_then = ap (λ (o : Out). noted o.1 []) (first_enters r in_place.code ms vs es first_is)
 
-      -- after so many silent steps it is called
-      pub loaded_first : (n : ℕ) → n ≤ most + 2 → (t : Store) (gs : List Entry) → Silent (tick_loader world) n q (calling t gs) → step t gs ≡ Gives (CallsPlaceholder p ws q.run.store fs) → StepAnswered env m moved world first second most r q
+      -- after so many stuttering steps it is called
+      pub loaded_first : (n : ℕ) → n ≤ most + 2 → (t : Store) (gs : List Entry) → StutteringSteps (tick_loader world) n q (calling t gs) → step t gs ≡ Gives (CallsPlaceholder p ws q.run.store fs) → StepAnswered env m moved world first second most r q
       unfolding is_answered
       loaded_first n le t gs silent calls =
           let x = at (record q.run { moves = ms }) t gs in

@@ -13,7 +13,7 @@ use Rattle.wasm_tree.specs.declared.module.Module.{Module}
 use Rattle.wasm_tree.specs.Spaces.{funcs_of, tables_of, type_of_func}
 use Rattle.wasm_meaning.specs.State.{Code, Func, Own, Pair, Placeholder, Store}
 use Rattle.wasm_meaning.specs.Environment.{Environment, own_funcs}
-use Rattle.wasm_meaning.specs.InTurn.{Added, added, next_inst}
+use Rattle.wasm_meaning.specs.Sequential.{Added, added, next_inst}
 use Rattle.wasm_meaning.specs.Loader.{LoaderWorld, begun_of, begun_under, placeholders_from, placeholders_of, primary_added, store_under, supplied}
 use Rattle.wasm_meaning.specs.World.{Begun, all_there, alone, const_value, insts_from, instantiate, joined_stores, new_func, own_count}
 use Rattle.wasm_tree.specs.declared.space.Space.TheVariants.{Functions}
@@ -40,7 +40,7 @@ use Rattle.split_behaves_proof.specs.Laws.{CanBeSplit}
 use Rattle.split_behaves_proof.proofs.Partners.{LeftAt, own_stays, goes, left_is, place_left}
 use Rattle.split_behaves_proof.proofs.Placeholders.{imports_them_last, moved_typed, placeholders_are}
 use Rattle.split_behaves_proof.proofs.Entries.{Laws, Q, holds, k, left_there, r, split, types_are, types_moved}
-use Rattle.split_behaves_proof.proofs.Alike.{stubs}
+use Rattle.split_behaves_proof.proofs.BeginRelated.{stubs}
 use Rattle.split_behaves_proof.proofs.Bodies.{moved_defined}
 use Rattle.split_behaves_proof.proofs.Begins.{begun_store, slots_many}
 use Rattle.index_remap_proof.proofs.Lists.{all_there_back}

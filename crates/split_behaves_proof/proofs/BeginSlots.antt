@@ -22,7 +22,7 @@ use Rattle.wasm_meaning.specs.Outcomes.{overwrite, split_at}
 use Rattle.wasm_meaning.specs.State.{FuncRef, Inst, Ref, RefVal, Table, Val}
 use Rattle.wasm_meaning.specs.Values.{null_of, ref_of}
 use Rattle.wasm_meaning.specs.Environment.{Environment}
-use Rattle.wasm_meaning.specs.InTurn.{Added}
+use Rattle.wasm_meaning.specs.Sequential.{Added}
 use Rattle.wasm_meaning.specs.Loader.{LoaderWorld, begun_under, secondary_of, store_under}
 use Rattle.wasm_meaning.specs.World.{Begun, all_there, alone, const_value, instantiate, own_count}
 use Rattle.wasm_meaning.proofs.Slices.{copies_length}

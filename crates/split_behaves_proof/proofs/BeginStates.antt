@@ -5,7 +5,7 @@ use Rattle.wasm_tree.specs.declared.module.Module.{Module}
 use Rattle.wasm_meaning.specs.State.{Inst, Opening, Store}
 use Rattle.wasm_meaning.specs.Environment.{Environment}
 use Rattle.wasm_meaning.specs.Loader.{LoaderRun, LoaderWorld, begun_under, fresh_loader, store_under, tick_loader}
-use Rattle.wasm_meaning.specs.InTurn.{Added}
+use Rattle.wasm_meaning.specs.Sequential.{Added}
 use Rattle.wasm_tree.specs.declared.space.Space.TheVariants.{Functions}
 use Rattle.wasm_meaning.specs.Run.{Closed, InstanceTrapped, Move, Pending, Run, Out, began, fresh_run, tick}
 use Rattle.wasm_meaning.specs.World.{Begun, alone, instantiate, own_count}
@@ -17,7 +17,7 @@ use Rattle.world_simulation.proofs.Places.{opt_both}
 use Rattle.split_spec.specs.declared.names.SplitNames.{SplitNames}
 use Rattle.split_behaves_proof.specs.Addresses.{slot_table_address, split_pairing}
 use Rattle.split_behaves_proof.specs.Laws.{CanBeSplit}
-use Rattle.split_behaves_proof.specs.States.{Corresponds, FuncsStand, waits}
+use Rattle.split_behaves_proof.specs.States.{Corresponds, FuncsComeFrom, waits}
 use Rattle.split_behaves_proof.proofs.Entries.{Laws, split}
 use Rattle.split_behaves_proof.proofs.Begins.{begin_alike}
 use Rattle.split_behaves_proof.proofs.BeginFuncs.{first_moves, first_plain, second_begins, second_trampolines, second_waits}
@@ -40,7 +40,7 @@ module _ (laws : Laws) (namespace : ℕ → List ℕ) (names : SplitNames) (m : 
     second_good : c.trapped ≡ false
     second_good = sym related.trapped ∙ good
 
-    funcs : (q : LoaderRun) → q.run.store ≡ c.store → q.loaded ≡ (fresh_loader env w moves).loaded → FuncsStand env m moved w i j [] b.store q
+    funcs : (q : LoaderRun) → q.run.store ≡ c.store → q.loaded ≡ (fresh_loader env w moves).loaded → FuncsComeFrom env m moved w i j [] b.store q
     funcs q store loaded =
         let t = slots.table_there laws namespace names m moved owns g env b h c l second_good in
         record {

@@ -8,8 +8,8 @@ use Rattle.wasm_tree.specs.declared.space.Space.TheVariants.{Functions}
 use Rattle.wasm_tree.specs.declared.types.FuncType.{FuncType}
 use Rattle.wasm_tree.specs.declared.module.Module.{Module}
 use Rattle.wasm_meaning.specs.State.{Entry, Func, Pair, Store, Text}
-use Rattle.wasm_meaning.specs.Environment.{Environment, Thing, own_funcs, owned_of}
-use Rattle.wasm_meaning.specs.InTurn.{Added, added, next_inst}
+use Rattle.wasm_meaning.specs.Environment.{Environment, ExternalValue, own_funcs, owned_of}
+use Rattle.wasm_meaning.specs.Sequential.{Added, added, next_inst}
 use Rattle.wasm_meaning.specs.Loader.{LoaderWorld, begun_of, begun_under, placeholders_from, placeholders_of, primary_added, store_under, supplied}
 use Rattle.wasm_meaning.specs.Run.{Move, began, fresh_run, tick}
 use Rattle.wasm_meaning.specs.World.{Begun, address_in, all_there, alone, const_value, instantiate, joined_stores, own_count, start_in}
@@ -30,7 +30,7 @@ use Rattle.split_behaves_proof.specs.Laws.{CanBeSplit}
 use Rattle.split_behaves_proof.proofs.Partners.{LeftAt, own_stays, goes, left_is}
 use Rattle.split_behaves_proof.proofs.Placeholders.{imports_them_last, placeholders_are}
 use Rattle.split_behaves_proof.proofs.Entries.{Laws, holds, split, types_moved}
-use Rattle.split_behaves_proof.proofs.Alike.{stubs}
+use Rattle.split_behaves_proof.proofs.BeginRelated.{stubs}
 use Rattle.split_behaves_proof.proofs.Linked.{instantiated}
 use Rattle.world_simulation.proofs.Stubbed.{placeholders_many}
 
@@ -74,7 +74,7 @@ module _ (env : Environment) (w : LoaderWorld) (z : Store) (own : (n : ℕ) (f :
 pub begun_store : (env : Environment) (w : LoaderWorld) (a : Added) (c : Begun) → begun_of env w a ≡ Some c → a.filled.store ≡ c.store
 begun_store env w a c h = by (all_there (λ v. address_in a.inst v.1 >>= λ x. Some (v.0, x)) w.view) h
   where
-    by : (o : Option (List (Text × Thing))) → (o >>= λ view. Some (record { store = a.filled.store; trapped = a.filled.trapped; starts = start_in a.inst w.primary.start; view = view; owned = owned_of env })) ≡ Some c → a.filled.store ≡ c.store
+    by : (o : Option (List (Text × ExternalValue))) → (o >>= λ view. Some (record { store = a.filled.store; trapped = a.filled.trapped; starts = start_in a.inst w.primary.start; view = view; owned = owned_of env })) ≡ Some c → a.filled.store ≡ c.store
     by None e = absurd (let z = e in cc)
     by (Some view) e = ap (λ (b : Begun). b.store) (same_Some _ _ e)
 

@@ -31,10 +31,10 @@ use Rattle.index_remap_proof.specs.Indices.{Indices}
 use Rattle.index_remap.specs.References.{body_refs, is_among, refs_all}
 use Rattle.index_remap.specs.Related.{Pairing, CodeRel}
 use Rattle.index_remap.specs.Renumbered.{has_entry, new_func, renumbered_all}
-use Rattle.index_remap.specs.Replaced.{CodesStand, OtherNamed, OthersNamed, is_listed_call}
+use Rattle.index_remap.specs.Replaced.{ReplacementCodesFit, OtherNamed, OthersNamed, is_opaque_call}
 use Rattle.index_remap.specs.Trampolines.{slot_call}
 use Rattle.index_remap.proofs.SlotCalls.{func_type_self}
-use Rattle.index_remap.proofs.Unlisted.{operands_follow}
+use Rattle.index_remap.proofs.NotOpaque.{operands_follow}
 use Rattle.index_remap_proof.proofs.Lists.{among_joined, among_map, among_right, both_true, either_true, left_either, right_either, same_number, two_cases}
 use Rattle.world_simulation.specs.Alone.{one}
 use Rattle.world_simulation.specs.Definitions.{FuncsAt, alike, set_apart}
@@ -92,7 +92,7 @@ module _ (laws : Laws) (namespace : ℕ → List ℕ) (names : SplitNames) (m : 
 
   -- the operand is that of a call that is replaced, or its index stays
   abbrev goes_on : Operand → Bool
-  goes_on o = is_listed_call moved o || stays_in o.space o.index
+  goes_on o = is_opaque_call moved o || stays_in o.space o.index
 
   body_goes_on : (p : ℕ) (f : tree.Func) → slice_get m.funcs p ≡ Some f → Met goes_on (λ test. any_operand_passes test f.body)
   body_goes_on p f at o occurs = by o.space refl
@@ -104,20 +104,20 @@ module _ (laws : Laws) (namespace : ℕ → List ℕ) (names : SplitNames) (m : 
           let there = ref_named moved o.index among f.body (occurs (is_named_from_primary moved Functions o.index) passes) in
           among_right (refs_of m) (cons_option m.start [] ++ body_refs m.funcs) o.index (among_right (cons_option m.start []) (body_refs m.funcs) o.index (among_joined (λ f. refs_all f.body) m.funcs p f o.index at there))
 
-      by : (s : Space) → o.space ≡ s → (is_listed_call moved o || stays_in s o.index) ≡ true
-      by Types e = right_either (is_listed_call moved o) true refl
+      by : (s : Space) → o.space ≡ s → (is_opaque_call moved o || stays_in s o.index) ≡ true
+      by Types e = right_either (is_opaque_call moved o) true refl
       by Functions e = ⊎_elim
           (λ among. ⊎_elim
-          (λ called. left_either (is_listed_call moved o) (stays_in Functions o.index) (both_true o.called (is_among moved o.index) called among))
-          (λ other. right_either (is_listed_call moved o) (stays_in Functions o.index) (right_either (not (is_among moved o.index)) (is_needed m o.index) (needed e among other)))
+          (λ called. left_either (is_opaque_call moved o) (stays_in Functions o.index) (both_true o.called (is_among moved o.index) called among))
+          (λ other. right_either (is_opaque_call moved o) (stays_in Functions o.index) (right_either (not (is_among moved o.index)) (is_needed m o.index) (needed e among other)))
           (two_cases o.called))
-          (λ none. right_either (is_listed_call moved o) (stays_in Functions o.index) (left_either (not (is_among moved o.index)) (is_needed m o.index) (ap not none)))
+          (λ none. right_either (is_opaque_call moved o) (stays_in Functions o.index) (left_either (not (is_among moved o.index)) (is_needed m o.index) (ap not none)))
           (two_cases (is_among moved o.index))
-      by Tables e = right_either (is_listed_call moved o) true refl
-      by Memories e = right_either (is_listed_call moved o) true refl
-      by Globals e = right_either (is_listed_call moved o) true refl
-      by ElementSegments e = right_either (is_listed_call moved o) true refl
-      by DataSegments e = right_either (is_listed_call moved o) true refl
+      by Tables e = right_either (is_opaque_call moved o) true refl
+      by Memories e = right_either (is_opaque_call moved o) true refl
+      by Globals e = right_either (is_opaque_call moved o) true refl
+      by ElementSegments e = right_either (is_opaque_call moved o) true refl
+      by DataSegments e = right_either (is_opaque_call moved o) true refl
 
   abbrev passes : Operand → Bool
   passes o = has_entry exact_map o && goes_on o
@@ -170,7 +170,7 @@ module _ (laws : Laws) (namespace : ℕ → List ℕ) (names : SplitNames) (m : 
       abbrev kept : Indices
       kept = stay laws namespace names m moved owns g
 
-      -- the entries name what the indices name, whatever functions are set apart
+      -- the entries name what the indices name, whatever functions are opaque
       pub entries_named : EntriesName R map_of kept i j
       entries_named Types x h = entries laws namespace names m moved owns g env i j a b Types x h
       entries_named Functions x h = entries laws namespace names m moved owns g env i j a b Functions x h
@@ -180,19 +180,19 @@ module _ (laws : Laws) (namespace : ℕ → List ℕ) (names : SplitNames) (m : 
       entries_named ElementSegments x h = entries laws namespace names m moved owns g env i j a b ElementSegments x h
       entries_named DataSegments x h = entries laws namespace names m moved owns g env i j a b DataSegments x h
 
-      named_each : (o : Operand) → passes o ≡ true → OtherNamed R map_of (is_listed_call moved o) i j o.space o.index
-      named_each o h = by (is_listed_call moved o) refl
+      named_each : (o : Operand) → passes o ≡ true → OtherNamed R map_of (is_opaque_call moved o) i j o.space o.index
+      named_each o h = by (is_opaque_call moved o) refl
         where
-          by : (c : Bool) → is_listed_call moved o ≡ c → OtherNamed R map_of c i j o.space o.index
+          by : (c : Bool) → is_opaque_call moved o ≡ c → OtherNamed R map_of c i j o.space o.index
           by true e =
               let p = among_there moved o.index (right_true o.called (is_among moved o.index) e) in
               (at_address o.index, moved_there p.0 o.index p.1, is_moved_address p.0 o.index p.1)
           by false e =
               entries_named o.space o.index (both_true (has_entry exact_map o) (stays_in o.space o.index) (left_true (has_entry exact_map o) (goes_on o) h)
-              (⊎_elim (λ l. absurd (true≢false (sym l ∙ e))) (λ s. s) (either_true (is_listed_call moved o) (stays_in o.space o.index) (right_true (has_entry exact_map o) (goes_on o) h))))
+              (⊎_elim (λ l. absurd (true≢false (sym l ∙ e))) (λ s. s) (either_true (is_opaque_call moved o) (stays_in o.space o.index) (right_true (has_entry exact_map o) (goes_on o) h))))
 
       body_named : (p : ℕ) (f : tree.Func) → slice_get m.funcs p ≡ Some f → ListLayers (OthersNamed R map_of moved i j) f.body
-      body_named p f at = operands_follow (λ o. passes o ≡ true) (λ o. OtherNamed R map_of (is_listed_call moved o) i j o.space o.index) named_each f.body ((laws.bodies.layers passes f.body).0 (body_passes p f at))
+      body_named p f at = operands_follow (λ o. passes o ≡ true) (λ o. OtherNamed R map_of (is_opaque_call moved o) i j o.space o.index) named_each f.body ((laws.bodies.layers passes f.body).0 (body_passes p f at))
 
       -- ---- what stands in place of calls ----
 
@@ -232,7 +232,7 @@ module _ (laws : Laws) (namespace : ℕ → List ℕ) (names : SplitNames) (m : 
           let table : slice_index map_of.tables (slot_table m) ≡ slot_table m = numbers_index (suc (length (tables_of m))) (slot_table m) (omega arith) in
           rw (slot_of_address slot f slot at e, at, type_there slot f at, table, slots_there, slot_stays slot (omega (arith, few, bound, within)), eq-eqb slot slot refl, func_type_self (type_in m f), eq-eqb (slot_table_address env m) (slot_table_address env m) refl) refl
 
-      codes_stand : CodesStand R moved (renumbered_codes map_of (call_through_slot m moved)) i j
+      codes_stand : ReplacementCodesFit R moved (renumbered_codes map_of (call_through_slot m moved)) i j
       codes_stand labels f addr code among has at = by (place_among moved f) refl
         where
           here : (slot : ℕ) → place_among moved f ≡ Some slot → addr ≡ at_address f

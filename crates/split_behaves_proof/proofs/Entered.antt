@@ -19,7 +19,7 @@ use Rattle.index_remap.specs.Trampolines as between
 use Rattle.index_remap.proofs.Rel.{append_rel}
 use Rattle.index_remap.proofs.ValueSteps.{zeros_rel}
 use Rattle.split_behaves_proof.specs.Addresses.{defined_address, slot_table_address, split_pairing}
-use Rattle.split_behaves_proof.specs.States.{Corresponds, FuncsStand, SlotHolds, filled, waits}
+use Rattle.split_behaves_proof.specs.States.{Corresponds, FuncsComeFrom, SlotHolds, filled, waits}
 
 -- ---- frames ----
 
@@ -42,7 +42,7 @@ module _ {R : Pairing} {s t : Store} {u : FuncType} {a c : ℕ} (k : CodeAt R s 
 
 -- ---- stacks ----
 
--- what stands below a function that is entered, or that it is reached through a trampoline
+-- what is on the stack below a function that is entered, or that it is reached through a trampoline
 pub data Below (R : Pairing) (u : FuncType) : List Entry → List Entry → Type 0 where
   direct : {es fs : List Entry} → WithPassing R es fs → Below R u es fs
   by_trampoline : {es fs : List Entry} (inst : Inst) (locals : List Val) → WithPassing R es fs → Below R u es (Running (passing inst locals u.results) ∷ fs)
@@ -76,8 +76,8 @@ module _ (env : Environment) (m : Module) (moved : List ℕ) (w : LoaderWorld) (
   holds_stay e f (filled c refers code) = filled c refers (code_stays e f code)
 
   -- so where functions stay, and the slot table, all functions stand
-  pub funcs_stay : {s z : Store} {q p : LoaderRun} → (h : FuncsStand env m moved w first second loaded s q) → z.funcs ≡ s.funcs → p.run.store.funcs ≡ q.run.store.funcs → slice_get p.run.store.tables (slot_table_address env m) ≡ slice_get q.run.store.tables (slot_table_address env m) → p.loaded ≡ q.loaded →
-      FuncsStand env m moved w first second loaded z p
+  pub funcs_stay : {s z : Store} {q p : LoaderRun} → (h : FuncsComeFrom env m moved w first second loaded s q) → z.funcs ≡ s.funcs → p.run.store.funcs ≡ q.run.store.funcs → slice_get p.run.store.tables (slot_table_address env m) ≡ slice_get q.run.store.tables (slot_table_address env m) → p.loaded ≡ q.loaded →
+      FuncsComeFrom env m moved w first second loaded z p
   funcs_stay {s} {z} {q} {p} h e f table l = record {
     plain = λ a n u at. h.plain a n u (ap (λ fs. slice_get fs a) (sym e) ∙ at);
     moves = λ slot func d at there. ap (λ fs. slice_get fs (defined_address env m func)) e ∙ h.moves slot func d at there;

@@ -28,13 +28,13 @@ use Rattle.split_behaves_proof.specs.Worlds.{type_in}
 use Rattle.split_behaves_proof.specs.Addresses.{defined_address, is_left_at, moved_addresses, split_pairing}
 use Rattle.split_behaves_proof.specs.Answered.{StepAnswered}
 use Rattle.split_behaves_proof.specs.Laws.{CanBeSplit, most_params}
-use Rattle.split_behaves_proof.specs.ListedCalls.{EntersBoth}
-use Rattle.split_behaves_proof.specs.LoadedCode.{InstancesAlike}
+use Rattle.split_behaves_proof.specs.MovedCalls.{EntersInBoth}
+use Rattle.split_behaves_proof.specs.LoadedCode.{InstancesAreRelated}
 use Rattle.split_behaves_proof.specs.States.{Corresponds, SlotHolds, SlotIs, filled, waits}
 use Rattle.split_behaves_proof.proofs.Arrived.{world, in_slot, entered, in_place, stack_still, loaded_first}
 use Rattle.split_behaves_proof.proofs.Entered.{by_trampoline, enters_code, second_frame, frame_in}
 use Rattle.split_behaves_proof.proofs.Settled.{SettleLaws}
-use Rattle.split_behaves_proof.proofs.Silent.{Silent, before, at, ran_is, Reaches, whole, part, reaches}
+use Rattle.split_behaves_proof.proofs.Stuttering.{StutteringSteps, before, at, ran_is, Reaches, whole, part, reaches}
 
 -- ---- functions that move ----
 
@@ -63,11 +63,11 @@ params_few m (x ∷ moved) (suc p) f at = let l = params_few m moved p f at in o
 code_typed : {R : Pairing} {s t : Store} {u v : FuncType} {a c : ℕ} → CodeAt R s t u a c → type_at s a ≡ Some v → v ≡ u
 code_typed k h = same_Some _ _ (sym h ∙ ap (λ o. o >>= λ f. Some (type_of f)) k.first)
 
-module _ (laws : SettleLaws) (answered : PlaceholdersAreAnswered) (tramp : TrampolinesEnterSlots) (namespace : ℕ → List ℕ) (names : SplitNames) (m : Module) (moved : List ℕ) (owns : List (List ℕ)) (g : CanBeSplit namespace names m moved owns) (env : Environment) (first second : Inst) (alike : InstancesAlike env m moved first second) where
+module _ (laws : SettleLaws) (answered : PlaceholdersAreAnswered) (tramp : TrampolinesEnterSlots) (namespace : ℕ → List ℕ) (names : SplitNames) (m : Module) (moved : List ℕ) (owns : List (List ℕ)) (g : CanBeSplit namespace names m moved owns) (env : Environment) (first second : Inst) (alike : InstancesAreRelated env m moved first second) where
   abbrev w : LoaderWorld
   w = world laws answered namespace names m moved owns g env first second alike (most_params m moved)
 
-  module _ (loaded : List (ℕ × ℕ)) (r : Run) (q : LoaderRun) (h : Corresponds env m moved w first second loaded r q) (e : EntersBoth (split_pairing env m moved loaded) r q.run) (p f : ℕ) (is : slice_get moved p ≡ Some f) (a_is : defined_address env m f ≡ e.first) where
+  module _ (loaded : List (ℕ × ℕ)) (r : Run) (q : LoaderRun) (h : Corresponds env m moved w first second loaded r q) (e : EntersInBoth (split_pairing env m moved loaded) r q.run) (p f : ℕ) (is : slice_get moved p ≡ Some f) (a_is : defined_address env m f ≡ e.first) where
     abbrev u : FuncType
     u = type_in m f
 
@@ -123,8 +123,8 @@ module _ (laws : SettleLaws) (answered : PlaceholdersAreAnswered) (tramp : Tramp
         by k (whole t fs silent is_it) =
             let same = same_ran is_it in
             entered laws answered namespace names m moved owns g env first second alike (most_params m moved) loaded r q h e.moves e.values e.second_values e.below under e.related k (by_trampoline second e.second_values e.stacks) first_step (length u.params + 2) few
-            (before first_tick (subst (λ t. Silent (tick_loader w) (length u.params + 2) (record q { run = at moving q.run.store (entry ∷ e.second_below) }) (record q { run = at moving t (Running (second_frame k e.second_values) ∷ under) })) same.0
-            (subst (λ fs. Silent (tick_loader w) (length u.params + 2) (record q { run = at moving q.run.store (entry ∷ e.second_below) }) (record q { run = at moving t fs })) same.1 silent)))
+            (before first_tick (subst (λ t. StutteringSteps (tick_loader w) (length u.params + 2) (record q { run = at moving q.run.store (entry ∷ e.second_below) }) (record q { run = at moving t (Running (second_frame k e.second_values) ∷ under) })) same.0
+            (subst (λ fs. StutteringSteps (tick_loader w) (length u.params + 2) (record q { run = at moving q.run.store (entry ∷ e.second_below) }) (record q { run = at moving t fs })) same.1 silent)))
         by k (part n lt t fs silent is_it other) = absurd (other q.run.store (Running (second_frame k e.second_values) ∷ under) refl)
 
     -- its placeholder is
@@ -153,5 +153,5 @@ module _ (laws : SettleLaws) (answered : PlaceholdersAreAnswered) (tramp : Tramp
         by : SlotIs env m moved w loaded r.store q h.funcs.table p f → StepAnswered env m moved w first second (most_params m moved) r q
         by z = holds_so z z.is_loaded refl z.holds
 
-  pub enters_answered : (loaded : List (ℕ × ℕ)) (r : Run) (q : LoaderRun) → Corresponds env m moved w first second loaded r q → EntersBoth (split_pairing env m moved loaded) r q.run → StepAnswered env m moved w first second (most_params m moved) r q
+  pub enters_answered : (loaded : List (ℕ × ℕ)) (r : Run) (q : LoaderRun) → Corresponds env m moved w first second loaded r q → EntersInBoth (split_pairing env m moved loaded) r q.run → StepAnswered env m moved w first second (most_params m moved) r q
   enters_answered loaded r q h e = let l = listed_slot env m moved e.first e.listed in by_slot loaded r q h e l.0 l.1 l.2 l.3

@@ -262,7 +262,7 @@ module _ (laws : Laws) (namespace : ℕ → List ℕ) (names : SplitNames) (m : 
     abbrev of : Space → ℕ → ℕ → Bool
     of = is_partner env m moved
 
-    -- with no function set apart
+    -- with no opaque function
     abbrev pub P : Pairing
     P = passed of of []
 
@@ -279,7 +279,7 @@ module _ (laws : Laws) (namespace : ℕ → List ℕ) (names : SplitNames) (m : 
     its_partner = is_its_partner namespace names.export_prefix m holds moved g.can_move env
 
     module _ (i j : Inst) (a : IsInst env (one m) 0 m i) (b : IsInst env (one Q) 0 Q j) where
-      -- a space that grows, or stays, of which all that the module has stands for itself
+      -- a space that grows, or stays, of which all that the module has is related to itself
       grown : (space : Space) (xs ys : List ℕ) → world.space env (one m) space 0 m ≡ Some xs → world.space env (one Q) space 0 Q ≡ Some ys → defined_count space m ≤ defined_count space Q → ((c : ℕ) → c < own_count space env + defined_count space m → P.of space c c) →
           (x : ℕ) → x < length (imports_of space m) + defined_count space m → OptRel (P.of space) (slice_get xs x) (slice_get ys x)
       grown space xs ys hx hy more related x lt =

@@ -2,14 +2,14 @@ pub mod Partners
 pub mod Placeholders
 pub mod Entries
 pub mod Bodies
-pub mod Alike
+pub mod BeginRelated
 pub mod Linked
 pub mod Begins
 pub mod BeginFuncs
 pub mod BeginSlots
 pub mod BeginStates
 pub mod Plain
-pub mod Silent
+pub mod Stuttering
 pub mod OwnSlots
 pub mod Entered
 pub mod Steps
@@ -23,13 +23,13 @@ mod LoadLinks
 mod AlwaysLoads
 mod LoadCode
 mod LoadKeeps
-mod InstancesAlike
+mod InstancesRelated
 mod Received
-mod ListedCalls
+mod MovedCalls
 mod Settled
 mod Arrived
 mod Enters
-mod Instead
+mod ReplacedCalls
 mod Same
 mod PremisesHold
 pub mod Pairs

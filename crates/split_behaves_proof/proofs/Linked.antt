@@ -17,7 +17,7 @@ use Rattle.wasm_tree.specs.declared.module.Module.{Module}
 use Rattle.wasm_tree.specs.Spaces.{imported_funcs, funcs_of}
 use Rattle.wasm_meaning.specs.State.{Code, Elem, Func, Global, Inst, RefVal, FuncRef, Store, Text}
 use Rattle.wasm_meaning.specs.Values.{declared}
-use Rattle.wasm_meaning.specs.Environment.{Environment, Thing, all_of}
+use Rattle.wasm_meaning.specs.Environment.{Environment, ExternalValue, all_of}
 use Rattle.wasm_meaning.specs.Linking.{sites}
 use Rattle.wasm_meaning.specs.World.{Begun, World, alone, all_there, defined_count, insts_from, instantiate, is_matched, is_there, joined_stores, links, numbers, own_count, own_store, part_store, seen_as, starts_of, stores_from, value_of}
 use Rattle.wasm_meaning.specs.World as world
@@ -31,7 +31,7 @@ use Rattle.index_remap_proof.specs.Indices.{Indices, TreeNamesOnly}
 use Rattle.world_simulation.specs.Alone.{one, addresses}
 use Rattle.world_simulation.specs.Definitions.{Instantiated, values_in}
 use Rattle.world_simulation.specs.Loaded.{primary_world}
-use Rattle.world_simulation.specs.Simulation.{AreSimilar, StartAlike, WorldsCorrespond}
+use Rattle.world_simulation.specs.Simulation.{AreSimilar, StartsCorrespond, WorldsCorrespond}
 use Rattle.world_simulation.specs.Stubbed.{stub}
 use Rattle.world_simulation.proofs.Alone.{funcs_counted, space_is}
 use Rattle.world_simulation.proofs.Allocated.{Adds, adds, part_there}
@@ -54,7 +54,7 @@ use Rattle.split_behaves_proof.proofs.Partners.{one_to_one, shares_own}
 use Rattle.split_behaves_proof.proofs.Placeholders.{moved_typed}
 use Rattle.split_behaves_proof.proofs.Entries.{Laws, Q, consts, elems_are, entries, globals_are, holds, k, keeps, named, outside, plain, r, stay, stubs_many, types_are, types_moved}
 use Rattle.split_behaves_proof.proofs.Entries as entry_names
-use Rattle.split_behaves_proof.proofs.Alike.{definitions, starts, stubs, view, worlds}
+use Rattle.split_behaves_proof.proofs.BeginRelated.{definitions, starts, stubs, view, worlds}
 
 -- the index spaces of a module with the same types and imports are there
 space_too : (env : Environment) (t u : Module) → u.types ≡ t.types → u.imports ≡ t.imports → (space : Space) (xs : List ℕ) → world.space env (one t) space 0 t ≡ Some xs → (ys : List ℕ) × (world.space env (one u) space 0 u ≡ Some ys)
@@ -275,7 +275,7 @@ module _ (laws : Laws) (namespace : ℕ → List ℕ) (names : SplitNames) (m : 
               either true false x y q = cc
               either false true x y q = cc
 
-              seen : (o p : Option (List (Text × Thing))) → all_there (seen_as (i ∷ [])) (alone m).view ≡ o → all_there (seen_as (j ∷ [])) whole.view ≡ p → OptRel (ListRel (KeyRel R)) o p → links env (alone m) ≡ links env whole
+              seen : (o p : Option (List (Text × ExternalValue))) → all_there (seen_as (i ∷ [])) (alone m).view ≡ o → all_there (seen_as (j ∷ [])) whole.view ≡ p → OptRel (ListRel (KeyRel R)) o p → links env (alone m) ≡ links env whole
               seen None None x y none = rw (e, f, h, l, x, y) refl
               seen (Some o) (Some p) x y (some q) = rw (e, f, h, l, x, y) (either _ _ _ _ matched)
               seen None (Some p) x y q = elim q [ ]
@@ -308,7 +308,7 @@ module _ (laws : Laws) (namespace : ℕ → List ℕ) (names : SplitNames) (m : 
       similar : AreSimilar S env (alone m) whole
       similar = for_instances (WorldsCorrespond S env (alone m) whole) (λ i j a b. worlds laws namespace names m moved owns g env i j a b loaded)
 
-      start_alike : StartAlike S env (alone m) whole
+      start_alike : StartsCorrespond S env (alone m) whole
       start_alike = for_instances (λ is js. ListRel (S.of Functions) (starts_of (one m) is) (starts_of (one primary) js)) (λ i j a b. starts laws namespace names m moved owns g env i j a b loaded)
 
       pub instantiated : OptRel (BegunRel S (EntryByEntry S)) (instantiate env (alone m)) (instantiate env whole)

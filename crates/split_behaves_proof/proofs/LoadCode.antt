@@ -27,10 +27,10 @@ use Rattle.index_remap.specs.CodeNames.{EntryNames}
 use Rattle.index_remap.specs.References.{is_among}
 use Rattle.index_remap.specs.Related.{Pairing, CodeRel, OptRel, Names}
 use Rattle.index_remap.specs.Renumbered.{has_entry, renumbered_all}
-use Rattle.index_remap.specs.Replaced.{CodesStand, OtherNamed, OthersNamed, is_listed_call}
+use Rattle.index_remap.specs.Replaced.{ReplacementCodesFit, OtherNamed, OthersNamed, is_opaque_call}
 use Rattle.index_remap.specs.Trampolines.{slot_call}
 use Rattle.index_remap.proofs.SlotCalls.{func_type_self}
-use Rattle.index_remap.proofs.Unlisted.{operands_follow}
+use Rattle.index_remap.proofs.NotOpaque.{operands_follow}
 use Rattle.index_remap_proof.proofs.Lists.{both_true, either_true, left_either, right_either, two_cases}
 use Rattle.split_plan.specs.Segments.{names_segment}
 use Rattle.split_spec.specs.declared.names.SplitNames.{SplitNames}
@@ -52,7 +52,7 @@ use Rattle.split_proof.proofs.Typed.{call_renumbered, slot_call_renumbered}
 use Rattle.split_behaves_proof.specs.Worlds.{type_in}
 use Rattle.split_behaves_proof.specs.Addresses.{defined_address, is_partner, may_stand, moved_addresses, slot_table_address, split_pairing}
 use Rattle.split_behaves_proof.specs.Loads.{NamesWhatThePrimaryHas}
-use Rattle.split_behaves_proof.specs.LoadedCode.{InstancesAlike, Partnered, loaded_from}
+use Rattle.split_behaves_proof.specs.LoadedCode.{InstancesAreRelated, Partnered, loaded_from}
 use Rattle.split_behaves_proof.specs.Laws.{CanBeSplit}
 use Rattle.split_behaves_proof.proofs.Placeholders.{moved_few, moved_typed, slot_stays}
 use Rattle.split_behaves_proof.proofs.Bodies.{is_moved_address, slot_of_address}
@@ -92,7 +92,7 @@ module _ (laws : Laws) (namespace : ℕ → List ℕ) (names : SplitNames) (m : 
 
   -- the operand is that of a call that is replaced, or it is named from the primary module
   abbrev goes_on : Operand → Bool
-  goes_on o = is_listed_call moved o || is_from_primary moved (defined_at m own) o.space o.index
+  goes_on o = is_opaque_call moved o || is_from_primary moved (defined_at m own) o.space o.index
 
   abbrev passes : Operand → Bool
   passes o = has_entry exact_map o && (not (names_segment o) && goes_on o)
@@ -107,13 +107,13 @@ module _ (laws : Laws) (namespace : ℕ → List ℕ) (names : SplitNames) (m : 
   module _ (n : ℕ) (f : tree.Func) (at : slice_get (defined_at m own) n ≡ Some f) where
     body_goes_on : Met goes_on (λ test. any_operand_passes test f.body)
     body_goes_on o occurs =
-        ⊎_elim (λ listed. left_either (is_listed_call moved o) (is_from_primary moved (defined_at m own) o.space o.index) listed)
+        ⊎_elim (λ listed. left_either (is_opaque_call moved o) (is_from_primary moved (defined_at m own) o.space o.index) listed)
         (λ other.
-        right_either (is_listed_call moved o) (is_from_primary moved (defined_at m own) o.space o.index)
+        right_either (is_opaque_call moved o) (is_from_primary moved (defined_at m own) o.space o.index)
         (list_any_at (λ f. any_operand_passes (is_named_from_primary moved o.space o.index) f.body) (defined_at m own) n f at
         (occurs (is_named_from_primary moved o.space o.index) (both_true (same_space o.space o.space) (nat_eq o.index o.index && not (o.called && is_among moved o.index)) (same_space_self o.space)
         (both_true (nat_eq o.index o.index) (not (o.called && is_among moved o.index)) (eq-eqb o.index o.index refl) (ap not other))))))
-        (two_cases (is_listed_call moved o))
+        (two_cases (is_opaque_call moved o))
 
     body_passes : (place : ℕ) → slice_get m.funcs place ≡ Some f → any_operand_passes names_segment f.body ≡ false → all_operands_pass passes f.body ≡ true
     body_passes place there none =
@@ -124,7 +124,7 @@ module _ (laws : Laws) (namespace : ℕ → List ℕ) (names : SplitNames) (m : 
 
   -- ---- instances ----
 
-  module _ (env : Environment) (i j k : Inst) (a : InstancesAlike env m moved i j) (b : NamesWhatThePrimaryHas m moved own j k) (loaded : List (ℕ × ℕ)) where
+  module _ (env : Environment) (i j k : Inst) (a : InstancesAreRelated env m moved i j) (b : NamesWhatThePrimaryHas m moved own j k) (loaded : List (ℕ × ℕ)) where
     abbrev R : Pairing
     R = split_pairing env m moved loaded
 
@@ -150,22 +150,22 @@ module _ (laws : Laws) (namespace : ℕ → List ℕ) (names : SplitNames) (m : 
     entry_names ElementSegments x n h w = absurd (true≢false n)
     entry_names DataSegments x n h w = absurd (true≢false n)
 
-    named_each : (o : Operand) → passes o ≡ true → OtherNamed R second_map (is_listed_call moved o) i k o.space o.index
-    named_each o h = by (is_listed_call moved o) refl
+    named_each : (o : Operand) → passes o ≡ true → OtherNamed R second_map (is_opaque_call moved o) i k o.space o.index
+    named_each o h = by (is_opaque_call moved o) refl
       where
-        by : (c : Bool) → is_listed_call moved o ≡ c → OtherNamed R second_map c i k o.space o.index
+        by : (c : Bool) → is_opaque_call moved o ≡ c → OtherNamed R second_map c i k o.space o.index
         by true e =
             let p = among_there moved o.index (right_true o.called (is_among moved o.index) e) in
             (defined_address env m o.index, a.moves p.0 o.index p.1, is_moved_address laws namespace names m moved owns g env p.0 o.index p.1)
         by false e =
             let rest = right_true (has_entry exact_map o) (not (names_segment o) && goes_on o) h in
             entry_names o.space o.index (not_true (names_segment o) (left_true (not (names_segment o)) (goes_on o) rest)) (left_true (has_entry exact_map o) (not (names_segment o) && goes_on o) h)
-            (⊎_elim (λ l. absurd (true≢false (sym l ∙ e))) (λ s. s) (either_true (is_listed_call moved o) (is_from_primary moved (defined_at m own) o.space o.index) (right_true (not (names_segment o)) (goes_on o) rest)))
+            (⊎_elim (λ l. absurd (true≢false (sym l ∙ e))) (λ s. s) (either_true (is_opaque_call moved o) (is_from_primary moved (defined_at m own) o.space o.index) (right_true (not (names_segment o)) (goes_on o) rest)))
 
     body_named : (n p : ℕ) (f : ℕ) (at : slice_get own p ≡ Some f) → slice_get (defined_at m own) n ≡ Some (moves p f at).func → ListLayers (OthersNamed R second_map moved i k) (moves p f at).func.body
     body_named n p f at there =
         let x = moves p f at in
-        operands_follow (λ o. passes o ≡ true) (λ o. OtherNamed R second_map (is_listed_call moved o) i k o.space o.index) named_each x.func.body ((laws.bodies.layers passes x.func.body).0 (body_passes n x.func there (f - length (imported_funcs m.imports)) x.is x.names_none))
+        operands_follow (λ o. passes o ≡ true) (λ o. OtherNamed R second_map (is_opaque_call moved o) i k o.space o.index) named_each x.func.body ((laws.bodies.layers passes x.func.body).0 (body_passes n x.func there (f - length (imported_funcs m.imports)) x.is x.names_none))
 
     -- ---- what stands in place of calls ----
 
@@ -204,7 +204,7 @@ module _ (laws : Laws) (namespace : ℕ → List ℕ) (names : SplitNames) (m : 
           ap (λ o. unwrap_or (o >>= λ c. Some (list_any (λ p. nat_eq p.0 (defined_address env m f) && nat_eq p.1 c) loaded)) false) (own_index place (slice_get_within own place f at))
           ∙ list_any_at (λ p. nat_eq p.0 (defined_address env m f) && nat_eq p.1 (from + place)) loaded pair.0 (defined_address env m f, from + place) pair.1 same
 
-      codes_stand : CodesStand R moved (renumbered_codes second_map (secondary_call m moved own)) i k
+      codes_stand : ReplacementCodesFit R moved (renumbered_codes second_map (secondary_call m moved own)) i k
       codes_stand labels f addr code among has at = by (place_among own f) refl
         where
           there : (p : ℕ) × (slice_get moved p ≡ Some f)

@@ -23,9 +23,9 @@ use Rattle.wasm_tree.specs.Spaces.{imported_tables, imported_memories, imported_
 use Rattle.wasm_meaning.specs.State.{Inst, Store}
 use Rattle.wasm_meaning.specs.Control.{type_at}
 use Rattle.wasm_meaning.specs.Linking.{export_named}
-use Rattle.wasm_meaning.specs.Environment.{Thing, FuncAt}
+use Rattle.wasm_meaning.specs.Environment.{ExternalValue, FuncAt}
 use Rattle.wasm_meaning.specs.World.{address_in, is_match}
-use Rattle.wasm_meaning.specs.InTurn.{all_match}
+use Rattle.wasm_meaning.specs.Sequential.{all_match}
 use Rattle.index_remap.specs.declared.remap.Remap.{Remap}
 use Rattle.index_remap.specs.References.{declared_refs}
 use Rattle.index_remap.specs.Renumbered.{new_import, new_import_desc, renumbered_tree}
@@ -44,12 +44,12 @@ use Rattle.split_behaves_proof.proofs.LoadExports.{primary, primary_types, prima
 
 -- ---- imports that are there ----
 
-module _ (supply : Import → Option Thing) (s : Store) (m : Module) where
-  -- it stands for something, which it matches
+module _ (supply : Import → Option ExternalValue) (s : Store) (m : Module) where
+  -- it denotes something, which it matches
   abbrev pub Supplied : Import → Type 0
-  Supplied x = (t : Thing) × (supply x ≡ Some t) × (is_match s m x.desc t ≡ Some true)
+  Supplied x = (t : ExternalValue) × (supply x ≡ Some t) × (is_match s m x.desc t ≡ Some true)
 
-  pub all_supplied : (is : List Import) → ((n : ℕ) (x : Import) → slice_get is n ≡ Some x → Supplied x) → (things : List Thing) × (all_there supply is ≡ Some things) × (all_match s m is things ≡ true)
+  pub all_supplied : (is : List Import) → ((n : ℕ) (x : Import) → slice_get is n ≡ Some x → Supplied x) → (things : List ExternalValue) × (all_there supply is ≡ Some things) × (all_match s m is things ≡ true)
   all_supplied [] h = ([], refl, refl)
   all_supplied (x ∷ is) h =
       let t = h 0 x refl in
@@ -57,7 +57,7 @@ module _ (supply : Import → Option Thing) (s : Store) (m : Module) where
       (t.0 ∷ r.0, rw (t.1, r.1) refl, and_from (unwrap_or (is_match s m x.desc t.0) false) (all_match s m is r.0) (ap (λ o. unwrap_or o false) t.2) r.2)
 
 -- only the types of the module are looked at
-match_same : (s : Store) (m n : Module) → m.types ≡ n.types → (d : ImportDesc) (x : Thing) → is_match s m d x ≡ is_match s n d x
+match_same : (s : Store) (m n : Module) → m.types ≡ n.types → (d : ImportDesc) (x : ExternalValue) → is_match s m d x ≡ is_match s n d x
 match_same s m n e (im.Func ty) (FuncAt a) = ap (λ ts. slice_get ts ty >>= λ t. type_at s a >>= λ u. Some (same_func_type t u)) e
 match_same s m n e _ _ = refl
 
@@ -136,7 +136,7 @@ module _ (namespace : ℕ → List ℕ) (names : SplitNames) (m : Module) (holds
     unfolding secondary_with
     second_keeps = keeps second_tree (declared_refs second_tree)
 
-    abbrev pub supply : Import → Option Thing
+    abbrev pub supply : Import → Option ExternalValue
     supply x = export_named first.exports x.field >>= (address_in i)
 
     abbrev Given : Import → Type 0
@@ -145,7 +145,7 @@ module _ (namespace : ℕ → List ℕ) (names : SplitNames) (m : Module) (holds
     abbrev from : Space → List Import
     from space = imports_from_primary names.import_namespace names.export_prefix m space (from_primary m moved own space)
 
-    abbrev matched : (d : ImportDesc) (t : Thing) → is_match s first d t ≡ Some true → is_match s second d t ≡ Some true
+    abbrev matched : (d : ImportDesc) (t : ExternalValue) → is_match s first d t ≡ Some true → is_match s second d t ≡ Some true
     matched d t h = match_same s second first (second_keeps.types ∙ sym (primary_types namespace names.export_prefix m moved primary_holds)) d t ∙ h
 
     func_given : (n : ℕ) (x : Import) → slice_get (from Functions) n ≡ Some x → Given x
@@ -219,9 +219,9 @@ module _ (namespace : ℕ → List ℕ) (names : SplitNames) (m : Module) (holds
         each_both (from Functions) (from Tables ++ (slots_import ∷ (from Memories ++ from Globals))) func_given
         (each_both (from Tables) (slots_import ∷ (from Memories ++ from Globals)) table_given (each_slots (from Memories ++ from Globals) (each_both (from Memories) (from Globals) memory_given global_given)))
 
-    pub imports_supplied : (things : List Thing) × (all_there supply second.imports ≡ Some things) × (all_match s second second.imports things ≡ true)
+    pub imports_supplied : (things : List ExternalValue) × (all_there supply second.imports ≡ Some things) × (all_match s second second.imports things ≡ true)
     imports_supplied =
-        subst (λ is. (things : List Thing) × (all_there supply is ≡ Some things) × (all_match s second is things ≡ true)) (sym second_keeps.imports)
+        subst (λ is. (things : List ExternalValue) × (all_there supply is ≡ Some things) × (all_match s second is things ≡ true)) (sym second_keeps.imports)
         (all_supplied supply s second (map (new_import second_map) (secondary_imports names m moved own)) (λ n x at.
         let y = map_from (new_import second_map) (secondary_imports names m moved own) n x at in
         subst (Supplied supply s second) y.2 (each_given n y.0 y.1)))

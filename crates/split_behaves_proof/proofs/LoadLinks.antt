@@ -26,10 +26,10 @@ use Rattle.wasm_meaning.specs.Outcomes.{overwrite}
 use Rattle.wasm_meaning.specs.State.{RefVal, FuncRef, Val, Inst, Func, Code, Table, Memory, Global, Elem, Store, SetTable, DropElem}
 use Rattle.wasm_meaning.specs.Values.{declared, ref_of, num_of}
 use Rattle.wasm_meaning.specs.Step.{changed}
-use Rattle.wasm_meaning.specs.Environment.{Thing, TableAt}
+use Rattle.wasm_meaning.specs.Environment.{ExternalValue, TableAt}
 use Rattle.wasm_meaning.specs.World.{Filled, PlacedSegment, new_elem, global_with, elem_with, store_with, const_value, joined_stores, is_match, meets, meets_most, segments_in, run_elem_with, run_data_with, one_by_one, and_then}
 use Rattle.wasm_meaning.specs.World as world
-use Rattle.wasm_meaning.specs.InTurn.{Added, added, all_match, own_segments}
+use Rattle.wasm_meaning.specs.Sequential.{Added, added, all_match, own_segments}
 use Rattle.index_remap.specs.declared.remap.Remap.{Remap}
 use Rattle.index_remap.specs.References.{declared_refs, declaring}
 use Rattle.index_remap.specs.Renumbered.{new_const, new_func}
@@ -119,10 +119,10 @@ module _ (namespace : ℕ → List ℕ) (names : SplitNames) (m : Module) (holds
   abbrev second_map : Remap
   second_map = secondary_map m moved own
 
-  abbrev supplied : (things : List Thing) × (all_there (given namespace names m holds moved can primary_holds own before slots i s typed) second.imports ≡ Some things) × (all_match s second second.imports things ≡ true)
+  abbrev supplied : (things : List ExternalValue) × (all_there (given namespace names m holds moved can primary_holds own before slots i s typed) second.imports ≡ Some things) × (all_match s second second.imports things ≡ true)
   supplied = imports_supplied namespace names m holds moved can primary_holds own before slots i s typed
 
-  abbrev things : List Thing
+  abbrev things : List ExternalValue
   things = supplied.0
 
   abbrev j : Inst

@@ -21,9 +21,9 @@ use Rattle.wasm_tree.specs.declared.module.Module.{Module}
 use Rattle.wasm_tree.specs.Spaces.{imported_funcs, funcs_of, tables_of, memories_of, globals_of}
 use Rattle.wasm_meaning.specs.State.{Inst, Store}
 use Rattle.wasm_meaning.specs.Linking.{export_named}
-use Rattle.wasm_meaning.specs.Environment.{Thing, FuncAt, TableAt, MemoryAt, GlobalAt}
+use Rattle.wasm_meaning.specs.Environment.{ExternalValue, FuncAt, TableAt, MemoryAt, GlobalAt}
 use Rattle.wasm_meaning.specs.World.{address_in, address_of}
-use Rattle.wasm_meaning.specs.InTurn.{addresses_of, next_inst}
+use Rattle.wasm_meaning.specs.Sequential.{addresses_of, next_inst}
 use Rattle.index_remap.specs.declared.remap.Remap.{Remap}
 use Rattle.index_remap.specs.Renumbered.{new_func, new_import}
 use Rattle.index_remap.specs.References.{declared_refs}
@@ -73,19 +73,19 @@ own_can m moved own before slots can =
 
 -- ---- addresses of imports ----
 
--- of what the imports stand for, those of one kind
-addresses_are : (supply : Import → Option Thing) (k : Space) (is : List Import) (things : List Thing) → all_there supply is ≡ Some things → addresses_of k things ≡ filter_map (λ x. supply x >>= address_of k) is
+-- of what the imports denote, those of one kind
+addresses_are : (supply : Import → Option ExternalValue) (k : Space) (is : List Import) (things : List ExternalValue) → all_there supply is ≡ Some things → addresses_of k things ≡ filter_map (λ x. supply x >>= address_of k) is
 addresses_are supply k [] things h = ap (addresses_of k) (sym (same_Some _ _ h))
 addresses_are supply k (x ∷ is) things h =
     let t = and_then_is (supply x) _ things h in
     let r = and_then_is (all_there supply is) _ things t.2 in
     ap (addresses_of k) (sym (same_Some _ _ r.2)) ∙ ap₂ cons_option (sym (ap (λ o. o >>= address_of k) t.1)) (addresses_are supply k is r.0 r.1)
 
-of_its_kind : (k : Space) (thing : ℕ → Thing) → ((a : ℕ) → address_of k (thing a) ≡ Some a) → (o : Option ℕ) → ((o >>= λ a. Some (thing a)) >>= address_of k) ≡ o
+of_its_kind : (k : Space) (thing : ℕ → ExternalValue) → ((a : ℕ) → address_of k (thing a) ≡ Some a) → (o : Option ℕ) → ((o >>= λ a. Some (thing a)) >>= address_of k) ≡ o
 of_its_kind k thing h None = refl
 of_its_kind k thing h (Some a) = h a
 
-of_another : (k : Space) (thing : ℕ → Thing) → ((a : ℕ) → address_of k (thing a) ≡ None) → (o : Option ℕ) → ((o >>= λ a. Some (thing a)) >>= address_of k) ≡ None
+of_another : (k : Space) (thing : ℕ → ExternalValue) → ((a : ℕ) → address_of k (thing a) ≡ None) → (o : Option ℕ) → ((o >>= λ a. Some (thing a)) >>= address_of k) ≡ None
 of_another k thing h None = refl
 of_another k thing h (Some a) = h a
 
@@ -99,7 +99,7 @@ module _ (namespace : ℕ → List ℕ) (names : SplitNames) (m : Module) (holds
   abbrev pub keeps : Keeps tree loads (declared_refs tree)
   keeps = second_keeps namespace names m holds moved can primary_holds own before slots i s typed
 
-  abbrev pub given : Import → Option Thing
+  abbrev pub given : Import → Option ExternalValue
   given = supply namespace names m holds moved can primary_holds own before slots i s typed
 
   abbrev for_slots : Import
@@ -166,7 +166,7 @@ module _ (namespace : ℕ → List ℕ) (names : SplitNames) (m : Module) (holds
   slots_part : (k : Space) → at_kind k for_slots ≡ ((table_there (slot_table m) >>= λ a. Some (TableAt a)) >>= address_of k)
   slots_part k = ap (λ e. (e >>= (address_in i)) >>= address_of k) (slots_exported namespace names.export_prefix m moved primary_holds)
 
-  module _ (things : List Thing) (supplied : all_there given loads.imports ≡ Some things) where
+  module _ (things : List ExternalValue) (supplied : all_there given loads.imports ≡ Some things) where
     -- its instance
     abbrev pub j : Inst
     j = next_inst s loads things
@@ -180,7 +180,7 @@ module _ (namespace : ℕ → List ℕ) (names : SplitNames) (m : Module) (holds
         ∙ filter_map-append (at_kind k) (from Functions) (from Tables ++ (for_slots ∷ (from Memories ++ from Globals)))
         ∙ ap₂ (λ xs ys. xs ++ ys) f (filter_map-append (at_kind k) (from Tables) (for_slots ∷ (from Memories ++ from Globals)) ∙ ap₂ (λ xs ys. xs ++ ys) t (ap₂ cons_option e (filter_map-append (at_kind k) (from Memories) (from Globals) ∙ ap₂ (λ xs ys. xs ++ ys) g h)))
 
-    none : (k : Space) (thing : ℕ → Thing) (there : ℕ → Option ℕ) → ((a : ℕ) → address_of k (thing a) ≡ None) → (x : ℕ) → ((there x >>= λ a. Some (thing a)) >>= address_of k) ≡ None
+    none : (k : Space) (thing : ℕ → ExternalValue) (there : ℕ → Option ℕ) → ((a : ℕ) → address_of k (thing a) ≡ None) → (x : ℕ) → ((there x >>= λ a. Some (thing a)) >>= address_of k) ≡ None
     none k thing there h x = of_another k thing h (there x)
 
     func_addresses : addresses_of Functions things ≡ filter_map func_there (shared Functions)

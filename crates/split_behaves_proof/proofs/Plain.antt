@@ -7,11 +7,11 @@ use Rattle.wasm_meaning.specs.State.{Act, Calls, Goes, AsksGrow, Ends, Code, Ent
 use Rattle.wasm_meaning.specs.Values.{pop_typed, with_values}
 use Rattle.wasm_meaning.specs.Control.{type_at}
 use Rattle.wasm_meaning.specs.Step.{act, enter, enter_at, frame_of, give, give_levels, perform, step}
-use Rattle.wasm_meaning.specs.Environment.{FuncAt, GlobalAt, MemoryAt, Shown, TableAt, Thing, func_of, received, received_all, received_ref}
+use Rattle.wasm_meaning.specs.Environment.{FuncAt, GlobalAt, MemoryAt, Shown, TableAt, ExternalValue, func_of, received, received_all, received_ref}
 use Rattle.wasm_meaning.specs.Memory.{memory_may_grow}
 use Rattle.wasm_meaning.specs.Tables.{table_may_grow}
 use Rattle.wasm_meaning.specs.Run.{Closed, Fresh, Move, Opened, Pending, Phase, Run, Steps, Makes, Transition, Answer, Call, Deny, Extend, Get, Grant, Invoke, Refuse, Set, Size, Take, answered, at_entries, byte_of, called, closed_move, decided, delivered, extended, got, granted, in_phase, is_mark, is_taken_closed, moved, nothing_in, next_move, open_next, or_bad, or_closed, place_at, refused, set, size_of, started, transition, transition_at, viewed_at}
-use Rattle.index_remap.specs.ListedRuns.{calls_placeholder}
+use Rattle.index_remap.specs.OpaqueRuns.{calls_placeholder}
 use Rattle.index_remap.proofs.Rel.{IfThere, absent, present, then_all, any_there}
 
 abbrev IsPlain : Transition → Type 0
@@ -85,26 +85,26 @@ module _ (s : Store) (none : (a n : ℕ) (u : FuncType) → slice_get s.funcs a 
   either_plain true o h = h
   either_plain false o h = absent
 
-  got_plain : (r : Run) (x : Thing) (n : ℕ) → IfThere IsPlain (got r x n)
+  got_plain : (r : Run) (x : ExternalValue) (n : ℕ) → IfThere IsPlain (got r x n)
   got_plain r (FuncAt a) n = absent
   got_plain r (TableAt a) n = made_plain (slice_get r.store.tables a) _ (λ t. made_plain (slice_get t.slots n) _ (λ v. present refl))
   got_plain r (MemoryAt a) n = made_plain (slice_get r.store.mems a) _ (λ m. made_plain (slice_get m.bytes n) _ (λ b. present refl))
   got_plain r (GlobalAt a) n = made_plain (slice_get r.store.globals a) _ (λ g. either_plain (nat_eq n 0) _ (present refl))
 
-  size_plain : (r : Run) (x : Thing) → IfThere IsPlain (size_of r x)
+  size_plain : (r : Run) (x : ExternalValue) → IfThere IsPlain (size_of r x)
   size_plain r (FuncAt a) = absent
   size_plain r (TableAt a) = made_plain (slice_get r.store.tables a) _ (λ t. present refl)
   size_plain r (MemoryAt a) = made_plain (slice_get r.store.mems a) _ (λ m. present refl)
   size_plain r (GlobalAt a) = made_plain (slice_get r.store.globals a) _ (λ g. present refl)
 
-  set_plain : (r : Run) (x : Thing) (n : ℕ) (v : Shown) → IfThere IsPlain (set r x n v)
+  set_plain : (r : Run) (x : ExternalValue) (n : ℕ) (v : Shown) → IfThere IsPlain (set r x n v)
   set_plain r (FuncAt a) n x = absent
   set_plain r (TableAt a) n x = made_plain (slice_get r.store.tables a) _ (λ t. made_plain (received_ref r.owned r.shown t.ty x) _ (λ v. made_plain (overwrite t.slots n (v ∷ [])) _ (λ slots. present refl)))
   set_plain r (MemoryAt a) n x = made_plain (slice_get r.store.mems a) _ (λ m. made_plain (byte_of x) _ (λ b. made_plain (overwrite m.bytes n (b ∷ [])) _ (λ bytes. present refl)))
   set_plain r (GlobalAt a) n x =
       made_plain (slice_get r.store.globals a) _ (λ g. either_plain (nat_eq n 0) _ (either_plain g.ty.mutable _ (made_plain (received r.owned r.shown g.ty.ty x) _ (λ v. present refl))))
 
-  extended_plain : (r : Run) (x : Thing) (n : ℕ) → IfThere IsPlain (extended r x n)
+  extended_plain : (r : Run) (x : ExternalValue) (n : ℕ) → IfThere IsPlain (extended r x n)
   extended_plain r (FuncAt a) n = absent
   extended_plain r (TableAt a) n = made_plain (slice_get r.store.tables a) _ (λ t. either_plain (table_may_grow t n) _ (present refl))
   extended_plain r (MemoryAt a) n = made_plain (slice_get r.store.mems a) _ (λ m. either_plain (memory_may_grow m n) _ (present refl))

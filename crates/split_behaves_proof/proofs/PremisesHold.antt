@@ -15,7 +15,7 @@ use Rattle.wasm_meaning.specs.Loader.{LoaderWorld}
 use Rattle.split_plan.specs.Plans.{body_uses_segment}
 use Rattle.split_spec.specs.Faults.{prefix_taken}
 use Rattle.split_spec.proofs.Rows.{names, placeholder_word, func, export, table, gives_number}
-use Rattle.split_behaves_proof.specs.Laws.{BehavesAs, CanBeSplit, most_params}
+use Rattle.split_behaves_proof.specs.Laws.{ObservationallyEquivalent, CanBeSplit, most_params}
 use Rattle.split_behaves_proof.proofs.SmallRuns.{f, g}
 use Rattle.split_behaves_proof.proofs.WrongSplits.{giving, endless, an_endless_function_is_refused, holding, in_own_table, slots_in_place_of_entries_are_refused, more_entries_are_refused}
 
@@ -90,18 +90,18 @@ holding_can_be_split = record { valid = holding_is_valid; bounded = holding_is_b
 -- ---- wrong splits ----
 
 -- what the law says, with this split in the place of `split_world`
-abbrev ShowsTheSame : (Module → List ℕ → LoaderWorld) → Type 0
-ShowsTheSame split = (m : Module) (moved : List ℕ) → CanBeSplit (λ slot. placeholder_word) names m moved (moved ∷ []) → BehavesAs m (split m moved) (most_params m moved)
+abbrev HasEqualTraces : (Module → List ℕ → LoaderWorld) → Type 0
+HasEqualTraces split = (m : Module) (moved : List ℕ) → CanBeSplit (λ slot. placeholder_word) names m moved (moved ∷ []) → ObservationallyEquivalent m (split m moved) (most_params m moved)
 
 -- no split that gives this world for the module satisfies it
 abbrev BreaksTheLaw : Module → LoaderWorld → Type 0
-BreaksTheLaw m wrong = (split : Module → List ℕ → LoaderWorld) → split m (0 ∷ []) ≡ wrong → ShowsTheSame split → ⊥
+BreaksTheLaw m wrong = (split : Module → List ℕ → LoaderWorld) → split m (0 ∷ []) ≡ wrong → HasEqualTraces split → ⊥
 
 an_endless_function_breaks_it : BreaksTheLaw giving endless
-an_endless_function_breaks_it split gives law = an_endless_function_is_refused (subst (λ w. BehavesAs giving w 0) gives (law giving (0 ∷ []) giving_can_be_split))
+an_endless_function_breaks_it split gives law = an_endless_function_is_refused (subst (λ w. ObservationallyEquivalent giving w 0) gives (law giving (0 ∷ []) giving_can_be_split))
 
 slots_in_place_of_entries_break_it : BreaksTheLaw holding (in_own_table 1)
-slots_in_place_of_entries_break_it split gives law = slots_in_place_of_entries_are_refused (subst (λ w. BehavesAs holding w 0) gives (law holding (0 ∷ []) holding_can_be_split))
+slots_in_place_of_entries_break_it split gives law = slots_in_place_of_entries_are_refused (subst (λ w. ObservationallyEquivalent holding w 0) gives (law holding (0 ∷ []) holding_can_be_split))
 
 more_entries_break_it : BreaksTheLaw holding (in_own_table 2)
-more_entries_break_it split gives law = more_entries_are_refused (subst (λ w. BehavesAs holding w 0) gives (law holding (0 ∷ []) holding_can_be_split))
+more_entries_break_it split gives law = more_entries_are_refused (subst (λ w. ObservationallyEquivalent holding w 0) gives (law holding (0 ∷ []) holding_can_be_split))

@@ -7,18 +7,18 @@ use Rattle.wasm_tree.specs.declared.types.ValType.TheVariants as valt
 use Rattle.wasm_tree.specs.declared.types.RefType.TheVariants as reft
 use Rattle.wasm_meaning.specs.Outcomes.{Gives}
 use Rattle.wasm_meaning.specs.Values.{typed}
-use Rattle.wasm_meaning.specs.Environment.{Shown, Number, Null, OwnFunc, ExternNumber, Function, Thing, FuncKey, Owned, same_key, owned_at, look_up, func_of, func_value, received, received_all}
+use Rattle.wasm_meaning.specs.Environment.{Shown, Number, Null, OwnFunc, ExternNumber, Function, ExternalValue, FuncKey, Owned, same_key, owned_at, look_up, func_of, func_value, received, received_all}
 use Rattle.index_remap.specs.Related.{Pairing, OptRel, none, some, ListRel, nil, cons, ValRel, number, reference, func, extern}
-use Rattle.index_remap.specs.RelatedRuns.{ThingRel, a_func, a_table, a_memory, a_global, KeyRel}
+use Rattle.index_remap.specs.RelatedRuns.{ExternalValueRel, a_func, a_table, a_memory, a_global, KeyRel}
 use Rattle.index_remap.specs.Trampolines.{HaveTypes}
 use Rattle.index_remap.proofs.Rel.{IfThere, absent, present, then_all, any_there, then_rel, either_rel, get_rel}
 
 module _ (R : Pairing) where
-  pub look_rel : {K : Type 0} (is : K → Bool) {xs ys : List (K × Thing)} → ListRel (KeyRel R) xs ys → OptRel (ThingRel R) (look_up is xs) (look_up is ys)
+  pub look_rel : {K : Type 0} (is : K → Bool) {xs ys : List (K × ExternalValue)} → ListRel (KeyRel R) xs ys → OptRel (ExternalValueRel R) (look_up is xs) (look_up is ys)
   look_rel is nil = none
   look_rel is (cons {b = b} o os) = rw o.key (either_rel (is b.0) (some o.thing) (look_rel is os))
 
-  pub func_of_rel : {x y : Thing} → ThingRel R x y → OptRel (R.of Functions) (func_of x) (func_of y)
+  pub func_of_rel : {x y : ExternalValue} → ExternalValueRel R x y → OptRel (R.of Functions) (func_of x) (func_of y)
   func_of_rel (a_func n) = some n
   func_of_rel (a_table n) = none
   func_of_rel (a_memory n) = none

@@ -5,20 +5,20 @@ use Rattle.index_remap.specs.Trampolines.{TrampolinesEnterSlots}
 use Rattle.world_simulation.specs.LoaderSteps.{PlaceholdersAreAnswered}
 use Rattle.split_spec.specs.declared.names.SplitNames.{SplitNames}
 use Rattle.std.specs.Prelude.{ℕ, List}
-use Rattle.split_behaves_proof.specs.Laws.{CanBeSplit, SplitModulesShowTheSame, most_params}
-use Rattle.split_behaves_proof.specs.LoadedCode.{InstancesOfSplitsAreAlike}
+use Rattle.split_behaves_proof.specs.Laws.{CanBeSplit, SplitModuleEquivalent, most_params}
+use Rattle.split_behaves_proof.specs.LoadedCode.{InstancesOfSplitsAreRelated}
 use Rattle.split_behaves_proof.proofs.Enters.{enters_answered}
-use Rattle.split_behaves_proof.proofs.Instead.{answered_instead}
+use Rattle.split_behaves_proof.proofs.ReplacedCalls.{answered_instead}
 use Rattle.split_behaves_proof.proofs.Settled.{SettleLaws}
 use Rattle.split_behaves_proof.proofs.SplitRuns.{EachCallAnswered, behaves}
 use Rattle.split_behaves_proof.proofs.Steps.{StepLaws}
 
-module _ (laws : SettleLaws) (steps : StepLaws) (alike : InstancesOfSplitsAreAlike) (answered : PlaceholdersAreAnswered) (tramp : TrampolinesEnterSlots) where
+module _ (laws : SettleLaws) (steps : StepLaws) (alike : InstancesOfSplitsAreRelated) (answered : PlaceholdersAreAnswered) (tramp : TrampolinesEnterSlots) where
   each_call : (namespace : ℕ → List ℕ) (names : SplitNames) (m : Module) (moved : List ℕ) (owns : List (List ℕ)) (g : CanBeSplit namespace names m moved owns) (env : Environment) → EachCallAnswered laws.begin steps alike namespace names m moved owns g env
   each_call namespace names m moved owns g env i j a = record {
     enters = λ loaded r q h e. enters_answered laws answered tramp namespace names m moved owns g env i j a loaded r q h e;
     instead = λ loaded r q h e. answered_instead laws answered namespace names m moved owns g env i j a (most_params m moved) loaded r q h e;
   }
 
-  pub show_the_same : SplitModulesShowTheSame
+  pub show_the_same : SplitModuleEquivalent
   show_the_same namespace names m moved owns g env is named moves n = behaves laws.begin steps alike namespace names m moved owns g env (each_call namespace names m moved owns g env) moves n

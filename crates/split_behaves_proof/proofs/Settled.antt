@@ -20,7 +20,7 @@ use Rattle.wasm_meaning.specs.State.{Pair, FuncRef, RefVal, Inst, Store}
 use Rattle.wasm_meaning.specs.Environment.{Environment}
 use Rattle.wasm_meaning.specs.Linking.{export_named}
 use Rattle.wasm_meaning.specs.World.{address_in, own_count}
-use Rattle.wasm_meaning.specs.InTurn.{added}
+use Rattle.wasm_meaning.specs.Sequential.{added}
 use Rattle.wasm_meaning.specs.Run.{Run}
 use Rattle.wasm_meaning.specs.Loader.{Secondary, LoaderWorld, LoaderRun, secondary_of, store_loaded}
 use Rattle.index_remap.specs.Related.{Pairing}
@@ -36,7 +36,7 @@ use Rattle.split_behaves_proof.specs.Addresses.{defined_address, is_partner, may
 use Rattle.split_behaves_proof.specs.Begins.{RunsRelated}
 use Rattle.split_behaves_proof.specs.Laws.{CanBeSplit}
 use Rattle.split_behaves_proof.specs.Loads.{Loads, references}
-use Rattle.split_behaves_proof.specs.LoadedCode.{InstancesAlike, RelatedAsLoaded, loaded_from}
+use Rattle.split_behaves_proof.specs.LoadedCode.{InstancesAreRelated, RelatedAsLoaded, loaded_from}
 use Rattle.split_behaves_proof.specs.States.{Corresponds, SlotHolds, SlotIs, filled, waits}
 use Rattle.split_behaves_proof.proofs.AlwaysLoads.{LoadLaws, secondaries_load, small}
 use Rattle.split_behaves_proof.proofs.Begins.{slots_many}
@@ -65,7 +65,7 @@ pair_of env m (f ∷ own) from a c h =
     (λ e. let r = pair_of env m own (suc from) a c e in let same = r.4 in (suc r.0, r.1, r.2, r.3, omega (arith, same)))
     (either_true (nat_eq (defined_address env m f) a && nat_eq from c) (list_any (λ p. nat_eq p.0 a && nat_eq p.1 c) (loaded_from env m own (suc from))) h)
 
-module _ (laws : SettleLaws) (namespace : ℕ → List ℕ) (names : SplitNames) (m : Module) (moved : List ℕ) (owns : List (List ℕ)) (g : CanBeSplit namespace names m moved owns) (env : Environment) (first second : Inst) (alike : InstancesAlike env m moved first second) where
+module _ (laws : SettleLaws) (namespace : ℕ → List ℕ) (names : SplitNames) (m : Module) (moved : List ℕ) (owns : List (List ℕ)) (g : CanBeSplit namespace names m moved owns) (env : Environment) (first second : Inst) (alike : InstancesAreRelated env m moved first second) where
   abbrev pub w : LoaderWorld
   w = split_world namespace names m moved owns
 

@@ -101,7 +101,7 @@ it_is_seen_under_the_loader = refl
 the_split_is_seen_so : events_loaded (pair_world names subtracting (0 ∷ [])) [] subtractions 40 ≡ differences
 the_split_is_seen_so = ap (λ w. events_loaded w [] subtractions 40) subtracting_is_split ∙ it_is_seen_under_the_loader
 
--- the slots are not seen
+-- the slots make no difference to the trace
 the_slots_have_no_name : events_loaded subtracting_world [] (Size (Named slots_word) ∷ []) 10 ≡ Linked ∷ (BadMove ∷ [])
 unfolding out-Instr denote.Hole.Carrier.out wrapped
 the_slots_have_no_name = refl

@@ -1,7 +1,7 @@
 -- A split module shows under its loader what the module shows alone, where each call of a function that moves is answered.
 use Rattle.std.proofs.Common.{◌≡◌, ◌∙◌, refl, ap, sym, subst, ℕ, ◌+◌, ◌*◌, List, [], Option, Some, None, Bool, true, false, arith}
 use Rattle.base_simulation.specs.Machines.{IsPrefix, events_of, noted}
-use Rattle.base_simulation.proofs.Led.{LeadsSome, led_by_some_show_the_same}
+use Rattle.base_simulation.proofs.LedRuns.{LeadsSome, stuttering_simulation}
 use Rattle.base_simulation.proofs.Prefixes.{is_prefix, more_events, prefix_trans}
 use Rattle.wasm_tree.specs.declared.module.Module.{Module}
 use Rattle.wasm_meaning.specs.State.{Inst}
@@ -11,7 +11,7 @@ use Rattle.wasm_meaning.specs.Run.{Closed, Move, Opened, Out, Run, events, fresh
 use Rattle.wasm_meaning.specs.World.{Begun, alone, instantiate}
 use Rattle.index_remap.specs.Related.{OptRel, none, some, nil}
 use Rattle.index_remap.specs.RelatedRuns.{BegunRel, closed}
-use Rattle.index_remap.specs.ListedRuns.{TickSkips, calls_placeholder}
+use Rattle.index_remap.specs.OpaqueRuns.{TickSkips, calls_placeholder}
 use Rattle.index_remap.specs.Trampolines.{FramesBetween}
 use Rattle.world_extension_proof.specs.Over.{IsOver}
 use Rattle.split_spec.specs.declared.names.SplitNames.{SplitNames}
@@ -19,7 +19,7 @@ use Rattle.split_proof.proofs.Spaces.{ItemsHold}
 use Rattle.split_behaves_proof.specs.Addresses.{split_pairing}
 use Rattle.split_behaves_proof.specs.Begins.{RunsRelated}
 use Rattle.split_behaves_proof.specs.Laws.{CanBeSplit, most_params}
-use Rattle.split_behaves_proof.specs.LoadedCode.{InstancesAlike, InstancesOfSplitsAreAlike}
+use Rattle.split_behaves_proof.specs.LoadedCode.{InstancesAreRelated, InstancesOfSplitsAreRelated}
 use Rattle.split_behaves_proof.specs.States.{Corresponds}
 use Rattle.split_behaves_proof.proofs.Begins.{begin_alike}
 use Rattle.split_behaves_proof.proofs.BeginFuncs.{first_insts, second_begins}
@@ -28,7 +28,7 @@ use Rattle.split_behaves_proof.proofs.Entries.{Laws, holds, split}
 use Rattle.split_behaves_proof.proofs.Partners.{one_to_one}
 use Rattle.split_behaves_proof.proofs.Steps.{CallsAnswered, StepLaws, answered, goes, in_two}
 
-module _ (laws : Laws) (steps : StepLaws) (alike : InstancesOfSplitsAreAlike) (namespace : ℕ → List ℕ) (names : SplitNames) (m : Module) (moved : List ℕ) (owns : List (List ℕ)) (g : CanBeSplit namespace names m moved owns) (env : Environment) where
+module _ (laws : Laws) (steps : StepLaws) (alike : InstancesOfSplitsAreRelated) (namespace : ℕ → List ℕ) (names : SplitNames) (m : Module) (moved : List ℕ) (owns : List (List ℕ)) (g : CanBeSplit namespace names m moved owns) (env : Environment) where
   abbrev valid : ItemsHold m
   valid = holds laws namespace names m moved owns g
 
@@ -40,7 +40,7 @@ module _ (laws : Laws) (steps : StepLaws) (alike : InstancesOfSplitsAreAlike) (n
 
   -- each call of a function that moves is answered
   abbrev pub EachCallAnswered : Type 0
-  EachCallAnswered = (i j : Inst) → InstancesAlike env m moved i j → CallsAnswered steps env m moved w i j (one_to_one namespace names.export_prefix m valid moved g.can_move env) most
+  EachCallAnswered = (i j : Inst) → InstancesAreRelated env m moved i j → CallsAnswered steps env m moved w i j (one_to_one namespace names.export_prefix m valid moved g.can_move env) most
 
   module _ (calls : EachCallAnswered) (moves : List Move) where
     -- where the two runs stand: at the beginning; or both over, as one run or related; or at the same place
@@ -48,7 +48,7 @@ module _ (laws : Laws) (steps : StepLaws) (alike : InstancesOfSplitsAreAlike) (n
       fresh : r ≡ fresh_run env (instantiate env (alone m)) moves → q ≡ fresh_loader env w moves → Place r q
       as_one : IsOver r → q.run ≡ r → Place r q
       over : IsOver r → RunsRelated (split_pairing env m moved []) r q.run → Place r q
-      going : (i j : Inst) → InstancesAlike env m moved i j → (loaded : List (ℕ × ℕ)) → Corresponds env m moved w i j loaded r q → Place r q
+      going : (i j : Inst) → InstancesAreRelated env m moved i j → (loaded : List (ℕ × ℕ)) → Corresponds env m moved w i j loaded r q → Place r q
 
     abbrev Next : Run → LoaderRun → Type 0
     Next = LeadsSome tick (tick_loader w) (most + 3) Place
@@ -126,7 +126,7 @@ module _ (laws : Laws) (steps : StepLaws) (alike : InstancesOfSplitsAreAlike) (n
         record { further = s.further; bound = omega (arith, few); shown = s.shown; states = going i j a s.loaded s.next }
 
     seen : (n : ℕ) → IsPrefix (events (alone m) env moves n) (events_loaded w env moves ((most + 3) * n)) × IsPrefix (events_loaded w env moves n) (events (alone m) env moves n)
-    seen n = led_by_some_show_the_same tick (tick_loader w) (most + 3) Place next (fresh_run env (instantiate env (alone m)) moves) (fresh_loader env w moves) (fresh refl refl) n
+    seen n = stuttering_simulation tick (tick_loader w) (most + 3) Place next (fresh_run env (instantiate env (alone m)) moves) (fresh_loader env w moves) (fresh refl refl) n
 
     -- with steps to spare
     pub shows : (n : ℕ) → IsPrefix (events (alone m) env moves n) (events_loaded w env moves ((most + 8) * (n + 1))) × IsPrefix (events_loaded w env moves n) (events (alone m) env moves n)

@@ -9,8 +9,8 @@ use Rattle.wasm_meaning.specs.Run.{Phase, Run, tick, transition}
 use Rattle.index_remap.specs.Related.{OneToOne, Pairing}
 use Rattle.index_remap.specs.RelatedRuns.{IsBegun, PhaseRel, closed, fresh, opened, pending}
 use Rattle.index_remap.specs.Laws.{EntriesKnown}
-use Rattle.index_remap.specs.ListedRuns.{TickSkips, calls_placeholder}
-use Rattle.index_remap.specs.Trampolines.{AnsweredInTwo, FramesBetweenAreNotSeen}
+use Rattle.index_remap.specs.OpaqueRuns.{TickSkips, calls_placeholder}
+use Rattle.index_remap.specs.Trampolines.{AnsweredInTwo, PassingFramesStutter}
 use Rattle.index_remap.proofs.Known.{top_known}
 use Rattle.world_extension_proof.specs.Extends.{LoadersExtend, StepsExtend}
 use Rattle.world_extension_proof.specs.Over.{RunsThatAreOverStaySo}
@@ -19,7 +19,7 @@ use Rattle.world_simulation.specs.LoaderSteps.{GoesAsItsRun, LoadersGoAsTheirRun
 use Rattle.split_behaves_proof.specs.Addresses.{is_partner, may_stand, moved_addresses, slot_table_address, split_pairing}
 use Rattle.split_behaves_proof.specs.Answered.{StepAnswered}
 use Rattle.split_behaves_proof.specs.Begins.{RunsRelated}
-use Rattle.split_behaves_proof.specs.ListedCalls.{NoCallBegins, CodeInstead, EntersBoth, StepsGoOneWay, WaysToStep, enters, instead, skips, wrong}
+use Rattle.split_behaves_proof.specs.MovedCalls.{NoCallBegins, ReplacementCode, EntersInBoth, EveryStepCallsMovedTogether, StepsCallMovedTogether, enters, instead, skips, wrong}
 use Rattle.split_behaves_proof.specs.States.{Corresponds}
 use Rattle.split_behaves_proof.proofs.Entered.{funcs_stay}
 use Rattle.split_behaves_proof.proofs.LoadKeeps.{slot_table_alone}
@@ -27,13 +27,13 @@ use Rattle.split_behaves_proof.proofs.Plain.{no_placeholder_called}
 
 -- what the laws below say
 pub record StepLaws : Type 0 where
-  pub between : FramesBetweenAreNotSeen
+  pub between : PassingFramesStutter
   pub runs : LoadersGoAsTheirRun
   pub loaders : LoadersExtend
   pub steps : StepsExtend
   pub stays : InstancesStayTyped
   pub over : RunsThatAreOverStaySo
-  pub ways : StepsGoOneWay
+  pub ways : EveryStepCallsMovedTogether
 
 phase_begun : {R : Pairing} {B : _} {p o : Phase} → PhaseRel R B p o → IsBegun p → IsBegun o
 phase_begun (fresh b) h = h
@@ -113,13 +113,13 @@ module _ (laws : StepLaws) (env : Environment) (m : Module) (moved : List ℕ) (
 
   -- the two cases in which a call of a function that moves begins
   pub record CallsAnswered : Type 0 where
-    pub enters : (loaded : List (ℕ × ℕ)) (r : Run) (q : LoaderRun) → Corresponds env m moved w first second loaded r q → EntersBoth (split_pairing env m moved loaded) r q.run → StepAnswered env m moved w first second most r q
-    pub instead : (loaded : List (ℕ × ℕ)) (r : Run) (q : LoaderRun) → Corresponds env m moved w first second loaded r q → CodeInstead (split_pairing env m moved loaded) r q.run → StepAnswered env m moved w first second most r q
+    pub enters : (loaded : List (ℕ × ℕ)) (r : Run) (q : LoaderRun) → Corresponds env m moved w first second loaded r q → EntersInBoth (split_pairing env m moved loaded) r q.run → StepAnswered env m moved w first second most r q
+    pub instead : (loaded : List (ℕ × ℕ)) (r : Run) (q : LoaderRun) → Corresponds env m moved w first second loaded r q → ReplacementCode (split_pairing env m moved loaded) r q.run → StepAnswered env m moved w first second most r q
 
   pub answered : CallsAnswered → (loaded : List (ℕ × ℕ)) (r : Run) (q : LoaderRun) → Corresponds env m moved w first second loaded r q → StepAnswered env m moved w first second most r q
   answered calls loaded r q h = by (laws.ways (is_partner env m moved) (moved_addresses env m moved) (may_stand env m moved loaded) (apart loaded) r q.run h.begun h.related)
     where
-      by : WaysToStep (split_pairing env m moved loaded) r q.run → StepAnswered env m moved w first second most r q
+      by : StepsCallMovedTogether (split_pairing env m moved loaded) r q.run → StepAnswered env m moved w first second most r q
       by (skips free) = answered_skips loaded r q h free
       by (enters e) = calls.enters loaded r q h e
       by (instead e) = calls.instead loaded r q h e

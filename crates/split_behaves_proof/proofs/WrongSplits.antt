@@ -1,4 +1,4 @@
--- Splits that are wrong, and a view that is: what is seen of them is not seen of the module, by computation.
+-- Splits that are wrong, and a view that is: a trace of one is no trace of the module, by computation.
 use Rattle.std.proofs.Common.{◌≡◌, refl, sym, ap, subst, ℕ, zero, ◌+◌, ◌*◌, arith, List, [], ◌∷◌, Bool, true, false}
 use Rattle.std.specs.Prelude.{pos, nat_eq}
 use Rattle.wasm_tree.specs.declared.instr.Instr.{out-Instr}
@@ -18,17 +18,17 @@ use Rattle.wasm_meaning.specs.Run.{Event, Linked, Returned, Got, BadMove, Move, 
 use Rattle.wasm_meaning.specs.Loader.{LoaderWorld, events_loaded}
 use Rattle.split_spec.proofs.Rows.{placeholder_word, primary_word, slots_word, shared_word, empty, func, import, export, table, segment, gives_number, takes_two, slots_import}
 use Rattle.split_behaves_proof.specs.Worlds.{in_place_of}
-use Rattle.split_behaves_proof.specs.Laws.{BehavesAs}
+use Rattle.split_behaves_proof.specs.Laws.{ObservationallyEquivalent}
 use Rattle.split_behaves_proof.proofs.SmallRuns.{f, g, number, one_slot, two_slots, subtracting, subtracting_primary, subtracting_secondary, subtracting_world}
 
 -- Where what is seen of a world in so many steps does not begin what is seen of the module in as many, it does not behave as the module.
 refused : (m : Module) (w : LoaderWorld) (most : ℕ) (moves : List Move) (n : ℕ) (xs ys : List Event) →
-    events_loaded w [] moves n ≡ xs → events (alone m) [] moves n ≡ ys → (IsPrefix xs ys → ⊥) → BehavesAs m w most → ⊥
+    events_loaded w [] moves n ≡ xs → events (alone m) [] moves n ≡ ys → (IsPrefix xs ys → ⊥) → ObservationallyEquivalent m w most → ⊥
 refused m w most moves n xs ys seen shown apart same = apart (rw (← seen) (rw (← shown) (same [] refl tt moves n).1))
 
 -- nor where what is seen of the module in so many steps does not begin what is seen of the world in as many as the law has
 refused_later : (m : Module) (w : LoaderWorld) (most : ℕ) (moves : List Move) (n k : ℕ) (xs ys : List Event) → k ≡ (most + 8) * (n + 1) →
-    events (alone m) [] moves n ≡ xs → events_loaded w [] moves k ≡ ys → (IsPrefix xs ys → ⊥) → BehavesAs m w most → ⊥
+    events (alone m) [] moves n ≡ xs → events_loaded w [] moves k ≡ ys → (IsPrefix xs ys → ⊥) → ObservationallyEquivalent m w most → ⊥
 refused_later m w most moves n k xs ys steps seen shown apart same =
     apart (rw (← seen) (rw (← shown) (subst (λ j. IsPrefix (events (alone m) [] moves n) (events_loaded w [] moves j)) (sym steps) (same [] refl tt moves n).0)))
 
@@ -53,7 +53,7 @@ another_difference : events_loaded (in_place_of subtracting reversing (one_slot 
 unfolding out-Instr denote.Hole.Carrier.out wrapped un_from un_to un_value bin_from bin_to bin_value
 another_difference = refl
 
-arguments_in_reverse_are_refused : BehavesAs subtracting (in_place_of subtracting reversing (one_slot takes_two subtracting_secondary)) 2 → ⊥
+arguments_in_reverse_are_refused : ObservationallyEquivalent subtracting (in_place_of subtracting reversing (one_slot takes_two subtracting_secondary)) 2 → ⊥
 arguments_in_reverse_are_refused =
     refused subtracting (in_place_of subtracting reversing (one_slot takes_two subtracting_secondary)) 2 subtraction 20 _ _ another_difference the_difference (λ p. let k : gives_second 2 (Linked ∷ (number 4294967294 ∷ p.0)) ≡ true = ap (gives_second 2) p.1 in cc)
 
@@ -70,7 +70,7 @@ one_is_seen : events_loaded with_slots [] (Size (Named slots_word) ∷ []) 20 �
 unfolding out-Instr denote.Hole.Carrier.out wrapped
 one_is_seen = refl
 
-a_view_with_the_slots_is_refused : BehavesAs subtracting with_slots 2 → ⊥
+a_view_with_the_slots_is_refused : ObservationallyEquivalent subtracting with_slots 2 → ⊥
 a_view_with_the_slots_is_refused = refused subtracting with_slots 2 (Size (Named slots_word) ∷ []) 20 _ _ one_is_seen no_slots (λ p. let k = p.1 in cc)
 
 -- ---- slots filled with another function ----
@@ -104,7 +104,7 @@ eight_is_seen_in_reverse : events_loaded (in_order 1 0) [] (Call f [] ∷ []) 20
 unfolding out-Instr denote.Hole.Carrier.out wrapped
 eight_is_seen_in_reverse = refl
 
-slots_in_reverse_are_refused : BehavesAs two (in_order 1 0) 0 → ⊥
+slots_in_reverse_are_refused : ObservationallyEquivalent two (in_order 1 0) 0 → ⊥
 slots_in_reverse_are_refused = refused two (in_order 1 0) 0 (Call f [] ∷ []) 20 _ _ eight_is_seen_in_reverse seven_is_seen (λ p. let k : gives_second 7 (Linked ∷ (number 8 ∷ p.0)) ≡ true = ap (gives_second 7) p.1 in cc)
 
 -- ---- a secondary module that names its own function ----
@@ -155,7 +155,7 @@ abbrev gives_first : List Event → Bool
 gives_first (d ∷ (e ∷ (Returned (Function zero ∷ []) ∷ es))) = true
 gives_first es = false
 
-a_secondary_that_names_its_own_is_refused : BehavesAs referring (naming 1) 0 → ⊥
+a_secondary_that_names_its_own_is_refused : ObservationallyEquivalent referring (naming 1) 0 → ⊥
 a_secondary_that_names_its_own_is_refused = refused referring (naming 1) 0 taken_and_called 20 _ _ two_functions_are_shown one_function_is_shown (λ p. let k : gives_first (Linked ∷ (Got (Function 0) ∷ (Returned (Function 1 ∷ []) ∷ p.0))) ≡ true = ap gives_first p.1 in cc)
 
 -- ---- a function that never ends ----
@@ -185,7 +185,7 @@ unfolding out-Instr denote.Hole.Carrier.out wrapped
 it_gives_nothing = refl
 
 -- What is seen of it begins what is seen of the module, in whatever number of steps; but it has to show what the module shows as well.
-pub an_endless_function_is_refused : BehavesAs giving endless 0 → ⊥
+pub an_endless_function_is_refused : ObservationallyEquivalent giving endless 0 → ⊥
 an_endless_function_is_refused = refused_later giving endless 0 (Call f [] ∷ []) 5 48 _ _ (omega arith) it_gives_seven it_gives_nothing (λ p. let k = p.1 in cc)
 
 -- ---- slots in a table of the module ----
@@ -214,7 +214,7 @@ a_placeholder_is_got : events_loaded (in_own_table 1) [] (Get (Named g) 0 ∷ []
 unfolding out-Instr denote.Hole.Carrier.out wrapped
 a_placeholder_is_got = refl
 
-pub slots_in_place_of_entries_are_refused : BehavesAs holding (in_own_table 1) 0 → ⊥
+pub slots_in_place_of_entries_are_refused : ObservationallyEquivalent holding (in_own_table 1) 0 → ⊥
 slots_in_place_of_entries_are_refused = refused holding (in_own_table 1) 0 (Get (Named g) 0 ∷ []) 20 _ _ a_placeholder_is_got null_is_got (λ p. let k = p.1 in cc)
 
 one_entry_is_counted : events (alone holding) [] (Size (Named g) ∷ []) 20 ≡ Linked ∷ (Got (Number 1) ∷ [])
@@ -230,6 +230,6 @@ abbrev counts_second : ℕ → List Event → Bool
 counts_second n (e ∷ (Got (Number k) ∷ es)) = nat_eq n k
 counts_second n es = false
 
-pub more_entries_are_refused : BehavesAs holding (in_own_table 2) 0 → ⊥
+pub more_entries_are_refused : ObservationallyEquivalent holding (in_own_table 2) 0 → ⊥
 more_entries_are_refused =
     refused holding (in_own_table 2) 0 (Size (Named g) ∷ []) 20 _ _ two_entries_are_counted one_entry_is_counted (λ p. let k : counts_second 1 (Linked ∷ (Got (Number 2) ∷ p.0)) ≡ true = ap (counts_second 1) p.1 in cc)

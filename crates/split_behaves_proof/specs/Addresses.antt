@@ -1,4 +1,4 @@
--- Which addresses stand for one another where a module is instantiated alone and where its split is, under the loader of its secondary modules, and which code may stand in
+-- Which addresses correspond where a module is instantiated alone and where its split is, under the loader of its secondary modules, and which code may stand in
 -- place of a call of a function that moves. In both stores the environment's own entities come first. Then the split has the placeholders, one for each slot, the functions
 -- that its primary module defines, and those of the secondary modules, in the order in which these are loaded.
 use Rattle.std.specs.Prelude.{ℕ, ℤ, ◌+◌, ◌-◌, Bool, false, ◌&&◌, cond, nat_eq, nat_lt, List, [], ◌∷◌, map, length, Some, slice_get, slice_index, unwrap_or}
@@ -26,7 +26,7 @@ use Rattle.split_behaves_proof.specs.Worlds.{type_in}
 abbrev pub defined_address : Environment → Module → (func : ℕ) → ℕ
 defined_address env m func = own_count Functions env + (func - length (imported_funcs m.imports))
 
--- the functions of the environment stand for themselves; one that the module defines and the primary module has as well, for that which has the entry of its index
+-- the functions of the environment denote themselves; one that the module defines and the primary module has as well, for that which has the entry of its index
 abbrev pub is_left_at : Environment → Module → (moved : List ℕ) → (a b : ℕ) → Bool
 is_left_at env m moved a b =
     let own = own_count Functions env in let imported = length (imported_funcs m.imports) in let index = imported + (a - own) in

@@ -22,8 +22,8 @@ SplitAddressesAreOneToOne =
 -- ---- what both are instantiated to ----
 
 -- In every environment neither can be instantiated, or both, to related states, trapped both or neither.
-abbrev pub SplitModulesBeginAlike : Type 0
-SplitModulesBeginAlike =
+abbrev pub SplitModulesBeginRelated : Type 0
+SplitModulesBeginRelated =
     (namespace : ℕ → List ℕ) (names : SplitNames) (m : Module) (moved : List ℕ) (owns : List (List ℕ)) → CanBeSplit namespace names m moved owns → (env : Environment) →
     OptRel (BegunRel (split_pairing env m moved []) (FramesBetween (split_pairing env m moved []))) (instantiate env (alone m)) (begun_under env (split_world namespace names m moved owns))
 

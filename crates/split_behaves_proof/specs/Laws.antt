@@ -9,7 +9,7 @@ use Rattle.wasm_meaning.specs.Outcomes.{Gives}
 use Rattle.wasm_meaning.specs.State.{Val, Inst, Store, Entry, CallsPlaceholder}
 use Rattle.wasm_meaning.specs.Environment.{Environment, is_environment}
 use Rattle.wasm_meaning.specs.World.{alone}
-use Rattle.wasm_meaning.specs.InTurn.{Added}
+use Rattle.wasm_meaning.specs.Sequential.{Added}
 use Rattle.wasm_meaning.specs.Run.{Run, Move, Steps, transition, Same, events}
 use Rattle.wasm_meaning.specs.Loader.{Secondary, LoaderWorld, LoaderRun, secondary_of, secondary_added, tick_loader, fresh_loader, events_loaded}
 use Rattle.std.specs.Prelude.{IsTrue}
@@ -43,8 +43,8 @@ most_params m (func ∷ funcs) = max (length (params_of m func)) (most_params m 
 
 -- In every environment, whatever is seen of the module in n steps is seen under the loader in (p + 8) (n + 1), and whatever is seen there in n steps is seen of the module
 -- in n, where p is the most parameters of a function that moves: a call of one may pass a trampoline.
-abbrev pub BehavesAs : Module → LoaderWorld → (most : ℕ) → Type 0
-BehavesAs m w most = Same (λ env. Unit {0}) (events (alone m)) (events_loaded w) (λ n. (most + 8) * (n + 1)) (λ n. n)
+abbrev pub ObservationallyEquivalent : Module → LoaderWorld → (most : ℕ) → Type 0
+ObservationallyEquivalent m w most = Same (λ env. Unit {0}) (events (alone m)) (events_loaded w) (λ n. (most + 8) * (n + 1)) (λ n. n)
 
 -- a secondary module links, and none of its segments traps
 pub record CanBeLoaded (w : LoaderWorld) (q : LoaderRun) (secondary : ℕ) (s : Store) : Type 0 where
@@ -68,9 +68,9 @@ AlwaysLoads w = (env : Environment) → IsTrue (is_environment env) → (moves :
 
 -- ---- the laws ----
 
-abbrev pub SplitModulesShowTheSame : Type 0
-SplitModulesShowTheSame =
-    (namespace : ℕ → List ℕ) (names : SplitNames) (m : Module) (moved : List ℕ) (owns : List (List ℕ)) → CanBeSplit namespace names m moved owns → BehavesAs m (split_world namespace names m moved owns) (most_params m moved)
+abbrev pub SplitModuleEquivalent : Type 0
+SplitModuleEquivalent =
+    (namespace : ℕ → List ℕ) (names : SplitNames) (m : Module) (moved : List ℕ) (owns : List (List ℕ)) → CanBeSplit namespace names m moved owns → ObservationallyEquivalent m (split_world namespace names m moved owns) (most_params m moved)
 
 abbrev pub SecondariesAlwaysLoad : Type 0
 SecondariesAlwaysLoad =

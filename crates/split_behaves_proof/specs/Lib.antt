@@ -3,7 +3,7 @@ pub mod Addresses
 pub mod Loads
 pub mod Laws
 pub mod LoadedCode
-pub mod ListedCalls
+pub mod MovedCalls
 pub mod Begins
 pub mod States
 pub mod Answered

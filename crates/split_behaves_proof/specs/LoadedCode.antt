@@ -8,7 +8,7 @@ use Rattle.wasm_tree.specs.Spaces.{imported_funcs, funcs_of, tables_of, memories
 use Rattle.wasm_meaning.specs.State.{Inst, Store}
 use Rattle.wasm_meaning.specs.Environment.{Environment}
 use Rattle.wasm_meaning.specs.World.{new_func, insts_from}
-use Rattle.wasm_meaning.specs.InTurn.{Added}
+use Rattle.wasm_meaning.specs.Sequential.{Added}
 use Rattle.wasm_meaning.specs.Loader.{primary_added}
 use Rattle.index_remap.specs.Related.{Names, StoreRel}
 use Rattle.index_remap.specs.Trampolines.{CodeAt}
@@ -29,7 +29,7 @@ Partnered env m moved k a b = IsTrue (is_partner env m moved k a b)
 
 -- What an index names in the instance of the module alone is the partner of what its entry names in the primary module's instance, where the primary module has it; and the
 -- slot table and the functions that move are where they are said to be.
-pub record InstancesAlike (env : Environment) (m : Module) (moved : List ℕ) (first primary : Inst) : Type 0 where
+pub record InstancesAreRelated (env : Environment) (m : Module) (moved : List ℕ) (first primary : Inst) : Type 0 where
   pub first_types : first.types ≡ m.types
   pub types : primary.types ≡ m.types
   pub funcs : (x : ℕ) → x < length (funcs_of m) → is_left m moved x ≡ true → Names (Partnered env m moved) Functions first.funcs primary.funcs x (slice_index (primary_map m moved).funcs x)
@@ -40,10 +40,10 @@ pub record InstancesAlike (env : Environment) (m : Module) (moved : List ℕ) (f
   pub moves : (p f : ℕ) → slice_get moved p ≡ Some f → slice_get first.funcs f ≡ Some (defined_address env m f)
 
 -- So they are once both are instantiated.
-abbrev pub InstancesOfSplitsAreAlike : Type 0
-InstancesOfSplitsAreAlike =
+abbrev pub InstancesOfSplitsAreRelated : Type 0
+InstancesOfSplitsAreRelated =
     (namespace : ℕ → List ℕ) (names : SplitNames) (m : Module) (moved : List ℕ) (owns : List (List ℕ)) → CanBeSplit namespace names m moved owns → (env : Environment) (i : Inst) → insts_from env (one m) 0 (one m) ≡ Some (i ∷ []) →
-    (a : Added) → primary_added env (split_world namespace names m moved owns) ≡ Some a → InstancesAlike env m moved i a.inst
+    (a : Added) → primary_added env (split_world namespace names m moved owns) ≡ Some a → InstancesAreRelated env m moved i a.inst
 
 -- ---- loaded functions ----
 
@@ -59,7 +59,7 @@ pub record RelatedAsLoaded (env : Environment) (m : Module) (moved : List ℕ) (
 
 abbrev pub LoadsKeepTheRelation : Type 0
 LoadsKeepTheRelation =
-    (namespace : ℕ → List ℕ) (names : SplitNames) (m : Module) (moved : List ℕ) (owns : List (List ℕ)) → CanBeSplit namespace names m moved owns → (env : Environment) (i j : Inst) → InstancesAlike env m moved i j →
+    (namespace : ℕ → List ℕ) (names : SplitNames) (m : Module) (moved : List ℕ) (owns : List (List ℕ)) → CanBeSplit namespace names m moved owns → (env : Environment) (i j : Inst) → InstancesAreRelated env m moved i j →
     (own : List ℕ) (before : ℕ) → HasSlots moved own before → (loaded : List (ℕ × ℕ)) (s z t : Store) (k : Inst) → IsLoaded m moved own before j k z t →
     ((slot func : ℕ) (f : tree.Func) → slice_get moved slot ≡ Some func → slice_get m.funcs (func - length (imported_funcs m.imports)) ≡ Some f → slice_get s.funcs (defined_address env m func) ≡ new_func i f) → StoreRel (split_pairing env m moved loaded) s z →
     RelatedAsLoaded env m moved (loaded ++ loaded_from env m own (length z.funcs)) own (length z.funcs) s t

@@ -14,7 +14,7 @@ use Rattle.wasm_meaning.specs.State.{RefVal, FuncRef, Inst, Func, Table, Memory,
 use Rattle.wasm_meaning.specs.Linking.{export_named}
 use Rattle.wasm_meaning.specs.World.{address_in}
 use Rattle.wasm_meaning.specs.World as world
-use Rattle.wasm_meaning.specs.InTurn.{Added, added_with}
+use Rattle.wasm_meaning.specs.Sequential.{Added, added_with}
 use Rattle.index_remap.specs.Renumbered.{new_func}
 use Rattle.world_simulation.specs.Leaves.{Stands}
 use Rattle.world_extension_proof.specs.Typed.{IsTyped}

@@ -38,7 +38,7 @@ pub record SlotIs (env : Environment) (m : Module) (moved : List ℕ) (w : Loade
 -- ---- functions ----
 
 -- The first has no placeholder, and each function that moves as the module defines it. The second has a trampoline wherever one is needed, and in each slot what belongs there.
-pub record FuncsStand (env : Environment) (m : Module) (moved : List ℕ) (w : LoaderWorld) (first second : Inst) (loaded : List (ℕ × ℕ)) (s : Store) (q : LoaderRun) : Type 0 where
+pub record FuncsComeFrom (env : Environment) (m : Module) (moved : List ℕ) (w : LoaderWorld) (first second : Inst) (loaded : List (ℕ × ℕ)) (s : Store) (q : LoaderRun) : Type 0 where
   pub plain : (a n : ℕ) (u : FuncType) → slice_get s.funcs a ≡ Some (Placeholder n u) → ⊥
   pub moves : (slot func : ℕ) (f : tree.Func) → slice_get moved slot ≡ Some func → slice_get m.funcs (func - length (imported_funcs m.imports)) ≡ Some f → slice_get s.funcs (defined_address env m func) ≡ new_func first f
   pub trampolines : (slot func b : ℕ) → slice_get moved slot ≡ Some func → is_left_at env m moved (defined_address env m func) b ≡ true → slice_get q.run.store.funcs b ≡ Some (trampoline second (type_in m func) (type_index m func) (slot_table m) (pos slot))
@@ -56,4 +56,4 @@ pub record Corresponds (env : Environment) (m : Module) (moved : List ℕ) (w : 
   pub begun : IsBegun r.phase
   pub inst : q.inst ≡ Some second
   pub typed : IsTyped w.primary second q.run.store
-  pub funcs : FuncsStand env m moved w first second loaded r.store q
+  pub funcs : FuncsComeFrom env m moved w first second loaded r.store q

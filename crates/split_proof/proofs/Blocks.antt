@@ -1,4 +1,4 @@
--- What stands for a block, a loop or an if where other code stands in place of calls: the same, with what stands for what it holds.
+-- What replaces a block, a loop or an if where other code stands in place of calls: the same, with what replaces what it holds.
 use Rattle.std.proofs.Common.{◌≡◌, ◌∙◌, ℕ, List, [], ◌∷◌, ◌++◌, refl, ap, ap₂, rules, map}
 use Rattle.std.specs.List.{flat_map}
 use Rattle.wasm_tree.specs.declared.types.BlockType.{BlockType}

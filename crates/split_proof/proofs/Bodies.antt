@@ -26,8 +26,8 @@ use Rattle.index_remap.specs.Agreement.{OperandAgrees, labelled}
 use Rattle.index_remap.specs.Laws.{TypingIsKept}
 use Rattle.index_remap.specs.References.{is_among}
 use Rattle.index_remap.specs.Renumbered.{renumbered_all}
-use Rattle.index_remap.specs.Replaced.{CodesHaveTypes, OthersAgree, is_listed_call}
-use Rattle.index_remap.proofs.Unlisted.{all_follow}
+use Rattle.index_remap.specs.Replaced.{CodesHaveTypes, OthersAgree, is_opaque_call}
+use Rattle.index_remap.proofs.NotOpaque.{all_follow}
 use Rattle.index_remap_proof.specs.ButForReferences.{any_named}
 use Rattle.index_remap_proof.specs.Indices.{Indices}
 use Rattle.index_remap_proof.specs.Trees.{TreesAgree}
@@ -77,12 +77,12 @@ module _ (laws : BodyLaws) (r : Remap) (m u : Module) (listed : List ℕ) (code 
 
     -- what is met agrees, but for a call of a function on the list
     abbrev pub MetAgrees : Type 0
-    MetAgrees = (o : Operand) → met o ≡ true → is_listed_call listed o ≡ false → OperandAgrees r old new o.space o.called o.index
+    MetAgrees = (o : Operand) → met o ≡ true → is_opaque_call listed o ≡ false → OperandAgrees r old new o.space o.called o.index
 
-    each_agrees : MetAgrees → (os : List Operand) → Every (λ o. met o ≡ true) os → list_any (is_listed_call listed) os ≡ false → Every (λ o. OperandAgrees r old new o.space o.called o.index) os
+    each_agrees : MetAgrees → (os : List Operand) → Every (λ o. met o ≡ true) os → list_any (is_opaque_call listed) os ≡ false → Every (λ o. OperandAgrees r old new o.space o.called o.index) os
     each_agrees agrees [] h e = tt
     each_agrees agrees (o ∷ os) h e =
-        (agrees o h.0 (left_false (is_listed_call listed o) (list_any (is_listed_call listed) os) e), each_agrees agrees os h.1 (right_false (is_listed_call listed o) (list_any (is_listed_call listed) os) e))
+        (agrees o h.0 (left_false (is_opaque_call listed o) (list_any (is_opaque_call listed) os) e), each_agrees agrees os h.1 (right_false (is_opaque_call listed o) (list_any (is_opaque_call listed) os) e))
 
     others_agree : MetAgrees → (is : List Instr) → Met met (λ test. any_operand_passes test is) → ListLayers (OthersAgree r listed old new) is
     others_agree agrees is all =

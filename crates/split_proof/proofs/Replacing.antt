@@ -9,7 +9,7 @@ use Rattle.wasm_tree.specs.declared.instr.Instr.TheVariants.{Block, Block', Loop
 use Rattle.index_remap.specs.declared.remap.Remap.{Remap}
 use Rattle.index_remap.specs.References.{is_among}
 use Rattle.index_remap.specs.Renumbered.{new_type, renumbered, renumbered_all}
-use Rattle.index_remap.specs.Replaced.{CallReplaced, Labels, Replaced, RowReplaced, StandsFor}
+use Rattle.index_remap.specs.Replaced.{CallReplaced, Labels, Replaced, RowReplaced, DenotesOne}
 use Rattle.split_spec.specs.Calls.{calls_in, calls_step, with_calls}
 use Rattle.split_proof.specs.Calls.{renumbered_codes}
 use Rattle.split_proof.proofs.Blocks.{block_calls, if_calls, loop_calls}
@@ -36,7 +36,7 @@ module _ (m : Remap) (code : ℕ → List Instr) where
     mutual
       unfolding out-Instr denote.Hole.Carrier.out
 
-      stands : (labels : Labels) (i : Instr) → StandsFor types m listed (renumbered_codes m code) labels i (renumbered_all m (calls_in code i))
+      stands : (labels : Labels) (i : Instr) → DenotesOne types m listed (renumbered_codes m code) labels i (renumbered_all m (calls_in code i))
       stands labels (Block' ty n body) = (new (items-the_row-Instr _ body), row_stands _ body, ap (renumbered_all m) (block_calls code ty n body) ∙ of_Block ty (with_calls code (items-the_row-Instr _ body)))
       stands labels (Loop' ty n body) = (new (items-the_row-Instr _ body), row_stands _ body, ap (renumbered_all m) (loop_calls code ty n body) ∙ of_Loop ty (with_calls code (items-the_row-Instr _ body)))
       stands labels (If' ty n body k other) = (

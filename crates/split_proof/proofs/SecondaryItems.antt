@@ -26,7 +26,7 @@ use Rattle.index_remap.specs.declared.remap.Remap.{Remap}
 use Rattle.index_remap.specs.Agreement.{func_type}
 use Rattle.index_remap.specs.References.{is_among}
 use Rattle.index_remap.specs.Renumbered.{new_func, new_import, new_import_desc, renumbered_all}
-use Rattle.index_remap.specs.Replaced.{is_listed_call}
+use Rattle.index_remap.specs.Replaced.{is_opaque_call}
 use Rattle.index_remap_proof.specs.ButForReferences.{IsValidButForReferences}
 use Rattle.index_remap_proof.proofs.Lists.{among_append, left_either, right_either}
 use Rattle.split_plan.specs.Segments.{names_segment}
@@ -44,7 +44,7 @@ use Rattle.split_proof.proofs.SlotCalls.{slot_typed, through_slot_typed}
 use Rattle.split_proof.proofs.Typed.{call_renumbered, call_typed}
 
 -- an operand that is no call of a function that moves names its index so
-names_itself : (moved : List ℕ) (o : Operand) → is_listed_call moved o ≡ false → is_named_from_primary moved o.space o.index o ≡ true
+names_itself : (moved : List ℕ) (o : Operand) → is_opaque_call moved o ≡ false → is_named_from_primary moved o.space o.index o ≡ true
 names_itself moved o e = ap₂ (λ a b. a && b) (same o.space) (ap₂ (λ a b. a && b) (eq-eqb o.index o.index refl) (ap not e))
   where
     same : (s : Space) → same_space s s ≡ true
@@ -131,13 +131,13 @@ module _ (laws : BodyLaws) (names : SplitNames) (m : Module) (holds : ItemsHold 
 
   -- the operand is a call of a function on the list, or is of what stays
   abbrev is_met : Operand → Bool
-  is_met o = is_listed_call (moved ++ own) o || stays names m holds moved own before o.space o.index
+  is_met o = is_opaque_call (moved ++ own) o || stays names m holds moved own before o.space o.index
 
   -- so is each that a body of its own names
   body_met : (p f : ℕ) (at : slice_get own p ≡ Some f) → Met is_met (λ test. any_operand_passes test (own_moves names m holds moved own before can p f at).func.body)
-  body_met p f at o t = by (is_listed_call moved o) refl
+  body_met p f at o t = by (is_opaque_call moved o) refl
     where
-      there : is_listed_call moved o ≡ false → is_from_primary moved (defined_at m own) o.space o.index ≡ true
+      there : is_opaque_call moved o ≡ false → is_from_primary moved (defined_at m own) o.space o.index ≡ true
       there e = list_any_at (λ f. any_operand_passes (is_named_from_primary moved o.space o.index) f.body) (defined_at m own) p (own_moves names m holds moved own before can p f at).func (own_at names m holds moved own before can p f at) (t (is_named_from_primary moved o.space o.index) (names_itself moved o e))
 
       no_segment : names_segment o ≡ true → ⊥
@@ -156,9 +156,9 @@ module _ (laws : BodyLaws) (names : SplitNames) (m : Module) (holds : ItemsHold 
       listed_too true h = among_append moved own o.index ∙ left_either (is_among moved o.index) (is_among own o.index) h
       listed_too false h = cc
 
-      by : (b : Bool) → is_listed_call moved o ≡ b → (is_listed_call (moved ++ own) o || stays names m holds moved own before o.space o.index) ≡ true
-      by true e = left_either (is_listed_call (moved ++ own) o) (stays names m holds moved own before o.space o.index) (listed_too o.called e)
-      by false e = right_either (is_listed_call (moved ++ own) o) (stays names m holds moved own before o.space o.index) (in_space o.space refl (there e))
+      by : (b : Bool) → is_opaque_call moved o ≡ b → (is_opaque_call (moved ++ own) o || stays names m holds moved own before o.space o.index) ≡ true
+      by true e = left_either (is_opaque_call (moved ++ own) o) (stays names m holds moved own before o.space o.index) (listed_too o.called e)
+      by false e = right_either (is_opaque_call (moved ++ own) o) (stays names m holds moved own before o.space o.index) (in_space o.space refl (there e))
 
   met_agrees : (f : Func) (t : FuncType) → MetAgrees laws map_of m new (moved ++ own) (secondary_call m moved own) f t is_met
   met_agrees f t o h e =

@@ -21,7 +21,7 @@ use wasm_tree::operands_pass_layer_by_layer;
 use wasm_valid::valid_where_items_hold;
 
 /// Code in which other code stands in place of calls, and then each index is replaced by its entry, is such code with other indices (`ensures`).
-pub fn calls_are_replaced()
+pub fn replacing_calls_commutes_with_renumbering()
     ensures { CallsAreReplaced }
 {}
 
@@ -38,7 +38,7 @@ pub fn primary_modules_are_valid()
     valid_where_items_hold();
     declared_trees_are_valid();
     counts_are_within_where_none_is_over();
-    calls_are_replaced();
+    replacing_calls_commutes_with_renumbering();
 }
 
 /// So is a secondary module, whichever functions that can move are its own, whatever others move and whatever slots stand before its own (`valid`), and it has no more
@@ -53,7 +53,7 @@ pub fn secondary_modules_are_valid()
     valid_where_items_hold();
     declared_trees_are_valid();
     counts_are_within_where_none_is_over();
-    calls_are_replaced();
+    replacing_calls_commutes_with_renumbering();
 }
 
 /// The maps by which both modules are renumbered have an entry for each index that is named in the trees that they renumber (`primary`, `secondary`).
@@ -65,5 +65,5 @@ pub fn maps_of_a_split_fit()
     steps_agree();
     valid_where_items_hold();
     renumbering_keeps_typing();
-    calls_are_replaced();
+    replacing_calls_commutes_with_renumbering();
 }

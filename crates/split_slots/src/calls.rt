@@ -101,7 +101,7 @@ fn put_each(
     Ok(())
 }
 
-// Puts what stands for them in place of the calls from this place on, but not in blocks.
+// Puts what replaces them in place of the calls from this place on, but not in blocks.
 fn spread_from(body: &mut Items<Instr>, at: usize, calls: &Calls<'_>) -> Result<(), NoMemory>
     requires few { FewSlots calls.now }
     requires there { at ≤ length body.old }
@@ -126,7 +126,7 @@ fn settle_call(func: &mut u32, calls: &Calls<'_>) -> bool
     }
 }
 
-// Puts what stands for them in place of the calls in the instruction, unless it is a call through a slot itself, which stays: whether it is one.
+// Puts what replaces them in place of the calls in the instruction, unless it is a call through a slot itself, which stays: whether it is one.
 #[cycle(replace)]
 fn settle(alloc: Global, instr: &mut Instr, calls: &Calls<'_>) -> Result<bool, NoMemory>
     requires few { FewSlots calls.now }
@@ -154,7 +154,7 @@ fn earlier(first: usize, at: usize, counts: bool) -> usize
     if counts && at < first { at } else { first }
 }
 
-/// Puts what stands for them in place of calls of functions that move, in blocks as well. Nothing is copied, and code before the first call through a slot stays where it is.
+/// Puts what replaces them in place of calls of functions that move, in blocks as well. Nothing is copied, and code before the first call through a slot stays where it is.
 #[cycle(replace)]
 pub(crate) fn replace_calls(
     alloc: Global,

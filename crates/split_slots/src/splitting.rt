@@ -8,7 +8,7 @@ ghost use Rattle.wasm_valid.specs.Validity.{IsValid};
 ghost use Rattle.module_limits.specs.Counts as counts;
 ghost use Rattle.split_plan.specs.Plans.{IsPlan};
 ghost use Rattle.split_proof.specs.Premises.{CanMove};
-ghost use Rattle.split_behaves_proof.specs.Laws.{AlwaysLoads, BehavesAs, most_params};
+ghost use Rattle.split_behaves_proof.specs.Laws.{AlwaysLoads, ObservationallyEquivalent, most_params};
 ghost use Rattle.split_behaves_proof.specs.Worlds.{pair_in_place};
 ghost use Rattle.split_spec.specs.declared.faults.SplitFault.{SplitFault as Fault};
 ghost use Rattle.split_spec.specs.declared.faults.SplitFault.TheVariants.{NoMemory as OutOfMemory, TooMany};
@@ -22,7 +22,7 @@ use crate::exports::added_exports;
 use crate::finishing::finished;
 use crate::refusing::refuse;
 use crate::surveying::surveyed;
-use split_behaves_proof::{secondary_modules_load, split_modules_show_the_same};
+use split_behaves_proof::{secondary_modules_load, split_module_equivalent};
 use split_plan::Plan;
 use split_proof::{maps_of_a_split_fit, primary_modules_are_valid, secondary_modules_are_valid};
 use split_spec::{SplitFault, SplitNames};
@@ -103,14 +103,14 @@ fn pair_of(
     ensures secondary { IfOk result (λ pair. pair.secondary ≡ secondary_of names.now «module» moved.now) }
     ensures none { IsOk result → split_fault names.now «module» moved.now ≡ None }
     ensures fault { IfErr result (λ e. (e ≡ OutOfMemory) ⊎ (split_fault names.now «module» moved.now ≡ Some e)) }
-    ensures same { IfOk result (λ pair. BehavesAs «module» (pair_in_place names.now «module» moved.now pair.primary pair.secondary) (most_params «module» moved.now)) }
+    ensures equivalent { IfOk result (λ pair. ObservationallyEquivalent «module» (pair_in_place names.now «module» moved.now pair.primary pair.secondary) (most_params «module» moved.now)) }
     ensures loads { IfOk result (λ pair. AlwaysLoads (pair_in_place names.now «module» moved.now pair.primary pair.secondary)) }
 {
     valid_where_items_hold();
     maps_of_a_split_fit();
     primary_modules_are_valid();
     secondary_modules_are_valid();
-    split_modules_show_the_same();
+    split_module_equivalent();
     secondary_modules_load();
     let drafts = drafts_of(alloc, module, moved, names)?;
     finish_both(alloc, drafts)
@@ -139,7 +139,7 @@ pub fn split(
     requires plan { IsPlan input plan.now }
     ensures primary { IfOk result (λ pair. pair.primary ≡ primary_of names.now input plan.now.moved) }
     ensures secondary { IfOk result (λ pair. pair.secondary ≡ secondary_of names.now input plan.now.moved) }
-    ensures same { IfOk result (λ pair. BehavesAs input (pair_in_place names.now input plan.now.moved pair.primary pair.secondary) (most_params input plan.now.moved)) }
+    ensures equivalent { IfOk result (λ pair. ObservationallyEquivalent input (pair_in_place names.now input plan.now.moved pair.primary pair.secondary) (most_params input plan.now.moved)) }
     ensures loads { IfOk result (λ pair. AlwaysLoads (pair_in_place names.now input plan.now.moved pair.primary pair.secondary)) }
     ensures none { IsOk result → split_fault names.now input plan.now.moved ≡ None }
     ensures fault { IfErr result (λ e. (e ≡ OutOfMemory) ⊎ (split_fault names.now input plan.now.moved ≡ Some e)) }

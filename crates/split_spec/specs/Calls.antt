@@ -6,7 +6,7 @@ use Rattle.wasm_tree.specs.declared.instr.Instr.{Instr, fold-Instr}
 use Rattle.wasm_tree.specs.declared.instr.Instr.TheOpen.{Instr-F}
 use Rattle.wasm_tree.specs.declared.instr.Instr.TheVariants.{Block, Loop, If, Unreachable, Nop, Br, BrIf, BrTable, Return, CallIndirect, Drop, Select, SelectTyped, LocalGet, LocalSet, LocalTee, GlobalGet, GlobalSet, TableGet, TableSet, Load, Store, MemorySize, MemoryGrow, I32Const, I64Const, Un, Bin, RefNull, RefIsNull, RefFunc, MemoryInit, DataDrop, MemoryCopy, MemoryFill, TableInit, ElemDrop, TableCopy, TableGrow, TableSize, TableFill}
 
--- what stands for an instruction, where that is known for each instruction inside it and of a call by its function
+-- what replaces an instruction, where that is known for each instruction inside it and of a call by its function
 abbrev pub calls_step : (ℕ → List Instr) → Instr-F (List Instr) → List Instr
 calls_step code (Instr-F.Block ty body) = Block ty (flat_map (λ is. is) body) ∷ []
 calls_step code (Instr-F.Loop ty body) = Loop ty (flat_map (λ is. is) body) ∷ []
@@ -51,7 +51,7 @@ calls_step code (Instr-F.TableGrow table) = TableGrow table ∷ []
 calls_step code (Instr-F.TableSize table) = TableSize table ∷ []
 calls_step code (Instr-F.TableFill table) = TableFill table ∷ []
 
--- what stands for an instruction
+-- what replaces an instruction
 abbrev pub calls_in : (ℕ → List Instr) → Instr → List Instr
 calls_in code = fold-Instr (List Instr) (calls_step code)
 

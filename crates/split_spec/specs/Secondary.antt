@@ -28,7 +28,7 @@ pub record HasSlots (moved own : List ℕ) (before : ℕ) : Type 0 where
 
 -- ---- functions ----
 
--- what stands for a call of a function with this place among the module's own, if it has one: of one of them the call of that one, of another that moves the call through its
+-- what replaces a call of a function with this place among the module's own, if it has one: of one of them the call of that one, of another that moves the call through its
 -- slot, of one that does not move the call as it is
 abbrev pub secondary_call_by_place : Module → (moved : List ℕ) → Option ℕ → ℕ → List Instr
 secondary_call_by_place m moved (Some place) func = Call (length (funcs_of m) + place) ∷ []

@@ -34,8 +34,8 @@ abbrev pub one_more : ℕ → ℕ
 one_more n = min (n + 1) (2 ^ 64 - 1)
 
 -- The number stands in the list.
-abbrev pub is_listed : List ℕ → ℕ → Bool
-is_listed numbers n = list_any (λ x. x == n) numbers
+abbrev pub is_opaque : List ℕ → ℕ → Bool
+is_opaque numbers n = list_any (λ x. x == n) numbers
 
 -- The name and the bytes of an entry of a log.
 abbrev pub entry_of : String Global × Vec ℕ Global → List ℕ × List ℕ
@@ -47,7 +47,7 @@ files_of log = finmap.from_entries (map entry_of log)
 
 -- The next call is one of those that are to fail.
 abbrev pub next_fails : Disk → Bool
-next_fails d = is_listed d.failing (one_more d.calls)
+next_fails d = is_opaque d.failing (one_more d.calls)
 
 -- The name is not there.
 abbrev pub is_missing : Disk → List ℕ → Bool
@@ -70,7 +70,7 @@ first_half bytes = take (length bytes / 2) bytes
 
 -- The next put is one of those that are to fail.
 abbrev pub next_put_fails : Tape → Bool
-next_put_fails t = is_listed t.failing (one_more t.calls)
+next_put_fails t = is_opaque t.failing (one_more t.calls)
 
 -- The sink after one more put of this text, and after one that failed and left this text.
 abbrev pub gained : Tape → List ℕ → Tape

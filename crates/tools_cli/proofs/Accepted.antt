@@ -1,4 +1,4 @@
--- A module is accepted, or has a first item that does not hold.
+-- A module is accepted, or has a first invalid item.
 use Rattle.std.proofs.Common.{Bool, true, false, List, [], ◌∷◌, ◌++◌, length, inl, inr}
 use Rattle.wasm_tree.specs.declared.module.Module.{Module}
 use Rattle.wasm_valid.specs.declared.kinds.ItemKind.TheVariants as kind

@@ -33,7 +33,7 @@ TreeIsOne = (many : Bool) (bytes : List ℕ) (one other : Module) → Spells byt
 abbrev pub SpelledHasNoFault : Type 0
 SpelledHasNoFault = (many : Bool) (bytes : List ℕ) → IsBytes bytes → (read_fault bytes many ≡ None) ↔ ((tree : Module) × Spells bytes tree many × Within bytes many)
 
--- there is one first item that does not hold, and none of a tree that is accepted
+-- there is one first invalid item, and none of a tree that is accepted
 abbrev pub FirstIsOne : Type 0
 FirstIsOne = (many : Bool) (tree : Module) (one other : Invalid) → IsFirstInvalid tree many one → IsFirstInvalid tree many other → one ≡ other
 
@@ -99,8 +99,8 @@ gathered_bytes files hold [] most inputs e = subst AreBytes (whole_is [] inputs 
 gathered_bytes files hold (name ∷ names) most inputs e =
     file_bytes name most (get files name) (gathered names files) inputs (λ bytes h. hold name bytes h) (λ more n h. gathered_bytes files hold names n more h) e
 
-one_tree : Known → (many : Bool) (file bytes : Text) → IsBytes bytes → (tree tree' : Module) → Loads many file bytes (Ok tree) → Loads many file bytes (Ok tree') → tree ≡ tree'
-one_tree reads many file bytes are tree tree' h k = let same : ◌≡◌ {A = Result Module Text} (Ok tree) (Ok tree') = loads_once reads many file bytes are (Ok tree) (Ok tree') h k in cc
+decoding_is_unique : Known → (many : Bool) (file bytes : Text) → IsBytes bytes → (tree tree' : Module) → Loads many file bytes (Ok tree) → Loads many file bytes (Ok tree') → tree ≡ tree'
+decoding_is_unique reads many file bytes are tree tree' h k = let same : ◌≡◌ {A = Result Module Text} (Ok tree) (Ok tree') = loads_once reads many file bytes are (Ok tree) (Ok tree') h k in cc
 
 two_ways : Known → (many : Bool) (file bytes : Text) → IsBytes bytes → (tree : Module) (text : Text) → Loads many file bytes (Ok tree) → Loads many file bytes (Err text) → ⊥
 two_ways reads many file bytes are tree text h k = let same : Ok tree ≡ Err text = loads_once reads many file bytes are (Ok tree) (Err text) h k in cc
@@ -108,7 +108,7 @@ two_ways reads many file bytes are tree text h k = let same : Ok tree ≡ Err te
 -- all files load as the same trees, or the same one fails
 trees_once : Known → (many : Bool) (files : List Entry) (trees trees' : List Module) → AllLoad many files trees → AllLoad many files trees' → AreBytes files → trees ≡ trees'
 trees_once k many [] [] [] h h' are = refl
-trees_once k many (file ∷ files) (tree ∷ trees) (tree' ∷ trees') h h' are = ap₂ (λ (t : Module) (ts : List Module). t ∷ ts) (one_tree k many file.0 file.1 are.0 tree tree' h.0 h'.0) (trees_once k many files trees trees' h.1 h'.1 are.1)
+trees_once k many (file ∷ files) (tree ∷ trees) (tree' ∷ trees') h h' are = ap₂ (λ (t : Module) (ts : List Module). t ∷ ts) (decoding_is_unique k many file.0 file.1 are.0 tree tree' h.0 h'.0) (trees_once k many files trees trees' h.1 h'.1 are.1)
 trees_once k many [] [] (tree' ∷ trees') h h' are = absurd h'
 trees_once k many [] (tree ∷ trees) trees' h h' are = absurd h
 trees_once k many (file ∷ files) [] trees' h h' are = absurd h

@@ -33,7 +33,7 @@ use Rattle.split_plan.specs.Causes.{FaultsHaveCauses}
 use Rattle.tools_cli.proofs.Loading.{as_many}
 use Rattle.tools_cli.proofs.Determined.{AreBytes, SpelledHasNoFault, FirstIsBytes, gathered_bytes, first_are_bytes, first_is_bytes}
 
--- a tree is accepted, or has a first item that does not hold
+-- a tree is accepted, or has a first invalid item
 abbrev pub IsDecided : Bool → Module → Type 0
 IsDecided many tree = IsAccepted many tree ⊎ ((item : Invalid) × IsFirstInvalid tree many item)
 

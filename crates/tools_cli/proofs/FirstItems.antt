@@ -16,7 +16,7 @@ heads x y xs ys e = cc
 tails : (x y : Item) (xs ys : List Item) → x ∷ xs ≡ y ∷ ys → xs ≡ ys
 tails x y xs ys e = cc
 
--- two splits of a list at the first item that does not hold are at one item
+-- two splits of a list at the first invalid item are at one item
 split_once : (m : Module) (b b' : List Item) (x x' : Item) (a a' : List Item) → b ++ x ∷ a ≡ b' ++ x' ∷ a' → EachHolds m b → (Holds m x → ⊥) → EachHolds m b' → (Holds m x' → ⊥) → x ≡ x'
 split_once m [] [] x x' a a' e h fails h' fails' = heads x x' a a' e
 split_once m [] (y ∷ b') x x' a a' e h fails h' fails' = absurd (fails (subst (Holds m) (sym (heads x y a (b' ++ x' ∷ a') e)) h'.0))

@@ -16,7 +16,7 @@ use Rattle.merge_names.specs.declared.mode.Mode.{Mode}
 use Rattle.tools_cli.specs.Effects.{Entry, made}
 use Rattle.tools_cli.specs.Job.{IsRead, IsAccepted, Job, Usage, Missing, Refused, Done, Gathered, Whole, Lacks, TooLong, add_first, add_file, gathered, most_input, most_output, Loads, loaded, faulty, invalid, AllLoad, Output, Decision, Refuses, Makes, Merges, not_linked, not_joined, merged, GivesMarks, Reduces, no_graph, not_swept, reduced, words_plan, Splits, no_plan, not_parted, parted, Evaluates, not_evaluated, evaluated, Samples, not_merged, sampled, sample_merge, sample_parts, Decides, is_within, spelled_output, job_of, module_files, contents_of, parts_of, AreMerged, InputsJob, not_loaded, decided, TaskJob, not_begun, missing, too_long, all_read, HasJob, no_task, asked}
 use Rattle.tools_cli.specs.Run.{EndsDone}
-use Rattle.tools_cli.specs.Kept.{HoldModules, output_names, Findings, AreMade, equivalence, Holds, Also, TaskKeeps, Keeps, EndsKept, SplitWordsAreText, HoldBytesAt, ReadsBytes}
+use Rattle.tools_cli.specs.Kept.{HoldModules, output_names, Findings, AreMade, equivalence, Holds, Also, TaskIsSound, Keeps, EndsKept, SplitWordsAreText, HoldBytesAt, ReadsBytes}
 use Rattle.tools_cli.proofs.Apart.{both_of, neither}
 use Rattle.tools_cli.proofs.Deciding.{one_memory}
 use Rattle.tools_cli.proofs.ReadBytes.{all_read_are, first_read}
@@ -43,7 +43,7 @@ use Rattle.split_spec.specs.Faults.{namespace_taken, prefix_taken, moved_params,
 use Rattle.split_spec.specs.Primary.{primary, primary_with}
 use Rattle.split_spec.specs.Secondary.{secondary, secondary_with}
 use Rattle.split_proof.specs.Premises.{CanMove}
-use Rattle.split_behaves_proof.specs.Laws.{SecondariesAlwaysLoad, SplitModulesShowTheSame}
+use Rattle.split_behaves_proof.specs.Laws.{SecondariesAlwaysLoad, SplitModuleEquivalent}
 use Rattle.split_behaves_proof.proofs.Pairs.{pair_can_be_split}
 use Rattle.base_lists.proofs.Places.{map_twice}
 use Rattle.wasm_tree.specs.declared.module.Module.{Module}
@@ -55,7 +55,7 @@ use Rattle.wasm_meaning.specs.Linking.{Part, module_at}
 use Rattle.merge_spec.specs.Faults.{link_fault}
 use Rattle.merge_spec.proofs.FaultParts.{none_with_several}
 use Rattle.merge_valid_proof.specs.Joinable.{CanBeJoined}
-use Rattle.merge_behaves_proof.specs.Laws.{BehavesAs}
+use Rattle.merge_behaves_proof.specs.Laws.{ObservationallyEquivalent}
 use Rattle.dce_graph.specs.declared.graph.Graph.{Graph}
 use Rattle.dce_graph.specs.declared.marks.Reached.{Reached}
 use Rattle.dce_sweep_spec.specs.Marks.{Marks}
@@ -64,8 +64,8 @@ use Rattle.dce_sweep_spec.specs.Swept.{swept}
 use Rattle.dce_sweep_spec.specs.Reached.{marks_of}
 use Rattle.dce_reach_proof.specs.Laws.{ReachedMarksAreClosed}
 use Rattle.dce_sweep.specs.Sweeps.{Sweeps, outcome}
-use Rattle.dce_behaves_proof.specs.Laws.{SweptModulesShowTheSame, BehavesAs as BehavesAsUnswept}
-use Rattle.world_sequential_proof.specs.Laws.{TurnsAreNotSeen}
+use Rattle.dce_behaves_proof.specs.Laws.{SweptModuleEquivalent, ObservationallyEquivalent as BehavesAsUnswept}
+use Rattle.world_sequential_proof.specs.Laws.{SequentialInstantiationIsEquivalent}
 use Rattle.merge_spec.specs.View.{linked_world}
 use Rattle.wasm_tree.specs.declared.which.Which.{Which}
 use Rattle.merge_spec.specs.Joined.{joined_module, repeated_name, outcome as merged_outcome}
@@ -80,11 +80,11 @@ use Rattle.wasm_write_proof.specs.Ranges.{InRange}
 abbrev pub IsSound : Part → Type 0
 IsSound p = IsValid p.«module» × IsBounded p.«module»
 
--- its numbers are in range and its bodies name memory 0 alone, so that its plain spelling spells it
+-- its numbers are in range and its bodies name memory 0 alone, so that its canonical encoding spells it
 abbrev IsWritable : Module → Type 0
 IsWritable m = InRange m × IsTrue (memory_zero_funcs m.funcs)
 
--- what is known of the plain spelling, of merged modules, of what is left of one, of both of a split and of one after evaluated constructors
+-- what is known of the canonical encoding, of merged modules, of what is left of one, of both of a split and of one after evaluated constructors
 pub record Respelled : Type 0 where
   pub plainly : (tree : Module) → IsWritable tree → length (plain tree) < 2 ^ 32 → Spells (plain tree) tree false
   pub ranges : (bytes : List ℕ) (tree : Module) → Spells bytes tree false → InRange tree
@@ -95,8 +95,8 @@ pub record Respelled : Type 0 where
   pub in_range : (parts : List Part) (mode : Mode) → Every (λ (p : Part). InRange p.«module») parts → IsValid (joined_module parts mode) → IsSingle (joined_module parts mode) → IsBounded (joined_module parts mode)
       → InRange (joined_module parts mode)
   pub memory : (parts : List Part) (mode : Mode) → IsValid (joined_module parts mode) → IsSingle (joined_module parts mode) → IsBounded (joined_module parts mode) → IsTrue (memory_zero_funcs (joined_module parts mode).funcs)
-  pub same : (parts : List Part) (mode : Mode) → CanBeJoined parts mode → BehavesAs parts mode (joined_module parts mode)
-  pub turns : TurnsAreNotSeen
+  pub same : (parts : List Part) (mode : Mode) → CanBeJoined parts mode → ObservationallyEquivalent parts mode (joined_module parts mode)
+  pub turns : SequentialInstantiationIsEquivalent
   pub samples : SampleModulesAreValid
   pub closed : ReachedMarksAreClosed
   pub left_valid : (k : Marks) (m : Module) → IsValid m → AreClosed k m → IsValid (swept k m)
@@ -104,7 +104,7 @@ pub record Respelled : Type 0 where
   pub left_sizes : (k : Marks) (m : Module) → IsValid m → AreClosed k m → IsBounded m → over_limit (swept k m) ≡ None → IsBounded (swept k m)
   pub left_in_range : (k : Marks) (m : Module) → InRange m → IsValid (swept k m) → IsSingle (swept k m) → IsBounded (swept k m) → InRange (swept k m)
   pub left_memory : (k : Marks) (m : Module) → IsValid (swept k m) → IsSingle (swept k m) → IsBounded (swept k m) → IsTrue (memory_zero_funcs (swept k m).funcs)
-  pub left_same : SweptModulesShowTheSame
+  pub left_same : SweptModuleEquivalent
   pub few_move : (namespace : ℕ → Text) (prefix : Text) (m : Module) (moved : List ℕ) → over_limit (primary_with namespace prefix m moved) ≡ None → length moved < 2 ^ 31
   pub primary_valid : (namespace : ℕ → Text) (prefix : Text) (m : Module) (moved : List ℕ) → IsValid m → IsBounded m → CanMove m moved → prefix_taken prefix m moved ≡ None → IsValid (primary_with namespace prefix m moved)
   pub primary_single : (namespace : ℕ → Text) (prefix : Text) (m : Module) (moved : List ℕ) → IsValid m → CanMove m moved → IsSingle m → IsSingle (primary_with namespace prefix m moved)
@@ -113,7 +113,7 @@ pub record Respelled : Type 0 where
       → IsValid (primary_with namespace prefix m moved) → IsSingle (primary_with namespace prefix m moved) → IsBounded (primary_with namespace prefix m moved) → InRange (primary_with namespace prefix m moved)
   pub primary_memory : (namespace : ℕ → Text) (prefix : Text) (m : Module) (moved : List ℕ) → IsValid (primary_with namespace prefix m moved) → IsSingle (primary_with namespace prefix m moved) → IsBounded (primary_with namespace prefix m moved)
       → IsTrue (memory_zero_funcs (primary_with namespace prefix m moved).funcs)
-  pub pair_same : SplitModulesShowTheSame
+  pub pair_same : SplitModuleEquivalent
   pub pair_loads : SecondariesAlwaysLoad
   pub secondary_valid : (names : SplitNames) (m : Module) (moved own : List ℕ) (before : ℕ) → IsValid m → CanMove m own → IsValid (secondary_with names m moved own before)
   pub secondary_single : (names : SplitNames) (m : Module) (moved own : List ℕ) (before : ℕ) → IsValid m → CanMove m own → IsSingle m → IsSingle (secondary_with names m moved own before)
@@ -143,7 +143,7 @@ joins_to (Some name) which m tree e = absurd (cc)
 joins_to None (Some which) m tree e = absurd (cc)
 joins_to None None m tree e = let same : m ≡ tree = cc in (refl, refl, same)
 
-merged_is_sound : Respelled → (parts : List Part) (mode : Mode) (tree : Module) → Every IsSound parts → Every (λ (p : Part). InRange p.«module») parts → AreMerged false parts mode tree → IsAccepted false tree × IsWritable tree × BehavesAs parts mode tree
+merged_is_sound : Respelled → (parts : List Part) (mode : Mode) (tree : Module) → Every IsSound parts → Every (λ (p : Part). InRange p.«module») parts → AreMerged false parts mode tree → IsAccepted false tree × IsWritable tree × ObservationallyEquivalent parts mode tree
 merged_is_sound k parts mode tree sound ranged is =
     let joins = joins_to (repeated_name parts mode) (over_limit (joined_module parts mode)) (joined_module parts mode) tree is.1 in
     let can : CanBeJoined parts mode = record {
@@ -155,7 +155,7 @@ merged_is_sound k parts mode tree sound ranged is =
     } in
     let valid = k.valid parts mode can in
     let single = k.single parts mode can is.0 in
-    let P : Module → Type 0 = λ m. IsAccepted false m × IsWritable m × BehavesAs parts mode m in
+    let P : Module → Type 0 = λ m. IsAccepted false m × IsWritable m × ObservationallyEquivalent parts mode m in
     subst P joins.2 (record { valid = valid; single = λ e. single }, (k.in_range parts mode ranged valid single (k.sizes parts mode can), k.memory parts mode valid single (k.sizes parts mode can)), k.same parts mode can)
 
 -- what was gathered of a first name, and the rest
@@ -235,7 +235,7 @@ parts_in_range k (s ∷ sources) (file ∷ files) (tree ∷ trees) h = ((loaded_
 abbrev output_trees : List Output → List Module
 output_trees outputs = map (λ (o : Output). o.tree) outputs
 
--- an output is valid, and its bytes are a plain spelling that spells it
+-- an output is valid, and its bytes are a canonical encoding that spells it
 abbrev IsSoundOutput : Bool → Output → Type 0
 IsSoundOutput many o = IsAccepted many o.tree × IsWritable o.tree × (o.custom ≡ [])
 
@@ -469,7 +469,7 @@ IsEachMerged sample tree outputs =
     Every (AreMerged false (sample_parts sample) sample_merge.mode) (output_trees outputs) × Every (IsSoundOutput false) outputs
     × IfSome (equivalence (Sample sample) tt [] (output_trees outputs)) Holds
 
-each_merged : (sample : SampleTask) (tree : Module) → AreMerged false (sample_parts sample) sample_merge.mode tree → IsAccepted false tree × IsWritable tree × BehavesAs (sample_parts sample) sample_merge.mode tree
+each_merged : (sample : SampleTask) (tree : Module) → AreMerged false (sample_parts sample) sample_merge.mode tree → IsAccepted false tree × IsWritable tree × ObservationallyEquivalent (sample_parts sample) sample_merge.mode tree
     → (o : Option Text) → IsEachMerged sample tree (cons_option (option_map (λ name. record { name = name; tree = tree; custom = [] }) o) [])
 each_merged sample tree is sound None = (tt, tt, tt)
 each_merged sample tree is sound (Some name) = ((is, tt), ((sound.0, sound.1, refl), tt), λ env is named moves n. sound.2 env is tt moves n)
@@ -536,7 +536,7 @@ others_stay name (o ∷ outputs) files e =
     let unlike = neither (bytes_eq name o.name) (list_any (bytes_eq name) (map (λ (o : Output). o.name) outputs)) e in
     others_stay name outputs (insert files o.name (plain o.tree ++ o.custom)) unlike.1 ∙ written_elsewhere files name o.name (plain o.tree ++ o.custom) unlike.0
 
--- an output within the limit whose bytes are the plain spelling of its tree spells it
+-- an output within the limit whose bytes are the canonical encoding of its tree spells it
 output_spells : Respelled → (o : Output) → is_within o ≡ true → IsSoundOutput false o → Spells (plain o.tree ++ o.custom) o.tree false
 output_spells k o within is =
     let short : length (plain o.tree) < 2 ^ 32 = few (ltb most_output (length (plain o.tree))) refl within in
@@ -570,7 +570,7 @@ JobKeeps words before Missing = Unit {0}
 JobKeeps words before (Refused text) = Unit {0}
 
 abbrev pub JobKept : Task → Contents → Job → Type 0
-JobKept task before (Done writes lines) = TaskKeeps task before (made writes before)
+JobKept task before (Done writes lines) = TaskIsSound task before (made writes before)
 JobKept task before Usage = Unit {0}
 JobKept task before Missing = Unit {0}
 JobKept task before (Refused text) = Unit {0}

@@ -94,9 +94,9 @@ one_decides metadce tree trees bytes text contents decision e f h =
     let Q : List Text → Type 0 = λ cs. Decides (Metadce metadce) (tree ∷ []) cs decision in
     subst P (sym e) (subst Q (sym f) h)
 
-pub one_tree : (trees rest : List Module) (tree : Module) → length trees ≡ 1 → trees ≡ tree ∷ rest → trees ≡ tree ∷ []
-one_tree trees [] tree one e = e
-one_tree trees (other ∷ rest) tree one e = absurd (let long = ap length e in omega arith)
+pub decoding_is_unique : (trees rest : List Module) (tree : Module) → length trees ≡ 1 → trees ≡ tree ∷ rest → trees ≡ tree ∷ []
+decoding_is_unique trees [] tree one e = e
+decoding_is_unique trees (other ∷ rest) tree one e = absurd (let long = ap length e in omega arith)
 
 pub two_texts : (inputs : List Input) (x : Input) → length inputs ≡ 2 → x ≡ get_or inputs 1 x → (bytes : Text) × (input_texts inputs ≡ bytes ∷ x.bytes.items ∷ [])
 two_texts [] x two is = absurd (omega arith)

@@ -1,4 +1,4 @@
--- What the types of the code stand for.
+-- What the types of the code denote.
 use Rattle.std.specs.Prelude.{List, map, option_map, string_bytes}
 use Rattle.tools_cli.specs.CommandLine.{Text}
 use Rattle.tools_cli.specs.CommandLine as words

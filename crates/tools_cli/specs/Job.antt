@@ -100,7 +100,7 @@ pub record IsAccepted (many : Bool) (tree : Module) : Type 0 where
   pub single : many ≡ false → IsSingle tree
 
 -- What the contents of a module's file come to: the tree that they spell within the limits, where it is valid; or the text of their first fault,
--- or of the tree's first item that does not hold.
+-- or of the tree's first invalid item.
 pub data Loads (many : Bool) (file bytes : Text) : Result Module Text → Type 0 where
   loaded : (tree : Module) → IsRead many bytes tree → IsAccepted many tree → Loads many file bytes (Ok tree)
   faulty : (fault : ReadFault) (text : Text) → read_fault bytes many ≡ Some fault → fault_text file fault ≡ Some text → Loads many file bytes (Err text)
@@ -119,7 +119,7 @@ OneFails many (file ∷ files) text = Loads many file.0 file.1 (Err text) ⊎ ((
 
 -- ---- what a task decides ----
 
--- An output: its name, its tree, and the custom sections that follow the plain spelling of the tree.
+-- An output: its name, its tree, and the custom sections that follow the canonical encoding of the tree.
 pub record Output : Type 0 where
   pub name : Text
   pub tree : Module
@@ -235,7 +235,7 @@ refused_before (Sample sample) = None
 
 -- ---- the job ----
 
--- The plain spelling of an output is within the limit. What follows it is not counted.
+-- The canonical encoding of an output is within the limit. What follows it is not counted.
 abbrev pub is_within : Output → Bool
 is_within output = not (ltb most_output (length (plain output.tree)))
 

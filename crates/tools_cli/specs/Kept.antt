@@ -29,7 +29,7 @@ use Rattle.eval_snapshot_spec.specs.Evaluated.{evaluated_count, evaluated_tree}
 use Rattle.eval_behaves_proof.specs.Worlds.{events_evaluated}
 use Rattle.tools_cli_eval.specs.Evaluations.{fault_of}
 use Rattle.wasm_bytes.specs.Reading.{IsBytes}
-use Rattle.world_sequential_proof.specs.Laws.{MayComeInTurn}
+use Rattle.world_sequential_proof.specs.Laws.{SequentialInstantiationEquivalent}
 
 -- The file of this name spells this module.
 abbrev pub HoldsModule : Bool → Contents → Text → Module → Type 0
@@ -165,18 +165,18 @@ equivalence (Sample sample) found trees _ = None
 -- What is kept besides. A merge and a sample: where the law of world_sequential_proof lets them, the parts may be instantiated one after the other. A split: wherever the loader
 -- instantiates the secondary module, it links, and none of its segments traps.
 abbrev pub Also : (task : Task) → Findings task → (trees outputs : List Module) → Type 0
-Also (Merge merge) found trees outputs = MayComeInTurn (linked_world (parts_of merge.sources trees) merge.mode)
+Also (Merge merge) found trees outputs = SequentialInstantiationEquivalent (linked_world (parts_of merge.sources trees) merge.mode)
 Also (Metadce metadce) marks trees outputs = Unit {0}
 Also (Split split) names (tree ∷ []) (first ∷ second ∷ []) = AlwaysLoads (written_pair split tree names first second)
 Also (Split split) names _ _ = Unit {0}
 Also (CtorEval eval) found trees outputs = Unit {0}
-Also (Sample sample) found trees outputs = MayComeInTurn (linked_world (sample_parts sample) sample_merge.mode)
+Also (Sample sample) found trees outputs = SequentialInstantiationEquivalent (linked_world (sample_parts sample) sample_merge.mode)
 
 -- ---- what is kept ----
 
 -- What a task has kept that is done. Its module files spelled these modules before, and all its files had these contents; its outputs spell what it makes of them, and
 -- each is valid; and they behave as what was read. Where an output is one of the files that were read, these are what stood there before.
-pub record TaskKeeps (task : Task) (before after : Contents) : Type 0 where
+pub record TaskIsSound (task : Task) (before after : Contents) : Type 0 where
   pub trees : List Module
   pub contents : List Text
   pub found : Findings task
@@ -202,7 +202,7 @@ ReadsBytes words files = (task : Task) → task_of words ≡ Some task → HoldB
 
 -- The words ask for a task, and it keeps what it read.
 abbrev pub Keeps : List Text → Contents → Contents → Type 0
-Keeps words before after = (task : Task) × (task_of words ≡ Some task) × TaskKeeps task before after
+Keeps words before after = (task : Task) × (task_of words ≡ Some task) × TaskIsSound task before after
 
 -- The files are told after the run, and the task has kept, in this sense, what it read.
 abbrev pub EndsKept : List Text → Contents → Option Contents → Type 0

@@ -1,4 +1,4 @@
--- What the sources of a merge stand for in the code.
+-- What the sources of a merge denote in the code.
 use Rattle.std.specs.Prelude.{List, map}
 use Rattle.tools_cli.specs.CommandLine.{Text}
 use Rattle.tools_cli.specs.CommandLine as words

@@ -141,7 +141,7 @@ kind_text kind.Elem = codes "elem "
 kind_text kind.Segment = codes "data "
 kind_text kind.Body = codes "body "
 
--- The text of the first item that does not hold.
+-- The text of the first invalid item.
 abbrev pub invalid_text : Text → Invalid → Text
 invalid_text file item = file ++ (codes ": invalid " ++ (kind_text item.kind ++ decimal item.index))
 

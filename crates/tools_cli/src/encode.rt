@@ -22,7 +22,7 @@ pub(crate) struct Plan {
     pub(crate) lines: Vec<u8>,
 }
 
-// Whether the plain spelling of each output is within the limit.
+// Whether the canonical encoding of each output is within the limit.
 fn are_within(outputs: &[Output]) -> bool
     ensures { result ≡ list_all is_within (output_values outputs.now) }
 {

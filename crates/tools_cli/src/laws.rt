@@ -5,16 +5,16 @@ ghost use Rattle.tools_cli.specs.Effects.{Entry, made};
 ghost use Rattle.tools_cli.specs.Job.{Done, Job, HasJob, HoldBytes};
 ghost use Rattle.tools_cli.specs.Kept.{Keeps, ReadsBytes, SplitWordsAreText};
 
-use dce_behaves_proof::swept_modules_show_the_same;
+use dce_behaves_proof::swept_module_equivalent;
 use dce_encode_proof::swept_modules_are_in_range;
 use dce_exact_proof::exact_marks_exist;
 use dce_reach_proof::reached_marks_are_closed;
 use dce_sweep_proof::swept_modules_are_valid;
-use eval_encode_proof::{snapshots_are_in_range, spelled_trees_begin_in_range};
-use merge_behaves_proof::merged_modules_show_the_same;
+use eval_encode_proof::{encoded_trees_begin_in_range, snapshots_are_in_range};
+use merge_behaves_proof::merged_module_equivalent;
 use merge_encode_proof::merged_modules_are_in_range;
 use merge_valid_proof::merged_modules_are_valid;
-use split_behaves_proof::{secondary_modules_load, split_modules_show_the_same};
+use split_behaves_proof::{secondary_modules_load, split_module_equivalent};
 use split_encode_proof::split_modules_are_in_range;
 use split_plan::plan_faults_have_causes;
 use split_proof::{primary_modules_are_valid, secondary_modules_are_valid};
@@ -24,18 +24,20 @@ use tools_cli_eval::{
 use wasm_gen::sample_modules_are_valid;
 use wasm_names::name_lists_are_those_of_the_first_name_section;
 use wasm_read_spec::{
-    faults_have_causes, no_fault_where_spelled, one_tree, spelled_trees_are_bounded,
+    decoding_is_unique, encoded_trees_are_bounded, faults_have_causes, no_fault_where_encoded,
 };
 use wasm_valid::valid_code_names_memory_zero;
-use wasm_write_proof::{plain_spells, spelled_trees_are_in_range, trees_that_fit_have_small_sizes};
-use world_sequential_proof::turns_are_not_seen;
+use wasm_write_proof::{
+    canonical_encoding_encodes, encoded_trees_are_in_range, trees_that_fit_have_small_sizes,
+};
+use world_sequential_proof::sequential_instantiation_equivalent;
 
 /// A command line has at most one job over some files.
 pub fn jobs_are_determined()
     ensures { (words : List (List ℕ)) (files : Contents) (one other : Job) → HoldBytes files → HasJob words files one → HasJob words files other → one ≡ other }
 {
-    one_tree();
-    no_fault_where_spelled();
+    decoding_is_unique();
+    no_fault_where_encoded();
     exact_marks_exist();
     name_lists_are_those_of_the_first_name_section();
 }
@@ -44,7 +46,7 @@ pub fn jobs_are_determined()
 pub fn command_lines_have_jobs()
     ensures exists { (words : List (List ℕ)) (files : Contents) → HoldBytes files → (job : Job) × HasJob words files job }
 {
-    no_fault_where_spelled();
+    no_fault_where_encoded();
     faults_have_causes();
     exact_marks_exist();
     name_lists_are_those_of_the_first_name_section();
@@ -57,28 +59,28 @@ pub fn command_lines_have_jobs()
 /// under the loader of the secondary one; and wherever it is loaded, it links, and none of its segments traps. Of an evaluation of constructors the output spells the
 /// module in the state that those leave which are evaluated, it is valid, and it behaves as the module of which they are evaluated. Of a sample the output, if there is
 /// one, is to its two modules what that of a merge is to the modules that it reads. The files that are read hold bytes.
-pub fn done_jobs_keep_the_modules()
+pub fn done_jobs_are_sound()
     ensures { (words : List (List ℕ)) (before : Contents) (writes : List Entry) (lines : List ℕ) → SplitWordsAreText words → ReadsBytes words before → HasJob words before (Done writes lines) → Keeps words before (made writes before) }
 {
-    plain_spells();
+    canonical_encoding_encodes();
     trees_that_fit_have_small_sizes();
-    spelled_trees_are_in_range();
-    spelled_trees_are_bounded();
+    encoded_trees_are_in_range();
+    encoded_trees_are_bounded();
     merged_modules_are_valid();
     merged_modules_are_in_range();
-    merged_modules_show_the_same();
-    turns_are_not_seen();
+    merged_module_equivalent();
+    sequential_instantiation_equivalent();
     sample_modules_are_valid();
     reached_marks_are_closed();
     swept_modules_are_valid();
     swept_modules_are_in_range();
-    swept_modules_show_the_same();
+    swept_module_equivalent();
     primary_modules_are_valid();
     secondary_modules_are_valid();
     split_modules_are_in_range();
-    split_modules_show_the_same();
+    split_module_equivalent();
     secondary_modules_load();
-    spelled_trees_begin_in_range();
+    encoded_trees_begin_in_range();
     evaluated_modules_are_snapshots();
     evaluated_modules_are_valid();
     evaluated_modules_behave();

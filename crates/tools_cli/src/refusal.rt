@@ -147,7 +147,7 @@ pub(crate) fn refuse_fault<'a>(
     }
 }
 
-/// The refusal of a file for an item that does not hold. Its error is want of memory.
+/// The refusal of a file for an invalid item. Its error is want of memory.
 pub(crate) fn refuse_item<'a>(
     alloc: Global,
     file: &'a str,

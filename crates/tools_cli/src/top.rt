@@ -7,7 +7,7 @@ ghost use Rattle.tools_cli.specs.Kept.{EndsKept};
 ghost use Rattle.tools_cli.specs.Run.{ChangesByTheJob, PrintsForTheJob, PrintsNothing, EndsDone, EndsRefused, HasStatus, HasOutsideCause, SomeRose, IsSame, Gains, HostState};
 
 use crate::command_line::said_to_tool;
-use crate::laws::done_jobs_keep_the_modules;
+use crate::laws::done_jobs_are_sound;
 use crate::stop::{Status, report};
 use crate::work::run_command;
 use std::alloc::Global;
@@ -59,7 +59,7 @@ pub fn run<F: Files, O: Sink, E: Sink>(
     // Words that ask for no task are told so, whatever the files are.
     ensures no_task { task_of (map string_bytes words.now) ≡ None → Rose (E.faults err.old) (E.faults err.new) ⊎ ((result ≡ Status.NoMemory) ⊎ (result ≡ Status.Usage)) }
 {
-    done_jobs_keep_the_modules();
+    done_jobs_are_sound();
     let said = said_to_tool(alloc, words);
     match run_command(alloc, words, &said, files, out) {
         Ok(()) => Status::Done,

@@ -8,7 +8,7 @@ use Rattle.eval_spec.specs.Evaluation.{IsQuiet, evaluated, state_at_end}
 use Rattle.eval_proof.specs.Laws.{CountedAreQuiet, NoneCountedBefore}
 use Rattle.eval_numbers_proof.specs.Ranges.{BeginsInRange}
 use Rattle.eval_snapshot_spec.specs.Evaluated.{evaluated_count, evaluated_tree, first_missing, funcs_named, tree_in}
-use Rattle.eval_behaves_proof.specs.Laws.{BehavesAs, NoneShowsTheSame, SnapshotsShowTheSame}
+use Rattle.eval_behaves_proof.specs.Laws.{ObservationallyEquivalent, NoneIsEquivalent, SnapshotEquivalent}
 use Rattle.tools_cli_eval.specs.Trees.{IsSnapshot, TreesBehave}
 use Rattle.tools_cli_eval.proofs.TreesHold.{finished_state, snapshot_at}
 
@@ -21,31 +21,31 @@ quiet_or_not m = by (evaluated m []) refl
     by (Stopped x left) e = inr (λ q. let f = sym e ∙ q.1 in cc)
     by (Going s es) e = inr (λ q. let f = sym e ∙ q.1 in cc)
 
-module _ (counted : CountedAreQuiet) (none : NoneCountedBefore) (same : SnapshotsShowTheSame) (itself : NoneShowsTheSame) where
+module _ (counted : CountedAreQuiet) (none : NoneCountedBefore) (same : SnapshotEquivalent) (itself : NoneIsEquivalent) where
   -- a snapshot is taken where the instantiation is quiet
-  taken : (m : Module) (names kept : List Text) → IsSnapshot m names kept → IsValid m → BeginsInRange m → BehavesAs m (take (evaluated_count m names) names) kept (evaluated_tree m names kept)
+  taken : (m : Module) (names kept : List Text) → IsSnapshot m names kept → IsValid m → BeginsInRange m → ObservationallyEquivalent m (take (evaluated_count m names) names) kept (evaluated_tree m names kept)
   taken m names kept is valid begins =
-      subst (BehavesAs m (take (evaluated_count m names) names) kept) (sym is.tree) (same m (take (evaluated_count m names) names) kept is.state valid begins is.after)
+      subst (ObservationallyEquivalent m (take (evaluated_count m names) names) kept) (sym is.tree) (same m (take (evaluated_count m names) names) kept is.state valid begins is.after)
 
-  quietly : (m : Module) (names kept : List Text) → first_missing m names ≡ None → IsQuiet m [] → IsValid m → BeginsInRange m → BehavesAs m (take (evaluated_count m names) names) kept (evaluated_tree m names kept)
+  quietly : (m : Module) (names kept : List Text) → first_missing m names ≡ None → IsQuiet m [] → IsValid m → BeginsInRange m → ObservationallyEquivalent m (take (evaluated_count m names) names) kept (evaluated_tree m names kept)
   quietly m names kept there quiet valid begins =
       let q = counted m (funcs_named m names) quiet in
       taken m names kept (snapshot_at m names kept there q.0 (ap state_of q.1)) valid begins
 
   -- and where it is stopped, no constructor is evaluated
-  stopped : (m : Module) (names kept : List Text) → ¬ IsQuiet m [] → BehavesAs m (take (evaluated_count m names) names) kept (evaluated_tree m names kept)
+  stopped : (m : Module) (names kept : List Text) → ¬ IsQuiet m [] → ObservationallyEquivalent m (take (evaluated_count m names) names) kept (evaluated_tree m names kept)
   stopped m names kept unquiet = by (state_at_end m (funcs_named m names)) refl
     where
       zero : evaluated_count m names ≡ 0
       zero = none m (funcs_named m names) unquiet
 
-      by : (o : Option State) → state_at_end m (funcs_named m names) ≡ o → BehavesAs m (take (evaluated_count m names) names) kept (evaluated_tree m names kept)
+      by : (o : Option State) → state_at_end m (funcs_named m names) ≡ o → ObservationallyEquivalent m (take (evaluated_count m names) names) kept (evaluated_tree m names kept)
       by (Some s) e =
           let end = finished_state (evaluated m (take (evaluated_count m names) (funcs_named m names))) s e in
           absurd (unquiet (s, subst (λ n. evaluated m (take n (funcs_named m names)) ≡ Finished s) zero end))
       by None e =
           let same_tree : evaluated_tree m names kept ≡ m = ap (tree_in m (take (evaluated_count m names) names) kept) e in
-          subst (λ n. BehavesAs m (take n names) kept (evaluated_tree m names kept)) (sym zero) (subst (BehavesAs m [] kept) (sym same_tree) (itself m kept))
+          subst (λ n. ObservationallyEquivalent m (take n names) kept (evaluated_tree m names kept)) (sym zero) (subst (ObservationallyEquivalent m [] kept) (sym same_tree) (itself m kept))
 
   pub behave : TreesBehave
   behave m names kept there valid begins = elim (quiet_or_not m) [

@@ -10,7 +10,7 @@ use Rattle.eval_numbers_proof.specs.Ranges.{BeginsInRange}
 use Rattle.eval_snapshot_spec.specs.After.{IsAfter}
 use Rattle.eval_snapshot_spec.specs.Evaluated.{evaluated_count, evaluated_tree, first_missing}
 use Rattle.eval_snapshot_spec.specs.Snapshot.{snapshot}
-use Rattle.eval_behaves_proof.specs.Laws.{BehavesAs}
+use Rattle.eval_behaves_proof.specs.Laws.{ObservationallyEquivalent}
 
 -- it is a snapshot in a state that evaluated constructors left
 pub record IsSnapshot (m : Module) (names kept : List Text) : Type 0 where
@@ -36,4 +36,4 @@ TreesAreBounded = (m : Module) (names kept : List Text) → first_missing m name
 
 -- In each environment that links the module, what is seen of it is what is seen of the module after the constructors that are evaluated: step by step.
 abbrev pub TreesBehave : Type 0
-TreesBehave = (m : Module) (names kept : List Text) → first_missing m names ≡ None → IsValid m → BeginsInRange m → BehavesAs m (take (evaluated_count m names) names) kept (evaluated_tree m names kept)
+TreesBehave = (m : Module) (names kept : List Text) → first_missing m names ≡ None → IsValid m → BeginsInRange m → ObservationallyEquivalent m (take (evaluated_count m names) names) kept (evaluated_tree m names kept)

@@ -2,8 +2,8 @@
 
 ghost use Rattle.tools_cli_eval.specs.Trees.{TreesAreBounded, TreesAreSingle, TreesAreSnapshots, TreesAreValid, TreesBehave};
 
-use eval_behaves_proof::snapshots_show_the_same;
-use eval_proof::{counted_constructors_are_the_quiet_ones, evaluations_end};
+use eval_behaves_proof::snapshot_equivalent;
+use eval_proof::{counted_constructors_are_the_longest_quiet_prefix, evaluations_end};
 use eval_snapshot_proof::snapshots_are_valid;
 use eval_suits_proof::evaluated_states_suit;
 
@@ -28,7 +28,7 @@ pub fn evaluated_modules_are_valid()
 pub fn evaluated_modules_behave()
     ensures { TreesBehave }
 {
-    counted_constructors_are_the_quiet_ones();
+    counted_constructors_are_the_longest_quiet_prefix();
     evaluations_end();
-    snapshots_show_the_same();
+    snapshot_equivalent();
 }

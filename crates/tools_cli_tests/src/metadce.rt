@@ -33,7 +33,7 @@ fn what_no_path_reaches_is_left_out_and_told(rt: HostRuntime) -> Result<(), Fail
     for (graph, lines, left) in [
         (HOST, "unused: C\n", LEFT),
         ("[]", "", nothing),
-        // an import that a node stands for is not kept by it
+        // an import that a node denotes is not kept by it
         (
             "[{\"name\":\"out\",\"root\":true,\"reaches\":[\"cb\"]},{\"name\":\"cb\",\"import\":[\"env\",\"cb\"]}]",
             "",

@@ -1,4 +1,4 @@
--- What the types of the code stand for.
+-- What the types of the code denote.
 use Rattle.std.specs.Prelude.{ℕ, List, ◌++◌, map, string_bytes}
 use Rattle.std.specs.Borrow.{Bor}
 use Rattle.tools_cli_words.specs.Words.{Text}

@@ -20,7 +20,7 @@ pub data Argument : Type 0 where
 
 -- ---- one word ----
 
--- A word that may stand for a value: not empty, and it does not begin with `-`.
+-- A word that may denote a value: not empty, and it does not begin with `-`.
 abbrev pub is_plain : Text → Bool
 is_plain [] = false
 is_plain (c ∷ _) = not (c == 45)

@@ -12,7 +12,7 @@ pub(crate) enum Argument<'a> {
     Plain(&'a str),
 }
 
-// A word that may stand for a value.
+// A word that may denote a value.
 fn is_plain(word: &str) -> bool
     ensures { result ≡ is_plain word.now }
 {

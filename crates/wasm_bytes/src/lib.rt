@@ -13,6 +13,6 @@ mod spelled;
 pub use cursor::{Cursor, Wrong};
 pub use framing::{Frame, FrameFault, frames};
 pub use items::Items;
-pub use laws::{shortest_spellings, spellings_end_themselves};
+pub use laws::{integer_encodings_are_prefix_free, shortest_encodings};
 pub use name::{Name, NoMemory};
 pub use out::Out;

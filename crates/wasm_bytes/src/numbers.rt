@@ -39,7 +39,7 @@ pub(crate) fn unsigned(bytes: &[u8], bits: u32) -> Result<(u64, &[u8]), Wrong>
     Ok((first - 128 + 128 * high, rest))
 }
 
-/// What a last byte stands for where so many bits are left, if its unused bits copy the sign.
+/// What a last byte denotes where so many bits are left, if its unused bits copy the sign.
 fn signed_end(last: u8, bits: u32) -> Option<i64>
     requires last { last < 128 }
     requires bits { 0 < bits }

@@ -191,6 +191,6 @@ it_links_though_an_element_segment_traps = refl
 it_links_though_a_start_traps : links [] (plain (record empty { funcs = code 2 (i.Unreachable ∷ []) ∷ []; start = Some 0 })) ≡ true
 it_links_though_a_start_traps = refl
 
--- the view has a name that stands for nothing
+-- the view has a name that denotes nothing
 it_does_not_link_a_view_of_nothing : links [] (plain empty) ≡ false
 it_does_not_link_a_view_of_nothing = refl

@@ -4,14 +4,14 @@ mod EmbedderRuns
 mod IllTypedRuns
 mod FurtherRuns
 mod EnvironmentRows
-mod TurnRuns
+mod SequentialRuns
 mod LoaderRuns
-mod TellingRuns
-mod TellingWorlds
+mod OrderAndIndexRuns
+mod LinkingAndSegmentRuns
 pub mod Walks
 pub mod Linked
 pub mod Counts
-mod Below
+mod StartFrames
 pub mod Slices
 pub mod Outcomes
 mod Touches

@@ -125,7 +125,7 @@ a_placeholder_of_another_type_is_no_match = refl
 
 -- ---- calls that moves and starts make ----
 
--- its placeholder is what the view's f stands for, and no code calls it
+-- its placeholder is what the view's f denotes, and no code calls it
 abbrev seen_placeholder : Module
 seen_placeholder = record empty {
   imports = record { «module» = b; field = g; desc = im.Func 0 } ∷ [];

@@ -116,14 +116,14 @@ pub data OwnKey : Type 0 where
   GlobalKey : Pair → OwnKey
 
 -- an entity in the store, by address
-pub data Thing : Type 0 where
-  FuncAt : ℕ → Thing
-  TableAt : ℕ → Thing
-  MemoryAt : ℕ → Thing
-  GlobalAt : ℕ → Thing
+pub data ExternalValue : Type 0 where
+  FuncAt : ℕ → ExternalValue
+  TableAt : ℕ → ExternalValue
+  MemoryAt : ℕ → ExternalValue
+  GlobalAt : ℕ → ExternalValue
 
 abbrev pub Owned : Type 0
-Owned = List (OwnKey × Thing)
+Owned = List (OwnKey × ExternalValue)
 
 abbrev pub same_key : OwnKey → OwnKey → Bool
 same_key (FuncKey p t) (FuncKey q u) = same_pair p q && same_func_type t u
@@ -132,19 +132,19 @@ same_key (MemoryKey p) (MemoryKey q) = same_pair p q
 same_key (GlobalKey p) (GlobalKey q) = same_pair p q
 same_key _ _ = false
 
-abbrev pub look_up : {K : Type 0} → (K → Bool) → List (K × Thing) → Option Thing
+abbrev pub look_up : {K : Type 0} → (K → Bool) → List (K × ExternalValue) → Option ExternalValue
 look_up is [] = None
 look_up is (x ∷ xs) = cond (is x.0) (Some x.1) (look_up is xs)
 
-abbrev pub owned_at : Owned → OwnKey → Option Thing
+abbrev pub owned_at : Owned → OwnKey → Option ExternalValue
 owned_at owned key = look_up (same_key key) owned
 
-abbrev pub func_of : Thing → Option ℕ
+abbrev pub func_of : ExternalValue → Option ℕ
 func_of (FuncAt a) = Some a
 func_of _ = None
 
 -- keys with addresses, counted from n
-abbrev pub addressed : (ℕ → Thing) → ℕ → List OwnKey → Owned
+abbrev pub addressed : (ℕ → ExternalValue) → ℕ → List OwnKey → Owned
 addressed thing n [] = []
 addressed thing n (key ∷ keys) = (key, thing n) ∷ addressed thing (suc n) keys
 

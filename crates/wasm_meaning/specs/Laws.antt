@@ -5,7 +5,7 @@ use Rattle.wasm_meaning.specs.Linking.{Part, Site, End, Read, Leads, end_of, Rea
 use Rattle.wasm_meaning.specs.Environment.{Environment}
 use Rattle.wasm_meaning.specs.World.{World}
 use Rattle.wasm_meaning.specs.Run.{Move, IsPrefix, events}
-use Rattle.wasm_meaning.specs.InTurn.{events_in_turn}
+use Rattle.wasm_meaning.specs.Sequential.{events_sequential}
 use Rattle.wasm_meaning.specs.Loader.{LoaderWorld, events_loaded}
 
 -- equal worlds, environments, moves and numbers of steps give equal events
@@ -16,17 +16,17 @@ RunsAreDetermined = (v w : World) (d e : Environment) (ms ns : List Move) (m n :
 abbrev pub LoadedRunsAreDetermined : Type 0
 LoadedRunsAreDetermined = (v w : LoaderWorld) (d e : Environment) (ms ns : List Move) (m n : ℕ) → v ≡ w → d ≡ e → ms ≡ ns → m ≡ n → events_loaded v d ms m ≡ events_loaded w e ns n
 
--- and parts that are instantiated one after the other
-abbrev pub RunsInTurnAreDetermined : Type 0
-RunsInTurnAreDetermined = (v w : World) (d e : Environment) (ms ns : List Move) (m n : ℕ) → v ≡ w → d ≡ e → ms ≡ ns → m ≡ n → events_in_turn v d ms m ≡ events_in_turn w e ns n
+-- and parts that are instantiated sequentially
+abbrev pub SequentialRunsAreDetermined : Type 0
+SequentialRunsAreDetermined = (v w : World) (d e : Environment) (ms ns : List Move) (m n : ℕ) → v ≡ w → d ≡ e → ms ≡ ns → m ≡ n → events_sequential v d ms m ≡ events_sequential w e ns n
 
 -- the events of fewer steps are a prefix of those of more
 abbrev pub ShorterRunsArePrefixes : Type 0
 ShorterRunsArePrefixes = (w : World) (env : Environment) (moves : List Move) (n k : ℕ) → IsPrefix (events w env moves n) (events w env moves (n + k))
 
--- so are those of parts that are instantiated one after the other
-abbrev pub ShorterRunsInTurnArePrefixes : Type 0
-ShorterRunsInTurnArePrefixes = (w : World) (env : Environment) (moves : List Move) (n k : ℕ) → IsPrefix (events_in_turn w env moves n) (events_in_turn w env moves (n + k))
+-- so are those of parts that are instantiated sequentially
+abbrev pub ShorterSequentialRunsArePrefixes : Type 0
+ShorterSequentialRunsArePrefixes = (w : World) (env : Environment) (moves : List Move) (n k : ℕ) → IsPrefix (events_sequential w env moves n) (events_sequential w env moves (n + k))
 
 -- and those of a module under a loader
 abbrev pub ShorterLoadedRunsArePrefixes : Type 0

@@ -12,7 +12,7 @@ pub mod Linking
 pub mod Environment
 pub mod World
 pub mod Run
-pub mod InTurn
+pub mod Sequential
 pub mod Loader
-pub mod Below
+pub mod StartFrames
 pub mod Laws

@@ -16,9 +16,9 @@ use Rattle.wasm_meaning.specs.Tables.{with_table}
 use Rattle.wasm_meaning.specs.Control.{type_at, func_ref}
 use Rattle.wasm_meaning.specs.Step.{enter_at}
 use Rattle.wasm_meaning.specs.Linking.{same_pair, first_place, pair_of, export_named}
-use Rattle.wasm_meaning.specs.Environment.{Environment, Thing, FuncAt, owned_of, flat}
+use Rattle.wasm_meaning.specs.Environment.{Environment, ExternalValue, FuncAt, owned_of, flat}
 use Rattle.wasm_meaning.specs.World.{Begun, Filled, or_trapped, own_count, own_store, all_there, address_in, start_in}
-use Rattle.wasm_meaning.specs.InTurn.{Added, added_with, own_thing}
+use Rattle.wasm_meaning.specs.Sequential.{Added, added_with, own_external_value}
 use Rattle.wasm_meaning.specs.Run.{Run, Event, Move, Out, Transition, Steps, made, transition, fresh_run, run_after, events_of}
 
 -- a module that is loaded, and the imports of the primary that the loader supplies for it, with their types, a slot each
@@ -59,12 +59,12 @@ store_under env w = let s = own_store env in record s { funcs = s.funcs ++ place
 abbrev pub slot_of : LoaderWorld → Import → Option ℕ
 slot_of w i = first_place (λ p. same_pair (pair_of i) p.0) (placeholders_of w) 0
 
-abbrev pub placeholder_or_own : Environment → LoaderWorld → Import → Option ℕ → Option Thing
+abbrev pub placeholder_or_own : Environment → LoaderWorld → Import → Option ℕ → Option ExternalValue
 placeholder_or_own env w i (Some n) = Some (FuncAt (own_count Functions env + n))
-placeholder_or_own env w i None = own_thing (owned_of env) w.primary i
+placeholder_or_own env w i None = own_external_value (owned_of env) w.primary i
 
--- what an import of the primary stands for
-abbrev pub supplied : Environment → LoaderWorld → Import → Option Thing
+-- what an import of the primary denotes
+abbrev pub supplied : Environment → LoaderWorld → Import → Option ExternalValue
 supplied env w i = placeholder_or_own env w i (slot_of w i)
 
 abbrev pub primary_added : Environment → LoaderWorld → Option Added

@@ -16,13 +16,13 @@ use Rattle.wasm_meaning.specs.Tables.{table_may_grow}
 use Rattle.wasm_meaning.specs.Control.{type_at, own_at}
 use Rattle.wasm_meaning.specs.Step.{give, enter_at, step, to_mark, changed}
 use Rattle.wasm_meaning.specs.Linking.{same_text}
-use Rattle.wasm_meaning.specs.Environment.{Environment, is_environment, owned_of, Shown, Number, Null, OwnFunc, ExternNumber, Function, Thing, FuncAt, TableAt, MemoryAt, GlobalAt, TableKey, MemoryKey, GlobalKey, Owned, owned_at, look_up, func_of, received, received_ref, received_all}
+use Rattle.wasm_meaning.specs.Environment.{Environment, is_environment, owned_of, Shown, Number, Null, OwnFunc, ExternNumber, Function, ExternalValue, FuncAt, TableAt, MemoryAt, GlobalAt, TableKey, MemoryKey, GlobalKey, Owned, owned_at, look_up, func_of, received, received_ref, received_all}
 use Rattle.wasm_meaning.specs.World.{World, Begun, own_store, instantiate}
 
 -- ---- what is seen and done ----
 
 pub data Event : Type 0 where
-  -- instantiation: the view is open; an import did not match, a constant read has no end or a name of the view stands for nothing; a segment or a start trapped
+  -- instantiation: the view is open; an import did not match, a constant read has no end or a name of the view denotes nothing; a segment or a start trapped
   Linked : Event
   LinkFault : Event
   InstanceTrapped : Event
@@ -63,7 +63,7 @@ pub data Phase : Type 0 where
   -- about to be instantiated, to this or to none
   Fresh : Option Begun → Phase
   -- instantiated; the starts are being made, and then this view is opened
-  Pending : (view : List (Text × Thing)) → Phase
+  Pending : (view : List (Text × ExternalValue)) → Phase
   Opened : Phase
   Closed : Phase
 
@@ -73,7 +73,7 @@ pub record Run : Type 0 where
   pub phase : Phase
   -- the functions that were shown, in the order of first showing
   pub shown : List ℕ
-  pub view : List (Text × Thing)
+  pub view : List (Text × ExternalValue)
   pub owned : Owned
   pub moves : List Move
 
@@ -83,10 +83,10 @@ Out = Run × Option Event
 
 -- ---- look-ups ----
 
-abbrev pub viewed_at : Run → Text → Option Thing
+abbrev pub viewed_at : Run → Text → Option ExternalValue
 viewed_at r name = look_up (same_text name) r.view
 
-abbrev pub place_at : Run → Place → Option Thing
+abbrev pub place_at : Run → Place → Option ExternalValue
 place_at r (TableOf pair) = owned_at r.owned (TableKey pair)
 place_at r (MemoryOf pair) = owned_at r.owned (MemoryKey pair)
 place_at r (GlobalOf pair) = owned_at r.owned (GlobalKey pair)
@@ -204,14 +204,14 @@ abbrev pub shows : Run → Val → Option Transition
 shows r v = let x = show r.store r.shown v in Some (Makes (record r { shown = x.1 }, Some (Got x.0)))
 
 -- a global has the one index 0
-abbrev pub got : Run → Thing → ℕ → Option Transition
+abbrev pub got : Run → ExternalValue → ℕ → Option Transition
 got r (FuncAt a) n = None
 got r (TableAt a) n = slice_get r.store.tables a >>= λ t. slice_get t.slots n >>= λ v. shows r (Ref v)
 got r (MemoryAt a) n = slice_get r.store.mems a >>= λ m. slice_get m.bytes n >>= λ b. shows r (Num W32 b)
 got r (GlobalAt a) n = slice_get r.store.globals a >>= λ g. cond (nat_eq n 0) (shows r g.value) None
 
 -- in entries, in pages, or 1
-abbrev pub size_of : Run → Thing → Option Transition
+abbrev pub size_of : Run → ExternalValue → Option Transition
 size_of r (FuncAt a) = None
 size_of r (TableAt a) = slice_get r.store.tables a >>= λ t. shows r (Num W32 (length t.slots))
 size_of r (MemoryAt a) = slice_get r.store.mems a >>= λ m. shows r (Num W32 m.pages)
@@ -224,7 +224,7 @@ abbrev pub byte_of : Shown → Option ℕ
 byte_of (Number n) = cond (nat_lt n 256) (Some n) None
 byte_of _ = None
 
-abbrev pub set : Run → Thing → ℕ → Shown → Option Transition
+abbrev pub set : Run → ExternalValue → ℕ → Shown → Option Transition
 set r (FuncAt a) n x = None
 set r (TableAt a) n x =
     slice_get r.store.tables a >>= λ t. received_ref r.owned r.shown t.ty x >>= λ v. overwrite t.slots n (v ∷ []) >>= λ slots. does r (SetTable a (record t { slots = slots }))
@@ -233,7 +233,7 @@ set r (MemoryAt a) n x =
 set r (GlobalAt a) n x =
     slice_get r.store.globals a >>= λ g. cond (nat_eq n 0) (cond g.ty.mutable (received r.owned r.shown g.ty.ty x >>= λ v. does r (SetGlobal a (record g { value = v }))) None) None
 
-abbrev pub extended : Run → Thing → ℕ → Option Transition
+abbrev pub extended : Run → ExternalValue → ℕ → Option Transition
 extended r (FuncAt a) n = None
 extended r (TableAt a) n = slice_get r.store.tables a >>= λ t. cond (table_may_grow t n) (does r (SetTable a (grown_table t n (null_of t.ty)))) None
 extended r (MemoryAt a) n = slice_get r.store.mems a >>= λ m. cond (memory_may_grow m n) (does r (SetMemory a (grown_memory m n))) None
@@ -291,7 +291,7 @@ began r (Some b) = cond b.trapped
     (record r { store = b.store; entries = []; phase = Closed; owned = b.owned }, Some InstanceTrapped)
     (record r { store = b.store; entries = Opening b.starts ∷ []; phase = Pending b.view; owned = b.owned }, None)
 
-abbrev pub view_of : Run → Phase → List (Text × Thing)
+abbrev pub view_of : Run → Phase → List (Text × ExternalValue)
 view_of r (Pending view) = view
 view_of r _ = r.view
 
@@ -355,7 +355,7 @@ fresh_run env b moves =
 abbrev pub events : World → Environment → List Move → ℕ → List Event
 events w env moves n = events_of tick (fresh_run env (instantiate env w) moves) n
 
--- Of two ways to run, as of a world at once, in turn or under a loader, each with the events of its first n steps: in each environment of those named, by each
+-- Of two ways to run, as of a world at once, sequentially or under a loader, each with the events of its first n steps: in each environment of those named, by each
 -- list of moves, whatever is seen of the one in n steps is seen of the other in f n, and the other way round in g n.
 abbrev pub Same : (named : Environment → Type 0) → (v w : Environment → List Move → ℕ → List Event) → (f g : ℕ → ℕ) → Type 0
 Same named v w f g =

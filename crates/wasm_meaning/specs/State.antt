@@ -147,7 +147,7 @@ pub data Change : Type 0 where
   DropElem : (address : ℕ) → Change
   DropData : (address : ℕ) → Change
 
--- what it comes to, before what stands below the frame is looked at
+-- what it comes to, before what is on the stack below the frame is looked at
 pub data Act : Type 0 where
   Goes : Change → Body → Act
   Calls : (address : ℕ) → (values : List Val) → Body → Act

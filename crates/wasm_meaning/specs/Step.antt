@@ -121,7 +121,7 @@ abbrev pub step : Store → List Entry → Outcome Next
 step s (Running f ∷ es) = bind (act s f) (perform s f es)
 step s _ = IllTyped
 
--- who waits at the nearest mark, and what stands below it; the mark of a start is Opening
+-- who waits at the nearest mark, and what is on the stack below it; the mark of a start is Opening
 abbrev pub to_mark : List Entry → Outcome (Caller × List Entry)
 to_mark [] = IllTyped
 to_mark (Mark ∷ es) = Gives (Host, es)

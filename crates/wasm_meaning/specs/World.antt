@@ -34,7 +34,7 @@ use Rattle.wasm_meaning.specs.Control.{type_at}
 use Rattle.wasm_meaning.specs.Step.{changed, no_items}
 use Rattle.wasm_meaning.specs.Linking.{Part, Site, End, Defined, Outside, Entity, Read, module_at, import_at, imports_of, pair_of, end_of, read_of, sites}
 use Rattle.wasm_tree.specs.Spaces.{index_of_export, space_of_export}
-use Rattle.wasm_meaning.specs.Environment.{Environment, Thing, FuncAt, TableAt, MemoryAt, GlobalAt, OwnKey, FuncKey, TableKey, MemoryKey, GlobalKey, Owned, owned_of, owned_at, own_funcs, own_tables, own_memories, own_globals, all_of}
+use Rattle.wasm_meaning.specs.Environment.{Environment, ExternalValue, FuncAt, TableAt, MemoryAt, GlobalAt, OwnKey, FuncKey, TableKey, MemoryKey, GlobalKey, Owned, owned_of, owned_at, own_funcs, own_tables, own_memories, own_globals, all_of}
 
 -- modules with names, whose imports are joined by name, and what the embedder may use: names, each with the entity for which it stands
 pub record World : Type 0 where
@@ -81,16 +81,16 @@ abbrev pub base : Environment → List Part → Space → ℕ → ℕ
 base env parts k p = own_count k env + defined_before k parts p
 
 -- the external value at an address; types and segments are none (section 4.2.13)
-abbrev pub thing_at : Space → ℕ → Option Thing
-thing_at Types a = None
-thing_at Functions a = Some (FuncAt a)
-thing_at Tables a = Some (TableAt a)
-thing_at Memories a = Some (MemoryAt a)
-thing_at Globals a = Some (GlobalAt a)
-thing_at ElementSegments a = None
-thing_at DataSegments a = None
+abbrev pub external_value_at : Space → ℕ → Option ExternalValue
+external_value_at Types a = None
+external_value_at Functions a = Some (FuncAt a)
+external_value_at Tables a = Some (TableAt a)
+external_value_at Memories a = Some (MemoryAt a)
+external_value_at Globals a = Some (GlobalAt a)
+external_value_at ElementSegments a = None
+external_value_at DataSegments a = None
 
-abbrev pub address_of : Space → Thing → Option ℕ
+abbrev pub address_of : Space → ExternalValue → Option ℕ
 address_of Functions (FuncAt a) = Some a
 address_of Tables (TableAt a) = Some a
 address_of Memories (MemoryAt a) = Some a
@@ -111,29 +111,29 @@ own_key_of m pair (im.Global t) = Some (GlobalKey pair)
 abbrev pub own_key : Module → Import → Option OwnKey
 own_key m i = own_key_of m (pair_of i) i.desc
 
-abbrev pub outside_thing : Owned → List Part → Site → Option Thing
-outside_thing owned parts s = module_at parts s.part >>= λ m. import_at parts s >>= λ i. own_key m i >>= λ key. owned_at owned key
+abbrev pub outside_external_value : Owned → List Part → Site → Option ExternalValue
+outside_external_value owned parts s = module_at parts s.part >>= λ m. import_at parts s >>= λ i. own_key m i >>= λ key. owned_at owned key
 
 -- the addresses of what a part defines
 abbrev pub defined_addresses : Environment → List Part → Space → ℕ → Module → List ℕ
 defined_addresses env parts k p m = numbers (base env parts k p) (defined_count k m)
 
-abbrev pub defined_thing : Environment → List Part → Entity → Option Thing
-defined_thing env parts e =
-    module_at parts e.part >>= λ m. let k = space_of_export e.what in slice_get (defined_addresses env parts k e.part m) (index_of_export e.what - length (imports_of k m)) >>= thing_at k
+abbrev pub defined_external_value : Environment → List Part → Entity → Option ExternalValue
+defined_external_value env parts e =
+    module_at parts e.part >>= λ m. let k = space_of_export e.what in slice_get (defined_addresses env parts k e.part m) (index_of_export e.what - length (imports_of k m)) >>= external_value_at k
 
-abbrev pub thing_of : Environment → List Part → End → Option Thing
-thing_of env parts (Defined e) = defined_thing env parts e
-thing_of env parts (Outside s) = outside_thing (owned_of env) parts s
+abbrev pub external_value_of : Environment → List Part → End → Option ExternalValue
+external_value_of env parts (Defined e) = defined_external_value env parts e
+external_value_of env parts (Outside s) = outside_external_value (owned_of env) parts s
 
--- what an import stands for
-abbrev pub imported_thing : Environment → List Part → Site → Option Thing
-imported_thing env parts s = end_of parts s >>= (thing_of env parts)
+-- what an import denotes
+abbrev pub imported_external_value : Environment → List Part → Site → Option ExternalValue
+imported_external_value env parts s = end_of parts s >>= (external_value_of env parts)
 
 -- the addresses of an index space: of the imports, then of what is defined
 abbrev pub space : Environment → List Part → Space → ℕ → Module → Option (List ℕ)
 space env parts k p m =
-    all_there (λ n. imported_thing env parts (record { part = p; import = n }) >>= (address_of k)) (imports_of k m) >>= λ imported. Some (imported ++ defined_addresses env parts k p m)
+    all_there (λ n. imported_external_value env parts (record { part = p; import = n }) >>= (address_of k)) (imports_of k m) >>= λ imported. Some (imported ++ defined_addresses env parts k p m)
 
 abbrev pub inst_of : Environment → List Part → ℕ → Module → Option Inst
 inst_of env parts p m =
@@ -248,7 +248,7 @@ abbrev pub meets : (size : ℕ) → (most : Option ℕ) → Limits → Bool
 meets size most demand = nat_le demand.min size && meets_most most demand.max
 
 -- an entity of the store is what an import asks for
-abbrev pub is_match : Store → Module → ImportDesc → Thing → Option Bool
+abbrev pub is_match : Store → Module → ImportDesc → ExternalValue → Option Bool
 is_match s m (im.Func ty) (FuncAt a) = import_type m ty >>= λ t. type_at s a >>= λ u. Some (same_func_type t u)
 is_match s m (im.Table t) (TableAt a) = slice_get s.tables a >>= λ u. Some (same_ref t.ty u.ty && meets (length u.slots) u.most t.limits)
 is_match s m (im.Memory l) (MemoryAt a) = slice_get s.mems a >>= λ u. Some (meets u.pages u.most l)
@@ -257,7 +257,7 @@ is_match s m _ _ = None
 
 abbrev pub is_matched : Environment → List Part → Store → Site → Bool
 is_matched env parts s site =
-    unwrap_or (module_at parts site.part >>= λ m. import_at parts site >>= λ i. imported_thing env parts site >>= (is_match s m i.desc)) false
+    unwrap_or (module_at parts site.part >>= λ m. import_at parts site >>= λ i. imported_external_value env parts site >>= (is_match s m i.desc)) false
 
 -- ---- active segments (section 4.5.4) ----
 
@@ -348,7 +348,7 @@ pub record Begun : Type 0 where
   pub store : Store
   pub trapped : Bool
   pub starts : List ℕ
-  pub view : List (Text × Thing)
+  pub view : List (Text × ExternalValue)
   pub owned : Owned
 
 abbrev pub one_place : Option ℕ → List ℕ
@@ -364,19 +364,19 @@ starts_of (part ∷ parts) (i ∷ is) = start_in i part.«module».start ++ star
 starts_of _ _ = []
 
 -- an entity of a part, by the instance of its part
-abbrev pub address_in : Inst → ExportDesc → Option Thing
+abbrev pub address_in : Inst → ExportDesc → Option ExternalValue
 address_in i (ex.Func x) = slice_get i.funcs x >>= λ a. Some (FuncAt a)
 address_in i (ex.Table x) = slice_get i.tables x >>= λ a. Some (TableAt a)
 address_in i (ex.Memory x) = slice_get i.mems x >>= λ a. Some (MemoryAt a)
 address_in i (ex.Global x) = slice_get i.globals x >>= λ a. Some (GlobalAt a)
 
-abbrev pub seen_as : List Inst → Text × Entity → Option (Text × Thing)
+abbrev pub seen_as : List Inst → Text × Entity → Option (Text × ExternalValue)
 seen_as insts v = slice_get insts v.1.part >>= λ i. address_in i v.1.what >>= λ thing. Some (v.0, thing)
 
-abbrev pub begun : Environment → World → List Inst → List (Text × Thing) → Filled → Begun
+abbrev pub begun : Environment → World → List Inst → List (Text × ExternalValue) → Filled → Begun
 begun env w insts view filled = record { store = filled.store; trapped = filled.trapped; starts = starts_of w.parts insts; view = view; owned = owned_of env }
 
--- None where an import does not match or a constant read has no end, or a name of the view stands for nothing. (In a module that is not valid it is none as well where
+-- None where an import does not match or a constant read has no end, or a name of the view denotes nothing. (In a module that is not valid it is none as well where
 -- the type of a function or of an import, what an initialiser or an item names, or an export that is imported is not there, where an initialiser or an item reads a
 -- global that is not imported, or an item is no reference; but a segment whose table, memory or i32 offset is not there traps, and a start that is not there is no
 -- start. An offset whose read has no end stands on a global whose read has none either.)
@@ -389,7 +389,7 @@ abbrev pub is_there : {A : Type 0} → Option A → Bool
 is_there None = false
 is_there (Some a) = true
 
--- an environment links a world where every import matches, every constant read has an end and the view's names stand for something, whether or not a segment or a
+-- an environment links a world where every import matches, every constant read has an end and the view's names denote something, whether or not a segment or a
 -- start traps then
 abbrev pub links : Environment → World → Bool
 links env w = is_there (instantiate env w)

@@ -1,25 +1,25 @@
 //! What WebAssembly modules do: the store, the configuration, one small step, the embedder, worlds and runs.
 //!
-//! The definitions stand in `specs/`; no command runs code of this crate. `docs/MEANING.md` walks through them.
+//! The definitions stand in `specs/`; no command runs code of this crate. `docs/SEMANTICS.md` walks through them.
 #![tactic(auto)]
 
-ghost use Rattle.wasm_meaning.specs.Below.{BelowIsNotSeen};
+ghost use Rattle.wasm_meaning.specs.StartFrames.{StartDependsOnlyOnItsFrames};
 ghost use Rattle.wasm_meaning.specs.Touched.{StepsWriteWhatTheyTouch};
-ghost use Rattle.wasm_meaning.specs.Laws.{EndsArePaths, LoadedRunsAreDetermined, ReadsArePaths, RunsAreDetermined, RunsInTurnAreDetermined, ShorterLoadedRunsArePrefixes, ShorterRunsArePrefixes, ShorterRunsInTurnArePrefixes};
+ghost use Rattle.wasm_meaning.specs.Laws.{EndsArePaths, LoadedRunsAreDetermined, ReadsArePaths, RunsAreDetermined, SequentialRunsAreDetermined, ShorterLoadedRunsArePrefixes, ShorterRunsArePrefixes, ShorterSequentialRunsArePrefixes};
 
 /// A run is determined by its world, its environment, the embedder's moves and the number of steps: a run of a world, of its parts one after the other
-/// (`in_turn`), and of a module under a loader (`loaded`).
+/// (`sequential`), and of a module under a loader (`loaded`).
 pub fn runs_are_determined()
     ensures determined { RunsAreDetermined }
-    ensures in_turn { RunsInTurnAreDetermined }
+    ensures sequential { SequentialRunsAreDetermined }
     ensures loaded { LoadedRunsAreDetermined }
 {}
 
-/// What is seen in fewer steps of a run comes first in what is seen in more: in runs of a world, of its parts one after the other (`in_turn`), and of a module
+/// What is seen in fewer steps of a run comes first in what is seen in more: in runs of a world, of its parts one after the other (`sequential`), and of a module
 /// under a loader (`loaded`).
 pub fn shorter_runs_are_prefixes()
     ensures prefixes { ShorterRunsArePrefixes }
-    ensures in_turn { ShorterRunsInTurnArePrefixes }
+    ensures sequential { ShorterSequentialRunsArePrefixes }
     ensures loaded { ShorterLoadedRunsArePrefixes }
 {}
 
@@ -29,12 +29,12 @@ pub fn ends_and_reads_are_paths()
     ensures reads { ReadsArePaths }
 {}
 
-/// While a start is made, what stands below its entries is not seen, nor the phase of the run: one step over the one shows and leaves what it does over the other.
-pub fn what_stands_below_is_not_seen()
-    ensures below { BelowIsNotSeen }
+/// While a start is made, what is on the stack below its entries makes no difference to the trace, nor does the phase of the run: one step over the one shows and leaves what it does over the other.
+pub fn start_depends_only_on_its_frames()
+    ensures own_frames { StartDependsOnlyOnItsFrames }
 {}
 
 /// What the step of a frame writes into the store is told from what stands on top before: the address, the place and the count (WebAssembly Core 2.0, section 4.4).
-pub fn steps_write_what_they_touch()
+pub fn steps_write_only_touched_places()
     ensures writes { StepsWriteWhatTheyTouch }
 {}

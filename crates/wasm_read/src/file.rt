@@ -21,8 +21,9 @@ use crate::sections::{Found, read_section};
 use std::alloc::Global;
 use wasm_bytes::{Frame, FrameFault, Items, frames};
 use wasm_read_spec::{
-    Parts, ReadFault, faults_have_causes, spelled_bodies_name_memory_zero,
-    spelled_files_are_within_where_nothing_is_over, spelled_trees_are_bounded,
+    Parts, ReadFault, encoded_bodies_name_memory_zero,
+    encoded_files_are_within_limits_where_none_is_exceeded, encoded_trees_are_bounded,
+    faults_have_causes,
 };
 use wasm_tree::Module;
 
@@ -149,8 +150,8 @@ pub fn read(alloc: Global, bytes: &[u8]) -> Result<Module, ReadFault>
     ensures memory { IfOk result (λ m. IsTrue (memory_zero_funcs m.funcs)) }
 {
     faults_have_causes();
-    spelled_files_are_within_where_nothing_is_over();
-    spelled_trees_are_bounded();
-    spelled_bodies_name_memory_zero();
+    encoded_files_are_within_limits_where_none_is_exceeded();
+    encoded_trees_are_bounded();
+    encoded_bodies_name_memory_zero();
     read_file(alloc, bytes, false)
 }

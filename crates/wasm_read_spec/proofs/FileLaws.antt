@@ -128,8 +128,8 @@ tree_read many bytes m h k =
     rw (framed_reads bytes h.0 h.2, contents_complete many 0 nothing h.0 h.1 h.3 (k h.0 h.2), of_rules h.1 h.4) (ap Ok (sym h.5))
 
 -- some bytes spell at most one tree
-pub one_tree : (many : Bool) (bytes : List ℕ) (m n : Module) → Spells bytes m many → Spells bytes n many → m ≡ n
-one_tree many bytes m n h k =
+pub decoding_is_unique : (many : Bool) (bytes : List ℕ) (m n : Module) → Spells bytes m many → Spells bytes n many → m ≡ n
+decoding_is_unique many bytes m n h k =
     let frames = one_framing bytes h.0 k.0 h.2 k.2 in
     h.5 ∙ ap tree_of (contents_one many nothing k.0 h.1 k.1 (subst (λ ss. Contents many nothing ss h.1) frames h.3) k.3) ∙ sym k.5
 

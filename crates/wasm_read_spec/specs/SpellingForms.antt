@@ -15,7 +15,7 @@ S64 = Signed 64
 abbrev pub Byte : List ℕ → ℕ → Type 0
 Byte bytes b = bytes ≡ b ∷ []
 
--- one byte, whose code stands for the value
+-- one byte, whose code denotes the value
 abbrev pub Coded : {A : Type 0} → (ℕ → Result A Fault) → List ℕ → A → Type 0
 Coded code bytes x = (b : ℕ) × (code b ≡ Ok x) × (bytes ≡ b ∷ [])
 

@@ -23,7 +23,7 @@ pub enum Fault {
 pub enum ReadFault {
     /// The first eight bytes are not the header (WebAssembly Core 2.0, section 5.5.16).
     NotModule,
-    /// A section is misspelled, or its frame is; sections count from 0, custom ones too. The number of all frames stands for a
+    /// A section is misspelled, or its frame is; sections count from 0, custom ones too. The number of all frames denotes a
     /// rule on the whole file.
     Malformed { section: u32 },
     /// A code entry is misspelled; functions count from 0, imported ones too.

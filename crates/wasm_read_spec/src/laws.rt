@@ -19,18 +19,18 @@ ghost use Rattle.wasm_read_spec.specs.Cut.{CutFiles};
 use wasm_tree::operands_pass_layer_by_layer;
 
 /// Some bytes spell at most one tree.
-pub fn one_tree()
+pub fn decoding_is_unique()
     ensures { (many : Bool) (bytes : List ℕ) (m n : ModuleTree) → Spells bytes m many → Spells bytes n many → m ≡ n }
 {}
 
 /// No spelling of a body is a proper prefix of another, and some bytes spell at most one body. (For numbers see
-/// `wasm_bytes::spellings_end_themselves`; of files it is false, since the header alone spells the empty module.)
-pub fn bodies_end_themselves()
+/// `wasm_bytes::integer_encodings_are_prefix_free`; of files it is false, since the header alone spells the empty module.)
+pub fn body_encodings_are_prefix_free()
     ensures { (many : Bool) (text more : List ℕ) (is js : List Tree) → SpellsBody many text is → SpellsBody many (text ++ more) js → (more ≡ []) × (is ≡ js) }
 {}
 
 /// A file has no fault exactly where it spells a tree and is within the limits.
-pub fn no_fault_where_spelled()
+pub fn no_fault_where_encoded()
     ensures { (many : Bool) (bytes : List ℕ) → IsBytes bytes → (read_fault bytes many ≡ None) ↔ ((m : ModuleTree) × Spells bytes m many × Within bytes many) }
 {}
 
@@ -47,7 +47,7 @@ pub fn faults_have_causes()
 
 /// A file that spells a tree is within the limits exactly where no count that is written in it, no nesting and no sum of locals is over its
 /// limit. (`Within` is said of what is spelled; `Limit`, of what is written, also where the items do not follow.)
-pub fn spelled_files_are_within_where_nothing_is_over()
+pub fn encoded_files_are_within_limits_where_none_is_exceeded()
     ensures { (bytes : List ℕ) (many : Bool) (m : ModuleTree) → IsBytes bytes → Spells bytes m many → Within bytes many ↔ ((which : SomeWhich) → Cause bytes many (fault.Limit which) → ⊥) }
 {}
 
@@ -57,12 +57,12 @@ pub fn cut_files_end_with_a_frame()
 {}
 
 /// A tree that is spelled within the limits has so few things of each kind that a u32 names each.
-pub fn spelled_trees_are_bounded()
+pub fn encoded_trees_are_bounded()
     ensures { (many : Bool) (bytes : List ℕ) (m : ModuleTree) → Spells bytes m many → Within bytes many → IsBounded m }
 {}
 
 /// Where memories have no indices, a body names no memory but memory 0.
-pub fn spelled_bodies_name_memory_zero()
+pub fn encoded_bodies_name_memory_zero()
     ensures { (bytes : List ℕ) (m : ModuleTree) → Spells bytes m false → memory_zero_funcs m.funcs ≡ true }
 {
     operands_pass_layer_by_layer();

@@ -8,9 +8,9 @@ mod token;
 
 pub use fault::{Fault, ReadFault};
 pub use laws::{
-    bodies_end_themselves, cut_files_end_with_a_frame, faults_have_causes, no_fault_where_spelled,
-    one_tree, spelled_bodies_name_memory_zero, spelled_files_are_within_where_nothing_is_over,
-    spelled_trees_are_bounded,
+    body_encodings_are_prefix_free, cut_files_end_with_a_frame, decoding_is_unique,
+    encoded_bodies_name_memory_zero, encoded_files_are_within_limits_where_none_is_exceeded,
+    encoded_trees_are_bounded, faults_have_causes, no_fault_where_encoded,
 };
 pub use parts::Parts;
 pub use token::{Opener, Sequence, Token};

@@ -155,7 +155,7 @@ mapped_all f = map (mapped f)
 
 -- ---- what is so of all that code names ----
 
--- what stands for the instructions that a layer holds
+-- what replaces the instructions that a layer holds
 abbrev pub held : {X : Type 0} → Instr-F X → List X
 held Instr-F.Unreachable = []
 held Instr-F.Nop = []

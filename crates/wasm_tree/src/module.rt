@@ -7,7 +7,7 @@ use crate::types::{FuncType, GlobalType, Limits, RefType, TableType, ValType};
 use std::alloc::Global;
 use wasm_bytes::{Items, Name};
 
-/// What an import stands for; a function's is a place in the module's types (WebAssembly Core 2.0, section 2.5.11).
+/// What an import denotes; a function's is a place in the module's types (WebAssembly Core 2.0, section 2.5.11).
 #[derive(Clone, Copy, Debug, PartialEq, Eq)]
 pub enum ImportDesc {
     Func(u32),
@@ -56,7 +56,7 @@ pub struct GlobalDef {
     pub init: ConstExpr,
 }
 
-/// What an export stands for, as a place in its index space (WebAssembly Core 2.0, section 2.5.10).
+/// What an export denotes, as a place in its index space (WebAssembly Core 2.0, section 2.5.10).
 #[derive(Clone, Copy, Debug, PartialEq, Eq)]
 pub enum ExportDesc {
     Func(u32),

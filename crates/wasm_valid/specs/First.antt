@@ -1,4 +1,4 @@
--- The first item that does not hold.
+-- The first invalid item.
 use Rattle.std.specs.Prelude.{◌≡◌, ℕ, ◌+◌, Bool, List, ◌∷◌, ◌++◌, length, Option, Some, None}
 use Rattle.wasm_tree.specs.declared.module.Module.{Module}
 use Rattle.wasm_tree.specs.Spaces.{imported_funcs, imported_tables, imported_memories, imported_globals, memories_of}
@@ -26,7 +26,7 @@ abbrev pub IsFirstOf : Module → List Item → Invalid → Type 0
 IsFirstOf m xs e =
     (x : Item) × (before after : List Item) × (xs ≡ before ++ x ∷ after) × EachHolds m before × (HoldsAt m x.kind x.place → ⊥) × (e.kind ≡ x.kind) × (e.index ≡ index_of m x.kind x.place)
 
--- the first item that does not hold, where it is tested that there is at most one memory exactly where many is false
+-- the first invalid item, where it is tested that there is at most one memory exactly where many is false
 abbrev pub IsFirstInvalid : Module → Bool → Invalid → Type 0
 IsFirstInvalid m many e = IsFirstOf m (items m many) e
 

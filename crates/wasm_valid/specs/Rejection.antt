@@ -5,7 +5,7 @@ use Rattle.wasm_valid.specs.declared.validation.Rejected.{Rejected}
 use Rattle.wasm_valid.specs.declared.validation.Rejected.TheVariants.{Invalid, NoMemory}
 use Rattle.wasm_valid.specs.First.{IsFirstInvalid}
 
--- the same module, with the first item that does not hold, or for want of memory
+-- the same module, with the first invalid item, or for want of memory
 abbrev pub IsRejected : Module → Rejected → Type 0
 IsRejected m (Invalid same e) = (same ≡ m) × IsFirstInvalid m false e
 IsRejected m (NoMemory same) = same ≡ m

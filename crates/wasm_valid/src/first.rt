@@ -1,4 +1,4 @@
-// The first item that does not hold.
+// The first invalid item.
 
 ghost use Rattle.std.specs.Prelude.{◌≡◌, IfOk};
 ghost use Rattle.wasm_tree.specs.Bounds.{IsBounded};
@@ -46,7 +46,7 @@ fn first_of_kind<'a>(
     Ok(None)
 }
 
-/// The first item that does not hold, if one does not. Where `many` memories are allowed their number is not tested. Its only error is want
+/// The first invalid item, if there is one. Where `many` memories are allowed their number is not tested. Its only error is want
 /// of memory.
 pub fn first_invalid(
     alloc: Global,

@@ -18,7 +18,7 @@ pub enum ItemKind {
     Body,
 }
 
-/// An item that does not hold. For Func, Table, Memory, Global and Body the index is that in the index space, for Memories it is the number
+/// An invalid item. For Func, Table, Memory, Global and Body the index is that in the index space, for Memories it is the number
 /// of memories, for the start it is 0, for the others it is the place in the section.
 #[derive(Clone, Copy, Debug, PartialEq, Eq)]
 pub struct Invalid {

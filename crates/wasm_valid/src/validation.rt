@@ -33,7 +33,7 @@ impl Model for Valid {
     ghost invariant = { λ v. IsValid v.module × IsBounded v.module };
 }
 
-/// Why a module was handed back: its first item that does not hold, or want of memory. Both hand the same module back.
+/// Why a module was handed back: its first invalid item, or want of memory. Both hand the same module back.
 #[derive(Drop)]
 pub enum Rejected {
     Invalid(Module, Invalid),
@@ -41,7 +41,7 @@ pub enum Rejected {
 }
 
 /// Validates a module (WebAssembly Core 2.0, section 3.4). It is accepted exactly where it is valid and has at most one memory; otherwise the
-/// first item that does not hold is named, and the same module handed back.
+/// first invalid item is named, and the same module handed back.
 pub fn validate(alloc: Global, module: Module) -> Result<Valid, Rejected>
     requires { IsBounded «module» }
     ensures same { IfOk result (λ valid. valid ≡ «module») }

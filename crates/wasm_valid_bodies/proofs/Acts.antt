@@ -1,4 +1,4 @@
--- What an instruction does to the kept stack is what it does to the stacks that it stands for.
+-- What an instruction does to the kept stack is what it does to the stacks that it denotes.
 use Rattle.std.proofs.Common.{arith, ◌≡◌, ℕ, suc, Bool, true, false, cond, ◌&&◌, nat_eq, is_some, List, [], ◌∷◌, ◌++◌, map, reverse, length, Option, Some, None, refl, sym, ap, ◌∙◌, subst, eq-eqb, option_and_then, option_map}
 use Rattle.std.proofs.lemmas.List.{length-reverse}
 use Rattle.std.proofs.lemmas.Bool.{eqb-true, and_parts}

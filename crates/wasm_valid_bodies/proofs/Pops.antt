@@ -1,4 +1,4 @@
--- Operands are taken off the kept stack exactly where they can be taken off the stacks that it stands for.
+-- Operands are taken off the kept stack exactly where they can be taken off the stacks that it denotes.
 use Rattle.std.proofs.Common.{arith, ◌≡◌, ℕ, zero, suc, Bool, true, false, cond, List, [], ◌∷◌, ◌++◌, length, Some, None, refl, sym, ap, ◌∙◌, subst, option_and_then}
 use Rattle.wasm_tree.specs.declared.types.ValType.{ValType}
 use Rattle.wasm_tree.specs.SameTypes.{same_type}

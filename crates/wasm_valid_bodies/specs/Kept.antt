@@ -1,4 +1,4 @@
--- What the checker's stack in memory stands for.
+-- What the checker's stack in memory denotes.
 use Rattle.std.specs.Prelude.{◌≡◌, Bool, true, false, List, [], ◌∷◌, ◌++◌, take, drop, Option, Some, None}
 use Rattle.wasm_tree.specs.declared.types.ValType.{ValType}
 use Rattle.wasm_valid_bodies.specs.declared.kept.Kept.{Kept}

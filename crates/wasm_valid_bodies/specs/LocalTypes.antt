@@ -1,4 +1,4 @@
--- What the locals in memory stand for.
+-- What the locals in memory denote.
 use Rattle.std.specs.Prelude.{List}
 use Rattle.wasm_tree.specs.declared.types.ValType.{ValType}
 use Rattle.wasm_valid_bodies.specs.declared.locals.Locals.{Locals}

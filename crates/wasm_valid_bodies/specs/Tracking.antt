@@ -7,7 +7,7 @@ use Rattle.wasm_tree.specs.declared.types.ValType.TheVariants.{I32, I64, Ref}
 use Rattle.wasm_valid_bodies.specs.Typing.{Operand, Stack, operands, Effect, Gives, Leaves, Drops, Selects, TestsNull, Branches}
 use Rattle.wasm_tree.specs.SameTypes.{same_type}
 
--- s is one of the stacks that are kept as xs: a type stands for itself, a bottom for any operand
+-- s is one of the stacks that are kept as xs: a type denotes itself, a bottom for any operand
 abbrev pub IsInstance : Operand → Operand → Type 0
 IsInstance None y = Unit {0}
 IsInstance (Some t) y = y ≡ Some t

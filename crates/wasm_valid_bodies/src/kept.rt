@@ -5,7 +5,7 @@ ghost use Rattle.std.specs.Prelude.{◌≤◌, length};
 use wasm_tree::ValType;
 
 /// The operands of all open blocks. Seen are those of the innermost block: the known ones, below them a bottom where there is one, and below
-/// that any operands where it has `any_below`. A bottom stands for one operand of any type; it never lies above a known one, since only a
+/// that any operands where it has `any_below`. A bottom denotes one operand of any type; it never lies above a known one, since only a
 /// `select` of two bottoms leaves it.
 #[derive(Drop)]
 pub struct Kept {

@@ -334,7 +334,7 @@ const STORES: [(u8, u8, u8); 7] = [
     (0x3E, 1, 2),
 ];
 
-// Sections, and the first item that does not hold.
+// Sections, and the first invalid item.
 const ITEMS: [(&[u8], Option<(ItemKind, u32)>); 29] = [
     // nothing
     (b"", None),

@@ -30,7 +30,7 @@ all_lost [] i x lt is h = absurd (omega arith)
 all_lost (y ∷ ys) zero x lt is h = let e : is_func y ≡ false = ap is_func (sym is) ∙ h in rw e
 all_lost (y ∷ ys) (suc i) x lt is h = let r = all_lost ys i x (omega arith) is h in rw r (and_false (is_func y))
 
--- an item that is there does not hang on what stands for one that is not
+-- an item that is there does not hang on what denotes one that is not
 pub get_or_any : {A : Type 0} (xs : List A) (i : ℕ) (d e : A) → i < length xs → get_or xs i d ≡ get_or xs i e
 get_or_any [] i d e lt = absurd (omega arith)
 get_or_any (x ∷ xs) zero d e lt = refl

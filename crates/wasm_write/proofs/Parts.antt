@@ -1,4 +1,4 @@
--- The plain spelling of a module, from its parts.
+-- The canonical encoding of a module, from its parts.
 use Rattle.std.proofs.Common.{◌≡◌, ◌++◌, refl}
 use Rattle.wasm_tree.specs.declared.module.Module.{Module}
 use Rattle.wasm_write_spec.specs.PlainValues.{data_text}

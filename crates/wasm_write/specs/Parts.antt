@@ -1,4 +1,4 @@
--- Parts of the plain spelling of a module.
+-- Parts of the canonical encoding of a module.
 use Rattle.std.specs.Prelude.{ℕ, List, ◌++◌}
 use Rattle.wasm_bytes.specs.Writing.{u32_text}
 use Rattle.wasm_bytes.specs.Frames.{header}

@@ -1,4 +1,4 @@
-//! The writer: the plain spelling of a module, and whether it fits a number of bytes.
+//! The writer: the canonical encoding of a module, and whether it fits a number of bytes.
 #![tactic(auto)]
 
 ghost use Rattle.std.specs.Prelude.{◌≡◌, ◌≤◌, length, false, IfOk, IsTrue, ◌↔◌};
@@ -25,9 +25,9 @@ use crate::size::Size;
 use std::alloc::Global;
 use wasm_bytes::NoMemory;
 use wasm_tree::Module;
-use wasm_write_proof::plain_spells;
+use wasm_write_proof::canonical_encoding_encodes;
 
-/// The plain spelling of the module (WebAssembly Core 2.0, section 5.5.16): no empty and no custom section, each number in
+/// The canonical encoding of the module (WebAssembly Core 2.0, section 5.5.16): no empty and no custom section, each number in
 /// its shortest spelling, and a data count exactly where a body has `memory.init` or `data.drop`.
 ///
 /// Where each vector and each encoded size is below 2^32, and no body names a memory but memory 0, it spells the module. Where besides the
@@ -38,13 +38,13 @@ pub fn write(alloc: Global, module: &Module) -> Result<Vec<u8>, NoMemory>
     ensures spells { IfOk result (λ bytes. IsTrue (memory_zero_funcs «module».now.funcs) → SmallSizes «module».now → Spells bytes.items «module».now false) }
     ensures within { IfOk result (λ bytes. IsTrue (memory_zero_funcs «module».now.funcs) → SmallSizes «module».now → WithinLimits «module».now → Within bytes.items false) }
 {
-    plain_spells();
+    canonical_encoding_encodes();
     let mut file = Buffer::new(alloc);
     spell_module(&mut file, module)?;
     Ok(file.into_bytes())
 }
 
-/// Whether the plain spelling of the module has at most `most` bytes. It takes no memory.
+/// Whether the canonical encoding of the module has at most `most` bytes. It takes no memory.
 pub fn fits(module: &Module, most: u32) -> bool
     ensures { IsTrue result ↔ (length (plain «module».now) ≤ most) }
 {

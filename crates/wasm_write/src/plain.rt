@@ -6,7 +6,7 @@ ghost use Rattle.wasm_write_spec.specs.PlainValues.{each_text, vector_text};
 use crate::numbers::spell_number;
 use crate::target::Target;
 
-/// A value with a plain spelling. Whoever spells it has each of its numbers and names in hand, and so knows that they are in range.
+/// A value with a canonical encoding. Whoever spells it has each of its numbers and names in hand, and so knows that they are in range.
 pub(crate) trait Plain {
     ghost text: { Self → List ℕ };
 

@@ -1,6 +1,6 @@
 ghost use Rattle.std.specs.Prelude.{◌≡◌, ℕ, List, [], ◌∷◌, ◌++◌, ◌-◌, ◌≤◌, length, OnOk};
 
-/// What a plain spelling is spelled to: a file, or a count of its bytes. The code that spells is the same for both.
+/// What a canonical encoding is spelled to: a file, or a count of its bytes. The code that spells is the same for both.
 ///
 /// It is spelled from its end to its start. So a content is spelled when its size is, which stands before it, and no byte has to make room.
 pub(crate) trait Target {

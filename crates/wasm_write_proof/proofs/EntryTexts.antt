@@ -43,7 +43,7 @@ code_spells f h zero few =
       refl,
     )
 
--- what a function needs to have a plain spelling
+-- what a function needs to have a canonical encoding
 abbrev pub Spellable : Func → Type 0
 Spellable f = FuncInRange f × (memory_zero_all f.body ≡ true)
 

@@ -116,7 +116,7 @@ loop_in ty body h k = of_layer (Loop ty body) (subst LayerInRange (sym (outs-Loo
 pub if_in : (ty : BlockType) (body other : List Instr) → Small (block_operands ty) → all_spellable body ≡ true → all_spellable other ≡ true → spellable (If ty body other) ≡ true
 if_in ty body other h k l = of_layer (If ty body other) (subst LayerInRange (sym (outs-If ty body other)) (h, refl, joined_in body other k l))
 
--- ---- code in range that names memory 0 alone has a plain spelling, and what is spelled is in range ----
+-- ---- code in range that names memory 0 alone has a canonical encoding, and what is spelled is in range ----
 
 both_spelled : (s : Space) (n : ℕ) → small n ≡ true → not (same_space s Memories) || nat_eq n 0 ≡ true → (if same_space s Memories then nat_eq n 0 else small n) ≡ true
 both_spelled s n h k = by_space (same_space s Memories) k

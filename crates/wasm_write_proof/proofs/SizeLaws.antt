@@ -1,4 +1,4 @@
--- Where the plain spelling of a module has fewer than 2^32 bytes, each vector and each written size is below 2^32.
+-- Where the canonical encoding of a module has fewer than 2^32 bytes, each vector and each written size is below 2^32.
 use Rattle.std.proofs.Common.{◌≡◌, ℕ, suc, ◌+◌, ◌<◌, ◌^◌, List, [], ◌∷◌, ◌++◌, map, length, length-append, Bool, true, refl, ap, ◌∙◌, subst, arith, append-nil, ⊎_elim}
 use Rattle.std.specs.List.{list_all}
 use Rattle.std.proofs.lemmas.List.Folds.{list_all-map}

@@ -1,4 +1,4 @@
--- Each vector of a module and each size that its plain spelling writes is below 2^32 (Core 2.0, 5.1.3 and 5.5.2).
+-- Each vector of a module and each size that its canonical encoding writes is below 2^32 (Core 2.0, 5.1.3 and 5.5.2).
 use Rattle.std.specs.Prelude.{ℕ, ◌^◌, ◌<◌, List, length, Bool, true, ◌&&◌, IsTrue}
 use Rattle.std.specs.List.{list_all}
 use Rattle.wasm_tree.specs.declared.types.FuncType.{FuncType}

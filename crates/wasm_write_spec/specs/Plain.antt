@@ -1,4 +1,4 @@
--- The plain spelling of a module (Core 2.0, 5.5): the sections in their order, none of them empty or custom, each number in its
+-- The canonical encoding of a module (Core 2.0, 5.5): the sections in their order, none of them empty or custom, each number in its
 -- shortest spelling, and a data count exactly where a body has memory.init or data.drop.
 use Rattle.std.specs.Prelude.{ℕ, List, [], ◌∷◌, ◌++◌, length, Option, Some, None, if◌then◌else◌}
 use Rattle.wasm_bytes.specs.Writing.{u32_text, sized_text}

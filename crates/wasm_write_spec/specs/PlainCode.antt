@@ -1,4 +1,4 @@
--- The plain spelling of bodies and code entries (Core 2.0, 5.4 and 5.5.13).
+-- The canonical encoding of bodies and code entries (Core 2.0, 5.4 and 5.5.13).
 use Rattle.std.specs.Prelude.{ℕ, ◌+◌, List, [], ◌∷◌, ◌++◌, map, ◌==◌, if◌then◌else◌}
 use Rattle.wasm_bytes.specs.Writing.{u32_text, s32_text, s64_text, sized_text}
 use Rattle.wasm_num.specs.declared.UnOp.{UnOp}

@@ -1,4 +1,4 @@
--- The plain spelling of types, constant expressions, and what the sections hold but for code (Core 2.0, 5.3 and 5.5).
+-- The canonical encoding of types, constant expressions, and what the sections hold but for code (Core 2.0, 5.3 and 5.5).
 use Rattle.std.specs.Prelude.{ℕ, List, [], ◌∷◌, ◌++◌, map, length, Bool, true, false, ◌&&◌, ◌==◌, if◌then◌else◌, Option, Some, None, pos}
 use Rattle.wasm_bytes.specs.Writing.{u32_text, s32_text, s33_text, s64_text, sized_text}
 use Rattle.wasm_tree.specs.declared.types.RefType.{RefType}

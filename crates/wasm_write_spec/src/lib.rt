@@ -1,2 +1,2 @@
-//! The plain spelling of a module: definitions alone, which the writer and those who call it cite.
+//! The canonical encoding of a module: definitions alone, which the writer and those who call it cite.
 #![tactic(auto)]

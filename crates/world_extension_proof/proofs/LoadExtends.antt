@@ -13,7 +13,7 @@ use Rattle.wasm_meaning.specs.Outcomes.{Gives, Traps, IllTyped, overwrite}
 use Rattle.wasm_meaning.specs.State.{RefVal, Val, Inst, Table, Memory, Store, Entry, Ran, CallsOwn, WaitsGrowth, CallsPlaceholder, EndsCall, SetTable, SetMemory, DropElem, DropData}
 use Rattle.wasm_meaning.specs.Step.{changed}
 use Rattle.wasm_meaning.specs.World.{Filled, PlacedSegment, joined_stores, segments_in, or_trapped, copy_slots, run_elem_with, copy_bytes, run_data_with, and_then, one_by_one}
-use Rattle.wasm_meaning.specs.InTurn.{Added, added, own_segments}
+use Rattle.wasm_meaning.specs.Sequential.{Added, added, own_segments}
 use Rattle.wasm_meaning.specs.Run.{Run, Event, Transition, Steps, Makes, made, transition, run_after}
 use Rattle.wasm_meaning.specs.Loader.{LoaderWorld, LoaderRun, secondary_of, loader_with, secondary_added, store_loaded, call_answered, secondary_called, placeholder_called, loader_made}
 use Rattle.base_lists.proofs.Options.{and_then_is}

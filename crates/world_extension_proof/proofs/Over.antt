@@ -4,7 +4,7 @@ use Rattle.std.specs.Prelude.{nat_eq}
 use Rattle.wasm_meaning.specs.Outcomes.{overwrite}
 use Rattle.wasm_meaning.specs.Memory.{memory_may_grow}
 use Rattle.wasm_meaning.specs.Tables.{table_may_grow}
-use Rattle.wasm_meaning.specs.Environment.{Shown, Thing, FuncAt, TableAt, MemoryAt, GlobalAt, received, received_ref}
+use Rattle.wasm_meaning.specs.Environment.{Shown, ExternalValue, FuncAt, TableAt, MemoryAt, GlobalAt, received, received_ref}
 use Rattle.wasm_meaning.specs.Run.{Move, Call, Invoke, Take, Answer, Refuse, Grant, Deny, Get, Size, Set, Extend, Run, Out, Transition, Steps, Makes, place_at, got, size_of, byte_of, set, extended, moved, or_bad, is_taken_closed, closed_move, in_phase, transition_at, transition}
 use Rattle.index_remap.proofs.Rel.{IfThere, absent, present, with_there, either_all}
 use Rattle.world_extension_proof.specs.Over.{IsOver, RunsThatAreOverStaySo}
@@ -17,25 +17,25 @@ module _ (r : Run) where
   abbrev All : Option Transition → Type 0
   All = IfThere (MadeAlike r)
 
-  got_all : (x : Thing) (n : ℕ) → All (got r x n)
+  got_all : (x : ExternalValue) (n : ℕ) → All (got r x n)
   got_all (FuncAt a) n = absent
   got_all (TableAt a) n = with_there (slice_get r.store.tables a) _ (λ t _. with_there (slice_get t.slots n) _ (λ v _. present (alike refl refl)))
   got_all (MemoryAt a) n = with_there (slice_get r.store.mems a) _ (λ m _. with_there (slice_get m.bytes n) _ (λ b _. present (alike refl refl)))
   got_all (GlobalAt a) n = with_there (slice_get r.store.globals a) _ (λ g _. either_all (nat_eq n 0) (present (alike refl refl)) absent)
 
-  size_all : (x : Thing) → All (size_of r x)
+  size_all : (x : ExternalValue) → All (size_of r x)
   size_all (FuncAt a) = absent
   size_all (TableAt a) = with_there (slice_get r.store.tables a) _ (λ t _. present (alike refl refl))
   size_all (MemoryAt a) = with_there (slice_get r.store.mems a) _ (λ m _. present (alike refl refl))
   size_all (GlobalAt a) = with_there (slice_get r.store.globals a) _ (λ g _. present (alike refl refl))
 
-  set_all : (x : Thing) (n : ℕ) (v : Shown) → All (set r x n v)
+  set_all : (x : ExternalValue) (n : ℕ) (v : Shown) → All (set r x n v)
   set_all (FuncAt a) n v = absent
   set_all (TableAt a) n v = with_there (slice_get r.store.tables a) _ (λ t _. with_there (received_ref r.owned r.shown t.ty v) _ (λ w _. with_there (overwrite t.slots n (w ∷ [])) _ (λ slots _. present (alike refl refl))))
   set_all (MemoryAt a) n v = with_there (slice_get r.store.mems a) _ (λ m _. with_there (byte_of v) _ (λ b _. with_there (overwrite m.bytes n (b ∷ [])) _ (λ bytes _. present (alike refl refl))))
   set_all (GlobalAt a) n v = with_there (slice_get r.store.globals a) _ (λ g _. either_all (nat_eq n 0) (either_all g.ty.mutable (with_there (received r.owned r.shown g.ty.ty v) _ (λ w _. present (alike refl refl))) absent) absent)
 
-  extended_all : (x : Thing) (n : ℕ) → All (extended r x n)
+  extended_all : (x : ExternalValue) (n : ℕ) → All (extended r x n)
   extended_all (FuncAt a) n = absent
   extended_all (TableAt a) n = with_there (slice_get r.store.tables a) _ (λ t _. either_all (table_may_grow t n) (present (alike refl refl)) absent)
   extended_all (MemoryAt a) n = with_there (slice_get r.store.mems a) _ (λ m _. either_all (memory_may_grow m n) (present (alike refl refl)) absent)

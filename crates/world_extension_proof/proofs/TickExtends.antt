@@ -8,7 +8,7 @@ use Rattle.wasm_meaning.specs.Memory.{memory_may_grow}
 use Rattle.wasm_meaning.specs.Tables.{table_may_grow}
 use Rattle.wasm_meaning.specs.Control.{type_at, func_ref}
 use Rattle.wasm_meaning.specs.Step.{changed, give_levels, give, enter, enter_at, act, perform, step, to_mark}
-use Rattle.wasm_meaning.specs.Environment.{Shown, Thing, FuncAt, TableAt, MemoryAt, GlobalAt, func_of, received, received_ref, received_all}
+use Rattle.wasm_meaning.specs.Environment.{Shown, ExternalValue, FuncAt, TableAt, MemoryAt, GlobalAt, func_of, received, received_ref, received_all}
 use Rattle.wasm_tree.specs.SameTypes.{same_func_type}
 use Rattle.wasm_meaning.specs.World.{Filled}
 use Rattle.wasm_meaning.specs.Loader.{LoaderWorld, placeholders_of, call_answered}
@@ -155,13 +155,13 @@ module _ (r : Run) where
   shows_all : (v : Val) → All r (shows r v)
   shows_all v = present (record { store = stays r.store; owned = refl; begun = λ b. b }, tt)
 
-  got_all : (x : Thing) (n : ℕ) → All r (got r x n)
+  got_all : (x : ExternalValue) (n : ℕ) → All r (got r x n)
   got_all (FuncAt a) n = absent
   got_all (TableAt a) n = with_there (slice_get r.store.tables a) _ (λ t _. with_there (slice_get t.slots n) _ (λ v _. shows_all (Ref v)))
   got_all (MemoryAt a) n = with_there (slice_get r.store.mems a) _ (λ m _. with_there (slice_get m.bytes n) _ (λ b _. present (record { store = stays r.store; owned = refl; begun = λ b. b }, tt)))
   got_all (GlobalAt a) n = with_there (slice_get r.store.globals a) _ (λ g _. either_all (nat_eq n 0) (shows_all g.value) absent)
 
-  size_all : (x : Thing) → All r (size_of r x)
+  size_all : (x : ExternalValue) → All r (size_of r x)
   size_all (FuncAt a) = absent
   size_all (TableAt a) = with_there (slice_get r.store.tables a) _ (λ t _. present (record { store = stays r.store; owned = refl; begun = λ b. b }, tt))
   size_all (MemoryAt a) = with_there (slice_get r.store.mems a) _ (λ m _. present (record { store = stays r.store; owned = refl; begun = λ b. b }, tt))
@@ -170,7 +170,7 @@ module _ (r : Run) where
   does_all : (c : Change) → Extending r.store c → All r (does r c)
   does_all c g = present (record { store = changed_extends g; owned = refl; begun = λ b. b }, tt)
 
-  set_all : (x : Thing) (n : ℕ) (v : Shown) → All r (set r x n v)
+  set_all : (x : ExternalValue) (n : ℕ) (v : Shown) → All r (set r x n v)
   set_all (FuncAt a) n v = absent
   set_all (TableAt a) n v =
       with_there (slice_get r.store.tables a) _ (λ t e. with_there (received_ref r.owned r.shown t.ty v) _ (λ w _. with_there (overwrite t.slots n (w ∷ [])) _ (λ slots is. let l = overwritten_length t.slots n (w ∷ []) slots is in does_all _ (table e (record { type = refl; most = refl; size = omega (arith, l) })))))
@@ -185,7 +185,7 @@ module _ (r : Run) where
       mutable g e false m = absent
       mutable g e true m = with_there (received r.owned r.shown g.ty.ty v) _ (λ w _. does_all _ (global e (record { type = refl; fixed = λ f. absurd (different (sym m ∙ f)) })))
 
-  extended_all : (x : Thing) (n : ℕ) → All r (extended r x n)
+  extended_all : (x : ExternalValue) (n : ℕ) → All r (extended r x n)
   extended_all (FuncAt a) n = absent
   extended_all (TableAt a) n = with_there (slice_get r.store.tables a) _ (λ t e. either_all (table_may_grow t n) (does_all _ (table e (table_grown t n (null_of t.ty)))) absent)
   extended_all (MemoryAt a) n = with_there (slice_get r.store.mems a) _ (λ m e. either_all (memory_may_grow m n) (does_all _ (memory e (memory_grown m n))) absent)

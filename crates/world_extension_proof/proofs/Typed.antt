@@ -27,9 +27,9 @@ use Rattle.wasm_tree.specs.Spaces.{func_of, table_of, memory_of, global_of, impo
 use Rattle.wasm_meaning.specs.State.{Inst, Func, Table, Memory, Global, Store}
 use Rattle.wasm_meaning.specs.Values.{null_of}
 use Rattle.wasm_meaning.specs.Control.{type_of_func}
-use Rattle.wasm_meaning.specs.Environment.{Thing, FuncAt, TableAt, MemoryAt, GlobalAt}
+use Rattle.wasm_meaning.specs.Environment.{ExternalValue, FuncAt, TableAt, MemoryAt, GlobalAt}
 use Rattle.wasm_meaning.specs.World.{address_of, numbers, new_func, global_with, const_value, import_type, joined_stores, same_bool, meets_most, meets, is_match}
-use Rattle.wasm_meaning.specs.InTurn.{Added, addresses_of, next_inst, all_match, added_as}
+use Rattle.wasm_meaning.specs.Sequential.{Added, addresses_of, next_inst, all_match, added_as}
 use Rattle.wasm_meaning.proofs.Slices.{copies_length}
 use Rattle.index_remap.proofs.SlotCalls.{func_type_self}
 use Rattle.world_simulation.specs.Leaves.{new_table, new_memory}
@@ -61,7 +61,7 @@ abbrev same_global : GlobalType → Option Global → Option Bool
 same_global t o = o >>= λ u. Some (same_type t.ty u.ty.ty && same_bool t.mutable u.ty.mutable)
 
 module _ (s t : Store) (stays : StaysIn s t) (m : Module) where
-  pub match_stays : (d : ImportDesc) (x : Thing) → is_match s m d x ≡ Some true → is_match t m d x ≡ Some true
+  pub match_stays : (d : ImportDesc) (x : ExternalValue) → is_match s m d x ≡ Some true → is_match t m d x ≡ Some true
   match_stays (im.Func ty) (FuncAt a) h = go (slice_get s.funcs a) refl h
     where
       go : (o : Option Func) → slice_get s.funcs a ≡ o → same_func (import_type m ty) o ≡ Some true → same_func (import_type m ty) (slice_get t.funcs a) ≡ Some true
@@ -98,10 +98,10 @@ stays_typed m i s t stays h = record {
   globals = λ n g e. on (im.Global g) _ (h.globals n g e);
 }
   where
-    on : (d : ImportDesc) (o : Option Thing) → Offers s m d o → Offers t m d o
+    on : (d : ImportDesc) (o : Option ExternalValue) → Offers s m d o → Offers t m d o
     on d o x = (x.0, x.1, match_stays s t stays m d x.0 x.2)
 
--- ---- what imports stand for ----
+-- ---- what imports denote ----
 
 -- neither is there, or both are and P holds of them
 data Kinds {A : Type 0} (P : A → ℕ → Type 0) : Option A → Option ℕ → Type 0 where
@@ -122,36 +122,36 @@ one_more {A} {P} {ys = ys} {xs = xs} (both {y = y} {a = a} p) r = record { count
     each (suc n) z e = r.each n z e
 
 module _ (s : Store) (m : Module) where
-  things_alike : {A : Type 0} (P : A → ℕ → Type 0) (of : ImportDesc → Option A) (address : Thing → Option ℕ) → ((d : ImportDesc) (x : Thing) → is_match s m d x ≡ Some true → Kinds P (of d) (address x)) →
-      (is : List Import) (xs : List Thing) → all_match s m is xs ≡ true → Alike P (filter_map (λ i. of i.desc) is) (filter_map address xs)
+  things_alike : {A : Type 0} (P : A → ℕ → Type 0) (of : ImportDesc → Option A) (address : ExternalValue → Option ℕ) → ((d : ImportDesc) (x : ExternalValue) → is_match s m d x ≡ Some true → Kinds P (of d) (address x)) →
+      (is : List Import) (xs : List ExternalValue) → all_match s m is xs ≡ true → Alike P (filter_map (λ i. of i.desc) is) (filter_map address xs)
   things_alike P of address kinds [] [] h = record { count = refl; each = λ n y e. absurd (let k = e in cc) }
   things_alike P of address kinds (i ∷ is) (x ∷ xs) h =
       let p = and_parts _ _ h in one_more (kinds i.desc x (unwrap_or_false_is _ p.0)) (things_alike P of address kinds is xs p.1)
   things_alike P of address kinds [] (x ∷ xs) h = absurd (true≢false (sym h))
   things_alike P of address kinds (i ∷ is) [] h = absurd (true≢false (sym h))
 
-  func_kinds : (d : ImportDesc) (x : Thing) → is_match s m d x ≡ Some true → Kinds (λ ty a. is_match s m (im.Func ty) (FuncAt a) ≡ Some true) (func_of d) (address_of Functions x)
+  func_kinds : (d : ImportDesc) (x : ExternalValue) → is_match s m d x ≡ Some true → Kinds (λ ty a. is_match s m (im.Func ty) (FuncAt a) ≡ Some true) (func_of d) (address_of Functions x)
   func_kinds (im.Func ty) (FuncAt a) h = both h
   func_kinds (im.Table ty) (TableAt a) h = neither
   func_kinds (im.Memory l) (MemoryAt a) h = neither
   func_kinds (im.Global ty) (GlobalAt a) h = neither
   func_kinds _ _ h = absurd (let k = h in cc)
 
-  table_kinds : (d : ImportDesc) (x : Thing) → is_match s m d x ≡ Some true → Kinds (λ ty a. is_match s m (im.Table ty) (TableAt a) ≡ Some true) (table_of d) (address_of Tables x)
+  table_kinds : (d : ImportDesc) (x : ExternalValue) → is_match s m d x ≡ Some true → Kinds (λ ty a. is_match s m (im.Table ty) (TableAt a) ≡ Some true) (table_of d) (address_of Tables x)
   table_kinds (im.Func ty) (FuncAt a) h = neither
   table_kinds (im.Table ty) (TableAt a) h = both h
   table_kinds (im.Memory l) (MemoryAt a) h = neither
   table_kinds (im.Global ty) (GlobalAt a) h = neither
   table_kinds _ _ h = absurd (let k = h in cc)
 
-  memory_kinds : (d : ImportDesc) (x : Thing) → is_match s m d x ≡ Some true → Kinds (λ l a. is_match s m (im.Memory l) (MemoryAt a) ≡ Some true) (memory_of d) (address_of Memories x)
+  memory_kinds : (d : ImportDesc) (x : ExternalValue) → is_match s m d x ≡ Some true → Kinds (λ l a. is_match s m (im.Memory l) (MemoryAt a) ≡ Some true) (memory_of d) (address_of Memories x)
   memory_kinds (im.Func ty) (FuncAt a) h = neither
   memory_kinds (im.Table ty) (TableAt a) h = neither
   memory_kinds (im.Memory l) (MemoryAt a) h = both h
   memory_kinds (im.Global ty) (GlobalAt a) h = neither
   memory_kinds _ _ h = absurd (let k = h in cc)
 
-  global_kinds : (d : ImportDesc) (x : Thing) → is_match s m d x ≡ Some true → Kinds (λ ty a. is_match s m (im.Global ty) (GlobalAt a) ≡ Some true) (global_of d) (address_of Globals x)
+  global_kinds : (d : ImportDesc) (x : ExternalValue) → is_match s m d x ≡ Some true → Kinds (λ ty a. is_match s m (im.Global ty) (GlobalAt a) ≡ Some true) (global_of d) (address_of Globals x)
   global_kinds (im.Func ty) (FuncAt a) h = neither
   global_kinds (im.Table ty) (TableAt a) h = neither
   global_kinds (im.Memory l) (MemoryAt a) h = neither
@@ -164,15 +164,15 @@ size_meets : (n : ℕ) (most : Option ℕ) → nat_le n n && meets_most most mos
 size_meets n None = and_from (nat_le n n) true (le-leb n n (omega arith)) refl
 size_meets n (Some k) = and_from (nat_le n n) (nat_le k k) (le-leb n n (omega arith)) (le-leb k k (omega arith))
 
-module _ (s : Store) (m : Module) (things : List Thing) (matched : all_match s m m.imports things ≡ true) (t : Store) (made : AddsWith (const_value s.globals (next_inst s m things)) m (next_inst s m things) t) where
+module _ (s : Store) (m : Module) (things : List ExternalValue) (matched : all_match s m m.imports things ≡ true) (t : Store) (made : AddsWith (const_value s.globals (next_inst s m things)) m (next_inst s m things) t) where
   abbrev inst : Inst
   inst = next_inst s m things
 
   abbrev all : Store
   all = joined_stores s t
 
-  -- an index space is what the imports stand for, and then what the module defines
-  each_offers : {A : Type 0} (c : A → ImportDesc) (thing : ℕ → Thing) (old own : List A) (xs : List ℕ) (from : ℕ) → Alike (λ y a. is_match s m (c y) (thing a) ≡ Some true) old xs → ((k : ℕ) (y : A) → slice_get own k ≡ Some y → is_match all m (c y) (thing (from + k)) ≡ Some true) →
+  -- an index space is what the imports denote, and then what the module defines
+  each_offers : {A : Type 0} (c : A → ImportDesc) (thing : ℕ → ExternalValue) (old own : List A) (xs : List ℕ) (from : ℕ) → Alike (λ y a. is_match s m (c y) (thing a) ≡ Some true) old xs → ((k : ℕ) (y : A) → slice_get own k ≡ Some y → is_match all m (c y) (thing (from + k)) ≡ Some true) →
       (count : ℕ) → length own ≡ count → (n : ℕ) (y : A) → slice_get (old ++ own) n ≡ Some y → Offers all m (c y) (slice_get (xs ++ numbers from count) n >>= λ a. Some (thing a))
   each_offers c thing old own xs from alike defined count many n y e =
       ⊎_elim

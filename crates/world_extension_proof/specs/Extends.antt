@@ -3,8 +3,8 @@ use Rattle.std.specs.Prelude.{◌≡◌, ℕ, ◌≤◌, false, List, length, Op
 use Rattle.wasm_tree.specs.declared.module.Module.{Module}
 use Rattle.wasm_meaning.specs.Outcomes.{Gives}
 use Rattle.wasm_meaning.specs.State.{Val, Func, Table, Memory, Global, Store, Entry, CallsPlaceholder}
-use Rattle.wasm_meaning.specs.Environment.{Thing}
-use Rattle.wasm_meaning.specs.InTurn.{Added, added}
+use Rattle.wasm_meaning.specs.Environment.{ExternalValue}
+use Rattle.wasm_meaning.specs.Sequential.{Added, added}
 use Rattle.wasm_meaning.specs.Run.{Run, Event, Out, Steps, transition, tick}
 use Rattle.wasm_meaning.specs.Loader.{LoaderWorld, LoaderRun, tick_loader}
 use Rattle.index_remap.specs.RelatedRuns.{IsBegun}
@@ -68,7 +68,7 @@ CallsExtend =
 
 -- A module that is added to a store adds what it defines behind all else, whether or not a segment traps.
 abbrev pub AddedModulesExtend : Type 0
-AddedModulesExtend = (s : Store) (m : Module) (things : List Thing) (a : Added) → added s m things ≡ Some a → StaysIn s a.filled.store
+AddedModulesExtend = (s : Store) (m : Module) (things : List ExternalValue) (a : Added) → added s m things ≡ Some a → StaysIn s a.filled.store
 
 -- what was in the store stays in it, the instance of the primary is the same, and what was instantiated stays so
 pub record LoaderKept (q : LoaderRun) (o : LoaderRun × Option Event) : Type 0 where

@@ -9,16 +9,16 @@ use Rattle.wasm_tree.specs.declared.module.ExportDesc.TheVariants as ex
 use Rattle.wasm_tree.specs.declared.module.Module.{Module}
 use Rattle.wasm_tree.specs.Spaces.{funcs_of, tables_of, memories_of, globals_of}
 use Rattle.wasm_meaning.specs.State.{Inst, Store}
-use Rattle.wasm_meaning.specs.Environment.{Thing}
+use Rattle.wasm_meaning.specs.Environment.{ExternalValue}
 use Rattle.wasm_meaning.specs.World.{address_in, is_match}
-use Rattle.wasm_meaning.specs.InTurn.{Added, added}
+use Rattle.wasm_meaning.specs.Sequential.{Added, added}
 use Rattle.world_extension_proof.specs.Extends.{StaysIn}
 
 -- something is there, which in this store is what an import of this kind and type asks for
-abbrev pub Offers : Store → Module → ImportDesc → Option Thing → Type 0
-Offers s m d o = (x : Thing) × (o ≡ Some x) × (is_match s m d x ≡ Some true)
+abbrev pub Offers : Store → Module → ImportDesc → Option ExternalValue → Type 0
+Offers s m d o = (x : ExternalValue) × (o ≡ Some x) × (is_match s m d x ≡ Some true)
 
--- each index of the module names such a thing, with the type and the limits that the module says
+-- each index of the module names such an external value, with the type and the limits that the module says
 pub record IsTyped (m : Module) (i : Inst) (s : Store) : Type 0 where
   pub funcs : (n ty : ℕ) → slice_get (funcs_of m) n ≡ Some ty → Offers s m (im.Func ty) (address_in i (ex.Func n))
   pub tables : (n : ℕ) (t : TableType) → slice_get (tables_of m) n ≡ Some t → Offers s m (im.Table t) (address_in i (ex.Table n))
@@ -27,7 +27,7 @@ pub record IsTyped (m : Module) (i : Inst) (s : Store) : Type 0 where
 
 -- So it is in a module that is added to a store, whether or not a segment traps,
 abbrev pub AddedModulesAreTyped : Type 0
-AddedModulesAreTyped = (s : Store) (m : Module) (things : List Thing) (a : Added) → added s m things ≡ Some a → IsTyped m a.inst a.filled.store
+AddedModulesAreTyped = (s : Store) (m : Module) (things : List ExternalValue) (a : Added) → added s m things ≡ Some a → IsTyped m a.inst a.filled.store
 
 -- and so it stays, since functions and types stay and sizes do not shrink.
 abbrev pub InstancesStayTyped : Type 0

@@ -5,7 +5,7 @@ ghost use Rattle.world_extension_proof.specs.Extends.{AddedModulesExtend, CallsE
 ghost use Rattle.world_extension_proof.specs.Over.{RunsThatAreOverStaySo};
 ghost use Rattle.world_extension_proof.specs.Typed.{AddedModulesAreTyped, InstancesStayTyped};
 
-use wasm_meaning::steps_write_what_they_touch;
+use wasm_meaning::steps_write_only_touched_places;
 
 /// Once a run is instantiated, each step of it extends its store (WebAssembly Core 2.0, section 4.2.3): functions stay as they are, tables, memories and globals keep their
 /// types and maxima and do not shrink, globals that are not mutable keep their values, nothing is added or taken away, and the run stays instantiated (`step`); also up to the
@@ -17,7 +17,7 @@ pub fn stores_are_extended()
     ensures added { AddedModulesExtend }
     ensures loader { LoadersExtend }
 {
-    steps_write_what_they_touch();
+    steps_write_only_touched_places();
 }
 
 /// Each index of a module that is added to a store names what the module says: a function of its type, a table or memory of at least its minimum and at most its maximum, a
@@ -28,6 +28,6 @@ pub fn instances_stay_typed()
 {}
 
 /// A run that is closed with nothing on its stack, as where its world could not be instantiated or trapped then, takes no step of the machine any more (`over`).
-pub fn runs_that_are_over_stay_so()
+pub fn closed_runs_stay_closed()
     ensures over { RunsThatAreOverStaySo }
 {}

@@ -1,4 +1,4 @@
--- All of it together: what a world that begins well gives to the run in turn.
+-- All of it together: what a world that begins well gives to the sequential run.
 use Rattle.std.proofs.Common.{◌≡◌, ◌∙◌, refl, sym, ap, ap₂, subst, ℕ, suc, ◌+◌, ◌*◌, ◌<◌, List, [], ◌∷◌, length, Some, None, Bool, true, false, cond, arith}
 use Rattle.std.specs.Prelude.{◌↔◌}
 use Rattle.wasm_tree.specs.declared.types.ValType.{ValType}
@@ -10,15 +10,15 @@ use Rattle.wasm_valid.specs.declared.kinds.ItemKind.TheVariants as kind
 use Rattle.wasm_valid.specs.Validity.{IsValid, HoldsAt, count_of, start_count}
 use Rattle.wasm_meaning.specs.State.{Text, Inst, Store}
 use Rattle.wasm_meaning.specs.Linking.{Part, sites}
-use Rattle.wasm_meaning.specs.Environment.{Environment, Thing, all_of}
+use Rattle.wasm_meaning.specs.Environment.{Environment, ExternalValue, all_of}
 use Rattle.wasm_meaning.specs.World.{World, Begun, own_store, inst_of, insts_from, stores_from, seen_as, all_there, is_matched, segments, begun, instantiate}
 use Rattle.wasm_meaning.specs.Run.{IsPrefix, fresh_run, tick, events_of}
-use Rattle.wasm_meaning.specs.Below.{BelowIsNotSeen}
-use Rattle.wasm_meaning.specs.InTurn.{events_in_turn}
+use Rattle.wasm_meaning.specs.StartFrames.{StartDependsOnlyOnItsFrames}
+use Rattle.wasm_meaning.specs.Sequential.{events_sequential}
 use Rattle.index_remap.specs.Laws.{CodeIsRelatedToItself, RelatedTicksAgree, OthersStay}
 use Rattle.world_simulation.specs.Owned.{OwnEntitiesCorrespond}
 use Rattle.world_extension_proof.specs.Extends.{StepsExtend}
-use Rattle.world_sequential_proof.specs.Laws.{TurnsAreNotSeen}
+use Rattle.world_sequential_proof.specs.Laws.{SequentialInstantiationIsEquivalent}
 use Rattle.world_sequential_proof.proofs.Making.{nothing_to_nothing}
 use Rattle.world_sequential_proof.proofs.Given.{IsGiven}
 use Rattle.world_sequential_proof.proofs.Started.{func_there}
@@ -46,7 +46,7 @@ plain_type t e f = ap₂ {A = List ValType} {B = List ValType} {C = FuncType} (�
 record Instantiated (env : Environment) (w : World) (b : Begun) : Type 0 where
   insts : List Inst
   allocated : Store
-  view : List (Text × Thing)
+  view : List (Text × ExternalValue)
   are : insts_from env w.parts 0 w.parts ≡ Some insts
   stores_are : stores_from env w.parts insts (own_store env) 0 w.parts insts ≡ Some allocated
   view_is : all_there (seen_as insts) w.view ≡ Some view
@@ -60,12 +60,12 @@ instantiated env w b h =
     let v = and_then_is (all_there (seen_as i.0) w.view) _ b s.2 in
     go i.0 s.0 v.0 i.1 s.1 v.1 (all_of (is_matched env w.parts s.0) (sites w.parts)) refl v.2
   where
-    go : (insts : List Inst) (allocated : Store) (view : List (Text × Thing)) → insts_from env w.parts 0 w.parts ≡ Some insts → stores_from env w.parts insts (own_store env) 0 w.parts insts ≡ Some allocated → all_there (seen_as insts) w.view ≡ Some view → (c : Bool) → all_of (is_matched env w.parts allocated) (sites w.parts) ≡ c →
+    go : (insts : List Inst) (allocated : Store) (view : List (Text × ExternalValue)) → insts_from env w.parts 0 w.parts ≡ Some insts → stores_from env w.parts insts (own_store env) 0 w.parts insts ≡ Some allocated → all_there (seen_as insts) w.view ≡ Some view → (c : Bool) → all_of (is_matched env w.parts allocated) (sites w.parts) ≡ c →
         cond c (Some (begun env w insts view (segments env w.parts insts allocated))) None ≡ Some b → Instantiated env w b
     go insts allocated view a s v true m e = record { insts = insts; allocated = allocated; view = view; are = a; stores_are = s; view_is = v; matched = m; is = same_Some _ _ e }
     go insts allocated view a s v false m e = cc
 
-module _ (items : (m : Module) → IsValid m ↔ ((k : ItemKind) (i : ℕ) → i < count_of m true k → HoldsAt m k i)) (below : BelowIsNotSeen) (extend : StepsExtend) (itself : CodeIsRelatedToItself) (ticks : RelatedTicksAgree) (others : OthersStay) (own : OwnEntitiesCorrespond) where
+module _ (items : (m : Module) → IsValid m ↔ ((k : ItemKind) (i : ℕ) → i < count_of m true k → HoldsAt m k i)) (below : StartDependsOnlyOnItsFrames) (extend : StepsExtend) (itself : CodeIsRelatedToItself) (ticks : RelatedTicksAgree) (others : OthersStay) (own : OwnEntitiesCorrespond) where
   -- the start of a valid module
   start_type : (m : Module) (x : ℕ) → IsValid m → m.start ≡ Some x → type_of_func m x ≡ Some nothing_to_nothing
   start_type m x valid e =
@@ -73,7 +73,7 @@ module _ (items : (m : Module) → IsValid m ↔ ((k : ItemKind) (i : ℕ) → i
       let same : h.0 ≡ x = same_Some _ _ (sym h.2 ∙ e) in
       ap (type_of_func m) (sym same) ∙ h.3 ∙ ap Some (plain_type h.1 h.4 h.5)
 
-  pub turns_not_seen : TurnsAreNotSeen
+  pub turns_not_seen : SequentialInstantiationIsEquivalent
   turns_not_seen w valid some earlier late env is_env begins moves n =
       let b = begins.0 in
       let k = instantiated env w b begins.1 in
@@ -100,4 +100,4 @@ module _ (items : (m : Module) → IsValid m ↔ ((k : ItemKind) (i : ℕ) → i
       let laws = fill_laws env w k.insts k.allocated given k.stores_are fine (λ p m is_part. valid_constants items m (valid p m is_part)) itself below extend ticks others k.view k.view_is in
       let seen = seen_the_same env w k.insts k.allocated given itself below extend ticks others k.view k.view_is (FilledUpto env w.parts k.insts k.allocated) laws fine moves some n in
       let at_once = λ (n : ℕ). ap (λ o. events_of tick (fresh_run env o moves) n) (begins.1 ∙ ap Some (sym k.is)) in
-      (subst (λ l. IsPrefix l (events_in_turn w env moves (n + 4 * length w.parts))) (sym (at_once n)) seen.0, subst (λ l. IsPrefix (events_in_turn w env moves n) l) (sym (at_once (n + 4 * length w.parts))) seen.1)
+      (subst (λ l. IsPrefix l (events_sequential w env moves (n + 4 * length w.parts))) (sym (at_once n)) seen.0, subst (λ l. IsPrefix (events_sequential w env moves n) l) (sym (at_once (n + 4 * length w.parts))) seen.1)

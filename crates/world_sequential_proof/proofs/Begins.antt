@@ -6,11 +6,11 @@ use Rattle.wasm_tree.specs.declared.types.FuncType.{FuncType}
 use Rattle.wasm_tree.specs.declared.module.Module.{Module}
 use Rattle.wasm_meaning.specs.State.{Text, Inst, Func, Own, Global, Data, Store, Opening}
 use Rattle.wasm_meaning.specs.Linking.{Part, module_at}
-use Rattle.wasm_meaning.specs.Environment.{Environment, Offer, Thing, flat, owned_of}
+use Rattle.wasm_meaning.specs.Environment.{Environment, Offer, ExternalValue, flat, owned_of}
 use Rattle.wasm_meaning.specs.World.{World, base, own_store, const_value, joined_stores, all_there, starts_of, seen_as, segments, defined_before}
 use Rattle.wasm_meaning.specs.Run.{Pending, Move, Run}
-use Rattle.wasm_meaning.specs.Below.{BelowIsNotSeen}
-use Rattle.wasm_meaning.specs.InTurn.{InTurn, view_over, own_segments, goes_on, tick_in_turn, HasNoActive}
+use Rattle.wasm_meaning.specs.StartFrames.{StartDependsOnlyOnItsFrames}
+use Rattle.wasm_meaning.specs.Sequential.{SequentialRun, view_over, own_segments, goes_on, tick_sequential, HasNoActive}
 use Rattle.index_remap.specs.Related.{Pairing, BothRel, both, ListRel, nil, cons, opening, FuncRel, TableRel, GlobalRel, ElemRel}
 use Rattle.index_remap.specs.Related as to
 use Rattle.index_remap.specs.Laws.{CodeIsRelatedToItself, RelatedTicksAgree, OthersStay}
@@ -21,7 +21,7 @@ use Rattle.world_extension_proof.proofs.Extends.{stays}
 use Rattle.world_extension_proof.proofs.Extends as extends
 use Rattle.world_sequential_proof.proofs.Joined.{made_upto}
 use Rattle.world_sequential_proof.proofs.Reached.{is_reached, reaching, shares_own}
-use Rattle.world_sequential_proof.proofs.Turn.{Sized, Holds}
+use Rattle.world_sequential_proof.proofs.OnePart.{Sized, Holds}
 use Rattle.world_sequential_proof.proofs.Closed.{table_more, global_more, elem_more, val_more, list_more, self_by, Closed, Sound, own_func, func_self}
 use Rattle.world_sequential_proof.proofs.Beside.{both_list, Beside, stores_related, sound_joined, more}
 use Rattle.world_sequential_proof.proofs.Filling.{own_fill, all_fill}
@@ -74,7 +74,7 @@ own_sound env parts p (o ∷ os) a f e = in_offer o.funcs a e (λ a e. own_sound
         gives_is e = cc
     in_offer (t ∷ ts) (suc a) e later = in_offer ts a e later
 
-module _ (env : Environment) (w : World) (insts : List Inst) (allocated : Store) (g : IsGiven env w insts allocated) (itself : CodeIsRelatedToItself) (below : BelowIsNotSeen) (extend : StepsExtend) (ticks : RelatedTicksAgree) (others : OthersStay) (view : List (Text × Thing)) (view_is : all_there (seen_as insts) w.view ≡ Some view) (IsFilled : ℕ → Store → Type 0) where
+module _ (env : Environment) (w : World) (insts : List Inst) (allocated : Store) (g : IsGiven env w insts allocated) (itself : CodeIsRelatedToItself) (below : StartDependsOnlyOnItsFrames) (extend : StepsExtend) (ticks : RelatedTicksAgree) (others : OthersStay) (view : List (Text × ExternalValue)) (view_is : all_there (seen_as insts) w.view ≡ Some view) (IsFilled : ℕ → Store → Type 0) where
   abbrev after : Store
   after = (segments env w.parts insts allocated).store
 
@@ -93,7 +93,7 @@ module _ (env : Environment) (w : World) (insts : List Inst) (allocated : Store)
 
   module _ (laws : FillLaws) (moves : List Move) where
     -- the first parts are there, and none of them has a start
-    pub record Fills (k : ℕ) (r : Run) (q : InTurn) : Type 0 where
+    pub record Fills (k : ℕ) (r : Run) (q : SequentialRun) : Type 0 where
       pub store : Store
       pub filled : IsFilled k store
       pub extends : Extends (g.laid.first k) store
@@ -170,15 +170,15 @@ module _ (env : Environment) (w : World) (insts : List Inst) (allocated : Store)
     -- ---- the next part ----
 
     -- what comes of the first parts with one more
-    pub record Advances (k : ℕ) (part : Part) (i : Inst) (q : InTurn) : Type 0 where
+    pub record Advances (k : ℕ) (part : Part) (i : Inst) (q : SequentialRun) : Type 0 where
       pub next_store : Store
-      pub is : tick_in_turn q ≡ (goes_on q part (drop (suc k) w.parts) i next_store, None)
+      pub is : tick_sequential q ≡ (goes_on q part (drop (suc k) w.parts) i next_store, None)
       pub filled : IsFilled (suc k) next_store
       pub extends : Extends (g.laid.first (suc k)) next_store
       pub closed : Closed (reaching env w.parts (suc k)) next_store
       pub sound : (a : ℕ) (f : Func) → slice_get next_store.funcs a ≡ Some f → Sound env w.parts (suc k) f
 
-    pub advances : (k : ℕ) (part : Part) (i : Inst) (r : Run) (q : InTurn) → slice_get w.parts k ≡ Some part → slice_get insts k ≡ Some i → Fills k r q → Advances k part i q
+    pub advances : (k : ℕ) (part : Part) (i : Inst) (r : Run) (q : SequentialRun) → slice_get w.parts k ≡ Some part → slice_get insts k ≡ Some i → Fills k r q → Advances k part i q
     advances k part i r q at_part at_inst h =
         let t = h.store in
         let is_part : module_at w.parts k ≡ Some part.«module» = ap (λ o. option_and_then (λ part. Some part.«module») o) at_part in

@@ -1,4 +1,4 @@
--- The store of parts that are instantiated in turn beside the store of all parts at once: what the first parts have corresponds, and the rest is as it was allocated.
+-- The store of parts that are instantiated sequentially beside the store of all parts at once: what the first parts have corresponds, and the rest is as it was allocated.
 use Rattle.std.proofs.Common.{◌≡◌, ◌∙◌, refl, sym, ap, subst, ℕ, zero, suc, ◌+◌, ◌-◌, ◌<◌, ◌≤◌, List, [], ◌∷◌, ◌++◌, length, Some, true, ◌⊎◌, inl, inr, arith, slice_get, Option}
 use Rattle.wasm_tree.specs.declared.space.Space.{Space}
 use Rattle.wasm_tree.specs.declared.space.Space.TheVariants.{Functions, Tables, Memories, Globals, ElementSegments, DataSegments}
@@ -13,7 +13,7 @@ use Rattle.wasm_meaning.specs.World.{own_store, base, joined_stores, part_store,
 use Rattle.index_remap.specs.Related.{Pairing, BothRel, both, ListRel, nil, cons, FuncRel, TableRel, GlobalRel, ElemRel, StoreRel}
 use Rattle.index_remap.specs.Laws.{CodeIsRelatedToItself}
 use Rattle.world_sequential_proof.proofs.Reached.{count_upto, is_reached, reaching, reached_at, reached_is}
-use Rattle.world_sequential_proof.proofs.Turn.{Sized}
+use Rattle.world_sequential_proof.proofs.OnePart.{Sized}
 use Rattle.world_sequential_proof.proofs.Closed.{table_more, global_more, elem_more, Closed, Sound, own_func, code, Reaches, func_self}
 use Rattle.std.proofs.lemmas.List.{length-append}
 use Rattle.base_lists.proofs.Places.{append_left, append_right, slice_get_there}
@@ -77,7 +77,7 @@ pub record Untouched (env : Environment) (parts : List Part) (p : ℕ) (allocate
   pub elems : (a : ℕ) → defined_before ElementSegments parts p ≤ a → slice_get s.elems a ≡ slice_get allocated.elems a
   pub datas : (a : ℕ) → defined_before DataSegments parts p ≤ a → slice_get s.datas a ≡ slice_get allocated.datas a
 
--- the store in turn, and the store at once
+-- the sequential store, and the store at once
 pub record Beside (env : Environment) (parts : List Part) (p : ℕ) (allocated t s : Store) : Type 0 where
   pub related : StoreRel (reaching env parts p) t s
   pub sized : Sized env parts p t

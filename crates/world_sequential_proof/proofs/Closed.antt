@@ -21,7 +21,7 @@ use Rattle.wasm_meaning.specs.World.{all_there, new_func, global_with, new_elem,
 use Rattle.index_remap.specs.Related.{Pairing, none, some, ListRel, nil, cons, RefRel, func, extern, ValRel, number, reference, FuncRel, defined, own, TableRel, GlobalRel, ElemRel}
 use Rattle.index_remap.specs.Laws.{NamesItself, CodeIsRelatedToItself}
 use Rattle.index_remap.proofs.Rel.{copies_rel}
-use Rattle.world_sequential_proof.proofs.Things.{space_in}
+use Rattle.world_sequential_proof.proofs.ExternalValues.{space_in}
 use Rattle.world_sequential_proof.proofs.Reached.{count_upto, is_reached, reaching, reached_at}
 use Rattle.base_lists.proofs.Options.{and_then_is}
 use Rattle.std.proofs.lemmas.Option.{same_Some}

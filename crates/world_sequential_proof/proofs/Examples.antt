@@ -1,4 +1,4 @@
--- Two worlds of which the law of parts in turn speaks: all that it asks holds of them together, and what is seen of both ways to run them is computed.
+-- Two worlds of which the law of parts that are instantiated sequentially speaks: all that it asks holds of them together, and what is seen of both ways to run them is computed.
 use Rattle.std.proofs.Common.{◌≡◌, refl, sym, ap, subst, ◌∙◌, ℕ, zero, suc, ◌+◌, List, [], ◌∷◌, slice_get, Some, None, true, arith}
 use Rattle.std.specs.Prelude.{pos, Contains}
 use Rattle.std.proofs.lemmas.Option.{same_Some}
@@ -25,8 +25,8 @@ use Rattle.wasm_meaning.specs.Linking.{Part, Entity, module_at, joined}
 use Rattle.wasm_meaning.specs.Environment.{Environment, is_environment, Number}
 use Rattle.wasm_meaning.specs.World.{World}
 use Rattle.wasm_meaning.specs.Run.{Event, Linked, Asked, Returned, Move, Call, Answer, IsPrefix, events}
-use Rattle.wasm_meaning.specs.InTurn.{events_in_turn, JoinsEarlier, NoLateSegments, HasNoActive, BeginsWell}
-use Rattle.world_sequential_proof.specs.Laws.{TurnsAreNotSeen}
+use Rattle.wasm_meaning.specs.Sequential.{events_sequential, JoinsEarlier, NoLateSegments, HasNoActive, BeginsWell}
+use Rattle.world_sequential_proof.specs.Laws.{SequentialInstantiationIsEquivalent}
 
 -- ---- what is common ----
 
@@ -252,12 +252,12 @@ answers_and_calls = Answer [] ∷ (Call g [] ∷ [])
 abbrev answer : List Move
 answer = Answer [] ∷ []
 
-module _ (law : TurnsAreNotSeen) where
-  first_starts_in_turn : (moves : List Move) (n : ℕ) → IsPrefix (events first_starts offers_it moves n) (events_in_turn first_starts offers_it moves (n + 8)) × IsPrefix (events_in_turn first_starts offers_it moves n) (events first_starts offers_it moves (n + 8))
+module _ (law : SequentialInstantiationIsEquivalent) where
+  first_starts_in_turn : (moves : List Move) (n : ℕ) → IsPrefix (events first_starts offers_it moves n) (events_sequential first_starts offers_it moves (n + 8)) × IsPrefix (events_sequential first_starts offers_it moves n) (events first_starts offers_it moves (n + 8))
   first_starts_in_turn moves n =
       law first_starts (of_both starts_first calls_it starts_first_is_valid calls_it_is_valid) (omega arith) (joins_earlier starts_first calls_it starts_first_joins_none calls_it_joins_the_first) (no_late starts_first calls_it (λ s e. record { elems = refl; datas = refl })) offers_it refl first_starts_begins_well moves n
 
-  second_fills_in_turn : (moves : List Move) (n : ℕ) → IsPrefix (events second_fills offers_it moves n) (events_in_turn second_fills offers_it moves (n + 8)) × IsPrefix (events_in_turn second_fills offers_it moves n) (events second_fills offers_it moves (n + 8))
+  second_fills_in_turn : (moves : List Move) (n : ℕ) → IsPrefix (events second_fills offers_it moves n) (events_sequential second_fills offers_it moves (n + 8)) × IsPrefix (events_sequential second_fills offers_it moves n) (events second_fills offers_it moves (n + 8))
   second_fills_in_turn moves n =
       law second_fills (of_both has_a_table fills_it has_a_table_is_valid fills_it_is_valid) (omega arith) (joins_earlier has_a_table fills_it has_a_table_joins_none fills_it_joins_the_first) (no_late has_a_table fills_it (λ s e. cc)) offers_it refl second_fills_begins_well moves n
 
@@ -265,7 +265,7 @@ first_starts_at_once : events first_starts offers_it answers_and_calls 14 ≡ as
 unfolding out-Instr denote.Hole.Carrier.out wrapped
 first_starts_at_once = refl
 
-first_starts_one_by_one : events_in_turn first_starts offers_it answers_and_calls 22 ≡ asks ∷ (Linked ∷ (Returned (Number 5 ∷ []) ∷ []))
+first_starts_one_by_one : events_sequential first_starts offers_it answers_and_calls 22 ≡ asks ∷ (Linked ∷ (Returned (Number 5 ∷ []) ∷ []))
 unfolding out-Instr denote.Hole.Carrier.out wrapped
 first_starts_one_by_one = refl
 
@@ -273,6 +273,6 @@ second_fills_at_once : events second_fills offers_it answer 10 ≡ asks ∷ (Lin
 unfolding out-Instr denote.Hole.Carrier.out wrapped
 second_fills_at_once = refl
 
-second_fills_one_by_one : events_in_turn second_fills offers_it answer 18 ≡ asks ∷ (Linked ∷ [])
+second_fills_one_by_one : events_sequential second_fills offers_it answer 18 ≡ asks ∷ (Linked ∷ [])
 unfolding out-Instr denote.Hole.Carrier.out wrapped
 second_fills_one_by_one = refl

@@ -13,7 +13,7 @@ use Rattle.wasm_meaning.specs.Values.{ref_of, null_of}
 use Rattle.wasm_meaning.specs.Linking.{Part, module_at, sites}
 use Rattle.wasm_meaning.specs.Environment.{Environment, all_of}
 use Rattle.wasm_meaning.specs.World.{all_there, is_matched, insts_from, own_store, stores_from, part_store, store_with, new_func, global_with, elem_with, new_elem, const_value, value_of}
-use Rattle.wasm_meaning.specs.InTurn.{JoinsEarlier}
+use Rattle.wasm_meaning.specs.Sequential.{JoinsEarlier}
 use Rattle.world_sequential_proof.proofs.Joined.{ExportsThere}
 use Rattle.world_sequential_proof.proofs.FillValues.{Constant, HoldsFixed, value_given}
 use Rattle.base_lists.proofs.Options.{and_then_is}

@@ -9,14 +9,14 @@ use Rattle.wasm_meaning.specs.State.{Pair, Inst}
 use Rattle.wasm_meaning.specs.Paths.{walk_on, walk}
 use Rattle.wasm_meaning.specs.Linking.{Part, Site, Entity, End, Defined, Outside, imports_of, module_at, import_at, pair_of, import_step, end_of, sites, has_kind}
 use Rattle.wasm_tree.specs.Spaces.{index_of_export, space_of_export, space_of_import}
-use Rattle.wasm_meaning.specs.Environment.{Environment, Thing, OwnKey}
-use Rattle.wasm_meaning.specs.World.{all_there, defined_count, own_count, base, thing_at, address_of, import_type, own_key_of, own_key, thing_of, imported_thing, numbers}
-use Rattle.wasm_meaning.specs.InTurn.{JoinsEarlier}
+use Rattle.wasm_meaning.specs.Environment.{Environment, ExternalValue, OwnKey}
+use Rattle.wasm_meaning.specs.World.{all_there, defined_count, own_count, base, external_value_at, address_of, import_type, own_key_of, own_key, external_value_of, imported_external_value, numbers}
+use Rattle.wasm_meaning.specs.Sequential.{JoinsEarlier}
 use Rattle.world_simulation.proofs.Defined.{defined_at}
-use Rattle.world_sequential_proof.proofs.Things.{space_in, in_space, space_is, held_external}
+use Rattle.world_sequential_proof.proofs.ExternalValues.{space_in, in_space, space_is, held_external}
 use Rattle.world_sequential_proof.proofs.Joined.{ExportsThere}
 use Rattle.world_sequential_proof.proofs.Reached.{defined_more}
-use Rattle.world_sequential_proof.proofs.Low.{append_back, same_thing}
+use Rattle.world_sequential_proof.proofs.EarlierParts.{append_back, same_thing}
 use Rattle.index_remap_proof.proofs.Lists.{all_there_back}
 use Rattle.world_sequential_proof.proofs.FillOwned.{kind_of_key, own_at}
 use Rattle.world_sequential_proof.proofs.FillPaths.{LowInside, Low, inside, outside, ends_low}
@@ -83,16 +83,16 @@ module _ (env : Environment) (parts : List Part) where
     pub import : Import
     pub is_import : slice_get of.imports last.import ≡ Some import
     pub kind : space_of_import import.desc ≡ k
-    pub thing : imported_thing env parts last ≡ thing_at k a
+    pub thing : imported_external_value env parts last ≡ external_value_at k a
     pub low : a < own_count k env
 
   module _ (there : ExportsThere parts) (earlier : JoinsEarlier parts) where
-    pub imported_at : (k : Space) (s : Site) (x : Thing) (a : ℕ) → imported_thing env parts s ≡ Some x → address_of k x ≡ Some a → AtDefined k s a ⊎ AtOwn k s a
+    pub imported_at : (k : Space) (s : Site) (x : ExternalValue) (a : ℕ) → imported_external_value env parts s ≡ Some x → address_of k x ≡ Some a → AtDefined k s a ⊎ AtOwn k s a
     imported_at k s x a h has =
-        let e = and_then_is (end_of parts s) (thing_of env parts) x h in
+        let e = and_then_is (end_of parts s) (external_value_of env parts) x h in
         go e.0 e.1 e.2 (ends_low parts there earlier s e.0 e.1)
       where
-        go : (end : End) → end_of parts s ≡ Some end → thing_of env parts end ≡ Some x → Low parts s.part end → AtDefined k s a ⊎ AtOwn k s a
+        go : (end : End) → end_of parts s ≡ Some end → external_value_of env parts end ≡ Some x → Low parts s.part end → AtDefined k s a ⊎ AtOwn k s a
         go (Defined e) ends thing (inside low) =
             let kd = space_of_export e.what in
             let l = low.within in
@@ -115,7 +115,7 @@ module _ (env : Environment) (parts : List Part) where
             let own = own_at env key.0 x key.2 in
             let both = same_thing k (kind_of_key key.0) own.address a (ap (option_and_then (address_of k)) (sym own.is) ∙ has) in
             let stays : end_of parts t ≡ Some (Outside t) = ap (walk_on (walk (import_step parts) (length (sites parts)))) step in
-            let x_is : Some x ≡ thing_at k a = own.is ∙ ap₂ thing_at both.0 both.1 in
+            let x_is : Some x ≡ external_value_at k a = own.is ∙ ap₂ external_value_at both.0 both.1 in
             let low : own.address < own_count k env = subst (λ k. own.address < own_count k env) both.0 own.low in
             inr (record {
               last = t;
@@ -126,12 +126,12 @@ module _ (env : Environment) (parts : List Part) where
               import = i.0;
               is_import = sym (ap (λ o. option_and_then (λ m. slice_get m.imports t.import) o) m.1) ∙ i.1;
               kind = sym (key_kind m.0 (pair_of i.0) i.0.desc key.0 key.1) ∙ both.0;
-              thing = ap (λ o. option_and_then (thing_of env parts) o) stays ∙ thing ∙ x_is;
+              thing = ap (λ o. option_and_then (external_value_of env parts) o) stays ∙ thing ∙ x_is;
               low = subst (λ n. n < own_count k env) both.1 low;
             })
 
     -- it is lower than what the part itself defines
-    pub imported_low : (k : Space) (s : Site) (x : Thing) (a : ℕ) → imported_thing env parts s ≡ Some x → address_of k x ≡ Some a → a < base env parts k s.part
+    pub imported_low : (k : Space) (s : Site) (x : ExternalValue) (a : ℕ) → imported_external_value env parts s ≡ Some x → address_of k x ≡ Some a → a < base env parts k s.part
     imported_low k s x a h has = go (imported_at k s x a h has)
       where
         go : AtDefined k s a ⊎ AtOwn k s a → a < base env parts k s.part
@@ -149,10 +149,10 @@ module _ (env : Environment) (parts : List Part) where
         let s = space_is env parts k p m (space_in i k) (in_space env parts p m i inst k (held_external i k x a e)) in
         go s.0 s.1 (append_back s.0 _ x a (ap (λ l. slice_get l x) s.2 ∙ e))
       where
-        go : (l : List ℕ) → all_there (λ n. option_and_then (address_of k) (imported_thing env parts (record { part = p; import = n }))) (imports_of k m) ≡ Some l → (slice_get l x ≡ Some a) ⊎ ((j : ℕ) × (slice_get (numbers (base env parts k p) (defined_count k m)) j ≡ Some a)) → a < base env parts k (suc p)
+        go : (l : List ℕ) → all_there (λ n. option_and_then (address_of k) (imported_external_value env parts (record { part = p; import = n }))) (imports_of k m) ≡ Some l → (slice_get l x ≡ Some a) ⊎ ((j : ℕ) × (slice_get (numbers (base env parts k p) (defined_count k m)) j ≡ Some a)) → a < base env parts k (suc p)
         go l all (inl h) =
             let n = all_there_back _ (imports_of k m) l all x a h in
-            let t = and_then_is (imported_thing env parts (record { part = p; import = n.0 })) (address_of k) a n.2 in
+            let t = and_then_is (imported_external_value env parts (record { part = p; import = n.0 })) (address_of k) a n.2 in
             let low = imported_low k (record { part = p; import = n.0 }) t.0 a t.1 t.2 in
             let next = base_next k p m is_part in
             omega (arith, low, next)
@@ -165,13 +165,13 @@ module _ (env : Environment) (parts : List Part) where
   pub record HasAddress (k : Space) (s : Site) (i : Inst) (x : ℕ) : Type 0 where
     pub address : ℕ
     pub at : slice_get (space_in i k) x ≡ Some address
-    pub thing : Thing
-    pub is : imported_thing env parts s ≡ Some thing
+    pub thing : ExternalValue
+    pub is : imported_external_value env parts s ≡ Some thing
     pub has : address_of k thing ≡ Some address
 
   pub import_address : (p : ℕ) (m : Module) (i : Inst) → IsInst env parts p m i → (k : Space) (x n : ℕ) → slice_get (imports_of k m) x ≡ Some n → HasAddress k (record { part = p; import = n }) i x
   import_address p m i inst k x n e =
       let s = space_is env parts k p m (space_in i k) (in_space env parts p m i inst k (imported_external k m.imports x n e)) in
       let a = all_there_at _ (imports_of k m) s.0 s.1 x n e in
-      let t = and_then_is (imported_thing env parts (record { part = p; import = n })) (address_of k) a.0 a.1 in
+      let t = and_then_is (imported_external_value env parts (record { part = p; import = n })) (address_of k) a.0 a.1 in
       record { address = a.0; at = ap (λ xs. slice_get xs x) (sym s.2) ∙ append_at_left s.0 _ x a.0 a.2; thing = t.0; is = t.1; has = t.2 }

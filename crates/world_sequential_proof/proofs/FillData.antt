@@ -10,7 +10,7 @@ use Rattle.wasm_meaning.specs.State.{Val, Inst, Memory, Data, Store}
 use Rattle.wasm_meaning.specs.Values.{num_of}
 use Rattle.wasm_meaning.specs.Step.{no_bytes}
 use Rattle.wasm_meaning.specs.World.{Filled, PlacedSegment, copy_bytes, run_data_with, and_then, one_by_one}
-use Rattle.wasm_meaning.specs.InTurn.{is_active_data}
+use Rattle.wasm_meaning.specs.Sequential.{is_active_data}
 use Rattle.world_sequential_proof.proofs.FillRuns.{Job, Skip, Fill, run, runs, LowJob, low_skip, low_fill, LowJobs, Kept, kept_skip, kept_fill, KeptAll}
 use Rattle.world_sequential_proof.proofs.FillTurns.{Turned, goes_on, stops, or_turned}
 use Rattle.base_lists.proofs.Options.{and_then_is}

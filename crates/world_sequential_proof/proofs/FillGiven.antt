@@ -1,4 +1,4 @@
--- The stores of parts in turn where no code has run, for the run in turn: how the store at once is laid out, what a part adds, and what its segments do.
+-- The stores of parts that are instantiated sequentially where no code has run, for the sequential run: how the store at once is laid out, what a part adds, and what its segments do.
 use Rattle.std.proofs.Common.{◌≡◌, ◌∙◌, refl, sym, ap, ap₂, subst, ℕ, zero, suc, ◌+◌, ◌-◌, ◌<◌, ◌≤◌, List, [], ◌∷◌, length, Option, Some, true, false, arith, option_and_then, slice_get, None}
 use Rattle.wasm_tree.specs.declared.module.ConstExpr.{ConstExpr}
 use Rattle.wasm_tree.specs.declared.module.Module.{Module}
@@ -8,12 +8,12 @@ use Rattle.wasm_meaning.specs.Step.{no_items, no_bytes}
 use Rattle.wasm_meaning.specs.Linking.{Part, Read, module_at, sites_in, sites_from, sites, read_of}
 use Rattle.wasm_meaning.specs.Environment.{Environment, all_of}
 use Rattle.wasm_meaning.specs.World.{is_matched, insts_from, own_store, stores_from, part_store, joined_stores, store_with, const_value, value_of, segments}
-use Rattle.wasm_meaning.specs.InTurn.{JoinsEarlier}
+use Rattle.wasm_meaning.specs.Sequential.{JoinsEarlier}
 use Rattle.world_extension_proof.specs.Extends.{TableExtends, MemoryExtends, EachExtends}
 use Rattle.world_extension_proof.proofs.Extends.{each_then, each_put, each_stays, table_stays, memory_stays, global_stays}
 use Rattle.world_simulation.proofs.Copied.{overwritten_length}
 use Rattle.world_sequential_proof.proofs.Joined.{ExportsThere}
-use Rattle.world_sequential_proof.proofs.Turn.{Sized, Holds, SitesThere}
+use Rattle.world_sequential_proof.proofs.OnePart.{Sized, Holds, SitesThere}
 use Rattle.world_sequential_proof.proofs.Beside.{Laid}
 use Rattle.world_sequential_proof.proofs.FillStores.{or_no_store, added_at, added_is, rest_for, rest_from, rest_last, first_stores, first_parts, part_adds, Lengths}
 use Rattle.world_sequential_proof.proofs.FillValues.{Constant, HoldsFixed, value_same}
@@ -82,7 +82,7 @@ memory_filled m d n u h =
     let b = and_then_is (overwrite m.bytes n d.bytes) _ u h in
     subst (MemoryExtends m) (same_Some _ _ b.2) (record { most = refl; size = omega arith })
 
--- ---- stores in turn ----
+-- ---- sequential stores ----
 
 module _ (env : Environment) (parts : List Part) (insts : List Inst) (are : insts_from env parts 0 parts ≡ Some insts) (allocated : Store) (stores_are : stores_from env parts insts (own_store env) 0 parts insts ≡ Some allocated) (matched : all_of (is_matched env parts allocated) (sites parts) ≡ true) (size : length insts ≡ length parts) (there : ExportsThere parts) (earlier : JoinsEarlier parts) where
   pub sized_as : (k : ℕ) (t : Store) → Lengths env parts insts k t → Sized env parts k t

@@ -2,8 +2,8 @@
 use Rattle.std.proofs.Common.{◌≡◌, ◌∙◌, refl, sym, ap, subst, ℕ, suc, ◌+◌, ◌<◌, List, [], ◌∷◌, ◌++◌, map, length, Option, Some, None, Bool, true, false, cond, ◌⊎◌, inl, inr, arith}
 use Rattle.wasm_tree.specs.declared.space.Space.{Space}
 use Rattle.wasm_tree.specs.declared.space.Space.TheVariants.{Functions, Tables, Memories, Globals}
-use Rattle.wasm_meaning.specs.Environment.{Environment, Offer, OwnKey, FuncKey, TableKey, MemoryKey, GlobalKey, Thing, FuncAt, TableAt, MemoryAt, GlobalAt, Owned, same_key, look_up, owned_at, owned_of, addressed, flat, one_if}
-use Rattle.wasm_meaning.specs.World.{own_count, thing_at}
+use Rattle.wasm_meaning.specs.Environment.{Environment, Offer, OwnKey, FuncKey, TableKey, MemoryKey, GlobalKey, ExternalValue, FuncAt, TableAt, MemoryAt, GlobalAt, Owned, same_key, look_up, owned_at, owned_of, addressed, flat, one_if}
+use Rattle.wasm_meaning.specs.World.{own_count, external_value_at}
 use Rattle.std.proofs.lemmas.List.{length-append}
 
 abbrev pub kind_of_key : OwnKey → Space
@@ -68,7 +68,7 @@ one_same_length : {A B C : Type 0} (f : A → B) (g : A → C) (o : Option A) �
 one_same_length f g None = refl
 one_same_length f g (Some a) = refl
 
-look_either : (is : OwnKey → Bool) (xs ys : Owned) (x : Thing) → look_up is (xs ++ ys) ≡ Some x → (look_up is xs ≡ Some x) ⊎ (look_up is ys ≡ Some x)
+look_either : (is : OwnKey → Bool) (xs ys : Owned) (x : ExternalValue) → look_up is (xs ++ ys) ≡ Some x → (look_up is xs ≡ Some x) ⊎ (look_up is ys ≡ Some x)
 look_either is [] ys x e = inr e
 look_either is (z ∷ zs) ys x e = go (is z.0) e (look_either is zs ys x)
   where
@@ -77,13 +77,13 @@ look_either is (z ∷ zs) ys x e = go (is z.0) e (look_either is zs ys x)
     go false e h = h e
 
 -- what is found among keys of one kind
-record Found (key : OwnKey) (thing : ℕ → Thing) (n : ℕ) (k : Space) (count : ℕ) (x : Thing) : Type 0 where
+record Found (key : OwnKey) (thing : ℕ → ExternalValue) (n : ℕ) (k : Space) (count : ℕ) (x : ExternalValue) : Type 0 where
   place : ℕ
   is : x ≡ thing (n + place)
   low : place < count
   kind : kind_of_key key ≡ k
 
-look_addressed : (key : OwnKey) (thing : ℕ → Thing) (k : Space) (n : ℕ) (keys : List OwnKey) → Each k keys → (x : Thing) → look_up (same_key key) (addressed thing n keys) ≡ Some x → Found key thing n k (length keys) x
+look_addressed : (key : OwnKey) (thing : ℕ → ExternalValue) (k : Space) (n : ℕ) (keys : List OwnKey) → Each k keys → (x : ExternalValue) → look_up (same_key key) (addressed thing n keys) ≡ Some x → Found key thing n k (length keys) x
 look_addressed key thing k n [] no_keys x e = absurd (let f = e in cc)
 look_addressed key thing k n (y ∷ ys) (key_more h hs) x e = go (same_key key y) refl e (look_addressed key thing k (suc n) ys hs x)
   where
@@ -98,18 +98,18 @@ look_addressed key thing k n (y ∷ ys) (key_more h hs) x e = go (same_key key y
         record { place = suc f.place; is = f.is ∙ ap thing z; low = let l = f.low in omega (arith, l); kind = f.kind }
 
 -- the address of the environment's own entity
-pub record OwnAt (env : Environment) (key : OwnKey) (x : Thing) : Type 0 where
+pub record OwnAt (env : Environment) (key : OwnKey) (x : ExternalValue) : Type 0 where
   pub address : ℕ
-  pub is : Some x ≡ thing_at (kind_of_key key) address
+  pub is : Some x ≡ external_value_at (kind_of_key key) address
   pub low : address < own_count (kind_of_key key) env
 
-own_found : (env : Environment) (key : OwnKey) (k : Space) (thing : ℕ → Thing) → ((n : ℕ) → thing_at k n ≡ Some (thing n)) → (count : ℕ) (x : Thing) → count ≡ own_count k env → Found key thing 0 k count x → OwnAt env key x
+own_found : (env : Environment) (key : OwnKey) (k : Space) (thing : ℕ → ExternalValue) → ((n : ℕ) → external_value_at k n ≡ Some (thing n)) → (count : ℕ) (x : ExternalValue) → count ≡ own_count k env → Found key thing 0 k count x → OwnAt env key x
 own_found env key k thing same count x c f =
     let z : 0 + f.place ≡ f.place = omega arith in
     let l : f.place < own_count k env = subst (λ n. f.place < n) c f.low in
     record {
       address = f.place;
-      is = ap Some (f.is ∙ ap thing z) ∙ sym (same f.place) ∙ ap (λ k. thing_at k f.place) (sym f.kind);
+      is = ap Some (f.is ∙ ap thing z) ∙ sym (same f.place) ∙ ap (λ k. external_value_at k f.place) (sym f.kind);
       low = subst (λ k. f.place < own_count k env) (sym f.kind) l;
     }
 
@@ -125,7 +125,7 @@ memories = flat (λ o. one_if (λ m. MemoryKey o.pair) o.memory)
 abbrev globals : Environment → List OwnKey
 globals = flat (λ o. one_if (λ g. GlobalKey o.pair) o.global)
 
-pub own_at : (env : Environment) (key : OwnKey) (x : Thing) → owned_at (owned_of env) key ≡ Some x → OwnAt env key x
+pub own_at : (env : Environment) (key : OwnKey) (x : ExternalValue) → owned_at (owned_of env) key ≡ Some x → OwnAt env key x
 own_at env key x e = first (look_either (same_key key) _ _ x e)
   where
     third : (look_up (same_key key) (addressed MemoryAt 0 (memories env)) ≡ Some x) ⊎ (look_up (same_key key) (addressed GlobalAt 0 (globals env)) ≡ Some x) → OwnAt env key x

@@ -6,7 +6,7 @@ use Rattle.wasm_meaning.specs.Paths.{PathStep, EndsWith, LeadsTo, walk, walk_on}
 use Rattle.wasm_meaning.specs.Linking.{Part, Site, Entity, End, Defined, Outside, imports_of, module_at, import_at, export_named, source_of, joined, imported_as, entity_step, joined_step, import_step, end_of, sites}
 use Rattle.wasm_tree.specs.Spaces.{index_of_export, space_of_export}
 use Rattle.wasm_meaning.specs.World.{defined_count}
-use Rattle.wasm_meaning.specs.InTurn.{JoinsEarlier}
+use Rattle.wasm_meaning.specs.Sequential.{JoinsEarlier}
 use Rattle.world_sequential_proof.proofs.Joined.{ExportsThere}
 use Rattle.base_lists.proofs.Places.{slice_get_none}
 use Rattle.base_lists.proofs.Options.{and_then_is}

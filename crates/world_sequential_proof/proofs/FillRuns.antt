@@ -1,4 +1,4 @@
--- Segments that are copied in turn, as a matter of two lists alone: what is written to, and the segments, which are dropped.
+-- Segments that are copied part by part, as a matter of two lists alone: what is written to, and the segments, which are dropped.
 -- What stands behind all that is written stays, and does not matter.
 use Rattle.std.proofs.Common.{◌≡◌, ◌∙◌, refl, sym, ap, ap₂, subst, ℕ, zero, suc, ◌-◌, ◌<◌, ◌≤◌, List, [], ◌∷◌, ◌++◌, length, Option, Some, None, append_assoc, arith, option_and_then, slice_get, slice_set}
 use Rattle.std.proofs.lemmas.List.{length-set, set-append_left}

@@ -9,7 +9,7 @@ use Rattle.wasm_meaning.specs.Step.{no_items, no_bytes}
 use Rattle.wasm_meaning.specs.Linking.{Part, module_at}
 use Rattle.wasm_meaning.specs.Environment.{Environment, any_of}
 use Rattle.wasm_meaning.specs.World.{Filled, PlacedSegment, own_store, stores_from, joined_stores, value_of, segments_in, placed_elems, placed_datas, and_then, one_by_one, segments}
-use Rattle.wasm_meaning.specs.InTurn.{HasNoActive, is_active_elem, is_active_data, own_segments}
+use Rattle.wasm_meaning.specs.Sequential.{HasNoActive, is_active_elem, is_active_data, own_segments}
 use Rattle.world_sequential_proof.proofs.FillStores.{rest_from, Lengths, lengths_first, allocated_whole}
 use Rattle.world_sequential_proof.proofs.FillValues.{HoldsFixed}
 use Rattle.world_sequential_proof.proofs.FillRuns.{Job, first_jobs, rest_jobs, all_runs}

@@ -10,7 +10,7 @@ use Rattle.wasm_meaning.specs.State.{RefVal, Val, Inst, Table, Elem, Store}
 use Rattle.wasm_meaning.specs.Values.{num_of}
 use Rattle.wasm_meaning.specs.Step.{no_items}
 use Rattle.wasm_meaning.specs.World.{Filled, PlacedSegment, or_trapped, copy_slots, run_elem_with, and_then, one_by_one}
-use Rattle.wasm_meaning.specs.InTurn.{is_active_elem}
+use Rattle.wasm_meaning.specs.Sequential.{is_active_elem}
 use Rattle.world_sequential_proof.proofs.FillRuns.{Job, Skip, Fill, run, runs, LowJob, low_skip, low_fill, LowJobs, Kept, kept_skip, kept_fill, KeptAll}
 use Rattle.base_lists.proofs.Options.{and_then_is}
 use Rattle.std.proofs.lemmas.Option.{same_Some}

@@ -15,9 +15,9 @@ use Rattle.wasm_meaning.specs.Paths.{PathStep, EndsWith, LeadsTo, walk, walk_on}
 use Rattle.wasm_meaning.specs.Linking.{Part, Site, End, Defined, Outside, Read, places, has_kind, space_index, imports_of, module_at, import_at, sites_in, sites_from, sites, end_of, global_import, initial, outside_read, end_step, read_step, initials_from, read_of}
 use Rattle.wasm_tree.specs.Spaces.{index_of_export, space_of_import}
 use Rattle.wasm_meaning.specs.Environment.{Environment, GlobalAt, own_globals, all_of}
-use Rattle.wasm_meaning.specs.World.{all_there, base, same_bool, is_match, is_matched, imported_thing, insts_from, inst_of, own_store, stores_from, global_with, new_func, elem_with, const_value, value_of_read, value_of, address_of, joined_stores}
-use Rattle.wasm_meaning.specs.InTurn.{JoinsEarlier}
-use Rattle.world_sequential_proof.proofs.Things.{inst_at, walk_more, thing_has}
+use Rattle.wasm_meaning.specs.World.{all_there, base, same_bool, is_match, is_matched, imported_external_value, insts_from, inst_of, own_store, stores_from, global_with, new_func, elem_with, const_value, value_of_read, value_of, address_of, joined_stores}
+use Rattle.wasm_meaning.specs.Sequential.{JoinsEarlier}
+use Rattle.world_sequential_proof.proofs.ExternalValues.{inst_at, walk_more, thing_has}
 use Rattle.world_sequential_proof.proofs.Joined.{ExportsThere}
 use Rattle.world_sequential_proof.proofs.FillAddresses.{AtDefined, AtOwn, HasAddress, import_address, imported_at, imported_low}
 use Rattle.index_remap_proof.proofs.Lists.{all_there_back}
@@ -165,8 +165,8 @@ module _ (env : Environment) (parts : List Part) (insts : List Inst) (are : inst
               let z : 0 + k ≡ k = omega arith in
               let at = all_from (is_matched env parts allocated) 0 parts matched k m is_part c.at (slice_get_within m.imports c.at c.import c.is_import) in
               let import_is : import_at parts (record { part = k; import = c.at }) ≡ Some c.import = ap (λ o. option_and_then (λ m. slice_get m.imports c.at) o) is_part ∙ c.is_import in
-              let unfolded = ap₂ (λ o q. unwrap_or (option_and_then (λ m. option_and_then (λ i. option_and_then (is_match allocated m i.desc) (imported_thing env parts (record { part = k; import = c.at }))) q) o) false) is_part import_is in
-              let thing : imported_thing env parts (record { part = k; import = c.at }) ≡ Some (GlobalAt d.address) = d.is ∙ sym (thing_has Globals d.thing d.address d.has) in
+              let unfolded = ap₂ (λ o q. unwrap_or (option_and_then (λ m. option_and_then (λ i. option_and_then (is_match allocated m i.desc) (imported_external_value env parts (record { part = k; import = c.at }))) q) o) false) is_part import_is in
+              let thing : imported_external_value env parts (record { part = k; import = c.at }) ≡ Some (GlobalAt d.address) = d.is ∙ sym (thing_has Globals d.thing d.address d.has) in
               ap₂ (λ e o. unwrap_or (option_and_then (is_match allocated m e) o) false) (sym c.is_global) (sym thing) ∙ sym unfolded ∙ ap (λ n. is_matched env parts allocated (record { part = n; import = c.at })) (sym z) ∙ at
 
           fixed : Fixed d.address

@@ -1,12 +1,12 @@
--- What the run in turn asks of stores whose first parts' segments were copied.
+-- What the sequential run asks of stores whose first parts' segments were copied.
 use Rattle.std.proofs.Common.{◌≡◌, ◌∙◌, sym, ap, subst, ℕ, zero, suc, ◌+◌, ◌-◌, ◌≤◌, List, length, Some, false, arith, slice_get}
 use Rattle.wasm_tree.specs.declared.module.Module.{Module}
 use Rattle.wasm_meaning.specs.State.{Text, Inst, Store}
 use Rattle.wasm_meaning.specs.Linking.{module_at}
-use Rattle.wasm_meaning.specs.Environment.{Environment, Thing}
+use Rattle.wasm_meaning.specs.Environment.{Environment, ExternalValue}
 use Rattle.wasm_meaning.specs.World.{World, own_store, stores_from, const_value, joined_stores, all_there, seen_as, segments}
-use Rattle.wasm_meaning.specs.Below.{BelowIsNotSeen}
-use Rattle.wasm_meaning.specs.InTurn.{own_segments, HasNoActive}
+use Rattle.wasm_meaning.specs.StartFrames.{StartDependsOnlyOnItsFrames}
+use Rattle.wasm_meaning.specs.Sequential.{own_segments, HasNoActive}
 use Rattle.index_remap.specs.Laws.{CodeIsRelatedToItself, RelatedTicksAgree, OthersStay}
 use Rattle.world_extension_proof.specs.Extends.{StepsExtend}
 use Rattle.world_sequential_proof.proofs.Given.{IsGiven}
@@ -39,7 +39,7 @@ module _ (env : Environment) (w : World) (insts : List Inst) (allocated : Store)
       let n = FillNext.filled_next env w.parts insts g.are allocated stores_are g.matched g.size g.exports g.earlier k m i is_part is_inst t (g.laid.adds k) (g.laid.part_adds k m i is_part is_inst) h (constants k m is_part) well in
       (ap (λ f. f.trapped) n.is, subst (λ f. FilledUpto env w.parts insts allocated (suc k) f.store) (sym n.is) n.filled)
 
-  pub fill_laws : (itself : CodeIsRelatedToItself) (below : BelowIsNotSeen) (extend : StepsExtend) (ticks : RelatedTicksAgree) (others : OthersStay) (view : List (Text × Thing)) (view_is : all_there (seen_as insts) w.view ≡ Some view) → FillLaws env w insts allocated g itself below extend ticks others view view_is (FilledUpto env w.parts insts allocated)
+  pub fill_laws : (itself : CodeIsRelatedToItself) (below : StartDependsOnlyOnItsFrames) (extend : StepsExtend) (ticks : RelatedTicksAgree) (others : OthersStay) (view : List (Text × ExternalValue)) (view_is : all_there (seen_as insts) w.view ≡ Some view) → FillLaws env w insts allocated g itself below extend ticks others view view_is (FilledUpto env w.parts insts allocated)
   fill_laws itself below extend ticks others view view_is = record {
     filled_none = FillSegments.filled_none env w.parts insts allocated stores_are g.size;
     filled_next = next_filled;

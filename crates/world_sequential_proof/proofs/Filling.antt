@@ -16,7 +16,7 @@ use Rattle.wasm_meaning.specs.Step.{changed}
 use Rattle.wasm_meaning.specs.Linking.{Part}
 use Rattle.wasm_meaning.specs.Environment.{Environment}
 use Rattle.wasm_meaning.specs.World.{Filled, PlacedSegment, or_trapped, copy_slots, copy_elem, run_elem_with, run_elem, copy_bytes, copy_data, run_data_with, run_data, and_then, one_by_one, placed_elems, placed_datas, segments_in, segments}
-use Rattle.wasm_meaning.specs.InTurn.{own_segments}
+use Rattle.wasm_meaning.specs.Sequential.{own_segments}
 use Rattle.index_remap.specs.Related.{OptRel, some, Pairing, ListRel, nil}
 use Rattle.index_remap.proofs.Rel.{put_rel, overwrite_rel, get_rel}
 use Rattle.world_extension_proof.proofs.Extends

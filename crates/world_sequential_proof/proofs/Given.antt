@@ -1,4 +1,4 @@
--- What is known of a world whose parts are to be instantiated in turn, and what its next part's turn comes to.
+-- What is known of a world whose parts are to be instantiated sequentially, and what its next part's turn comes to.
 use Rattle.std.proofs.Common.{◌≡◌, ◌∙◌, refl, sym, ap, ap₂, ℕ, zero, suc, List, [], ◌∷◌, ◌++◌, map, length, Option, Some, None, true, false, cond, arith, drop, option_and_then, slice_get}
 use Rattle.wasm_tree.specs.declared.module.ConstExpr.{ConstExpr}
 use Rattle.wasm_tree.specs.declared.module.Module.{Module}
@@ -8,10 +8,10 @@ use Rattle.wasm_meaning.specs.Linking.{Part, module_at, sites}
 use Rattle.wasm_meaning.specs.Environment.{Environment, owned_of, all_of}
 use Rattle.wasm_meaning.specs.World.{World, Filled, store_with, const_value, joined_stores, all_there, insts_from, is_matched, start_in, starts_of}
 use Rattle.wasm_meaning.specs.Run.{InstanceTrapped}
-use Rattle.wasm_meaning.specs.InTurn.{Made, next_inst, closed_by, added, added_as, thing_for, own_segments, InTurn, goes_on, part_added, turn_at, tick_in_turn, JoinsEarlier, HasNoActive, NoLateSegments}
+use Rattle.wasm_meaning.specs.Sequential.{Made, next_inst, closed_by, added, added_as, external_value_for, own_segments, SequentialRun, goes_on, part_added, turn_at, tick_sequential, JoinsEarlier, HasNoActive, NoLateSegments}
 use Rattle.world_simulation.specs.Owned.{OwnEntitiesCorrespond}
 use Rattle.world_sequential_proof.proofs.Joined.{ExportsThere, made_upto}
-use Rattle.world_sequential_proof.proofs.Turn.{Sized, Holds, SitesThere, comes}
+use Rattle.world_sequential_proof.proofs.OnePart.{Sized, Holds, SitesThere, comes}
 use Rattle.world_sequential_proof.proofs.Beside.{Laid}
 use Rattle.world_sequential_proof.proofs.Making.{nothing_to_nothing}
 use Rattle.std.proofs.lemmas.Option.{same_Some}
@@ -58,7 +58,7 @@ made_all (p ∷ ps) (i ∷ is) e = ap (λ l. i ∷ l) (made_all ps is (omega (ar
 -- ---- the next part's turn ----
 
 -- so many parts had their turn
-pub record IsTurn (w : World) (insts : List Inst) (k : ℕ) (q : InTurn) : Type 0 where
+pub record IsTurn (w : World) (insts : List Inst) (k : ℕ) (q : SequentialRun) : Type 0 where
   pub made : q.made ≡ made_upto k w.parts insts
   pub rest : q.rest ≡ drop k w.parts
   pub view : q.view ≡ w.view
@@ -77,25 +77,25 @@ module _ (env : Environment) (w : World) (insts : List Inst) (allocated : Store)
   is_part : module_at w.parts k ≡ Some part.«module»
   is_part = ap (λ o. option_and_then (λ part. Some part.«module») o) at_part
 
-  -- the part's store in turn, its segments copied
+  -- the part's sequential store, its segments copied
   abbrev pub filled_in : Store → Filled
   filled_in t = own_segments (const_value t.globals i) part.«module» i (joined_stores t (g.laid.adds k))
 
-  added_is : (t : Store) → Sized env w.parts k t → Holds env w.parts k allocated t → option_and_then (added t part.«module») (all_there (thing_for (owned_of env) (made_upto k w.parts insts) part.«module») part.«module».imports) ≡ Some (record { inst = i; filled = filled_in t })
+  added_is : (t : Store) → Sized env w.parts k t → Holds env w.parts k allocated t → option_and_then (added t part.«module») (all_there (external_value_for (owned_of env) (made_upto k w.parts insts) part.«module») part.«module».imports) ≡ Some (record { inst = i; filled = filled_in t })
   added_is t sized holds =
       let c = comes env w.parts insts g.are g.size g.exports g.earlier g.own g.listed allocated g.matched k part.«module» i is_part at_inst t sized holds in
       ap (λ o. option_and_then (added t part.«module») o) c.found ∙ ap (λ b. cond b (added_as t part.«module» (next_inst t part.«module» c.things)) None) c.match
       ∙ ap (added_as t part.«module») c.inst ∙ ap (λ o. option_and_then (λ u. Some (record { inst = i; filled = own_segments (const_value t.globals i) part.«module» i (joined_stores t u) })) o) (g.store_is k part.«module» i t is_part at_inst holds)
 
-  pub turned : (q : InTurn) → IsTurn w insts k q → q.run.entries ≡ Opening [] ∷ [] → q.run.owned ≡ owned_of env → Sized env w.parts k q.run.store → Holds env w.parts k allocated q.run.store → (filled_in q.run.store).trapped ≡ false →
-      tick_in_turn q ≡ (goes_on q part (drop (suc k) w.parts) i (filled_in q.run.store).store, None)
+  pub turned : (q : SequentialRun) → IsTurn w insts k q → q.run.entries ≡ Opening [] ∷ [] → q.run.owned ≡ owned_of env → Sized env w.parts k q.run.store → Holds env w.parts k allocated q.run.store → (filled_in q.run.store).trapped ≡ false →
+      tick_sequential q ≡ (goes_on q part (drop (suc k) w.parts) i (filled_in q.run.store).store, None)
   turned q turn entries owned sized holds fine =
       ap₂ (turn_at q) (turn.rest ∙ past_at w.parts k part at_part) entries
-      ∙ ap₂ (λ o made. part_added q part (drop (suc k) w.parts) (option_and_then (added q.run.store part.«module») (all_there (thing_for o made part.«module») part.«module».imports))) owned turn.made
+      ∙ ap₂ (λ o made. part_added q part (drop (suc k) w.parts) (option_and_then (added q.run.store part.«module») (all_there (external_value_for o made part.«module») part.«module».imports))) owned turn.made
       ∙ ap (part_added q part (drop (suc k) w.parts)) (added_is q.run.store sized holds)
       ∙ ap (λ b. cond b (closed_by (record q { run = record q.run { store = (filled_in q.run.store).store } }) InstanceTrapped) (goes_on q part (drop (suc k) w.parts) i (filled_in q.run.store).store, None)) fine
 
-  pub next_turn : (q : InTurn) (s : Store) → IsTurn w insts k q → IsTurn w insts (suc k) (goes_on q part (drop (suc k) w.parts) i s)
+  pub next_turn : (q : SequentialRun) (s : Store) → IsTurn w insts k q → IsTurn w insts (suc k) (goes_on q part (drop (suc k) w.parts) i s)
   next_turn q s turn = record {
     made = ap (λ l. l ++ record { part = part; inst = i } ∷ []) turn.made ∙ sym (made_next k w.parts insts part i at_part at_inst);
     rest = refl;

@@ -6,10 +6,10 @@ use Rattle.wasm_tree.specs.declared.module.Module.{Module}
 use Rattle.wasm_meaning.specs.State.{Text, Inst}
 use Rattle.wasm_meaning.specs.Linking.{Part, Site, Entity, End, Defined, Outside, imports_of, module_at, import_at, is_named, export_named, first_place, source_of, joined, imported_as, entity_step, joined_step, import_step, end_of}
 use Rattle.wasm_tree.specs.Spaces.{index_of_export, space_of_export}
-use Rattle.wasm_meaning.specs.Environment.{Environment, Thing, owned_of, owned_at}
-use Rattle.wasm_meaning.specs.World.{defined_count, own_key, thing_of, imported_thing, insts_from, inst_of, address_in}
-use Rattle.wasm_meaning.specs.InTurn.{Made, made_named, exported_by, thing_or_own, thing_for, JoinsEarlier}
-use Rattle.world_sequential_proof.proofs.Things.{inst_at, goes_to, ends_at, defined_is, imported_is}
+use Rattle.wasm_meaning.specs.Environment.{Environment, ExternalValue, owned_of, owned_at}
+use Rattle.wasm_meaning.specs.World.{defined_count, own_key, external_value_of, imported_external_value, insts_from, inst_of, address_in}
+use Rattle.wasm_meaning.specs.Sequential.{Made, made_named, exported_by, external_value_or_own, external_value_for, JoinsEarlier}
+use Rattle.world_sequential_proof.proofs.ExternalValues.{inst_at, goes_to, ends_at, defined_is, imported_is}
 use Rattle.base_lists.proofs.Options.{and_then_is}
 use Rattle.std.proofs.lemmas.Option.{same_Some}
 use Rattle.world_simulation.proofs.Instancing.{inst_is}
@@ -83,38 +83,38 @@ module _ (env : Environment) (parts : List Part) (insts : List Inst) (are : inst
     step_is = ap (λ o. option_and_then (λ i. Some (joined_step parts (record { part = p; import = n }) (joined parts i))) o) import_is
 
     -- not joined: the environment's own
-    pub stays_own : (x : Thing) (o : Option (Made × ExportDesc)) → joined parts i ≡ None → o ≡ None → imported_thing env parts (record { part = p; import = n }) ≡ Some x → thing_or_own (owned_of env) m i o ≡ Some x
+    pub stays_own : (x : ExternalValue) (o : Option (Made × ExportDesc)) → joined parts i ≡ None → o ≡ None → imported_external_value env parts (record { part = p; import = n }) ≡ Some x → external_value_or_own (owned_of env) m i o ≡ Some x
     stays_own x o j none h =
-        let e = and_then_is (end_of parts (record { part = p; import = n })) (thing_of env parts) x h in
+        let e = and_then_is (end_of parts (record { part = p; import = n })) (external_value_of env parts) x h in
         let end = ends_at parts (record { part = p; import = n }) e.0 (Outside (record { part = p; import = n })) (step_is ∙ ap (λ o. Some (joined_step parts (record { part = p; import = n }) o)) j) e.1 in
-        let thing = ap (thing_of env parts) end ∙ e.2 in
+        let thing = ap (external_value_of env parts) end ∙ e.2 in
         let own = ap₂ (λ o q. option_and_then (λ m. option_and_then (λ i. option_and_then (λ key. owned_at (owned_of env) key) (own_key m i)) q) o) is_part import_is in
-        ap (thing_or_own (owned_of env) m i) none ∙ sym own ∙ thing
+        ap (external_value_or_own (owned_of env) m i) none ∙ sym own ∙ thing
 
     -- joined: what the other part's instance says
-    pub joins : (x : Thing) (q : ℕ) (part : Part) (inst : Inst) (d : ExportDesc) → joined parts i ≡ Some (record { part = q; what = d }) → slice_get parts q ≡ Some part → slice_get insts q ≡ Some inst → export_named part.«module».exports i.field ≡ Some d →
-        imported_thing env parts (record { part = p; import = n }) ≡ Some x → address_in inst d ≡ Some x
+    pub joins : (x : ExternalValue) (q : ℕ) (part : Part) (inst : Inst) (d : ExportDesc) → joined parts i ≡ Some (record { part = q; what = d }) → slice_get parts q ≡ Some part → slice_get insts q ≡ Some inst → export_named part.«module».exports i.field ≡ Some d →
+        imported_external_value env parts (record { part = p; import = n }) ≡ Some x → address_in inst d ≡ Some x
     joins x q part inst d j at_part at_inst named h =
-        let e = and_then_is (end_of parts (record { part = p; import = n })) (thing_of env parts) x h in
+        let e = and_then_is (end_of parts (record { part = p; import = n })) (external_value_of env parts) x h in
         let is_source = module_is parts q part at_part in
         let is_inst = inst_is env parts q part.«module» inst (inst_of_part q part.«module» inst is_source at_inst) in
         go e.0 e.1 e.2 (imported_as parts (record { part = q; what = d })) refl (defined_is env parts q part.«module» is_source inst is_inst d) (imported_is env parts q part.«module» is_source inst is_inst d)
       where
-        go : (end : End) → end_of parts (record { part = p; import = n }) ≡ Some end → thing_of env parts end ≡ Some x → (o : Option Site) → imported_as parts (record { part = q; what = d }) ≡ o →
-            (imported_as parts (record { part = q; what = d }) ≡ None → address_in inst d ≡ thing_of env parts (Defined (record { part = q; what = d }))) →
-            ((t : Site) (x : Thing) → imported_as parts (record { part = q; what = d }) ≡ Some t → imported_thing env parts t ≡ Some x → address_in inst d ≡ Some x) → address_in inst d ≡ Some x
+        go : (end : End) → end_of parts (record { part = p; import = n }) ≡ Some end → external_value_of env parts end ≡ Some x → (o : Option Site) → imported_as parts (record { part = q; what = d }) ≡ o →
+            (imported_as parts (record { part = q; what = d }) ≡ None → address_in inst d ≡ external_value_of env parts (Defined (record { part = q; what = d }))) →
+            ((t : Site) (x : ExternalValue) → imported_as parts (record { part = q; what = d }) ≡ Some t → imported_external_value env parts t ≡ Some x → address_in inst d ≡ Some x) → address_in inst d ≡ Some x
         go end ends thing None imp own far =
             let last = ends_at parts (record { part = p; import = n }) end (Defined (record { part = q; what = d })) (step_is ∙ ap (λ o. Some (joined_step parts (record { part = p; import = n }) o)) j ∙ ap (λ o. Some (entity_step (record { part = q; what = d }) o)) imp) ends in
-            own imp ∙ ap (thing_of env parts) last ∙ thing
+            own imp ∙ ap (external_value_of env parts) last ∙ thing
         go end ends thing (Some t) imp own far =
             let on = goes_to parts (record { part = p; import = n }) t end (step_is ∙ ap (λ o. Some (joined_step parts (record { part = p; import = n }) o)) j ∙ ap (λ o. Some (entity_step (record { part = q; what = d }) o)) imp) ends in
-            far t x imp (ap (λ o. option_and_then (thing_of env parts) o) on ∙ thing)
+            far t x imp (ap (λ o. option_and_then (external_value_of env parts) o) on ∙ thing)
 
-    pub thing_same : (x : Thing) → imported_thing env parts (record { part = p; import = n }) ≡ Some x → thing_for (owned_of env) (made p) m i ≡ Some x
+    pub thing_same : (x : ExternalValue) → imported_external_value env parts (record { part = p; import = n }) ≡ Some x → external_value_for (owned_of env) (made p) m i ≡ Some x
     thing_same x h = by_source (named i.«module» p 0 parts insts size)
       where
         -- the part that is named was there
-        there_before : (q : ℕ) (part : Part) (inst : Inst) → source_of parts i ≡ Some q → slice_get parts q ≡ Some part → slice_get insts q ≡ Some inst → made_named (made p) i.«module» ≡ Some (record { part = part; inst = inst }) → (o : Option ExportDesc) → export_named part.«module».exports i.field ≡ o → thing_for (owned_of env) (made p) m i ≡ Some x
+        there_before : (q : ℕ) (part : Part) (inst : Inst) → source_of parts i ≡ Some q → slice_get parts q ≡ Some part → slice_get insts q ≡ Some inst → made_named (made p) i.«module» ≡ Some (record { part = part; inst = inst }) → (o : Option ExportDesc) → export_named part.«module».exports i.field ≡ o → external_value_for (owned_of env) (made p) m i ≡ Some x
         there_before q part inst s a b c None e =
             let j : joined parts i ≡ None = ap (λ o. option_and_then (λ p. option_and_then (λ m. option_and_then (λ d. Some (record { part = p; what = d })) (export_named m.exports i.field)) (module_at parts p)) o) s ∙ ap (λ o. option_and_then (λ m. option_and_then (λ d. Some (record { part = q; what = d })) (export_named m.exports i.field)) o) (module_is parts q part a) ∙ ap (λ o. option_and_then (λ d. Some (record { part = q; what = d })) o) e in
             let none : exported_by (made p) i ≡ None = ap (λ o. option_and_then (λ x. option_and_then (λ d. Some (x, d)) (export_named x.part.«module».exports i.field)) o) c ∙ ap (λ o. option_and_then (λ d. Some (record { part = part; inst = inst }, d)) o) e in
@@ -122,10 +122,10 @@ module _ (env : Environment) (parts : List Part) (insts : List Inst) (are : inst
         there_before q part inst s a b c (Some d) e =
             let j : joined parts i ≡ Some (record { part = q; what = d }) = ap (λ o. option_and_then (λ p. option_and_then (λ m. option_and_then (λ d. Some (record { part = p; what = d })) (export_named m.exports i.field)) (module_at parts p)) o) s ∙ ap (λ o. option_and_then (λ m. option_and_then (λ d. Some (record { part = q; what = d })) (export_named m.exports i.field)) o) (module_is parts q part a) ∙ ap (λ o. option_and_then (λ d. Some (record { part = q; what = d })) o) e in
             let some_by : exported_by (made p) i ≡ Some (record { part = part; inst = inst }, d) = ap (λ o. option_and_then (λ x. option_and_then (λ d. Some (x, d)) (export_named x.part.«module».exports i.field)) o) c ∙ ap (λ o. option_and_then (λ d. Some (record { part = part; inst = inst }, d)) o) e in
-            ap (thing_or_own (owned_of env) m i) some_by ∙ joins x q part inst d j a b e h
+            ap (external_value_or_own (owned_of env) m i) some_by ∙ joins x q part inst d j a b e h
 
         -- it comes later, or there is none
-        not_before : ((q : ℕ) → source_of parts i ≡ Some q → p ≤ q) → made_named (made p) i.«module» ≡ None → (o : Option Entity) → joined parts i ≡ o → thing_for (owned_of env) (made p) m i ≡ Some x
+        not_before : ((q : ℕ) → source_of parts i ≡ Some q → p ≤ q) → made_named (made p) i.«module» ≡ None → (o : Option Entity) → joined parts i ≡ o → external_value_for (owned_of env) (made p) m i ≡ Some x
         not_before l c None j = stays_own x (exported_by (made p) i) j (ap (λ o. option_and_then (λ x. option_and_then (λ d. Some (x, d)) (export_named x.part.«module».exports i.field)) o) c) h
         not_before l c (Some e) j =
             let s = and_then_is (source_of parts i) _ e j in
@@ -136,6 +136,6 @@ module _ (env : Environment) (parts : List Part) (insts : List Inst) (are : inst
             let high = l s.0 s.1 in
             absurd (omega (arith, low, high, same))
 
-        by_source : Named i.«module» p 0 parts insts → thing_for (owned_of env) (made p) m i ≡ Some x
+        by_source : Named i.«module» p 0 parts insts → external_value_for (owned_of env) (made p) m i ≡ Some x
         by_source (among {j = q} {part = part} {inst = inst} l f a b c) = let z : 0 + q ≡ q = omega arith in there_before q part inst (f ∙ ap Some z) a b c (export_named part.«module».exports i.field) refl
         by_source (later l c) = not_before (λ q e. let h = l q e in omega (arith, h)) c (joined parts i) refl

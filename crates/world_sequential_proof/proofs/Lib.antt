@@ -1,8 +1,8 @@
-mod Things
+mod ExternalValues
 mod Joined
 mod Reached
-mod Low
-mod Turn
+mod EarlierParts
+mod OnePart
 mod Closed
 mod Beside
 mod Making

@@ -1,4 +1,4 @@
--- While a start is made, the run in turn and the run at once make the same steps.
+-- While a start is made, the sequential run and the run at once make the same steps.
 use Rattle.std.proofs.Common.{◌≡◌, ◌∙◌, refl, sym, ap, subst, ℕ, ◌<◌, ◌≤◌, List, [], ◌∷◌, ◌++◌, length, Option, Some, None, arith, slice_get}
 use Rattle.wasm_tree.specs.declared.space.Space.{Space}
 use Rattle.wasm_tree.specs.declared.space.Space.TheVariants.{Functions, Tables, Memories, Globals, ElementSegments, DataSegments}
@@ -12,10 +12,10 @@ use Rattle.wasm_meaning.specs.Control.{type_of_func}
 use Rattle.wasm_meaning.specs.Values.{zeros}
 use Rattle.wasm_meaning.specs.Step.{enter}
 use Rattle.wasm_meaning.specs.Linking.{Part}
-use Rattle.wasm_meaning.specs.Environment.{Environment, Thing, owned_of, received_all}
+use Rattle.wasm_meaning.specs.Environment.{Environment, ExternalValue, owned_of, received_all}
 use Rattle.wasm_meaning.specs.World.{base}
 use Rattle.wasm_meaning.specs.Run.{Event, Asked, Phase, Pending, Closed, Run, Out, Steps, made, nothing_in, or_closed, transition_at, tick}
-use Rattle.wasm_meaning.specs.Below.{IsBottom, GivesNothing, a_frame, a_call, over, Unseen, goes_on, ended, trapped, BelowIsNotSeen}
+use Rattle.wasm_meaning.specs.StartFrames.{IsBottom, GivesNothing, a_frame, a_call, over, AgreeOnFrames, goes_on, ended, trapped, StartDependsOnlyOnItsFrames}
 use Rattle.index_remap.specs.Related.{Pairing, ListRel, nil, cons, EntryRel, opening}
 use Rattle.index_remap.specs.Related as to
 use Rattle.index_remap.specs.RelatedRuns.{pending, RunRel, OutRel, KeepsOthers, HasNoPartner, IsBegun}
@@ -24,7 +24,7 @@ use Rattle.index_remap.proofs.Rel.{length_rel}
 use Rattle.world_extension_proof.specs.Extends.{Extends, Kept, StepsExtend}
 use Rattle.world_extension_proof.proofs.Extends.{and_then}
 use Rattle.world_sequential_proof.proofs.Reached.{is_reached, reaching, reached_at, reached_is, one_to_one}
-use Rattle.world_sequential_proof.proofs.Turn.{Sized}
+use Rattle.world_sequential_proof.proofs.OnePart.{Sized}
 use Rattle.world_sequential_proof.proofs.Closed.{Sound, own_func, code}
 use Rattle.world_sequential_proof.proofs.Beside.{Untouched, Beside}
 use Rattle.std.proofs.lemmas.List.{length-append}
@@ -80,11 +80,11 @@ some_entries es (a_frame e) = omega arith
 some_entries es a_call = omega arith
 some_entries es (over e g) = omega arith
 
-module _ (below : BelowIsNotSeen) (extend : StepsExtend) (ticks : RelatedTicksAgree) (others : OthersStay) (env : Environment) (parts : List Part) (allocated : Store) (p : ℕ) where
+module _ (below : StartDependsOnlyOnItsFrames) (extend : StepsExtend) (ticks : RelatedTicksAgree) (others : OthersStay) (env : Environment) (parts : List Part) (allocated : Store) (p : ℕ) where
   abbrev R : Pairing
   R = reaching env parts p
 
-  -- r is the run at once, u the run in turn; so many entries stand above where the start began
+  -- r is the run at once, u the sequential run; so many entries stand above where the start began
   pub record Abreast (es fs : List Entry) (r u : Run) : Type 0 where
     pub related : RunRel (reaching env parts p) (EntryByEntry (reaching env parts p)) (EntryByEntry (reaching env parts p)) (over_one u fs) (over_one r es)
     pub beside : Beside env parts p allocated u.store r.store
@@ -93,7 +93,7 @@ module _ (below : BelowIsNotSeen) (extend : StepsExtend) (ticks : RelatedTicksAg
     pub second_owned : u.owned ≡ owned_of env
 
   -- what a step of both comes to
-  pub data Stepped (cs : List Entry) (view v : List (Text × Thing)) : Out → Out → Type 0 where
+  pub data Stepped (cs : List Entry) (view v : List (Text × ExternalValue)) : Out → Out → Type 0 where
     on : {event : Option Event} {r u : Run} (es fs : List Entry) → GivesNothing es → GivesNothing fs → Abreast es fs r u → r.entries ≡ es ++ cs → r.phase ≡ Pending view → u.entries ≡ fs ++ Opening [] ∷ [] → u.phase ≡ Pending v → Stepped cs view v (r, event) (u, event)
     done : {r u : Run} → Abreast [] [] r u → r.entries ≡ cs → r.phase ≡ Pending view → u.entries ≡ Opening [] ∷ [] → u.phase ≡ Pending v → Stepped cs view v (r, None) (u, None)
     stopped : {event : Option Event} {r u : Run} → RunRel (reaching env parts p) (EntryByEntry (reaching env parts p)) (EntryByEntry (reaching env parts p)) u r → r.entries ≡ [] → r.phase ≡ Closed → u.entries ≡ [] → u.phase ≡ Closed → Stepped cs view v (r, event) (u, event)
@@ -135,14 +135,14 @@ module _ (below : BelowIsNotSeen) (extend : StepsExtend) (ticks : RelatedTicksAg
   kept_run : {r r' : Run} {e f : Option Event} → Kept r (r', e) → Kept r (r', f)
   kept_run k = record { store = k.store; owned = k.owned; begun = k.begun }
 
-  module _ (cs : List Entry) (bottom : IsBottom cs) (view v : List (Text × Thing)) (es fs : List Entry) (g : GivesNothing es) (g' : GivesNothing fs) (r u : Run) (h : Abreast es fs r u) where
+  module _ (cs : List Entry) (bottom : IsBottom cs) (view v : List (Text × ExternalValue)) (es fs : List Entry) (g : GivesNothing es) (g' : GivesNothing fs) (r u : Run) (h : Abreast es fs r u) where
     abbrev ds : List Entry
     ds = Opening [] ∷ []
 
     too_many : {es' fs' : List Entry} → ListRel (EntryRel (reaching env parts p)) es' fs' → length es' ≡ length fs'
     too_many l = length_rel l
 
-    both_step : (o q : Out) → Unseen cs (Opening [] ∷ []) (Pending view) (Pending []) r.store.funcs o q → (o' q' : Out) → Unseen (Opening [] ∷ []) (Opening [] ∷ []) (Pending v) (Pending []) u.store.funcs o' q' →
+    both_step : (o q : Out) → AgreeOnFrames cs (Opening [] ∷ []) (Pending view) (Pending []) r.store.funcs o q → (o' q' : Out) → AgreeOnFrames (Opening [] ∷ []) (Opening [] ∷ []) (Pending v) (Pending []) u.store.funcs o' q' →
         OutRel (reaching env parts p) (EntryByEntry (reaching env parts p)) (EntryByEntry (reaching env parts p)) q' q → KeepsOthers (reaching env parts p) r.store q.0.store → Kept r o → Kept u o' → Stepped cs view v o o'
     both_step _ _ (goes_on {event = event} rr es' f k) _ _ (goes_on {event = event'} uu fs' f' k') out keeps kr ku =
         subst (λ event'. Stepped cs view v (record rr { entries = es' ++ cs; phase = Pending view }, event) (record uu { entries = fs' ++ Opening [] ∷ []; phase = Pending v }, event')) (sym out.event)
@@ -163,14 +163,14 @@ module _ (below : BelowIsNotSeen) (extend : StepsExtend) (ticks : RelatedTicksAg
     step a b c d =
         let first = below cs (Opening [] ∷ []) es (Pending view) (Pending []) r bottom (opening_bottom []) g in
         let second = below (Opening [] ∷ []) (Opening [] ∷ []) fs (Pending v) (Pending []) u (opening_bottom []) (opening_bottom []) g' in
-        both_step (tick r) (tick (over_one r es)) (subst (λ r'. Unseen cs (Opening [] ∷ []) (Pending view) (Pending []) r.store.funcs (tick r') (tick (over_one r es))) (run_is r (es ++ cs) (Pending view) a b) first)
-        (tick u) (tick (over_one u fs)) (subst (λ u'. Unseen (Opening [] ∷ []) (Opening [] ∷ []) (Pending v) (Pending []) u.store.funcs (tick u') (tick (over_one u fs))) (run_is u (fs ++ Opening [] ∷ []) (Pending v) c d) second)
+        both_step (tick r) (tick (over_one r es)) (subst (λ r'. AgreeOnFrames cs (Opening [] ∷ []) (Pending view) (Pending []) r.store.funcs (tick r') (tick (over_one r es))) (run_is r (es ++ cs) (Pending view) a b) first)
+        (tick u) (tick (over_one u fs)) (subst (λ u'. AgreeOnFrames (Opening [] ∷ []) (Opening [] ∷ []) (Pending v) (Pending []) u.store.funcs (tick u') (tick (over_one u fs))) (run_is u (fs ++ Opening [] ∷ []) (Pending v) c d) second)
         (ticks (is_reached env parts p) (one_to_one env parts p) (over_one u fs) (over_one r es) h.related)
         (others (is_reached env parts p) (one_to_one env parts p) (over_one u fs) (over_one r es) h.related tt).0
         (extend r (subst IsBegun (sym b) tt)) (extend u (subst IsBegun (sym d) tt))
 
   -- both open a start
-  module _ (a : ℕ) (xs : List ℕ) (f : Func) (ty : type_of_func f ≡ nothing_to_nothing) (r u : Run) (h : Abreast [] [] r u) (there : slice_get u.store.funcs a ≡ Some f) (low : a < base env parts Functions p) (view v : List (Text × Thing)) where
+  module _ (a : ℕ) (xs : List ℕ) (f : Func) (ty : type_of_func f ≡ nothing_to_nothing) (r u : Run) (h : Abreast [] [] r u) (there : slice_get u.store.funcs a ≡ Some f) (low : a < base env parts Functions p) (view v : List (Text × ExternalValue)) where
     sound : Sound env parts p f
     sound = h.beside.sound a f there
 

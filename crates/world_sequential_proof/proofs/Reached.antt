@@ -1,14 +1,14 @@
--- The addresses that the environment and the first parts have, each of which stands for itself.
+-- The addresses that the environment and the first parts have, each of which is related to itself.
 use Rattle.std.proofs.Common.{◌≡◌, ◌∙◌, refl, sym, ap₂, subst, ℕ, zero, suc, ◌<◌, ◌≤◌, List, [], ◌∷◌, Some, Bool, true, false, cond, arith, ◌&&◌}
 use Rattle.wasm_tree.specs.declared.space.Space.{Space}
 use Rattle.wasm_tree.specs.declared.space.Space.TheVariants.{Functions, Tables, Memories, Globals}
 use Rattle.std.specs.Prelude.{nat_eq, nat_lt}
 use Rattle.std.proofs.lemmas.Bool.{ltb-true, lt-ltb, eq-eqb, eqb-true}
 use Rattle.wasm_meaning.specs.Linking.{Part}
-use Rattle.wasm_meaning.specs.Environment.{Environment, OwnKey, Owned, owned_of, owned_at, look_up, same_key, Thing, FuncAt, TableAt, MemoryAt, GlobalAt}
+use Rattle.wasm_meaning.specs.Environment.{Environment, OwnKey, Owned, owned_of, owned_at, look_up, same_key, ExternalValue, FuncAt, TableAt, MemoryAt, GlobalAt}
 use Rattle.wasm_meaning.specs.World.{defined_before, base, address_of}
 use Rattle.index_remap.specs.Related.{Pairing, OneToOne, ListRel, nil, cons}
-use Rattle.index_remap.specs.RelatedRuns.{ThingRel, a_func, a_table, a_memory, a_global, KeyRel}
+use Rattle.index_remap.specs.RelatedRuns.{ExternalValueRel, a_func, a_table, a_memory, a_global, KeyRel}
 use Rattle.index_remap.specs.Laws.{passed}
 use Rattle.world_simulation.specs.Owned.{SharesOwn, OwnEntitiesCorrespond}
 use Rattle.std.proofs.lemmas.Option.{same_Some}
@@ -56,19 +56,19 @@ shares_own env parts p = record {
   globals = λ a l. reached_at env parts p Globals a (omega (arith, l));
 }
 
-thing_self : (R : Pairing) (xs : Owned) → ListRel (KeyRel R) xs xs → (is : OwnKey → Bool) (x : Thing) → look_up is xs ≡ Some x → ThingRel R x x
+thing_self : (R : Pairing) (xs : Owned) → ListRel (KeyRel R) xs xs → (is : OwnKey → Bool) (x : ExternalValue) → look_up is xs ≡ Some x → ExternalValueRel R x x
 thing_self R [] nil is x h = absurd (let k = h in cc)
 thing_self R (y ∷ ys) (cons r rs) is x h = by (is y.0) h (λ h. thing_self R ys rs is x h)
   where
-    by : (b : Bool) → cond b (Some y.1) (look_up is ys) ≡ Some x → (look_up is ys ≡ Some x → ThingRel R x x) → ThingRel R x x
-    by true h on = subst (λ z. ThingRel R z z) (same_Some _ _ h) r.thing
+    by : (b : Bool) → cond b (Some y.1) (look_up is ys) ≡ Some x → (look_up is ys ≡ Some x → ExternalValueRel R x x) → ExternalValueRel R x x
+    by true h on = subst (λ z. ExternalValueRel R z z) (same_Some _ _ h) r.thing
     by false h on = on h
 
 -- none of the parts: what is the environment's has an address below its count
-pub own_low : OwnEntitiesCorrespond → (env : Environment) (parts : List Part) (p : ℕ) (key : OwnKey) (x : Thing) → owned_at (owned_of env) key ≡ Some x → (k : Space) (a : ℕ) → address_of k x ≡ Some a → a < base env parts k p
+pub own_low : OwnEntitiesCorrespond → (env : Environment) (parts : List Part) (p : ℕ) (key : OwnKey) (x : ExternalValue) → owned_at (owned_of env) key ≡ Some x → (k : Space) (a : ℕ) → address_of k x ≡ Some a → a < base env parts k p
 own_low law env parts p key x h k a e = go x k e (thing_self (reaching env parts p) (owned_of env) (law (is_reached env parts p) env (shares_own env parts p)).owned (same_key key) x h)
   where
-    go : (x : Thing) (k : Space) → address_of k x ≡ Some a → ThingRel (reaching env parts p) x x → a < base env parts k p
+    go : (x : ExternalValue) (k : Space) → address_of k x ≡ Some a → ExternalValueRel (reaching env parts p) x x → a < base env parts k p
     go (FuncAt b) Functions e (a_func r) = let l = (reached_is env parts p Functions b b r).1 in let s = same_Some _ _ e in omega (arith, l, s)
     go (TableAt b) Tables e (a_table r) = let l = (reached_is env parts p Tables b b r).1 in let s = same_Some _ _ e in omega (arith, l, s)
     go (MemoryAt b) Memories e (a_memory r) = let l = (reached_is env parts p Memories b b r).1 in let s = same_Some _ _ e in omega (arith, l, s)

@@ -1,4 +1,4 @@
--- The stages of a run whose parts are instantiated in turn beside the run of the world at once: parts are added, a start is made, the view opens.
+-- The stages of a run whose parts are instantiated sequentially beside the run of the world at once: parts are added, a start is made, the view opens.
 use Rattle.std.proofs.Common.{◌≡◌, ◌∙◌, refl, sym, ap, ap₂, subst, ℕ, zero, suc, ◌+◌, ◌<◌, ◌≤◌, List, [], ◌∷◌, ◌++◌, length, Option, Some, None, false, ◌⊎◌, inl, inr, arith, drop, option_and_then, slice_get, unwrap_or}
 use Rattle.wasm_tree.specs.declared.space.Space.TheVariants.{Functions}
 use Rattle.std.proofs.lemmas.Bool.{cases_lt}
@@ -6,20 +6,20 @@ use Rattle.wasm_tree.specs.declared.module.Module.{Module}
 use Rattle.wasm_meaning.specs.State.{Text, Inst, Func, Store, Entry, Running, Opening, Waiting}
 use Rattle.wasm_meaning.specs.Control.{type_of_func}
 use Rattle.wasm_meaning.specs.Linking.{Part, module_at}
-use Rattle.wasm_meaning.specs.Environment.{Environment, Thing}
+use Rattle.wasm_meaning.specs.Environment.{Environment, ExternalValue}
 use Rattle.wasm_meaning.specs.World.{World, Begun, base, all_there, joined_stores, start_in, starts_of, one_place, seen_as}
 use Rattle.wasm_meaning.specs.Run.{Event, Phase, Pending, Opened, Closed, Run, Out, made, transition_at, tick}
-use Rattle.wasm_meaning.specs.Below.{GivesNothing, a_frame, a_call, over, BelowIsNotSeen}
-use Rattle.wasm_meaning.specs.InTurn.{InTurn, view_over, goes_on, with_run, turn_at, tick_in_turn, HasNoActive}
+use Rattle.wasm_meaning.specs.StartFrames.{GivesNothing, a_frame, a_call, over, StartDependsOnlyOnItsFrames}
+use Rattle.wasm_meaning.specs.Sequential.{SequentialRun, view_over, goes_on, with_run, turn_at, tick_sequential, HasNoActive}
 use Rattle.index_remap.specs.Related.{ListRel, nil}
 use Rattle.index_remap.specs.RelatedRuns.{opened, RunRel, OutRel}
 use Rattle.index_remap.specs.Laws.{CodeIsRelatedToItself, EntryByEntry, RelatedTicksAgree, OthersStay}
-use Rattle.base_simulation.proofs.Led.{Leads, both, second}
+use Rattle.base_simulation.proofs.LedRuns.{Leads, both, second}
 use Rattle.world_extension_proof.specs.Extends.{StepsExtend}
-use Rattle.world_sequential_proof.proofs.Things.{space_in}
+use Rattle.world_sequential_proof.proofs.ExternalValues.{space_in}
 use Rattle.world_sequential_proof.proofs.Joined.{made_upto}
 use Rattle.world_sequential_proof.proofs.Reached.{is_reached, reaching, one_to_one, defined_more}
-use Rattle.world_sequential_proof.proofs.Low.{inst_low}
+use Rattle.world_sequential_proof.proofs.EarlierParts.{inst_low}
 use Rattle.world_sequential_proof.proofs.Making.{nothing_to_nothing, opening_bottom, Abreast, Stepped, on, done, stopped, step, open_both}
 use Rattle.world_sequential_proof.proofs.Given.{IsGiven, IsTurn, made_all, starts_from, starts_next, starts_end, filled_in, turned, next_turn}
 use Rattle.world_sequential_proof.proofs.Waiting.{holds_of, abreast_next, within}
@@ -28,7 +28,7 @@ use Rattle.base_lists.proofs.Places.{slice_get_there}
 use Rattle.wasm_tree.specs.declared.space.Space.{Space}
 
 -- a start that is being made keeps its part's turn
-turn_runs : (q : InTurn) (es cs : List Entry) → GivesNothing es → q.run.entries ≡ es ++ cs → tick_in_turn q ≡ with_run q (tick q.run)
+turn_runs : (q : SequentialRun) (es cs : List Entry) → GivesNothing es → q.run.entries ≡ es ++ cs → tick_sequential q ≡ with_run q (tick q.run)
 turn_runs q es cs g e = ap (turn_at q q.rest) e ∙ go q.rest es g
   where
     go : (rest : List Part) (es : List Entry) → GivesNothing es → turn_at q rest (es ++ cs) ≡ with_run q (tick q.run)
@@ -37,7 +37,7 @@ turn_runs q es cs g e = ap (turn_at q q.rest) e ∙ go q.rest es g
     go (part ∷ rest) _ a_call = refl
     go (part ∷ rest) _ (over {e = e} {es = fs} n g) = other fs e n
       where
-        other : (fs : List Entry) (e : Entry) → Rattle.wasm_meaning.specs.Below.is_opening e ≡ false → turn_at q (part ∷ rest) (e ∷ (fs ++ cs)) ≡ with_run q (tick q.run)
+        other : (fs : List Entry) (e : Entry) → Rattle.wasm_meaning.specs.StartFrames.is_opening e ≡ false → turn_at q (part ∷ rest) (e ∷ (fs ++ cs)) ≡ with_run q (tick q.run)
         other fs (Running f) n = refl
         other fs Rattle.wasm_meaning.specs.State.Mark n = refl
         other fs (Opening xs) n = cc
@@ -45,7 +45,7 @@ turn_runs q es cs g e = ap (turn_at q q.rest) e ∙ go q.rest es g
         other fs (Rattle.wasm_meaning.specs.State.Ended vs) n = refl
         other fs (Rattle.wasm_meaning.specs.State.Growing h) n = refl
 
-turn_idle : (q : InTurn) → q.run.entries ≡ [] → tick_in_turn q ≡ with_run q (tick q.run)
+turn_idle : (q : SequentialRun) → q.run.entries ≡ [] → tick_sequential q ≡ with_run q (tick q.run)
 turn_idle q e = ap (turn_at q q.rest) e ∙ go q.rest
   where
     go : (rest : List Part) → turn_at q rest [] ≡ with_run q (tick q.run)
@@ -53,22 +53,22 @@ turn_idle q e = ap (turn_at q q.rest) e ∙ go q.rest
     go (part ∷ rest) = refl
 
 -- the one start on top is opened
-turn_opens : (q : InTurn) (a : ℕ) → q.run.entries ≡ Opening (a ∷ []) ∷ [] → tick_in_turn q ≡ with_run q (tick q.run)
+turn_opens : (q : SequentialRun) (a : ℕ) → q.run.entries ≡ Opening (a ∷ []) ∷ [] → tick_sequential q ≡ with_run q (tick q.run)
 turn_opens q a e = ap (turn_at q q.rest) e ∙ go q.rest
   where
     go : (rest : List Part) → turn_at q rest (Opening (a ∷ []) ∷ []) ≡ with_run q (tick q.run)
     go [] = refl
     go (part ∷ rest) = refl
 
-turn_last : (q : InTurn) → q.rest ≡ [] → tick_in_turn q ≡ with_run q (tick q.run)
+turn_last : (q : SequentialRun) → q.rest ≡ [] → tick_sequential q ≡ with_run q (tick q.run)
 turn_last q e = ap (λ rest. turn_at q rest q.run.entries) e
 
-module _ (env : Environment) (w : World) (insts : List Inst) (allocated : Store) (g : IsGiven env w insts allocated) (itself : CodeIsRelatedToItself) (below : BelowIsNotSeen) (extend : StepsExtend) (ticks : RelatedTicksAgree) (others : OthersStay) (view : List (Text × Thing)) (view_is : all_there (seen_as insts) w.view ≡ Some view) where
+module _ (env : Environment) (w : World) (insts : List Inst) (allocated : Store) (g : IsGiven env w insts allocated) (itself : CodeIsRelatedToItself) (below : StartDependsOnlyOnItsFrames) (extend : StepsExtend) (ticks : RelatedTicksAgree) (others : OthersStay) (view : List (Text × ExternalValue)) (view_is : all_there (seen_as insts) w.view ≡ Some view) where
   abbrev Same : ℕ → Run → Run → Type 0
   Same k u r = RunRel (reaching env w.parts k) (EntryByEntry (reaching env w.parts k)) (EntryByEntry (reaching env w.parts k)) u r
 
   -- so many parts are there; of the last the start may still have to be made
-  pub record Waits (k : ℕ) (ys : List ℕ) (r : Run) (q : InTurn) : Type 0 where
+  pub record Waits (k : ℕ) (ys : List ℕ) (r : Run) (q : SequentialRun) : Type 0 where
     pub abreast : Abreast below extend ticks others env w.parts allocated k [] [] r q.run
     pub first : r.entries ≡ Opening (ys ++ starts_from w insts k) ∷ []
     pub phase : r.phase ≡ Pending view
@@ -79,7 +79,7 @@ module _ (env : Environment) (w : World) (insts : List Inst) (allocated : Store)
     pub most : k ≤ length w.parts
 
   -- a start is being made
-  pub record Makes (k : ℕ) (es fs : List Entry) (r : Run) (q : InTurn) : Type 0 where
+  pub record Makes (k : ℕ) (es fs : List Entry) (r : Run) (q : SequentialRun) : Type 0 where
     pub abreast : Abreast below extend ticks others env w.parts allocated k es fs r q.run
     pub gives : GivesNothing es
     pub second_gives : GivesNothing fs
@@ -92,31 +92,31 @@ module _ (env : Environment) (w : World) (insts : List Inst) (allocated : Store)
     pub most : k ≤ length w.parts
 
   -- a start that is to be made
-  pub record IsStart (k a : ℕ) (q : InTurn) : Type 0 where
+  pub record IsStart (k a : ℕ) (q : SequentialRun) : Type 0 where
     pub func : Func
     pub there : slice_get q.run.store.funcs a ≡ Some func
     pub type : type_of_func func ≡ nothing_to_nothing
     pub low : a < base env w.parts Functions k
 
   -- The second has at most d parts to add in steps of its own.
-  pub data Stage (d : ℕ) (r : Run) (q : InTurn) : Type 0 where
+  pub data Stage (d : ℕ) (r : Run) (q : SequentialRun) : Type 0 where
     waits : {k : ℕ} → length w.parts ≤ k + d → Waits k [] r q → Stage d r q
     opens : {k a : ℕ} → length w.parts ≤ k + d → IsStart k a q → Waits k (a ∷ []) r q → Stage d r q
     makes : {k : ℕ} {es fs : List Entry} → length w.parts ≤ k + d → Makes k es fs r q → Stage d r q
     shut : (k : ℕ) → Same k q.run r → r.entries ≡ [] → r.phase ≡ Closed → q.run.entries ≡ [] → q.run.phase ≡ Closed → Stage d r q
     seen : (k : ℕ) → Same k q.run r → q.rest ≡ [] → Stage d r q
 
-  abbrev pub Next : ℕ → Run → InTurn → Type 0
-  Next d r q = Leads tick tick_in_turn (λ d e r q. Stage d r q) d 0 r q
+  abbrev pub Next : ℕ → Run → SequentialRun → Type 0
+  Next d r q = Leads tick tick_sequential (λ d e r q. Stage d r q) d 0 r q
 
   -- a step of both, where the turn is the run's
-  in_step : (d : ℕ) (r : Run) (q : InTurn) → tick_in_turn q ≡ with_run q (tick q.run) → (tick r).1 ≡ (tick q.run).1 → Stage d (tick r).0 (record q { run = (tick q.run).0 }) → Next d r q
+  in_step : (d : ℕ) (r : Run) (q : SequentialRun) → tick_sequential q ≡ with_run q (tick q.run) → (tick r).1 ≡ (tick q.run).1 → Stage d (tick r).0 (record q { run = (tick q.run).0 }) → Next d r q
   in_step d r q e same stage = both (same ∙ sym (ap (λ o. o.1) e)) (subst (λ o. Stage d (tick r).0 o.0) (sym e) stage)
 
   -- ---- the turn of the next part ----
 
   -- what comes of a part that was added, by its start
-  pub added_stage : (d k : ℕ) (part : Part) (i : Inst) (r : Run) (q : InTurn) → slice_get w.parts k ≡ Some part → slice_get insts k ≡ Some i → length w.parts ≤ suc k + d → q.run.entries ≡ Opening (start_in i part.«module».start) ∷ [] →
+  pub added_stage : (d k : ℕ) (part : Part) (i : Inst) (r : Run) (q : SequentialRun) → slice_get w.parts k ≡ Some part → slice_get insts k ≡ Some i → length w.parts ≤ suc k + d → q.run.entries ≡ Opening (start_in i part.«module».start) ∷ [] →
       ((ys : List ℕ) → start_in i part.«module».start ≡ ys → Waits (suc k) ys r q) → Stage d r q
   added_stage d k part i r q at_part at_inst l e h = go part.«module».start refl
     where
@@ -132,7 +132,7 @@ module _ (env : Environment) (w : World) (insts : List Inst) (allocated : Store)
           let now = h (s.0 ∷ []) ys in
           opens l (record { func = s.1; there = now.abreast.beside.same_funcs s.0 low ∙ s.3; type = s.4; low = low }) now
 
-  module _ (k d : ℕ) (r : Run) (q : InTurn) (h : Waits k [] r q) where
+  module _ (k d : ℕ) (r : Run) (q : SequentialRun) (h : Waits k [] r q) where
     -- the next part is added, in a step of the second alone
     add_part : (part : Part) (i : Inst) → slice_get w.parts k ≡ Some part → slice_get insts k ≡ Some i → length w.parts ≤ k + suc d → Next (suc d) r q
     add_part part i at_part at_inst l =
@@ -141,7 +141,7 @@ module _ (env : Environment) (w : World) (insts : List Inst) (allocated : Store)
         let holds = holds_of env w.parts k allocated t r.store h.abreast.beside h.abreast.extends in
         let f = g.no_segments (Rattle.wasm_meaning.specs.World.const_value t.globals i) part.«module» i (joined_stores t (g.laid.adds k)) (h.quiet k part.«module» (omega arith) is_part) in
         let e = turned env w insts allocated g k part i at_part at_inst q h.turn h.second_entries h.abreast.second_owned h.abreast.beside.sized holds (ap (λ f. f.trapped) f) in
-        let e' : tick_in_turn q ≡ (goes_on q part (drop (suc k) w.parts) i (joined_stores t (g.laid.adds k)), None) = e ∙ ap (λ f. (goes_on q part (drop (suc k) w.parts) i f.store, None)) f in
+        let e' : tick_sequential q ≡ (goes_on q part (drop (suc k) w.parts) i (joined_stores t (g.laid.adds k)), None) = e ∙ ap (λ f. (goes_on q part (drop (suc k) w.parts) i f.store, None)) f in
         let q' = goes_on q part (drop (suc k) w.parts) i (joined_stores t (g.laid.adds k)) in
         let turn' = next_turn env w insts allocated g k part i at_part at_inst q (joined_stores t (g.laid.adds k)) h.turn in
         let low = within env w insts allocated g itself k part i at_part at_inst in
@@ -173,10 +173,10 @@ module _ (env : Environment) (w : World) (insts : List Inst) (allocated : Store)
       place_low (y ∷ ys) zero x e = omega arith
       place_low (y ∷ ys) (suc n) x e = let l = place_low ys n x e in omega (arith, l)
 
-  opened_run : (r : Run) (view : List (Text × Thing)) → r.entries ≡ Opening [] ∷ [] → r.phase ≡ Pending view → tick r ≡ (record r { entries = []; phase = Opened; view = view }, Some Rattle.wasm_meaning.specs.Run.Linked)
+  opened_run : (r : Run) (view : List (Text × ExternalValue)) → r.entries ≡ Opening [] ∷ [] → r.phase ≡ Pending view → tick r ≡ (record r { entries = []; phase = Opened; view = view }, Some Rattle.wasm_meaning.specs.Run.Linked)
   opened_run r view e f = ap (λ es. made (transition_at r es)) e ∙ ap (λ p. (record r { entries = []; phase = Opened; view = Rattle.wasm_meaning.specs.Run.view_of r p }, Some Rattle.wasm_meaning.specs.Run.Linked)) f
 
-  open_view : (k d : ℕ) (r : Run) (q : InTurn) → k ≡ length w.parts → Waits k [] r q → Next d r q
+  open_view : (k d : ℕ) (r : Run) (q : SequentialRun) → k ≡ length w.parts → Waits k [] r q → Next d r q
   open_view k d r q all h =
       let none : starts_from w insts k ≡ [] = ap (starts_from w insts) all ∙ starts_end w insts in
       let rest : q.rest ≡ [] = h.turn.rest ∙ ap (λ i. drop i w.parts) all ∙ Rattle.world_sequential_proof.proofs.Given.past_all w.parts in
@@ -192,7 +192,7 @@ module _ (env : Environment) (w : World) (insts : List Inst) (allocated : Store)
   -- ---- a start ----
 
   -- the stage after a step of both within a start
-  stepped : (d k : ℕ) (q : InTurn) (o p : Out) → length w.parts ≤ k + d → IsTurn w insts k q → ((p : ℕ) (m : Module) → k ≤ p → module_at w.parts p ≡ Some m → HasNoActive m) → k ≤ length w.parts →
+  stepped : (d k : ℕ) (q : SequentialRun) (o p : Out) → length w.parts ≤ k + d → IsTurn w insts k q → ((p : ℕ) (m : Module) → k ≤ p → module_at w.parts p ≡ Some m → HasNoActive m) → k ≤ length w.parts →
       Stepped below extend ticks others env w.parts allocated k (Opening (starts_from w insts k) ∷ []) view (view_over (made_upto k w.parts insts) w.view) o p → (o.1 ≡ p.1) × Stage d o.0 (record q { run = p.0 })
   stepped d k q _ _ l turn quiet most (on es fs x y h a b c e) =
       (refl, makes l (record { abreast = h; gives = x; second_gives = y; first = a; phase = b; second_entries = c; second_phase = e; turn = record { made = turn.made; rest = turn.rest; view = turn.view }; quiet = quiet; most = most }))
@@ -202,7 +202,7 @@ module _ (env : Environment) (w : World) (insts : List Inst) (allocated : Store)
 
   -- ---- every stage has a next ----
 
-  pub next : (d : ℕ) (r : Run) (q : InTurn) → Stage d r q → Next d r q
+  pub next : (d : ℕ) (r : Run) (q : SequentialRun) → Stage d r q → Next d r q
   next d r q (waits {k = k} l h) = go (cases_lt k (length w.parts))
     where
       add : (d : ℕ) → length w.parts ≤ k + d → k < length w.parts → Next d r q

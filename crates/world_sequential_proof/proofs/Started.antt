@@ -13,14 +13,14 @@ use Rattle.wasm_meaning.specs.Values.{same_func_type}
 use Rattle.wasm_meaning.specs.Control as control
 use Rattle.wasm_meaning.specs.Control.{type_at}
 use Rattle.wasm_meaning.specs.Linking.{Part, has_kind, imports_of, module_at, import_at, sites}
-use Rattle.wasm_meaning.specs.Environment.{Environment, Thing, FuncAt, all_of}
-use Rattle.wasm_meaning.specs.World.{base, address_of, import_type, imported_thing, all_there, numbers, insts_from, new_func, global_with, elem_with, value_of, is_match, is_matched}
-use Rattle.wasm_meaning.specs.InTurn.{JoinsEarlier}
+use Rattle.wasm_meaning.specs.Environment.{Environment, ExternalValue, FuncAt, all_of}
+use Rattle.wasm_meaning.specs.World.{base, address_of, import_type, imported_external_value, all_there, numbers, insts_from, new_func, global_with, elem_with, value_of, is_match, is_matched}
+use Rattle.wasm_meaning.specs.Sequential.{JoinsEarlier}
 use Rattle.index_remap.specs.Laws.{CodeIsRelatedToItself}
 use Rattle.std.proofs.lemmas.Option.{slice_get_within, same_Some}
-use Rattle.world_sequential_proof.proofs.Things.{space_is}
+use Rattle.world_sequential_proof.proofs.ExternalValues.{space_is}
 use Rattle.world_sequential_proof.proofs.Joined.{ExportsThere, inst_of_part}
-use Rattle.world_sequential_proof.proofs.Turn.{SitesThere}
+use Rattle.world_sequential_proof.proofs.OnePart.{SitesThere}
 use Rattle.world_sequential_proof.proofs.Beside.{Laid, at_allocated_funcs}
 use Rattle.base_lists.proofs.Places.{map_from, append_from, slice_get_there, append_at_left, append_right}
 use Rattle.base_lists.proofs.Filtered.{place_of, places_many}
@@ -40,14 +40,14 @@ pub record HasFunc (i : Inst) (allocated : Store) (x : ℕ) (t : FuncType) : Typ
 
 module _ (same_types : (s t : FuncType) → same_func_type s t ≡ true → s ≡ t) (itself : CodeIsRelatedToItself) (env : Environment) (parts : List Part) (insts : List Inst) (are : insts_from env parts 0 parts ≡ Some insts) (size : length insts ≡ length parts) (there : ExportsThere parts) (earlier : JoinsEarlier parts) (listed : SitesThere parts) (allocated : Store) (laid : Laid env parts insts allocated) (matched : all_of (is_matched env parts allocated) (sites parts) ≡ true) where
   module _ (p x : ℕ) (m : Module) (i : Inst) (t : FuncType) (is_part : module_at parts p ≡ Some m) (at_inst : slice_get insts p ≡ Some i) where
-    abbrev imported : ℕ → Option Thing
-    imported n = imported_thing env parts (record { part = p; import = n })
+    abbrev imported : ℕ → Option ExternalValue
+    imported n = imported_external_value env parts (record { part = p; import = n })
 
     is_inst : IsInst env parts p m i
     is_inst = inst_is env parts p m i (inst_of_part env parts insts are size earlier p m i is_part at_inst)
 
-    -- an import matches what it stands for
-    matches : (n : ℕ) (i : Import) (y : Thing) → slice_get m.imports n ≡ Some i → imported n ≡ Some y → is_match allocated m i.desc y ≡ Some true
+    -- an import matches what it denotes
+    matches : (n : ℕ) (i : Import) (y : ExternalValue) → slice_get m.imports n ≡ Some i → imported n ≡ Some y → is_match allocated m i.desc y ≡ Some true
     matches n im y here h =
         let import_is : import_at parts (record { part = p; import = n }) ≡ Some im = ap (λ o. option_and_then (λ m. slice_get m.imports n) o) is_part ∙ here in
         let s = listed (record { part = p; import = n }) im import_is in

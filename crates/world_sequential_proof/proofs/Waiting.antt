@@ -3,20 +3,20 @@ use Rattle.std.proofs.Common.{◌≡◌, ◌∙◌, refl, sym, ap, subst, ℕ, z
 use Rattle.wasm_tree.specs.declared.space.Space.TheVariants.{Functions, Tables, Memories, Globals, DataSegments, ElementSegments}
 use Rattle.wasm_meaning.specs.State.{RefVal, FuncRef, Val, Ref, Inst, Func, Table, Memory, Global, Store}
 use Rattle.wasm_meaning.specs.Linking.{Part, module_at}
-use Rattle.wasm_meaning.specs.Environment.{Environment, Thing}
+use Rattle.wasm_meaning.specs.Environment.{Environment, ExternalValue}
 use Rattle.wasm_meaning.specs.World.{World, joined_stores, defined_before}
 use Rattle.wasm_meaning.specs.Run.{Run}
-use Rattle.wasm_meaning.specs.Below.{BelowIsNotSeen}
-use Rattle.wasm_meaning.specs.InTurn.{InTurn, goes_on}
+use Rattle.wasm_meaning.specs.StartFrames.{StartDependsOnlyOnItsFrames}
+use Rattle.wasm_meaning.specs.Sequential.{SequentialRun, goes_on}
 use Rattle.index_remap.specs.Related.{BothRel, both, none, some, RefRel, func, extern, ValRel, number, reference, nil, cons, opening, TableRel, GlobalRel}
-use Rattle.index_remap.specs.RelatedRuns.{ThingRel, a_func, a_table, a_memory, a_global, KeyRel, pending}
+use Rattle.index_remap.specs.RelatedRuns.{ExternalValueRel, a_func, a_table, a_memory, a_global, KeyRel, pending}
 use Rattle.index_remap.specs.Laws.{CodeIsRelatedToItself, RelatedTicksAgree, OthersStay}
 use Rattle.index_remap.proofs.Rel.{length_rel}
 use Rattle.world_extension_proof.specs.Extends.{TableExtends, MemoryExtends, GlobalExtends, Extends, StepsExtend}
 use Rattle.world_sequential_proof.proofs.Joined.{inst_of_part}
 use Rattle.world_sequential_proof.proofs.Reached.{reaching, reached_at, reached_is}
-use Rattle.world_sequential_proof.proofs.Low.{inst_low, numbers_back}
-use Rattle.world_sequential_proof.proofs.Turn.{Holds}
+use Rattle.world_sequential_proof.proofs.EarlierParts.{inst_low, numbers_back}
+use Rattle.world_sequential_proof.proofs.OnePart.{Holds}
 use Rattle.world_sequential_proof.proofs.Closed.{val_more, Closed, Sound, Reaches, added_closed, added_sound}
 use Rattle.world_sequential_proof.proofs.Beside.{Beside, beside_next, more}
 use Rattle.world_sequential_proof.proofs.Making.{Abreast}
@@ -38,7 +38,7 @@ val_same env parts p (reference r) = ap Ref (ref_same env parts p r)
 pub val_self : (env : Environment) (parts : List Part) (p : ℕ) {v w : Val} → ValRel (reaching env parts p) v w → ValRel (reaching env parts p) v v
 val_self env parts p {v = v} h = subst (λ w. ValRel (reaching env parts p) v w) (sym (val_same env parts p h)) h
 
--- what the store in turn holds extends what was allocated
+-- what the sequential store holds extends what was allocated
 pub holds_of : (env : Environment) (parts : List Part) (p : ℕ) (allocated t s : Store) → Beside env parts p allocated t s → Extends allocated s → Holds env parts p allocated t
 holds_of env parts p allocated t s h e = record {
   funcs = h.same_funcs;
@@ -116,18 +116,18 @@ module _ (env : Environment) (w : World) (insts : List Inst) (allocated : Store)
 
   -- ---- where the part has no active segment ----
 
-  key_more : {K : Type 0} (x y : K × Thing) → KeyRel (reaching env w.parts k) x y → KeyRel (reaching env w.parts (suc k)) x y
+  key_more : {K : Type 0} (x y : K × ExternalValue) → KeyRel (reaching env w.parts k) x y → KeyRel (reaching env w.parts (suc k)) x y
   key_more x y h = record { key = h.key; thing = thing_more h.thing }
     where
-      thing_more : {x y : Thing} → ThingRel (reaching env w.parts k) x y → ThingRel (reaching env w.parts (suc k)) x y
+      thing_more : {x y : ExternalValue} → ExternalValueRel (reaching env w.parts k) x y → ExternalValueRel (reaching env w.parts (suc k)) x y
       thing_more (a_func {a = a} {b = b} h) = a_func (more itself env w.parts insts allocated g.laid k part.«module» is_part within Functions a b h)
       thing_more (a_table {a = a} {b = b} h) = a_table (more itself env w.parts insts allocated g.laid k part.«module» is_part within Tables a b h)
       thing_more (a_memory {a = a} {b = b} h) = a_memory (more itself env w.parts insts allocated g.laid k part.«module» is_part within Memories a b h)
       thing_more (a_global {a = a} {b = b} h) = a_global (more itself env w.parts insts allocated g.laid k part.«module» is_part within Globals a b h)
 
-  module _ (below : BelowIsNotSeen) (extend : StepsExtend) (ticks : RelatedTicksAgree) (others : OthersStay) where
+  module _ (below : StartDependsOnlyOnItsFrames) (extend : StepsExtend) (ticks : RelatedTicksAgree) (others : OthersStay) where
     -- the two runs are abreast again, with the part
-    pub abreast_next : (r : Run) (q : InTurn) → Abreast below extend ticks others env w.parts allocated k [] [] r q.run → Abreast below extend ticks others env w.parts allocated (suc k) [] [] r (goes_on q part (drop (suc k) w.parts) i (joined_stores q.run.store (g.laid.adds k))).run
+    pub abreast_next : (r : Run) (q : SequentialRun) → Abreast below extend ticks others env w.parts allocated k [] [] r q.run → Abreast below extend ticks others env w.parts allocated (suc k) [] [] r (goes_on q part (drop (suc k) w.parts) i (joined_stores q.run.store (g.laid.adds k))).run
     abreast_next r q h =
         let t = q.run.store in
         let holds = holds_of env w.parts k allocated t r.store h.beside h.extends in

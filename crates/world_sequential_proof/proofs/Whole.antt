@@ -1,19 +1,19 @@
--- The whole run: parts in turn show what the world shows at once.
+-- The whole run: parts that are instantiated sequentially show what the world shows at once.
 use Rattle.std.proofs.Common.{◌≡◌, ◌∙◌, refl, sym, ap, ap₂, subst, ℕ, zero, suc, ◌+◌, ◌*◌, ◌<◌, ◌≤◌, List, [], ◌∷◌, ◌++◌, length, Option, Some, None, false, cond, ◌⊎◌, inl, inr, arith, drop, option_and_then, slice_get, unwrap_or}
 use Rattle.std.proofs.lemmas.Bool.{cases_lt}
 use Rattle.wasm_tree.specs.declared.module.Module.{Module}
 use Rattle.wasm_meaning.specs.State.{Text, Inst, Store, Opening}
 use Rattle.wasm_meaning.specs.Linking.{Part, Entity, module_at}
-use Rattle.wasm_meaning.specs.Environment.{Environment, Thing, owned_of}
+use Rattle.wasm_meaning.specs.Environment.{Environment, ExternalValue, owned_of}
 use Rattle.wasm_meaning.specs.World.{World, Begun, own_store, begun, all_there, start_in, starts_of, seen_as, segments}
 use Rattle.wasm_meaning.specs.Run.{InstanceTrapped, Pending, Closed, Move, Run, IsPrefix, fresh_run, tick, events_of}
-use Rattle.wasm_meaning.specs.Below.{BelowIsNotSeen}
-use Rattle.wasm_meaning.specs.InTurn.{InTurn, view_over, goes_on, before_turns, tick_in_turn, events_in_turn, HasNoActive}
+use Rattle.wasm_meaning.specs.StartFrames.{StartDependsOnlyOnItsFrames}
+use Rattle.wasm_meaning.specs.Sequential.{SequentialRun, view_over, goes_on, before_parts, tick_sequential, events_sequential, HasNoActive}
 use Rattle.base_simulation.proofs.Prefixes.{in_more_steps}
 use Rattle.index_remap.specs.Related.{nil, cons, opening}
 use Rattle.index_remap.specs.RelatedRuns.{pending}
 use Rattle.index_remap.specs.Laws.{CodeIsRelatedToItself, RelatedTicksAgree, OthersStay}
-use Rattle.base_simulation.proofs.Led.{Leads, both, second, led_show_the_same}
+use Rattle.base_simulation.proofs.LedRuns.{Leads, both, second, led_traces_are_equal}
 use Rattle.world_extension_proof.specs.Extends.{Extends, StepsExtend}
 use Rattle.world_extension_proof.proofs.Extends.{stays}
 use Rattle.world_sequential_proof.proofs.Joined.{made_upto}
@@ -32,7 +32,7 @@ no_view : (vs : List (Text × Entity)) → unwrap_or (all_there (seen_as []) vs)
 no_view [] = refl
 no_view (v ∷ vs) = refl
 
-module _ (env : Environment) (w : World) (insts : List Inst) (allocated : Store) (g : IsGiven env w insts allocated) (itself : CodeIsRelatedToItself) (below : BelowIsNotSeen) (extend : StepsExtend) (ticks : RelatedTicksAgree) (others : OthersStay) (view : List (Text × Thing)) (view_is : all_there (seen_as insts) w.view ≡ Some view) (IsFilled : ℕ → Store → Type 0) (laws : FillLaws env w insts allocated g itself below extend ticks others view view_is IsFilled) (fine : (segments env w.parts insts allocated).trapped ≡ false) (moves : List Move) where
+module _ (env : Environment) (w : World) (insts : List Inst) (allocated : Store) (g : IsGiven env w insts allocated) (itself : CodeIsRelatedToItself) (below : StartDependsOnlyOnItsFrames) (extend : StepsExtend) (ticks : RelatedTicksAgree) (others : OthersStay) (view : List (Text × ExternalValue)) (view_is : all_there (seen_as insts) w.view ≡ Some view) (IsFilled : ℕ → Store → Type 0) (laws : FillLaws env w insts allocated g itself below extend ticks others view view_is IsFilled) (fine : (segments env w.parts insts allocated).trapped ≡ false) (moves : List Move) where
   abbrev after : Store
   after = (segments env w.parts insts allocated).store
 
@@ -42,20 +42,20 @@ module _ (env : Environment) (w : World) (insts : List Inst) (allocated : Store)
   abbrev at_once : Run
   at_once = record { store = after; entries = Opening (starts_of w.parts insts) ∷ []; phase = Pending view; shown = []; view = []; owned = owned_of env; moves = moves }
 
-  abbrev Filling : ℕ → Run → InTurn → Type 0
+  abbrev Filling : ℕ → Run → SequentialRun → Type 0
   Filling = Fills env w insts allocated g itself below extend ticks others view view_is IsFilled laws moves
 
-  abbrev TheStage : ℕ → Run → InTurn → Type 0
+  abbrev TheStage : ℕ → Run → SequentialRun → Type 0
   TheStage = Stage env w insts allocated g itself below extend ticks others view view_is
 
-  pub data Early (d : ℕ) (r : Run) (q : InTurn) : Type 0 where
-    fresh : r ≡ fresh_run env (Some instance) moves → q ≡ before_turns env w moves → 0 < length w.parts → length w.parts ≤ suc d → Early d r q
+  pub data Early (d : ℕ) (r : Run) (q : SequentialRun) : Type 0 where
+    fresh : r ≡ fresh_run env (Some instance) moves → q ≡ before_parts env w moves → 0 < length w.parts → length w.parts ≤ suc d → Early d r q
     fills : (k : ℕ) → length w.parts ≤ k + d → Filling k r q → Early d r q
     later_on : TheStage d r q → Early d r q
 
   -- after the turn of a part before which there was no start
-  module _ (k d : ℕ) (part : Part) (i : Inst) (r : Run) (q : InTurn) (at_part : slice_get w.parts k ≡ Some part) (at_inst : slice_get insts k ≡ Some i) (h : Filling k r q) (a : Advances env w insts allocated g itself below extend ticks others view view_is IsFilled laws moves k part i q) (l : length w.parts ≤ suc k + d) where
-    abbrev next_state : InTurn
+  module _ (k d : ℕ) (part : Part) (i : Inst) (r : Run) (q : SequentialRun) (at_part : slice_get w.parts k ≡ Some part) (at_inst : slice_get insts k ≡ Some i) (h : Filling k r q) (a : Advances env w insts allocated g itself below extend ticks others view view_is IsFilled laws moves k part i q) (l : length w.parts ≤ suc k + d) where
+    abbrev next_state : SequentialRun
     next_state = goes_on q part (drop (suc k) w.parts) i a.next_store
 
     is_part : module_at w.parts k ≡ Some part.«module»
@@ -124,7 +124,7 @@ module _ (env : Environment) (w : World) (insts : List Inst) (allocated : Store)
             record u { store = a.next_store; entries = Opening (start_in i part.«module».start) ∷ []; phase = Pending (view_over next_state.made q.view) } ≡ record { store = a.next_store; entries = Opening [] ∷ []; phase = Pending (view_over (made_upto (suc k) w.parts insts) w.view); shown = []; view = []; owned = owned_of env; moves = moves }
         run_is u e =
             ap {A = Run} {B = Run} (λ u. record u { store = a.next_store; entries = Opening (start_in i part.«module».start) ∷ []; phase = Pending (view_over next_state.made q.view) }) e
-            ∙ ap₂ {A = List ℕ} {B = List (Text × Thing)} {C = Run} (λ xs v. record { store = a.next_store; entries = Opening xs ∷ []; phase = Pending v; shown = []; view = []; owned = owned_of env; moves = moves }) none (ap₂ view_over turn.made h.turn.view)
+            ∙ ap₂ {A = List ℕ} {B = List (Text × ExternalValue)} {C = Run} (λ xs v. record { store = a.next_store; entries = Opening xs ∷ []; phase = Pending v; shown = []; view = []; owned = owned_of env; moves = moves }) none (ap₂ view_over turn.made h.turn.view)
 
     pub after_turn : Early d r next_state
     after_turn = go part.«module».start refl (cases_lt (suc k) (length w.parts))
@@ -139,15 +139,15 @@ module _ (env : Environment) (w : World) (insts : List Inst) (allocated : Store)
             module_there (part ∷ parts) zero m e = omega arith
             module_there (part ∷ parts) (suc p) m e = let b = module_there parts p m e in omega (arith, b)
 
-  abbrev Next : ℕ → Run → InTurn → Type 0
-  Next d r q = Leads tick tick_in_turn (λ d e r q. Early d r q) d 0 r q
+  abbrev Next : ℕ → Run → SequentialRun → Type 0
+  Next d r q = Leads tick tick_sequential (λ d e r q. Early d r q) d 0 r q
 
   -- ---- the first step ----
 
   first_tick : tick (fresh_run env (Some instance) moves) ≡ (at_once, None)
   first_tick = ap (λ b. cond b (record (fresh_run env (Some instance) moves) { store = after; entries = []; phase = Closed; owned = owned_of env }, Some InstanceTrapped) (at_once, None)) fine
 
-  nothing_yet : 0 < length w.parts → Filling 0 at_once (before_turns env w moves)
+  nothing_yet : 0 < length w.parts → Filling 0 at_once (before_parts env w moves)
   nothing_yet some =
       let own = own_related env w insts allocated g itself below extend ticks others view view_is IsFilled laws moves 0 in
       let sound = own_sound env w.parts 0 env in
@@ -158,7 +158,7 @@ module _ (env : Environment) (w : World) (insts : List Inst) (allocated : Store)
         closed = record { funcs = self_by (own_store env).funcs (λ n f e. func_self itself env w.parts 0 f (sound n f e)); tables = own.tables; globals = own.globals; elems = nil };
         sound = sound;
         first = refl;
-        second_run = ap {A = List (Text × Thing)} {B = Run} (λ v. record { store = own_store env; entries = Opening [] ∷ []; phase = Pending v; shown = []; view = []; owned = owned_of env; moves = moves }) (sym (no_view w.view));
+        second_run = ap {A = List (Text × ExternalValue)} {B = Run} (λ v. record { store = own_store env; entries = Opening [] ∷ []; phase = Pending v; shown = []; view = []; owned = owned_of env; moves = moves }) (sym (no_view w.view));
         turn = record { made = refl; rest = refl; view = refl };
         none_before = refl;
         most = some;
@@ -171,18 +171,18 @@ module _ (env : Environment) (w : World) (insts : List Inst) (allocated : Store)
       let i = slice_get_there insts k (let s = g.size in omega (arith, less, s)) in
       (part.0, i.0, part.1, i.1)
 
-  step_of : (k d : ℕ) (r : Run) (q : InTurn) → (h : Filling k r q) → length w.parts ≤ suc k + d → (q' : InTurn) × (tick_in_turn q ≡ (q', None)) × Early d r q'
+  step_of : (k d : ℕ) (r : Run) (q : SequentialRun) → (h : Filling k r q) → length w.parts ≤ suc k + d → (q' : SequentialRun) × (tick_sequential q ≡ (q', None)) × Early d r q'
   step_of k d r q h l =
       let p = part_at k h.most in
       let a = advances env w insts allocated g itself below extend ticks others view view_is IsFilled laws moves k p.0 p.1 r q p.2 p.3 h in
       (goes_on q p.0 (drop (suc k) w.parts) p.1 a.next_store, a.is, after_turn k d p.0 p.1 r q p.2 p.3 h a l)
 
-  next : (d : ℕ) (r : Run) (q : InTurn) → Early d r q → Next d r q
+  next : (d : ℕ) (r : Run) (q : SequentialRun) → Early d r q → Next d r q
   next d r q (fresh e f some l) =
-      let s = step_of 0 d at_once (before_turns env w moves) (nothing_yet some) (omega (arith, l)) in
+      let s = step_of 0 d at_once (before_parts env w moves) (nothing_yet some) (omega (arith, l)) in
       let a = ap tick e ∙ first_tick in
-      let b = ap tick_in_turn f ∙ s.1 in
-      both (ap (λ o. o.1) a ∙ sym (ap (λ o. o.1) b)) (subst (λ o. Early d o.0 (tick_in_turn q).0) (sym a) (subst (λ o. Early d at_once o.0) (sym b) s.2))
+      let b = ap tick_sequential f ∙ s.1 in
+      both (ap (λ o. o.1) a ∙ sym (ap (λ o. o.1) b)) (subst (λ o. Early d o.0 (tick_sequential q).0) (sym a) (subst (λ o. Early d at_once o.0) (sym b) s.2))
   next d r q (fills k l h) = go d l
     where
       go : (d : ℕ) → length w.parts ≤ k + d → Next d r q
@@ -192,27 +192,27 @@ module _ (env : Environment) (w : World) (insts : List Inst) (allocated : Store)
           second (ap (λ o. o.1) s.1) (subst (λ o. Early d r o.0) (sym s.1) s.2)
   next d r q (later_on h) = on (stages.next env w insts allocated g itself below extend ticks others view view_is d r q h)
     where
-      on : {d : ℕ} → Leads tick tick_in_turn (λ d e r q. TheStage d r q) d 0 r q → Next d r q
+      on : {d : ℕ} → Leads tick tick_sequential (λ d e r q. TheStage d r q) d 0 r q → Next d r q
       on (both p i) = both p (later_on i)
       on (second p i) = second p (later_on i)
 
   -- ---- what is seen ----
 
-  abbrev Credit : ℕ → ℕ → Run → InTurn → Type 0
+  abbrev Credit : ℕ → ℕ → Run → SequentialRun → Type 0
   Credit d e r q = (e ≡ 0) × Early d r q
 
-  credited : (d e : ℕ) (r : Run) (q : InTurn) → Credit d e r q → Leads tick tick_in_turn (λ d e r q. Credit d e r q) d e r q
-  credited d e r q h = subst (λ e. Leads tick tick_in_turn (λ d e r q. Credit d e r q) d e r q) (sym h.0) (on (next d r q h.1))
+  credited : (d e : ℕ) (r : Run) (q : SequentialRun) → Credit d e r q → Leads tick tick_sequential (λ d e r q. Credit d e r q) d e r q
+  credited d e r q h = subst (λ e. Leads tick tick_sequential (λ d e r q. Credit d e r q) d e r q) (sym h.0) (on (next d r q h.1))
     where
-      on : {d : ℕ} → Next d r q → Leads tick tick_in_turn (λ d e r q. Credit d e r q) d 0 r q
+      on : {d : ℕ} → Next d r q → Leads tick tick_sequential (λ d e r q. Credit d e r q) d 0 r q
       on (both p i) = both p (refl, i)
       on (second p i) = second p (refl, i)
 
-  pub seen_the_same : 0 < length w.parts → (n : ℕ) → IsPrefix (events_of tick (fresh_run env (Some instance) moves) n) (events_in_turn w env moves (n + 4 * length w.parts)) × IsPrefix (events_in_turn w env moves n) (events_of tick (fresh_run env (Some instance) moves) (n + 4 * length w.parts))
+  pub seen_the_same : 0 < length w.parts → (n : ℕ) → IsPrefix (events_of tick (fresh_run env (Some instance) moves) n) (events_sequential w env moves (n + 4 * length w.parts)) × IsPrefix (events_sequential w env moves n) (events_of tick (fresh_run env (Some instance) moves) (n + 4 * length w.parts))
   seen_the_same some n =
       let k = length w.parts in
       let r = fresh_run env (Some instance) moves in
-      let q = before_turns env w moves in
+      let q = before_parts env w moves in
       let start : Early k r q = fresh refl refl some (omega arith) in
-      let seen = led_show_the_same tick tick_in_turn Credit credited k 0 r q (refl, start) n in
-      (in_more_steps tick_in_turn _ (n + k) (n + 4 * k) q (omega arith) seen.0, in_more_steps tick _ (n + 0) (n + 4 * k) r (omega arith) seen.1)
+      let seen = led_traces_are_equal tick tick_sequential Credit credited k 0 r q (refl, start) n in
+      (in_more_steps tick_sequential _ (n + k) (n + 4 * k) q (omega arith) seen.0, in_more_steps tick _ (n + 0) (n + 4 * k) r (omega arith) seen.1)

@@ -1,21 +1,21 @@
--- That parts which are instantiated one after the other show what they show at once.
+-- That parts which are instantiated sequentially show what they show at once.
 use Rattle.std.specs.Prelude.{◌≡◌, ℕ, ◌+◌, ◌*◌, ◌<◌, length, Some}
 use Rattle.wasm_tree.specs.declared.module.Module.{Module}
 use Rattle.wasm_valid.specs.Validity.{IsValid}
 use Rattle.wasm_meaning.specs.Linking.{module_at}
 use Rattle.wasm_meaning.specs.World.{World}
 use Rattle.wasm_meaning.specs.Run.{Same, events}
-use Rattle.wasm_meaning.specs.InTurn.{events_in_turn, JoinsEarlier, NoLateSegments, BeginsWell}
+use Rattle.wasm_meaning.specs.Sequential.{events_sequential, JoinsEarlier, NoLateSegments, BeginsWell}
 
 -- In each environment that links the world at once, where no segment traps, and by each list of moves: whatever is seen in n steps of the world at once is seen
--- in so many more where its parts are instantiated one after the other, and the other way round.
-abbrev pub ShowsTheSameInTurn : World → Type 0
-ShowsTheSameInTurn w = Same (λ env. BeginsWell env w) (events w) (events_in_turn w) (λ n. n + 4 * length w.parts) (λ n. n + 4 * length w.parts)
+-- in so many more where its parts are instantiated sequentially, and the other way round.
+abbrev pub SequentiallyEquivalent : World → Type 0
+SequentiallyEquivalent w = Same (λ env. BeginsWell env w) (events w) (events_sequential w) (λ n. n + 4 * length w.parts) (λ n. n + 4 * length w.parts)
 
 -- So it is where there is at least one part, each joined import leads to an earlier part, and no part after one with a start has an active segment.
-abbrev pub MayComeInTurn : World → Type 0
-MayComeInTurn w = 0 < length w.parts → JoinsEarlier w.parts → NoLateSegments w.parts → ShowsTheSameInTurn w
+abbrev pub SequentialInstantiationEquivalent : World → Type 0
+SequentialInstantiationEquivalent w = 0 < length w.parts → JoinsEarlier w.parts → NoLateSegments w.parts → SequentiallyEquivalent w
 
 -- And that for every world of valid parts. (Validity is needed: one part may not read a mutable global of another for its own, which a start could have set.)
-abbrev pub TurnsAreNotSeen : Type 0
-TurnsAreNotSeen = (w : World) → ((p : ℕ) (m : Module) → module_at w.parts p ≡ Some m → IsValid m) → MayComeInTurn w
+abbrev pub SequentialInstantiationIsEquivalent : Type 0
+SequentialInstantiationIsEquivalent = (w : World) → ((p : ℕ) (m : Module) → module_at w.parts p ≡ Some m → IsValid m) → SequentialInstantiationEquivalent w

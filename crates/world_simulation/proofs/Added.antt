@@ -15,9 +15,9 @@ use Rattle.wasm_tree.specs.declared.module.DataSeg.{DataSeg}
 use Rattle.wasm_tree.specs.declared.module.Module.{Module}
 use Rattle.wasm_meaning.specs.Outcomes.{overwrite}
 use Rattle.wasm_meaning.specs.State.{RefVal, Val, Inst, Table, Memory, Store}
-use Rattle.wasm_meaning.specs.Environment.{Thing}
+use Rattle.wasm_meaning.specs.Environment.{ExternalValue}
 use Rattle.wasm_meaning.specs.World.{Filled, PlacedSegment, numbers, const_value, store_with, joined_stores, segments_in, copy_slots, run_elem_with, copy_bytes, run_data_with, and_then, one_by_one}
-use Rattle.wasm_meaning.specs.InTurn.{Added, added, added_as, own_segments, next_inst, all_match}
+use Rattle.wasm_meaning.specs.Sequential.{Added, added, added_as, own_segments, next_inst, all_match}
 use Rattle.index_remap.specs.Related.{Pairing, BothRel, both, StoreRel}
 use Rattle.index_remap.specs.RelatedRuns.{turned, HasNoPartner}
 use Rattle.world_simulation.specs.Segments.{offset_in}
@@ -142,7 +142,7 @@ number_past from (suc count) zero a h = let same : from ≡ a = cc in omega (ari
 number_past from (suc count) (suc n) a h = let l = number_past (suc from) count n a h in omega (arith, l)
 
 -- what it comes to: what it defines behind what is there, and then its segments
-pub added_is : (s : Store) (m : Module) (things : List Thing) (a : Added) → added s m things ≡ Some a → let i = next_inst s m things in (t : Store) × (store_with (const_value s.globals i) m i ≡ Some t) × (record { inst = i; filled = own_segments (const_value s.globals i) m i (joined_stores s t) } ≡ a)
+pub added_is : (s : Store) (m : Module) (things : List ExternalValue) (a : Added) → added s m things ≡ Some a → let i = next_inst s m things in (t : Store) × (store_with (const_value s.globals i) m i ≡ Some t) × (record { inst = i; filled = own_segments (const_value s.globals i) m i (joined_stores s t) } ≡ a)
 added_is s m things a h =
     let i = next_inst s m things in
     let t = and_then_is (store_with (const_value s.globals i) m i) _ a (cond_is (all_match s m m.imports things) (added_as s m i) a h) in
@@ -150,7 +150,7 @@ added_is s m things a h =
     let same : record { inst = i; filled = own_segments (const_value s.globals i) m i (joined_stores s t.0) } ≡ a = cc in
     (t.0, t.1, same)
 
-module _ (R : Pairing) (s z : Store) (m : Module) (things : List Thing) (a : Added) (like : StoreRel R s z) where
+module _ (R : Pairing) (s z : Store) (m : Module) (things : List ExternalValue) (a : Added) (like : StoreRel R s z) where
   pub added_second : added z m things ≡ Some a → WritesAlone (HasNoPartner R) m a.inst → StoreRel R s a.filled.store
   added_second h writes =
       let i = next_inst z m things in

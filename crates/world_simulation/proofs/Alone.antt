@@ -1,4 +1,4 @@
--- A module alone: its imports all stay, so what they stand for and what is read through them is a matter of its types and imports.
+-- A module alone: its imports all stay, so what they denote and what is read through them is a matter of its types and imports.
 use Rattle.std.proofs.Common.{◌≡◌, ℕ, ◌+◌, List, ◌++◌, length, Option, Some, None, is_some, refl, ap, ap₂, ◌∙◌, arith, option_and_then, slice_get}
 use Rattle.wasm_tree.specs.declared.space.Space.{Space}
 use Rattle.wasm_tree.specs.declared.space.Space.TheVariants.{Functions, Tables, Memories, Globals}
@@ -16,11 +16,11 @@ use Rattle.wasm_tree.specs.Spaces.{func_of, table_of, memory_of, global_of, impo
 use Rattle.wasm_meaning.specs.State.{Pair}
 use Rattle.wasm_meaning.specs.Paths.{walk, walk_on}
 use Rattle.wasm_meaning.specs.Linking.{sites, joined, joined_step, import_step, read_step, initials_from, Outside, Read, places, has_kind, imports_of, pair_of, end_of, global_import, end_step, read_of, space_index}
-use Rattle.wasm_meaning.specs.Environment.{Environment, owned_of, owned_at, Thing, FuncAt}
-use Rattle.wasm_meaning.specs.World.{own_key_of, outside_thing, imported_thing, thing_of, address_of, numbers, own_count, defined_count, space}
-use Rattle.world_simulation.specs.Alone.{one, site, key_in, thing_in, addresses, read_in}
+use Rattle.wasm_meaning.specs.Environment.{Environment, owned_of, owned_at, ExternalValue, FuncAt}
+use Rattle.wasm_meaning.specs.World.{own_key_of, outside_external_value, imported_external_value, external_value_of, address_of, numbers, own_count, defined_count, space}
+use Rattle.world_simulation.specs.Alone.{one, site, key_in, external_value_in, addresses, read_in}
 
--- ---- what an import stands for ----
+-- ---- what an import denotes ----
 
 pub key_is : (t : Module) (pair : Pair) (d : ImportDesc) → own_key_of t pair d ≡ key_in t.types pair d
 key_is t pair (im.Func ty) = refl
@@ -48,12 +48,12 @@ pub on_some : {A B : Type 0} (o : Option A) {f g : A → Option B} → ((a : A) 
 on_some None h = refl
 on_some (Some a) h = h a
 
-outside_is : (env : Environment) (t : Module) (n : ℕ) → outside_thing (owned_of env) (one t) (site n) ≡ thing_in env t.types (slice_get t.imports n)
+outside_is : (env : Environment) (t : Module) (n : ℕ) → outside_external_value (owned_of env) (one t) (site n) ≡ external_value_in env t.types (slice_get t.imports n)
 outside_is env t n = on_some (slice_get t.imports n) (λ i. ap (λ k. option_and_then (λ key. owned_at (owned_of env) key) k) (key_is t (pair_of i) i.desc))
 
-pub thing_is : (env : Environment) (t : Module) (n : ℕ) → imported_thing env (one t) (site n) ≡ thing_in env t.types (slice_get t.imports n)
+pub thing_is : (env : Environment) (t : Module) (n : ℕ) → imported_external_value env (one t) (site n) ≡ external_value_in env t.types (slice_get t.imports n)
 thing_is env t n =
-    ap (λ e. option_and_then (thing_of env (one t)) e) (ends_outside t n) ∙ nested (slice_get t.imports n) (Outside (site n)) (thing_of env (one t))
+    ap (λ e. option_and_then (external_value_of env (one t)) e) (ends_outside t n) ∙ nested (slice_get t.imports n) (Outside (site n)) (external_value_of env (one t))
     ∙ on_some (slice_get t.imports n) (λ i. outside_is env t n) ∙ twice (slice_get t.imports n) (λ i. option_and_then (λ key. owned_at (owned_of env) key) (key_in t.types (pair_of i) i.desc))
 
 -- ---- index spaces ----
@@ -73,7 +73,7 @@ pub func_desc : (d : ImportDesc) (ty : ℕ) → func_of d ≡ Some ty → d ≡ 
 func_desc (im.Func t) ty h = ap im.Func (same_Some t ty h)
 func_desc _ ty h = absurd (let k = h in cc)
 
-pub func_thing : (x : Thing) (a : ℕ) → address_of Functions x ≡ Some a → x ≡ FuncAt a
+pub func_thing : (x : ExternalValue) (a : ℕ) → address_of Functions x ≡ Some a → x ≡ FuncAt a
 func_thing (FuncAt b) a h = ap FuncAt (same_Some b a h)
 func_thing _ a h = absurd (let k = h in cc)
 

@@ -8,9 +8,9 @@ use Rattle.wasm_meaning.specs.Run.{Event, InstanceTrapped, Move, Pending, Closed
 use Rattle.base_simulation.specs.Machines.{noted}
 use Rattle.index_remap.specs.Related.{Pairing, OneToOne, OptRel, none, some, nil}
 use Rattle.index_remap.specs.RelatedRuns.{BegunRel, pending, closed}
-use Rattle.index_remap.specs.Laws.{passed, EntryByEntry, RelatedRunsShowTheSame}
+use Rattle.index_remap.specs.Laws.{passed, EntryByEntry, RelatedRunsHaveEqualTraces}
 
-module _ (law : RelatedRunsShowTheSame) (of : Space → ℕ → ℕ → Bool) (apart : OneToOne (passed of of [])) (env : Environment) (moves : List Move) where
+module _ (law : RelatedRunsHaveEqualTraces) (of : Space → ℕ → ℕ → Bool) (apart : OneToOne (passed of of [])) (env : Environment) (moves : List Move) where
   abbrev R : Pairing
   R = passed of of []
 

@@ -14,7 +14,7 @@ use Rattle.wasm_meaning.specs.Outcomes.{overwrite}
 use Rattle.wasm_meaning.specs.State.{RefVal, Val, Inst, Func, Table, Memory, Store}
 use Rattle.wasm_meaning.specs.Values.{num_of}
 use Rattle.wasm_meaning.specs.World.{Filled, PlacedSegment, segments_in, or_trapped, copy_slots, copy_elem, run_elem_with, copy_bytes, copy_data, run_data_with, and_then, one_by_one}
-use Rattle.wasm_meaning.specs.InTurn.{own_segments}
+use Rattle.wasm_meaning.specs.Sequential.{own_segments}
 
 -- the store with other functions
 abbrev pub with_funcs : List Func → Store → Store

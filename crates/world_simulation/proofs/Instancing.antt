@@ -8,7 +8,7 @@ use Rattle.wasm_tree.specs.declared.module.Module.{Module}
 use Rattle.wasm_meaning.specs.State.{Inst}
 use Rattle.wasm_meaning.specs.Linking.{Part, module_at, imports_of}
 use Rattle.wasm_meaning.specs.Environment.{Environment}
-use Rattle.wasm_meaning.specs.World.{space, numbers, inst_of, insts_from, defined_before, defined_count, base, address_of, all_there, imported_thing}
+use Rattle.wasm_meaning.specs.World.{space, numbers, inst_of, insts_from, defined_before, defined_count, base, address_of, all_there, imported_external_value}
 use Rattle.base_lists.proofs.Numbers.{length-numbers}
 use Rattle.base_lists.proofs.Options.{and_then_is, all_there_at, all_there_length}
 use Rattle.world_simulation.proofs.Places.{number_is}
@@ -28,7 +28,7 @@ addresses_in DataSegments i = i.datas
 
 -- the address of an import of a part
 abbrev pub import_address : Environment → List Part → Space → ℕ → ℕ → Option ℕ
-import_address env parts k p n = option_and_then (address_of k) (imported_thing env parts (record { part = p; import = n }))
+import_address env parts k p n = option_and_then (address_of k) (imported_external_value env parts (record { part = p; import = n }))
 
 -- the addresses of the imports, then those of what the part defines
 pub record IsSpace (env : Environment) (parts : List Part) (k : Space) (p : ℕ) (m : Module) (xs : List ℕ) : Type 0 where

@@ -16,9 +16,9 @@ use Rattle.wasm_meaning.specs.State.{RefVal, Val, Inst, Table, Memory, Elem, Dat
 use Rattle.wasm_meaning.specs.Step.{changed, no_items, no_bytes}
 use Rattle.wasm_meaning.specs.Values.{ref_of}
 use Rattle.wasm_meaning.specs.World.{Begun, Filled, PlacedSegment, address_in, all_there, const_value, value_of, new_elem, new_func, global_with, elem_with, store_with, part_store, joined_stores, numbers, segments_in, copy_slots, run_elem_with, run_elem, copy_bytes, run_data_with, run_data, and_then, one_by_one, segments, insts_from, stores_from, own_store, alone, instantiate}
-use Rattle.wasm_meaning.specs.InTurn.{Added, added, next_inst}
+use Rattle.wasm_meaning.specs.Sequential.{Added, added, next_inst}
 use Rattle.wasm_meaning.specs.Loader.{LoaderWorld, store_under, supplied, primary_added, begun_of, begun_under}
-use Rattle.wasm_meaning.specs.Environment.{Environment, Thing}
+use Rattle.wasm_meaning.specs.Environment.{Environment, ExternalValue}
 use Rattle.world_simulation.specs.Leaves.{Copy, all_over, elem_copy, elem_copies, data_copy, data_copies, Stands, table_left, memory_left, elem_left, data_left, Leaves}
 use Rattle.world_simulation.proofs.Allocated.{AddsWith, adds_with, new_table, new_memory, new_data}
 use Rattle.world_simulation.specs.Alone.{one}
@@ -235,7 +235,7 @@ data_runs value i s n d data'.Passive = refl
 
 -- ---- the laws ----
 
-pub added_leaves : (s : Store) (m : Module) (things : List Thing) (a : Added) → added s m things ≡ Some a → a.filled.trapped ≡ false → Leaves (const_value s.globals a.inst) m a.inst s a.filled.store
+pub added_leaves : (s : Store) (m : Module) (things : List ExternalValue) (a : Added) → added s m things ≡ Some a → a.filled.trapped ≡ false → Leaves (const_value s.globals a.inst) m a.inst s a.filled.store
 added_leaves s m things a h good =
     let x = added_is s m things a h in
     let i = next_inst s m things in

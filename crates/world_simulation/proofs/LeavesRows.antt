@@ -10,7 +10,7 @@ use Rattle.wasm_tree.specs.declared.module.ElemSeg.{ElemSeg}
 use Rattle.wasm_tree.specs.declared.module.Module.{Module}
 use Rattle.wasm_num.specs.Operations.{wrapped}
 use Rattle.wasm_meaning.specs.State.{RefVal, FuncRef, Store}
-use Rattle.wasm_meaning.specs.InTurn.{added}
+use Rattle.wasm_meaning.specs.Sequential.{added}
 use Rattle.world_simulation.specs.Leaves.{Copy, nothing, contents, over, all_over}
 
 abbrev to : (address offset : ℕ) → List ℕ → Copy ℕ

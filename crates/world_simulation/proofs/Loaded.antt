@@ -28,15 +28,15 @@ use Rattle.wasm_tree.specs.Operands.{same_space}
 use Rattle.wasm_meaning.specs.State.{Text, Val, Inst, Store}
 use Rattle.wasm_meaning.specs.Values.{ref_of, num_of}
 use Rattle.wasm_meaning.specs.Linking.{has_kind, places, space_index, sites_in, pair_of, imports_of}
-use Rattle.wasm_meaning.specs.Environment.{Environment, Thing, FuncAt, TableAt, MemoryAt, GlobalAt, owned_of, owned_at, own_funcs, own_memories, own_globals, all_of}
+use Rattle.wasm_meaning.specs.Environment.{Environment, ExternalValue, FuncAt, TableAt, MemoryAt, GlobalAt, owned_of, owned_at, own_funcs, own_memories, own_globals, all_of}
 use Rattle.wasm_meaning.specs.World.{Begun, Filled, all_there, address_of, address_in, own_count, defined_count, numbers, const_value, value_of, value_of_read, new_func, new_elem, store_with, joined_stores, own_store, is_match, is_matched, run_elem, run_elem_with, run_data, run_data_with, and_then, one_by_one, segments, starts_of, start_in, space, instantiate}
 use Rattle.wasm_meaning.specs.World as world
-use Rattle.wasm_meaning.specs.InTurn.{Added, own_thing, all_match, addresses_of, added, added_as, own_segments, next_inst}
+use Rattle.wasm_meaning.specs.Sequential.{Added, own_external_value, all_match, addresses_of, added, added_as, own_segments, next_inst}
 use Rattle.wasm_meaning.specs.Loader.{LoaderWorld, placeholders_of, placeholders_from, store_under, supplied, begun_of, begun_under}
 use Rattle.index_remap.specs.Related.{Pairing, BothRel, FuncRel, StoreRel}
-use Rattle.index_remap.specs.RelatedRuns.{ThingRel}
+use Rattle.index_remap.specs.RelatedRuns.{ExternalValueRel}
 use Rattle.index_remap.specs.Laws.{passed}
-use Rattle.world_simulation.specs.Alone.{one, site, thing_in, addresses}
+use Rattle.world_simulation.specs.Alone.{one, site, external_value_in, addresses}
 use Rattle.world_simulation.specs.Alone as alone
 use Rattle.world_simulation.specs.Owned.{SharesOwn}
 use Rattle.world_simulation.specs.Leaves.{contents, elem_copy, elem_copies, data_copy, data_copies}
@@ -53,7 +53,7 @@ use Rattle.world_simulation.proofs.Simulated.{what_is_made}
 use Rattle.world_simulation.proofs.Copies.{runs}
 use Rattle.world_simulation.proofs.Leaves.{tables, memories, copies_in_turn, elem_runs, data_runs}
 
--- ---- the environment's own entities stand for themselves ----
+-- ---- the environment's own entities denote themselves ----
 
 module _ (env : Environment) where
   abbrev pub shared : Space → ℕ → ℕ → Bool
@@ -89,10 +89,10 @@ module _ (env : Environment) where
       funcs : (a b : ℕ) → R.of Functions a b → BothRel (FuncRel R) (slice_get (own_funcs env) a) (slice_get (own_funcs env) b)
       funcs a b r = shared_at Functions (own_funcs env) a b (both_in (own_funcs_rel R env)) r
 
--- ---- what imports stand for ----
+-- ---- what imports denote ----
 
 -- a match tells the kind
-kinds : (s : Store) (m : Module) (d : ImportDesc) (x : Thing) (k : Space) → is_match s m d x ≡ Some true → ((same_space k (space_of_import d) ≡ true) × (a : ℕ) × (address_of k x ≡ Some a)) ⊎ ((same_space k (space_of_import d) ≡ false) × (address_of k x ≡ None))
+kinds : (s : Store) (m : Module) (d : ImportDesc) (x : ExternalValue) (k : Space) → is_match s m d x ≡ Some true → ((same_space k (space_of_import d) ≡ true) × (a : ℕ) × (address_of k x ≡ Some a)) ⊎ ((same_space k (space_of_import d) ≡ false) × (address_of k x ≡ None))
 kinds s m (im.Func ty) (FuncAt a) Functions h = inl (refl, a, refl)
 kinds s m (im.Func ty) (FuncAt a) _ h = inr (refl, refl)
 kinds s m (im.Table t) (TableAt a) Tables h = inl (refl, a, refl)
@@ -106,23 +106,23 @@ kinds s m _ _ k h = cc
 module _ (env : Environment) (m : Module) (s : Store) (like : StoreRel (R env) (own_store env) s) where
   -- the imports from one on
   record Found (n : ℕ) (is : List Import) : Type 0 where
-    things : List Thing
-    are : all_there (own_thing (owned_of env) m) is ≡ Some things
+    things : List ExternalValue
+    are : all_there (own_external_value (owned_of env) m) is ≡ Some things
     match : all_match (own_store env) m is things ≡ true
     spaces : (k : Space) → all_there (alone.address_in env m.types m.imports k) (places (has_kind k) is n) ≡ Some (addresses_of k things)
 
-  own_thing_is : (i : Import) → own_thing (owned_of env) m i ≡ thing_in env m.types (Some i)
+  own_thing_is : (i : Import) → own_external_value (owned_of env) m i ≡ external_value_in env m.types (Some i)
   own_thing_is i = ap (λ k. option_and_then (λ key. owned_at (owned_of env) key) k) (key_is m (pair_of i) i.desc)
 
-  matched_is : (n : ℕ) (i : Import) → slice_get m.imports n ≡ Some i → is_matched env (one m) s (site n) ≡ unwrap_or (option_and_then (is_match s m i.desc) (thing_in env m.types (Some i))) false
+  matched_is : (n : ℕ) (i : Import) → slice_get m.imports n ≡ Some i → is_matched env (one m) s (site n) ≡ unwrap_or (option_and_then (is_match s m i.desc) (external_value_in env m.types (Some i))) false
   matched_is n i h =
       ap (λ o. unwrap_or o false) (ap (λ x. option_and_then (λ i. option_and_then (is_match s m i.desc) x) (slice_get m.imports n)) (thing_is env m n))
-      ∙ ap (λ o. unwrap_or (option_and_then (λ i. option_and_then (is_match s m i.desc) (thing_in env m.types o)) o) false) h
+      ∙ ap (λ o. unwrap_or (option_and_then (λ i. option_and_then (is_match s m i.desc) (external_value_in env m.types o)) o) false) h
 
   found_one : (n : ℕ) (i : Import) (is : List Import) → slice_get m.imports n ≡ Some i → is_matched env (one m) s (site n) ≡ true → Found (suc n) is → Found n (i ∷ is)
   found_one n i is here first rest =
-      let x = and_then_is (thing_in env m.types (Some i)) (is_match s m i.desc) true (unwrap_or_false_is _ (sym (matched_is n i here) ∙ first)) in
-      let rel : ThingRel (R env) x.0 x.0 = opt_self (thing_rel (R env) env (shares env) m.types (Some i)) x.1 in
+      let x = and_then_is (external_value_in env m.types (Some i)) (is_match s m i.desc) true (unwrap_or_false_is _ (sym (matched_is n i here) ∙ first)) in
+      let rel : ExternalValueRel (R env) x.0 x.0 = opt_self (thing_rel (R env) env (shares env) m.types (Some i)) x.1 in
       let at_first : is_match (own_store env) m i.desc x.0 ≡ Some true = match_same (R env) env (shares env) (own_store env) s like m m refl refl i.desc rel ∙ x.2 in
       record {
         things = x.0 ∷ rest.things;
@@ -131,10 +131,10 @@ module _ (env : Environment) (m : Module) (s : Store) (like : StoreRel (R env) (
         spaces = λ k. by k x.0 x.1 (kinds s m i.desc x.0 k x.2);
       }
     where
-      by : (k : Space) (x : Thing) → thing_in env m.types (Some i) ≡ Some x → ((same_space k (space_of_import i.desc) ≡ true) × (a : ℕ) × (address_of k x ≡ Some a)) ⊎ ((same_space k (space_of_import i.desc) ≡ false) × (address_of k x ≡ None)) →
+      by : (k : Space) (x : ExternalValue) → external_value_in env m.types (Some i) ≡ Some x → ((same_space k (space_of_import i.desc) ≡ true) × (a : ℕ) × (address_of k x ≡ Some a)) ⊎ ((same_space k (space_of_import i.desc) ≡ false) × (address_of k x ≡ None)) →
           all_there (alone.address_in env m.types m.imports k) (places (has_kind k) (i ∷ is) n) ≡ Some (addresses_of k (x ∷ rest.things))
       by k x x_is (inl e) =
-          let address : alone.address_in env m.types m.imports k n ≡ Some e.1 = ap (λ o. option_and_then (address_of k) (thing_in env m.types o)) here ∙ ap (λ o. option_and_then (address_of k) o) x_is ∙ e.2 in
+          let address : alone.address_in env m.types m.imports k n ≡ Some e.1 = ap (λ o. option_and_then (address_of k) (external_value_in env m.types o)) here ∙ ap (λ o. option_and_then (address_of k) o) x_is ∙ e.2 in
           rw (e.0, e.2) (ap₂ (λ o p. option_and_then (λ y. option_and_then (λ ys. Some (y ∷ ys)) p) o) address (rest.spaces k))
       by k x x_is (inr e) = rw (e.0, e.1) (rest.spaces k)
 
@@ -259,7 +259,7 @@ seen : (i : Inst) (view : List (Text × ExportDesc)) → all_there (world.seen_a
 seen i [] = refl
 seen i (v ∷ view) = ap (λ p. option_and_then (λ y. option_and_then (λ ys. Some (y ∷ ys)) p) (address_in i v.1 >>= λ x. Some (v.0, x))) (seen i view)
 
-pub nothing_supplied : (env : Environment) (w : LoaderWorld) → placeholders_of w ≡ [] → (i : Import) → supplied env w i ≡ own_thing (owned_of env) w.primary i
+pub nothing_supplied : (env : Environment) (w : LoaderWorld) → placeholders_of w ≡ [] → (i : Import) → supplied env w i ≡ own_external_value (owned_of env) w.primary i
 nothing_supplied env w none i = rw none refl
 
 pub store_is : (env : Environment) (w : LoaderWorld) → placeholders_of w ≡ [] → store_under env w ≡ own_store env
@@ -296,20 +296,20 @@ forth env w b none h =
 -- ---- the other way round ----
 
 module _ (env : Environment) (m : Module) where
-  -- from what imports stand for in the store before, that they match in the store after
+  -- from what imports denote in the store before, that they match in the store after
   module _ (s : Store) (like : StoreRel (R env) (own_store env) s) where
-    matched_one : (n : ℕ) (i : Import) (x : Thing) → slice_get m.imports n ≡ Some i → own_thing (owned_of env) m i ≡ Some x → unwrap_or (is_match (own_store env) m i.desc x) false ≡ true → is_matched env (one m) s (site n) ≡ true
+    matched_one : (n : ℕ) (i : Import) (x : ExternalValue) → slice_get m.imports n ≡ Some i → own_external_value (owned_of env) m i ≡ Some x → unwrap_or (is_match (own_store env) m i.desc x) false ≡ true → is_matched env (one m) s (site n) ≡ true
     matched_one n i x here is match =
         let x_is = sym (own_thing_is env m s like i) ∙ is in
-        let rel : ThingRel (R env) x x = opt_self (thing_rel (R env) env (shares env) m.types (Some i)) x_is in
+        let rel : ExternalValueRel (R env) x x = opt_self (thing_rel (R env) env (shares env) m.types (Some i)) x_is in
         matched_is env m s like n i here ∙ ap (λ o. unwrap_or (option_and_then (is_match s m i.desc) o) false) x_is
         ∙ ap (λ o. unwrap_or o false) (sym (match_same (R env) env (shares env) (own_store env) s like m m refl refl i.desc rel)) ∙ match
 
-    matched_all : (is : List Import) (n : ℕ) (things : List Thing) → ((k : ℕ) → slice_get m.imports (n + k) ≡ slice_get is k) → all_there (own_thing (owned_of env) m) is ≡ Some things → all_match (own_store env) m is things ≡ true → all_of (is_matched env (one m) s) (sites_in 0 (length is) n ++ []) ≡ true
+    matched_all : (is : List Import) (n : ℕ) (things : List ExternalValue) → ((k : ℕ) → slice_get m.imports (n + k) ≡ slice_get is k) → all_there (own_external_value (owned_of env) m) is ≡ Some things → all_match (own_store env) m is things ≡ true → all_of (is_matched env (one m) s) (sites_in 0 (length is) n ++ []) ≡ true
     matched_all [] n things h are match = refl
     matched_all (i ∷ is) n things h are match =
-        let x = and_then_is (own_thing (owned_of env) m i) _ things are in
-        let xs = and_then_is (all_there (own_thing (owned_of env) m) is) _ things x.2 in
+        let x = and_then_is (own_external_value (owned_of env) m i) _ things are in
+        let xs = and_then_is (all_there (own_external_value (owned_of env) m) is) _ things x.2 in
         let same : x.0 ∷ xs.0 ≡ things = same_Some _ _ xs.2 in
         let matches = ap (all_match (own_store env) m (i ∷ is)) same ∙ match in
         let z : n + 0 ≡ n = omega arith in
@@ -334,8 +334,8 @@ back : (env : Environment) (w : LoaderWorld) (b : Begun) → placeholders_of w �
 back env w b none h =
     let m = w.primary in
     let begun_is = ap (λ o. option_and_then (begun_of env w) o) (sym (ap₂ (λ o s. option_and_then (added s m) o) (all_there_same (nothing_supplied env w none) m.imports) (store_is env w none))) ∙ h in
-    let a = and_then_is (all_there (own_thing (owned_of env) m) m.imports >>= (added (own_store env) m)) (begun_of env w) b begun_is in
-    let things = and_then_is (all_there (own_thing (owned_of env) m) m.imports) (added (own_store env) m) a.0 a.1 in
+    let a = and_then_is (all_there (own_external_value (owned_of env) m) m.imports >>= (added (own_store env) m)) (begun_of env w) b begun_is in
+    let things = and_then_is (all_there (own_external_value (owned_of env) m) m.imports) (added (own_store env) m) a.0 a.1 in
     let good = cond_good (all_match (own_store env) m m.imports things.0) _ a.0 things.2 in
     let f = all_found env m (own_store env) (own_like env) (matched_all env m (own_store env) (own_like env) m.imports 0 things.0 (all_places env m) things.1 good.0) in
     let j = next_inst (own_store env) m f.things in
@@ -346,7 +346,7 @@ back env w b none h =
     let inst_there = inst_found env m f in
     let i = inst_is env (one m) 0 m j inst_there in
     let v = and_then_is (all_there (λ v. address_in j v.1 >>= λ x. Some (v.0, x)) w.view) _ b (ap (begun_of env w) (same_Some _ _ t.2) ∙ a.2) in
-    let last : List Inst → Store → List (Text × Thing) → Bool → Option Begun = λ is s view matched. cond matched (Some (world.begun env (primary_world w) is view (segments env (one m) is s))) None in
+    let last : List Inst → Store → List (Text × ExternalValue) → Bool → Option Begun = λ is s view matched. cond matched (Some (world.begun env (primary_world w) is view (segments env (one m) is s))) None in
     ap (λ o. option_and_then (λ is. option_and_then (λ s. option_and_then (λ view. last is s view (all_of (is_matched env (one m) s) (sites_in 0 (length m.imports) 0 ++ []))) (all_there (world.seen_as is) (primary_world w).view)) (world.stores_from env (one m) is (own_store env) 0 (one m) is)) o)
     (ap (λ o. option_and_then (λ i. Some (i ∷ [])) o) inst_there)
     ∙ ap (λ o. option_and_then (λ s. option_and_then (λ view. last (j ∷ []) s view (all_of (is_matched env (one m) s) (sites_in 0 (length m.imports) 0 ++ []))) (all_there (world.seen_as (j ∷ [])) (primary_world w).view)) o)
@@ -368,7 +368,7 @@ pub primary_inst : LoadersHaveTheirPrimarysInstance
 primary_inst env w none a h =
     let m = w.primary in
     let is = ap₂ (λ o s. option_and_then (added s m) o) (sym (all_there_same (nothing_supplied env w none) m.imports)) (sym (store_is env w none)) ∙ h in
-    let things = and_then_is (all_there (own_thing (owned_of env) m) m.imports) (added (own_store env) m) a is in
+    let things = and_then_is (all_there (own_external_value (owned_of env) m) m.imports) (added (own_store env) m) a is in
     let good = cond_good (all_match (own_store env) m m.imports things.0) _ a things.2 in
     let f = all_found env m (own_store env) (own_like env) (matched_all env m (own_store env) (own_like env) m.imports 0 things.0 (all_places env m) things.1 good.0) in
     let j = next_inst (own_store env) m f.things in

@@ -5,7 +5,7 @@ use Rattle.wasm_meaning.specs.Outcomes.{Outcome, Gives, Traps, IllTyped}
 use Rattle.wasm_meaning.specs.State.{Val, Store, Entry, Next, Ran, CallsOwn, WaitsGrowth, CallsPlaceholder, EndsCall}
 use Rattle.wasm_meaning.specs.Run.{Run, Out, Transition, Steps, Makes, made, transition, tick}
 use Rattle.wasm_meaning.specs.Loader.{LoaderWorld, LoaderRun, loader_made, tick_loader}
-use Rattle.index_remap.specs.ListedRuns.{calls_placeholder}
+use Rattle.index_remap.specs.OpaqueRuns.{calls_placeholder}
 use Rattle.index_remap.proofs.SlotCalls.{func_type_self}
 use Rattle.world_simulation.specs.LoaderSteps.{LoadersStepAsTheirRun, GoesAsItsRun, LoadersGoAsTheirRun, IsAnswered, PlaceholdersAreAnswered}
 

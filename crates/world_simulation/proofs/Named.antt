@@ -9,7 +9,7 @@ use Rattle.index_remap.specs.Renumbered.{fits_all, renumbered_all}
 use Rattle.index_remap.specs.Related.{Pairing, CodeRel}
 use Rattle.index_remap.specs.Laws.{passed}
 use Rattle.index_remap.specs.CodeNames.{EntryNames, LayerNames}
-use Rattle.index_remap.proofs.Unlisted.{operands_follow}
+use Rattle.index_remap.proofs.NotOpaque.{operands_follow}
 use Rattle.index_remap_proof.specs.Indices.{Indices, with_entry, LayerNamesOnly}
 use Rattle.world_simulation.specs.Named.{EntriesName}
 

@@ -10,10 +10,10 @@ use Rattle.wasm_tree.specs.declared.types.ValType.TheVariants as valt
 use Rattle.wasm_num.specs.Operations.{Width, W32, W64}
 use Rattle.wasm_meaning.specs.State.{Val, Num, Own}
 use Rattle.wasm_meaning.specs.Values.{ref_of, null_of}
-use Rattle.wasm_meaning.specs.Environment.{Environment, Shown, Number, Null, OwnFunc, ExternNumber, OwnKey, FuncKey, TableKey, MemoryKey, GlobalKey, Thing, FuncAt, TableAt, MemoryAt, GlobalAt, Owned, owned_of, owned_at, look_up, same_key, func_of, func_value, received, or_null, or_zero, addressed, flat, one_if, own_funcs, own_tables, own_memories, own_globals}
+use Rattle.wasm_meaning.specs.Environment.{Environment, Shown, Number, Null, OwnFunc, ExternNumber, OwnKey, FuncKey, TableKey, MemoryKey, GlobalKey, ExternalValue, FuncAt, TableAt, MemoryAt, GlobalAt, Owned, owned_of, owned_at, look_up, same_key, func_of, func_value, received, or_null, or_zero, addressed, flat, one_if, own_funcs, own_tables, own_memories, own_globals}
 use Rattle.index_remap.specs.Related.{Pairing, OptRel, none, some, ListRel, nil, cons, RefRel, func, extern, ValRel, number, reference, FuncRel, TableRel, GlobalRel}
 use Rattle.index_remap.specs.Related as related
-use Rattle.index_remap.specs.RelatedRuns.{ThingRel, a_func, a_table, a_memory, a_global, KeyRel}
+use Rattle.index_remap.specs.RelatedRuns.{ExternalValueRel, a_func, a_table, a_memory, a_global, KeyRel}
 use Rattle.index_remap.proofs.Rel.{then_rel, append_rel}
 use Rattle.world_simulation.specs.Owned.{SharesOwn, OwnCorrespond}
 use Rattle.world_simulation.proofs.Places.{map_length, opt_self, self_rel, maps_rel}
@@ -32,7 +32,7 @@ own_funcs_rel R env = flat_rel _ (λ o. maps_rel _ _ (self_rel o.funcs (λ ty. r
 module _ (R : Pairing) (env : Environment) (own : SharesOwn R env) where
   -- ---- by key ----
 
-  addressed_rel : (thing : ℕ → Thing) (n : ℕ) (keys : List OwnKey) → ((a : ℕ) → n ≤ a → a < n + length keys → ThingRel R (thing a) (thing a)) → ListRel (KeyRel R) (addressed thing n keys) (addressed thing n keys)
+  addressed_rel : (thing : ℕ → ExternalValue) (n : ℕ) (keys : List OwnKey) → ((a : ℕ) → n ≤ a → a < n + length keys → ExternalValueRel R (thing a) (thing a)) → ListRel (KeyRel R) (addressed thing n keys) (addressed thing n keys)
   addressed_rel thing n [] h = nil
   addressed_rel thing n (key ∷ keys) h = cons (record { key = refl; thing = h n (omega arith) (omega arith) }) (addressed_rel thing (suc n) keys (λ a l m. h a (omega arith) (omega arith)))
 
@@ -54,24 +54,24 @@ module _ (R : Pairing) (env : Environment) (own : SharesOwn R env) where
       (append_rel (addressed_rel TableAt 0 _ (λ a l m. a_table (own.tables a (omega arith))))
       (append_rel (addressed_rel MemoryAt 0 _ (λ a l m. a_memory (own.mems a (omega arith)))) (addressed_rel GlobalAt 0 _ (λ a l m. a_global (own.globals a (omega arith))))))
 
-  either : (b : Bool) {x y : Thing} (o p : Option Thing) → ThingRel R x y → OptRel (ThingRel R) o p → OptRel (ThingRel R) (cond b (Some x) o) (cond b (Some y) p)
+  either : (b : Bool) {x y : ExternalValue} (o p : Option ExternalValue) → ExternalValueRel R x y → OptRel (ExternalValueRel R) o p → OptRel (ExternalValueRel R) (cond b (Some x) o) (cond b (Some y) p)
   either true o p x r = some x
   either false o p x r = r
 
-  pub look_rel : (is : OwnKey → Bool) {xs ys : Owned} → ListRel (KeyRel R) xs ys → OptRel (ThingRel R) (look_up is xs) (look_up is ys)
+  pub look_rel : (is : OwnKey → Bool) {xs ys : Owned} → ListRel (KeyRel R) xs ys → OptRel (ExternalValueRel R) (look_up is xs) (look_up is ys)
   look_rel is nil = none
   look_rel is (cons {a = x} {b = y} {xs = xs} {ys = ys} p r) =
       rw (← p.key) (either (is x.0) (look_up is xs) (look_up is ys) p.thing (look_rel is r))
 
   -- ---- their values ----
 
-  func_of_rel : {x : Thing} → ThingRel R x x → OptRel (R.of Functions) (func_of x) (func_of x)
+  func_of_rel : {x : ExternalValue} → ExternalValueRel R x x → OptRel (R.of Functions) (func_of x) (func_of x)
   func_of_rel (a_func p) = some p
   func_of_rel (a_table p) = none
   func_of_rel (a_memory p) = none
   func_of_rel (a_global p) = none
 
-  func_value_rel : (o : Option Thing) → OptRel (ThingRel R) o o → OptRel (ValRel R) (option_and_then (λ a. Some (func_value a)) (option_and_then func_of o)) (option_and_then (λ a. Some (func_value a)) (option_and_then func_of o))
+  func_value_rel : (o : Option ExternalValue) → OptRel (ExternalValueRel R) o o → OptRel (ValRel R) (option_and_then (λ a. Some (func_value a)) (option_and_then func_of o)) (option_and_then (λ a. Some (func_value a)) (option_and_then func_of o))
   func_value_rel None h = none
   func_value_rel (Some x) h = then_rel (func_of_rel (opt_self h refl)) (λ _ _ p. some (reference (func (some p))))
 

@@ -20,7 +20,7 @@ use Rattle.wasm_meaning.specs.World.{PlacedSegment, one_place, start_in, address
 use Rattle.index_remap.specs.declared.remap.Remap.{Remap}
 use Rattle.index_remap.specs.Renumbered.{new_func, new_const, new_elem, new_elem_mode, new_data_mode, new_export_desc, new_start}
 use Rattle.index_remap.specs.Related.{Pairing, OptRel, none, some, ListRel, nil, cons, ValRel, number, reference}
-use Rattle.index_remap.specs.RelatedRuns.{ThingRel, a_func, a_table, a_memory, a_global}
+use Rattle.index_remap.specs.RelatedRuns.{ExternalValueRel, a_func, a_table, a_memory, a_global}
 use Rattle.index_remap.specs.Laws.{passed, RenumberedCodeIsRelated}
 use Rattle.index_remap_proof.specs.Indices.{Indices, ConstNamesOnly, FuncNamesOnly, ExportNamesOnly, ElemModeNamesOnly, DataModeNamesOnly}
 use Rattle.world_simulation.specs.Named.{EntriesName}
@@ -53,7 +53,7 @@ module _ (of : Space → ℕ → ℕ → Bool) (m : Remap) (kept : Indices) (i j
   pub global_named : (x : ℕ) → IsTrue (kept Globals x) → OptRel (R.of Globals) (slice_get i.globals x) (slice_get j.globals (slice_index m.globals x))
   global_named x h = names Globals x h
 
-  pub export_named : (d : ExportDesc) → ExportNamesOnly kept d → OptRel (ThingRel R) (address_in i d) (address_in j (new_export_desc m d))
+  pub export_named : (d : ExportDesc) → ExportNamesOnly kept d → OptRel (ExternalValueRel R) (address_in i d) (address_in j (new_export_desc m d))
   export_named (ex.Func x) h = then_rel (func_named x h) (λ _ _ r. some (a_func r))
   export_named (ex.Table x) h = then_rel (table_named x h) (λ _ _ r. some (a_table r))
   export_named (ex.Memory x) h = then_rel (memory_named x h) (λ _ _ r. some (a_memory r))

@@ -15,7 +15,7 @@ use Rattle.world_simulation.specs.Definitions.{ElemsCorrespond, declared, kept}
 abbrev R : Pairing
 R = passed (λ k a b. false) (λ k a b. false) []
 
--- a function stands for itself, and null for null
+-- a function is related to itself, and null for null
 abbrev value : ConstExpr → Option Val
 value (const.Func f) = Some (Ref (FuncRef (Some f)))
 value _ = Some (Ref (FuncRef None))

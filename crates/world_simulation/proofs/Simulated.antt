@@ -15,7 +15,7 @@ use Rattle.index_remap.specs.Related.{Pairing, OneToOne, OptRel, ListRel, nil, c
 use Rattle.index_remap.specs.RelatedRuns.{BegunRel}
 use Rattle.index_remap.specs.Laws.{EntryByEntry}
 use Rattle.world_simulation.specs.Definitions.{Instantiated, values_in}
-use Rattle.world_simulation.specs.Simulation.{IsInstantiated, in_world, WorldsCorrespond, AreSimilar, StartAlike, BegunAlike}
+use Rattle.world_simulation.specs.Simulation.{IsInstantiated, in_world, WorldsCorrespond, AreSimilar, StartsCorrespond, BegunRelated}
 use Rattle.world_simulation.proofs.Places.{all_rel, opt_both, alike_there}
 use Rattle.world_simulation.proofs.Owned.{owned_rel}
 use Rattle.world_simulation.proofs.Stored.{table_placed, memory_placed, elem_placed, data_placed, stores_rel}
@@ -85,16 +85,16 @@ module _ (R : Pairing) (apart : OneToOne R) (env : Environment) (v w : World) (s
         (elems_in_order R apart env first second correspond.elems (elems_defined env first x.are_insts) (elems_defined env second y.are_insts) x.allocated y.allocated allocated)
         (λ s z like. datas_in_order R apart env first second correspond.datas (datas_defined env first x.are_insts) (datas_defined env second y.are_insts) s z like)
 
-    begun_alike : BegunAlike R (begun env v x.insts x.view (segments env v.parts x.insts x.allocated)) (begun env w y.insts y.view (segments env w.parts y.insts y.allocated))
+    begun_alike : BegunRelated R (begun env v x.insts x.view (segments env v.parts x.insts x.allocated)) (begun env w y.insts y.view (segments env w.parts y.insts y.allocated))
     begun_alike = record { store = filled.stores.related; entries = tt; closed = tt; trapped = filled.trapped; view = opt_both (all_rel correspond.view) x.is_view y.is_view; owned = owned_rel R env correspond.own }
 
-  pub begin_alike : (b c : Begun) → instantiate env v ≡ Some b → instantiate env w ≡ Some c → BegunAlike R b c
+  pub begin_alike : (b c : Begun) → instantiate env v ≡ Some b → instantiate env w ≡ Some c → BegunRelated R b c
   begin_alike b c f g =
       let x = what_is_made env v b f in
       let y = what_is_made env w c g in
       rw (← y.is) (rw (← x.is) (begun_alike b c x y))
 
-  begun_rel : StartAlike R env v w → (b c : Begun) → instantiate env v ≡ Some b → instantiate env w ≡ Some c → BegunRel R (EntryByEntry R) b c
+  begun_rel : StartsCorrespond R env v w → (b c : Begun) → instantiate env v ≡ Some b → instantiate env w ≡ Some c → BegunRel R (EntryByEntry R) b c
   begun_rel starts b c f g =
       let x = what_is_made env v b f in
       let y = what_is_made env w c g in
@@ -105,5 +105,5 @@ module _ (R : Pairing) (apart : OneToOne R) (env : Environment) (v w : World) (s
       record { store = k.store; entries = cons (opening related) nil; closed = nil; trapped = k.trapped; view = k.view; owned = k.owned }
 
   -- both or neither
-  pub instances_rel : StartAlike R env v w → links env v ≡ links env w → OptRel (BegunRel R (EntryByEntry R)) (instantiate env v) (instantiate env w)
+  pub instances_rel : StartsCorrespond R env v w → links env v ≡ links env w → OptRel (BegunRel R (EntryByEntry R)) (instantiate env v) (instantiate env w)
   instances_rel starts linked = alike_there _ _ linked (begun_rel starts)

@@ -1,4 +1,4 @@
--- Worlds of one module each: their instances, what their imports stand for, whether these match, and that they are linked.
+-- Worlds of one module each: their instances, what their imports denote, whether these match, and that they are linked.
 use Rattle.std.proofs.Common.{◌≡◌, ℕ, zero, suc, List, [], ◌∷◌, ◌++◌, length, Option, Some, None, true, false, refl, sym, ap, ap₂, ◌∙◌, option_and_then, slice_get, unwrap_or, ◌&&◌}
 use Rattle.base_lists.proofs.Options.{and_then_is, all_there_length}
 use Rattle.wasm_tree.specs.declared.space.Space.{Space}
@@ -13,12 +13,12 @@ use Rattle.wasm_meaning.specs.State.{Inst, Table, Store, Text}
 use Rattle.wasm_meaning.specs.Values.{same_ref, same_type, same_func_type}
 use Rattle.wasm_meaning.specs.Linking.{Site, has_kind, pair_of, places, sites, imports_of, Entity}
 use Rattle.wasm_meaning.specs.Linking as linking
-use Rattle.wasm_meaning.specs.Environment.{Environment, Thing, same_key, all_of}
+use Rattle.wasm_meaning.specs.Environment.{Environment, ExternalValue, same_key, all_of}
 use Rattle.wasm_meaning.specs.World.{meets, same_bool, numbers, own_count, defined_count, address_of, space, is_match, is_matched, Begun, insts_from, stores_from, own_store, joined_stores, part_store, all_there, segments, begun, instantiate, is_there, links, alone, placed_elems, placed_datas, seen_as, start_in, starts_of}
 use Rattle.index_remap.specs.Related.{Pairing, OptRel, none, some, ListRel, TableRel, StoreRel}
-use Rattle.index_remap.specs.RelatedRuns.{ThingRel, a_func, a_table, a_memory, a_global}
+use Rattle.index_remap.specs.RelatedRuns.{ExternalValueRel, a_func, a_table, a_memory, a_global}
 use Rattle.index_remap.proofs.Rel.{length_rel, same_there, there}
-use Rattle.world_simulation.specs.Alone.{one, site, key_in, thing_in, import_places, addresses}
+use Rattle.world_simulation.specs.Alone.{one, site, key_in, external_value_in, import_places, addresses}
 use Rattle.world_simulation.specs.Owned.{SharesOwn}
 use Rattle.world_simulation.proofs.Alone.{space_is, thing_is, on_some}
 use Rattle.world_simulation.proofs.Owned.{owned_rel, look_rel}
@@ -26,7 +26,7 @@ use Rattle.world_simulation.proofs.Places.{then_rel, then_same, then_eq, opt_sel
 use Rattle.wasm_meaning.specs.World as world
 use Rattle.world_simulation.proofs.Instancing.{IsInst, inst_is}
 
-pub address_rel : (R : Pairing) (k : Space) {x y : Thing} → ThingRel R x y → OptRel (R.of k) (address_of k x) (address_of k y)
+pub address_rel : (R : Pairing) (k : Space) {x y : ExternalValue} → ExternalValueRel R x y → OptRel (R.of k) (address_of k x) (address_of k y)
 address_rel R Functions (a_func p) = some p
 address_rel R Tables (a_table p) = some p
 address_rel R Memories (a_memory p) = some p
@@ -34,7 +34,7 @@ address_rel R Globals (a_global p) = some p
 address_rel R k p = none
 
 module _ (R : Pairing) (env : Environment) (own : SharesOwn R env) where
-  pub thing_rel : (types : List FuncType) (o : Option Import) → OptRel (ThingRel R) (thing_in env types o) (thing_in env types o)
+  pub thing_rel : (types : List FuncType) (o : Option Import) → OptRel (ExternalValueRel R) (external_value_in env types o) (external_value_in env types o)
   thing_rel types o = then_same o (λ i _. then_same (key_in types (pair_of i) i.desc) (λ key _. look_rel R env own (same_key key) (owned_rel R env own)))
 
   addresses_rel : (types : List FuncType) (imports : List Import) (k : Space) → OptRel (ListRel (R.of k)) (addresses env types imports k) (addresses env types imports k)
@@ -61,7 +61,7 @@ module _ (R : Pairing) (env : Environment) (own : SharesOwn R env) where
     table_same l {v} {w} r =
         ap (λ ty. same_ref l.ty ty && meets (length v.slots) v.most l.limits) r.type ∙ ap₂ (λ n most. same_ref l.ty w.ty && meets n most l.limits) (length_rel r.slots) r.most
 
-    pub match_same : (d : ImportDesc) {x y : Thing} → ThingRel R x y → is_match s t d x ≡ is_match z u d y
+    pub match_same : (d : ImportDesc) {x y : ExternalValue} → ExternalValueRel R x y → is_match s t d x ≡ is_match z u d y
     match_same (im.Func ty) {y = y} (a_func p) =
         on_some (slice_get t.types ty) (λ v. ap (λ o. option_and_then (λ w. Some (same_func_type v w)) o) (same_there (like.types p))) ∙ ap (λ ts. is_match z (record t { types = ts }) (im.Func ty) y) (sym types)
     match_same (im.Table l) (a_table {a = a} {b = b} p) = then_eq (there (like.tables p)) (λ _ _ r. ap Some (table_same l r))
@@ -73,7 +73,7 @@ module _ (R : Pairing) (env : Environment) (own : SharesOwn R env) where
     matched_same n =
         ap (λ o. unwrap_or o false) (ap (λ x. option_and_then (λ i. option_and_then (is_match s t i.desc) x) (slice_get t.imports n)) (thing_is env t n)
         ∙ on_some (slice_get t.imports n) (λ i. then_eq (thing_rel t.types (slice_get t.imports n)) (λ _ _ r. match_same i.desc r))
-        ∙ ap₂ (λ ts is. option_and_then (λ i. option_and_then (is_match z u i.desc) (thing_in env ts (slice_get is n))) (slice_get is n)) (sym types) (sym imports)
+        ∙ ap₂ (λ ts is. option_and_then (λ i. option_and_then (is_match z u i.desc) (external_value_in env ts (slice_get is n))) (slice_get is n)) (sym types) (sym imports)
         ∙ ap (λ x. option_and_then (λ i. option_and_then (is_match z u i.desc) x) (slice_get u.imports n)) (sym (thing_is env u n)))
 
     -- the same imports match in both or in neither
@@ -95,6 +95,6 @@ pub there_is : {A : Type 0} (o : Option A) → is_there o ≡ true → (x : A) �
 there_is None h = cc
 there_is (Some x) h = (x, refl)
 
-pub made_there : (env : Environment) (t : Module) (is : List Inst) (s : Store) (view : List (Text × Thing)) → insts_from env (one t) 0 (one t) ≡ Some is → stores_from env (one t) is (own_store env) 0 (one t) is ≡ Some s → all_there (seen_as is) (alone t).view ≡ Some view →
+pub made_there : (env : Environment) (t : Module) (is : List Inst) (s : Store) (view : List (Text × ExternalValue)) → insts_from env (one t) 0 (one t) ≡ Some is → stores_from env (one t) is (own_store env) 0 (one t) is ≡ Some s → all_there (seen_as is) (alone t).view ≡ Some view →
     all_of (is_matched env (one t) s) (sites (one t)) ≡ true → links env (alone t) ≡ true
 made_there env t is s view e f g h = rw (e, f, g, h) refl

@@ -9,10 +9,10 @@ use Rattle.wasm_meaning.specs.Step.{enter}
 use Rattle.wasm_meaning.specs.Environment.{Environment}
 use Rattle.wasm_meaning.specs.World.{Begun}
 use Rattle.wasm_meaning.specs.Run.{InstanceTrapped, Phase, Pending, Closed, Move, Run, Out, run_after, tick, events_of, IsPrefix, fresh_run}
-use Rattle.wasm_meaning.specs.Below.{IsBottom, GivesNothing, a_frame, a_call, Unseen, goes_on, ended, trapped, BelowIsNotSeen}
+use Rattle.wasm_meaning.specs.StartFrames.{IsBottom, GivesNothing, a_frame, a_call, AgreeOnFrames, goes_on, ended, trapped, StartDependsOnlyOnItsFrames}
 use Rattle.index_remap.specs.Related.{ListRel, nil, cons}
 use Rattle.world_simulation.specs.Starts.{from_nothing_to_nothing, NamesStart, CallsEach}
-use Rattle.base_simulation.proofs.Led.{Leads, both, second, led_show_the_same}
+use Rattle.base_simulation.proofs.LedRuns.{Leads, both, second, led_traces_are_equal}
 
 -- the frame of the one start, with these calls left
 abbrev pub starter : Inst → List ℕ → Frame
@@ -88,12 +88,12 @@ unfolding out-Instr denote.Hole.Carrier.out
 called_is r ns j n a f m h e = rw (m, h, e) refl
 
 entered : (r : Run) (es fs : List Entry) (f : Func) (xs ns : List ℕ) (j : Inst) → type_of_func f ≡ from_nothing_to_nothing →
-    Unseen (openings xs) (calls j ns) r.phase r.phase r.store.funcs (run_after (record r { entries = es }) (Gives (enter r.store f [] (openings xs)))) (run_after (record r { entries = fs }) (Gives (enter r.store f [] (calls j ns))))
+    AgreeOnFrames (openings xs) (calls j ns) r.phase r.phase r.store.funcs (run_after (record r { entries = es }) (Gives (enter r.store f [] (openings xs)))) (run_after (record r { entries = fs }) (Gives (enter r.store f [] (calls j ns))))
 entered r es fs (Code t c ls is) xs ns j e = goes_on r (_ ∷ []) refl (a_frame (rw e refl))
 entered r es fs (Own pair t) xs ns j e = goes_on r (Waiting t.results ∷ []) refl (rw (ap (λ u. u.results) e) a_call)
 entered r es fs (Placeholder n t) xs ns j e = trapped r
 
-unseen : {e : ℕ} {s : Store} {phase : Phase} {o p : Out} (xs ns : List ℕ) (j : Inst) → ListRel (NamesStart s j) ns xs → Unseen (openings xs) (calls j ns) phase phase s.funcs o p → Agree 1 e o p
+unseen : {e : ℕ} {s : Store} {phase : Phase} {o p : Out} (xs ns : List ℕ) (j : Inst) → ListRel (NamesStart s j) ns xs → AgreeOnFrames (openings xs) (calls j ns) phase phase s.funcs o p → Agree 1 e o p
 unseen {phase = phase} xs ns j l (goes_on r es n g) = record { event = refl; runs = inside (record r { phase = phase }) es xs ns j g (still_named n l) }
 unseen {phase = phase} xs ns j l (ended r n) = record { event = refl; runs = between (record r { phase = phase }) xs ns j (still_named n l) }
 unseen xs ns j l (trapped r) = record { event = refl; runs = the_same _ }
@@ -105,7 +105,7 @@ opens r xs ns j n a x l =
 
 -- ---- the whole of it ----
 
-module _ (below : BelowIsNotSeen) where
+module _ (below : StartDependsOnlyOnItsFrames) where
   next : (d e : ℕ) (r q : Run) → Alike d e r q → Leads tick tick Alike d e r q
   next d e r q (the_same x) = both refl (the_same _)
   next d e r q (fresh env b a moves c) = agreed (begun env b a moves c)
@@ -120,6 +120,6 @@ module _ (below : BelowIsNotSeen) where
   one_start env b a c moves n =
       let r = fresh_run env (Some b) moves in
       let q = fresh_run env (Some (record b { starts = a ∷ [] })) moves in
-      let both_ways = led_show_the_same tick tick Alike next 2 0 r q (fresh env b a moves c) n in
+      let both_ways = led_traces_are_equal tick tick Alike next 2 0 r q (fresh env b a moves c) n in
       let as_many : n + 0 ≡ n = omega arith in
       (both_ways.0, subst (λ m. IsPrefix (events_of tick q n) (events_of tick r m)) as_many both_ways.1)

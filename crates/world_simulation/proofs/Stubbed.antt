@@ -20,14 +20,14 @@ use Rattle.wasm_tree.specs.declared.module.Module.{Module}
 use Rattle.wasm_meaning.specs.State.{Text, Pair, Val, Inst, Func, Code, Placeholder, Global, Elem, Store}
 use Rattle.wasm_meaning.specs.Values.{declared}
 use Rattle.wasm_meaning.specs.Linking.{pair_of}
-use Rattle.wasm_meaning.specs.Environment.{Environment, Thing, FuncAt, TableAt, MemoryAt, GlobalAt, owned_of, owned_at, own_funcs, own_tables, own_memories, own_globals}
+use Rattle.wasm_meaning.specs.Environment.{Environment, ExternalValue, FuncAt, TableAt, MemoryAt, GlobalAt, owned_of, owned_at, own_funcs, own_tables, own_memories, own_globals}
 use Rattle.wasm_meaning.specs.World.{Begun, all_there, address_of, address_in, start_in, own_count, numbers, const_value, new_func, global_with, elem_with, joined_stores, own_store, is_match}
-use Rattle.wasm_meaning.specs.InTurn.{Added, added, added_as, addresses_of, all_match, next_inst, own_segments, own_thing}
+use Rattle.wasm_meaning.specs.Sequential.{Added, added, added_as, addresses_of, all_match, next_inst, own_segments, own_external_value}
 use Rattle.wasm_meaning.specs.Loader.{LoaderWorld, placeholders_of, placeholders_from, store_under, slot_of, placeholder_or_own, supplied, primary_added, begun_of, begun_under}
 use Rattle.index_remap.specs.Related.{StoreRel}
-use Rattle.index_remap.specs.RelatedRuns.{ThingRel}
+use Rattle.index_remap.specs.RelatedRuns.{ExternalValueRel}
 use Rattle.index_remap.proofs.SlotCalls.{func_type_self}
-use Rattle.world_simulation.specs.Alone.{thing_in}
+use Rattle.world_simulation.specs.Alone.{external_value_in}
 use Rattle.world_simulation.specs.Stubbed.{ArePlaceholders, ImportsThemLast, stub, stubbed, with_placeholders, placeholders_in, placeholders_begun, LoadersAddAsStubbed, LoadersBeginAsStubbed}
 use Rattle.world_simulation.proofs.Places.{opt_self, map_length}
 use Rattle.world_simulation.proofs.Alone.{key_is}
@@ -79,24 +79,24 @@ module _ (env : Environment) where
   abbrev O : ℕ
   O = own_count Functions env
 
-  -- what these imports stand for
-  abbrev things_from : ℕ → List (Pair × FuncType) → List Thing
-  things_from n [] = []
-  things_from n (p ∷ ps) = FuncAt (O + n) ∷ things_from (suc n) ps
+  -- what these imports denote
+  abbrev external_values_from : ℕ → List (Pair × FuncType) → List ExternalValue
+  external_values_from n [] = []
+  external_values_from n (p ∷ ps) = FuncAt (O + n) ∷ external_values_from (suc n) ps
 
-  func_addresses : (n : ℕ) (ps : List (Pair × FuncType)) → addresses_of Functions (things_from n ps) ≡ numbers (O + n) (length ps)
+  func_addresses : (n : ℕ) (ps : List (Pair × FuncType)) → addresses_of Functions (external_values_from n ps) ≡ numbers (O + n) (length ps)
   func_addresses n [] = refl
   func_addresses n (p ∷ ps) = let e : O + suc n ≡ suc (O + n) = omega arith in ap (λ xs. (O + n) ∷ xs) (func_addresses (suc n) ps ∙ ap (λ k. numbers k (length ps)) e)
 
-  no_tables : (n : ℕ) (ps : List (Pair × FuncType)) → addresses_of Tables (things_from n ps) ≡ []
+  no_tables : (n : ℕ) (ps : List (Pair × FuncType)) → addresses_of Tables (external_values_from n ps) ≡ []
   no_tables n [] = refl
   no_tables n (p ∷ ps) = no_tables (suc n) ps
 
-  no_mems : (n : ℕ) (ps : List (Pair × FuncType)) → addresses_of Memories (things_from n ps) ≡ []
+  no_mems : (n : ℕ) (ps : List (Pair × FuncType)) → addresses_of Memories (external_values_from n ps) ≡ []
   no_mems n [] = refl
   no_mems n (p ∷ ps) = no_mems (suc n) ps
 
-  no_globals : (n : ℕ) (ps : List (Pair × FuncType)) → addresses_of Globals (things_from n ps) ≡ []
+  no_globals : (n : ℕ) (ps : List (Pair × FuncType)) → addresses_of Globals (external_values_from n ps) ≡ []
   no_globals n [] = refl
   no_globals n (p ∷ ps) = no_globals (suc n) ps
 
@@ -113,9 +113,9 @@ module _ (env : Environment) (w : LoaderWorld) (others : List Import) (tys : Lis
   abbrev first : Store
   first = store_under env w
 
-  -- ---- what imports stand for ----
+  -- ---- what imports denote ----
 
-  supplied_slots : (n : ℕ) (is : List Import) (qs : List (Pair × FuncType)) (ts : List ℕ) → ArePlaceholders w n is qs ts → all_there (supplied env w) is ≡ Some (things_from env n qs)
+  supplied_slots : (n : ℕ) (is : List Import) (qs : List (Pair × FuncType)) (ts : List ℕ) → ArePlaceholders w n is qs ts → all_there (supplied env w) is ≡ Some (external_values_from env n qs)
   supplied_slots n [] [] [] h = refl
   supplied_slots n (i ∷ is) (q ∷ qs) (t ∷ ts) (d, at, typed, rest) = rw (at, supplied_slots (suc n) is qs ts rest) refl
   supplied_slots n [] [] (t ∷ ts) h = absurd h
@@ -123,10 +123,10 @@ module _ (env : Environment) (w : LoaderWorld) (others : List Import) (tys : Lis
   supplied_slots n (i ∷ is) [] ts h = absurd h
   supplied_slots n (i ∷ is) (q ∷ qs) [] h = absurd h
 
-  own_is : (i : Import) → own_thing (owned_of env) P i ≡ own_thing (owned_of env) Q i
+  own_is : (i : Import) → own_external_value (owned_of env) P i ≡ own_external_value (owned_of env) Q i
   own_is i = ap (λ k. option_and_then (λ key. owned_at (owned_of env) key) k) (key_is P (pair_of i) i.desc ∙ sym (key_is Q (pair_of i) i.desc))
 
-  supplied_own : (is : List Import) → Every (λ i. slot_of w i ≡ None) is → all_there (supplied env w) is ≡ all_there (own_thing (owned_of env) Q) is
+  supplied_own : (is : List Import) → Every (λ i. slot_of w i ≡ None) is → all_there (supplied env w) is ≡ all_there (own_external_value (owned_of env) Q) is
   supplied_own [] h = refl
   supplied_own (i ∷ is) h = ap₂ (λ o p. o >>= λ y. p >>= λ ys. Some (y ∷ ys)) (ap (placeholder_or_own env w i) h.0 ∙ own_is i) (supplied_own is h.1)
 
@@ -142,7 +142,7 @@ module _ (env : Environment) (w : LoaderWorld) (others : List Import) (tys : Lis
 
   -- ---- matching ----
 
-  match_types : (s : Store) (d : ImportDesc) (x : Thing) → is_match s P d x ≡ is_match s Q d x
+  match_types : (s : Store) (d : ImportDesc) (x : ExternalValue) → is_match s P d x ≡ is_match s Q d x
   match_types s (im.Func ty) (FuncAt a) = refl
   match_types s (im.Table t) (TableAt a) = refl
   match_types s (im.Memory l) (MemoryAt a) = refl
@@ -158,16 +158,16 @@ module _ (env : Environment) (w : LoaderWorld) (others : List Import) (tys : Lis
   like : StoreRel (R env) (own_store env) first
   like = subst (StoreRel (R env) (own_store env)) joined_is (joined_right (R env) added_funcs (own_like env))
 
-  matches_one : (i : Import) (x : Thing) → own_thing (owned_of env) Q i ≡ Some x → is_match first P i.desc x ≡ is_match (own_store env) Q i.desc x
+  matches_one : (i : Import) (x : ExternalValue) → own_external_value (owned_of env) Q i ≡ Some x → is_match first P i.desc x ≡ is_match (own_store env) Q i.desc x
   matches_one i x is =
-      let x_is : thing_in env Q.types (Some i) ≡ Some x = sym (ap (λ k. option_and_then (λ key. owned_at (owned_of env) key) k) (key_is Q (pair_of i) i.desc)) ∙ is in
-      let rel : ThingRel (R env) x x = opt_self (thing_rel (R env) env (shares env) Q.types (Some i)) x_is in
+      let x_is : external_value_in env Q.types (Some i) ≡ Some x = sym (ap (λ k. option_and_then (λ key. owned_at (owned_of env) key) k) (key_is Q (pair_of i) i.desc)) ∙ is in
+      let rel : ExternalValueRel (R env) x x = opt_self (thing_rel (R env) env (shares env) Q.types (Some i)) x_is in
       match_types first i.desc x ∙ sym (match_same (R env) env (shares env) (own_store env) first like Q Q refl refl i.desc rel)
 
   placeholder_at : (n : ℕ) (p : Func) → slice_get (placeholders_from 0 ps) n ≡ Some p → slice_get first.funcs (O env + n) ≡ Some p
   placeholder_at n p h = append_right (own_funcs env) (placeholders_from 0 ps) n ∙ h
 
-  matches_slots : (n : ℕ) (is : List Import) (qs : List (Pair × FuncType)) (ts : List ℕ) → ((k : ℕ) → slice_get (placeholders_from 0 ps) (n + k) ≡ slice_get (placeholders_from n qs) k) → ArePlaceholders w n is qs ts → all_match first P is (things_from env n qs) ≡ true
+  matches_slots : (n : ℕ) (is : List Import) (qs : List (Pair × FuncType)) (ts : List ℕ) → ((k : ℕ) → slice_get (placeholders_from 0 ps) (n + k) ≡ slice_get (placeholders_from n qs) k) → ArePlaceholders w n is qs ts → all_match first P is (external_values_from env n qs) ≡ true
   matches_slots n [] [] [] at h = refl
   matches_slots n (i ∷ is) (q ∷ qs) (t ∷ ts) at (d, place, typed, rest) =
       let z : n + 0 ≡ n = omega arith in
@@ -178,28 +178,28 @@ module _ (env : Environment) (w : LoaderWorld) (others : List Import) (tys : Lis
   matches_slots n (i ∷ is) [] ts at h = absurd h
   matches_slots n (i ∷ is) (q ∷ qs) [] at h = absurd h
 
-  matches : (is : List Import) (xs : List Thing) → all_there (own_thing (owned_of env) Q) is ≡ Some xs → all_match first P (is ++ last.slots) (xs ++ things_from env 0 ps) ≡ all_match (own_store env) Q is xs
+  matches : (is : List Import) (xs : List ExternalValue) → all_there (own_external_value (owned_of env) Q) is ≡ Some xs → all_match first P (is ++ last.slots) (xs ++ external_values_from env 0 ps) ≡ all_match (own_store env) Q is xs
   matches [] xs h =
       let e : [] ≡ xs = cc in
       rw (← e) (matches_slots 0 last.slots ps tys (λ k. let z : 0 + k ≡ k = omega arith in ap (slice_get (placeholders_from 0 ps)) z) last.placeholders)
   matches (i ∷ is) xs h =
-      let x = and_then_is (own_thing (owned_of env) Q i) _ xs h in
-      let rest = and_then_is (all_there (own_thing (owned_of env) Q) is) _ xs x.2 in
+      let x = and_then_is (own_external_value (owned_of env) Q i) _ xs h in
+      let rest = and_then_is (all_there (own_external_value (owned_of env) Q) is) _ xs x.2 in
       let e : x.0 ∷ rest.0 ≡ xs = cc in
       rw (← e) (ap₂ (λ a b. unwrap_or a false && b) (matches_one i x.0 x.1) (matches is rest.0 rest.1))
 
   -- ---- the instance ----
 
-  abbrev behind : List Thing → List Thing
-  behind xs = xs ++ things_from env 0 ps
+  abbrev behind : List ExternalValue → List ExternalValue
+  behind xs = xs ++ external_values_from env 0 ps
 
-  split_addresses : (k : Space) (xs : List Thing) → addresses_of k (behind xs) ≡ addresses_of k xs ++ addresses_of k (things_from env 0 ps)
-  split_addresses k xs = filter_map-append (address_of k) xs (things_from env 0 ps)
+  split_addresses : (k : Space) (xs : List ExternalValue) → addresses_of k (behind xs) ≡ addresses_of k xs ++ addresses_of k (external_values_from env 0 ps)
+  split_addresses k xs = filter_map-append (address_of k) xs (external_values_from env 0 ps)
 
-  none_more : (k : Space) (xs : List Thing) → addresses_of k (things_from env 0 ps) ≡ [] → addresses_of k (behind xs) ≡ addresses_of k xs
+  none_more : (k : Space) (xs : List ExternalValue) → addresses_of k (external_values_from env 0 ps) ≡ [] → addresses_of k (behind xs) ≡ addresses_of k xs
   none_more k xs none = split_addresses k xs ∙ ap (λ ys. addresses_of k xs ++ ys) none ∙ append-nil (addresses_of k xs)
 
-  func_space : (xs : List Thing) → addresses_of Functions (behind xs) ++ numbers (length first.funcs) (length P.funcs) ≡ addresses_of Functions xs ++ numbers (O env) (length Q.funcs)
+  func_space : (xs : List ExternalValue) → addresses_of Functions (behind xs) ++ numbers (length first.funcs) (length P.funcs) ≡ addresses_of Functions xs ++ numbers (O env) (length Q.funcs)
   func_space xs =
       let z : O env + 0 ≡ O env = omega arith in
       let here : length first.funcs ≡ O env + length ps = length-append (own_funcs env) (placeholders_from 0 ps) ∙ ap (λ n. O env + n) (placeholders_many 0 ps) in
@@ -208,7 +208,7 @@ module _ (env : Environment) (w : LoaderWorld) (others : List Import) (tys : Lis
       ∙ append_assoc (addresses_of Functions xs) (numbers (O env) (length ps)) (numbers (O env + length ps) (length P.funcs))
       ∙ ap (λ ys. addresses_of Functions xs ++ ys) (sym (numbers_append (O env) (length ps) (length P.funcs)) ∙ ap (numbers (O env)) (sym all))
 
-  same_inst : (xs : List Thing) → next_inst first P (behind xs) ≡ next_inst (own_store env) Q xs
+  same_inst : (xs : List ExternalValue) → next_inst first P (behind xs) ≡ next_inst (own_store env) Q xs
   same_inst xs =
       let j = next_inst (own_store env) Q xs in
       rw (none_more Tables xs (no_tables env 0 ps), none_more Memories xs (no_mems env 0 ps), none_more Globals xs (no_globals env 0 ps)) (ap (λ fs. record j { funcs = fs }) (func_space xs))
@@ -260,7 +260,7 @@ module _ (env : Environment) (w : LoaderWorld) (others : List Import) (tys : Lis
 
   -- ---- the module that is added ----
 
-  added_same : (xs : List Thing) → all_there (own_thing (owned_of env) Q) others ≡ Some xs → added first P (behind xs) ≡ added (own_store env) Q xs >>= λ a. Some (placeholders_in env w a)
+  added_same : (xs : List ExternalValue) → all_there (own_external_value (owned_of env) Q) others ≡ Some xs → added first P (behind xs) ≡ added (own_store env) Q xs >>= λ a. Some (placeholders_in env w a)
   added_same xs h =
       let i = next_inst (own_store env) Q xs in
       let stubs = stubs_there 0 last.slots ps tys last.placeholders i refl in
@@ -275,21 +275,21 @@ module _ (env : Environment) (w : LoaderWorld) (others : List Import) (tys : Lis
   adds_as_stubbed =
       let slots = supplied_slots 0 last.slots ps tys last.placeholders in
       ap (λ is. all_there (supplied env w) is >>= (added first P)) last.all
-      ∙ ap (λ o. o >>= (added first P)) (there_behind (supplied env w) others last.slots (things_from env 0 ps) slots ∙ ap (λ o. o >>= λ xs. Some (behind xs)) (supplied_own others last.own))
-      ∙ by (all_there (own_thing (owned_of env) Q) others) (λ xs h. added_same xs h)
+      ∙ ap (λ o. o >>= (added first P)) (there_behind (supplied env w) others last.slots (external_values_from env 0 ps) slots ∙ ap (λ o. o >>= λ xs. Some (behind xs)) (supplied_own others last.own))
+      ∙ by (all_there (own_external_value (owned_of env) Q) others) (λ xs h. added_same xs h)
       ∙ sym (ap₂ (λ o s. o >>= (added s Q) >>= λ a. Some (placeholders_in env w a)) (all_there_same (nothing_supplied env (stubbed w others tys) refl) others) (store_is env (stubbed w others tys) refl))
     where
-      by : (o : Option (List Thing)) → ((xs : List Thing) → o ≡ Some xs → added first P (behind xs) ≡ added (own_store env) Q xs >>= λ a. Some (placeholders_in env w a)) → (o >>= λ xs. Some (behind xs)) >>= (added first P) ≡ o >>= (added (own_store env) Q) >>= λ a. Some (placeholders_in env w a)
+      by : (o : Option (List ExternalValue)) → ((xs : List ExternalValue) → o ≡ Some xs → added first P (behind xs) ≡ added (own_store env) Q xs >>= λ a. Some (placeholders_in env w a)) → (o >>= λ xs. Some (behind xs)) >>= (added first P) ≡ o >>= (added (own_store env) Q) >>= λ a. Some (placeholders_in env w a)
       by None h = refl
       by (Some xs) h = h xs refl
 
-  abbrev begun_from : Added → Store → List (Text × Thing) → Begun
+  abbrev begun_from : Added → Store → List (Text × ExternalValue) → Begun
   begun_from a s view = record { store = s; trapped = a.filled.trapped; starts = start_in a.inst P.start; view = view; owned = owned_of env }
 
   pub begins_as_stubbed : begun_under env w ≡ begun_under env (stubbed w others tys) >>= λ b. Some (placeholders_begun env w b)
   begins_as_stubbed = ap (λ o. o >>= (begun_of env w)) adds_as_stubbed ∙ by (primary_added env (stubbed w others tys))
     where
-      viewed : (a : Added) (o : Option (List (Text × Thing))) → (o >>= λ view. Some (begun_from a (with_placeholders env w a.filled.store) view)) ≡ (o >>= λ view. Some (begun_from a a.filled.store view)) >>= λ b. Some (placeholders_begun env w b)
+      viewed : (a : Added) (o : Option (List (Text × ExternalValue))) → (o >>= λ view. Some (begun_from a (with_placeholders env w a.filled.store) view)) ≡ (o >>= λ view. Some (begun_from a a.filled.store view)) >>= λ b. Some (placeholders_begun env w b)
       viewed a None = refl
       viewed a (Some view) = refl
 

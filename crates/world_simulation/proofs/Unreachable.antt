@@ -27,8 +27,8 @@ use Rattle.index_remap.specs.References.{declared_refs}
 use Rattle.index_remap_proof.specs.Indices.{Indices, ImportNamesOnly, FuncNamesOnly}
 use Rattle.world_simulation.proofs.Declared.{Keeps, keeps, last_elems, last_segments}
 use Rattle.wasm_meaning.specs.Run.{Move, events}
-use Rattle.world_simulation.specs.Instances.{RelatedInstancesShowTheSame}
-use Rattle.world_simulation.specs.Simulation.{AreSimilar, StartAlike, WorldsCorrespond}
+use Rattle.world_simulation.specs.Instances.{RelatedInstancesHaveEqualTraces}
+use Rattle.world_simulation.specs.Simulation.{AreSimilar, StartsCorrespond, WorldsCorrespond}
 use Rattle.world_simulation.proofs.Instancing.{inst_is, inst_there, IsInst, addresses_in}
 use Rattle.world_simulation.proofs.Simulated.{what_is_made, instances_rel}
 use Rattle.world_simulation.specs.Definitions.{FuncsCorrespond, FuncsAt, GlobalsCorrespond, ElemsCorrespond, Partners, DefinitionsCorrespond, Instantiated, values_in}
@@ -213,7 +213,7 @@ module _ (t : Module) (n : ℕ) (there : n < length t.funcs) (reach : IsUnreacha
     similar : RenumberedCodeIsRelated → AreSimilar R env (alone t) (alone u)
     similar code = for_instances (WorldsCorrespond R env (alone t) (alone u)) (λ i j a b. worlds i j a b code)
 
-    start_alike : StartAlike R env (alone t) (alone u)
+    start_alike : StartsCorrespond R env (alone t) (alone u)
     start_alike = for_instances (λ is js. ListRel (R.of Functions) (starts_of (one t) is) (starts_of (one u) js)) (λ i j a b. starts of m kept t u fs items env own i j a b (names i j a b))
 
     funcs_from : RenumberedCodeIsRelated → (i j : Inst) (a : IsInst env (one t) 0 t i) (b : IsInst env (one (removed n t)) 0 (removed n t) j) → FuncsFrom of m kept t u fs items env own i j a b (names i j a b)
@@ -245,6 +245,6 @@ module _ (t : Module) (n : ℕ) (there : n < length t.funcs) (reach : IsUnreacha
         linked_with of m kept t u fs items env own i.0 j.0 a b (names i.0 j.0 a b) (funcs_from code i.0 j.0 a b) (λ many. last_elems env u j.0 plain (many ∙ ap length same.func_space)) (definitions i.0 j.0 a b code) o.0 x i.1
         (rw j.1 refl)
 
-  pub shows_the_same : RelatedInstancesShowTheSame → RenumberedCodeIsRelated → (env : Environment) → links env (alone t) ≡ true → (moves : List Move) (k : ℕ) → events (alone t) env moves k ≡ events (alone u) env moves k
+  pub shows_the_same : RelatedInstancesHaveEqualTraces → RenumberedCodeIsRelated → (env : Environment) → links env (alone t) ≡ true → (moves : List Move) (k : ℕ) → events (alone t) env moves k ≡ events (alone u) env moves k
   shows_the_same law code env h moves k =
       law (of env) (one_to_one env) (alone t) (alone u) env (instances_rel (R env) (one_to_one env) env (alone t) (alone u) (similar env code) (start_alike env) (h ∙ sym (linked env code h))) moves k

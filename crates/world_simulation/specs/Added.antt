@@ -9,8 +9,8 @@ use Rattle.wasm_tree.specs.declared.module.DataSeg.{DataSeg}
 use Rattle.wasm_tree.specs.declared.module.DataMode.TheVariants as data'
 use Rattle.wasm_tree.specs.declared.module.Module.{Module}
 use Rattle.wasm_meaning.specs.State.{Inst, Store}
-use Rattle.wasm_meaning.specs.Environment.{Thing}
-use Rattle.wasm_meaning.specs.InTurn.{Added, added}
+use Rattle.wasm_meaning.specs.Environment.{ExternalValue}
+use Rattle.wasm_meaning.specs.Sequential.{Added, added}
 use Rattle.index_remap.specs.Related.{StoreRel}
 use Rattle.index_remap.specs.RelatedRuns.{turned, HasNoPartner}
 use Rattle.index_remap.specs.Laws.{passed}
@@ -23,11 +23,11 @@ pub record WritesAlone (alone : Space → ℕ → Type 0) (m : Module) (i : Inst
 -- The stores stay related, whatever functions are listed, and whether or not a segment traps: where the module is added to the second,
 abbrev pub AddedToTheSecondStayRelated : Type 0
 AddedToTheSecondStayRelated =
-    (of named : Space → ℕ → ℕ → Bool) (l : List ℕ) (s z : Store) (m : Module) (things : List Thing) (a : Added) → StoreRel (passed of named l) s z → added z m things ≡ Some a → WritesAlone (HasNoPartner (passed of named l)) m a.inst →
+    (of named : Space → ℕ → ℕ → Bool) (l : List ℕ) (s z : Store) (m : Module) (things : List ExternalValue) (a : Added) → StoreRel (passed of named l) s z → added z m things ≡ Some a → WritesAlone (HasNoPartner (passed of named l)) m a.inst →
     StoreRel (passed of named l) s a.filled.store
 
 -- and where it is added to the first.
 abbrev pub AddedToTheFirstStayRelated : Type 0
 AddedToTheFirstStayRelated =
-    (of named : Space → ℕ → ℕ → Bool) (l : List ℕ) (s z : Store) (m : Module) (things : List Thing) (a : Added) → StoreRel (passed of named l) s z → added s m things ≡ Some a → WritesAlone (HasNoPartner (turned (passed of named l))) m a.inst →
+    (of named : Space → ℕ → ℕ → Bool) (l : List ℕ) (s z : Store) (m : Module) (things : List ExternalValue) (a : Added) → StoreRel (passed of named l) s z → added s m things ≡ Some a → WritesAlone (HasNoPartner (turned (passed of named l))) m a.inst →
     StoreRel (passed of named l) a.filled.store z

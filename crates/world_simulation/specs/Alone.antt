@@ -1,4 +1,4 @@
--- A module alone: its imports all stay, so what they stand for, its index spaces, and what its constant expressions read are a matter of its types and imports.
+-- A module alone: its imports all stay, so what they denote, its index spaces, and what its constant expressions read are a matter of its types and imports.
 use Rattle.std.specs.Prelude.{◌≡◌, ℕ, List, [], ◌∷◌, ◌++◌, Option, Some, None, slice_get}
 use Rattle.wasm_tree.specs.declared.space.Space.{Space}
 use Rattle.wasm_tree.specs.declared.space.Space.TheVariants.{Globals}
@@ -12,8 +12,8 @@ use Rattle.wasm_tree.specs.declared.module.ConstExpr.TheVariants as const
 use Rattle.wasm_tree.specs.declared.module.Module.{Module}
 use Rattle.wasm_meaning.specs.State.{Pair}
 use Rattle.wasm_meaning.specs.Linking.{Part, Site, Outside, Read, places, has_kind, pair_of, end_of, read_of, space_index}
-use Rattle.wasm_meaning.specs.Environment.{Environment, Thing, OwnKey, FuncKey, TableKey, MemoryKey, GlobalKey, owned_of, owned_at}
-use Rattle.wasm_meaning.specs.World.{imported_thing, address_of, all_there, numbers, own_count, defined_count, space}
+use Rattle.wasm_meaning.specs.Environment.{Environment, ExternalValue, OwnKey, FuncKey, TableKey, MemoryKey, GlobalKey, owned_of, owned_at}
+use Rattle.wasm_meaning.specs.World.{imported_external_value, address_of, all_there, numbers, own_count, defined_count, space}
 
 abbrev pub one : Module → List Part
 one t = record { name = None; «module» = t } ∷ []
@@ -22,7 +22,7 @@ one t = record { name = None; «module» = t } ∷ []
 abbrev pub site : ℕ → Site
 site n = record { part = 0; import = n }
 
--- ---- what an import stands for ----
+-- ---- what an import denotes ----
 
 -- the environment's entity that an import names
 abbrev pub key_in : List FuncType → Pair → ImportDesc → Option OwnKey
@@ -31,20 +31,20 @@ key_in types pair (im.Table t) = Some (TableKey pair)
 key_in types pair (im.Memory l) = Some (MemoryKey pair)
 key_in types pair (im.Global t) = Some (GlobalKey pair)
 
-abbrev pub thing_in : Environment → List FuncType → Option Import → Option Thing
-thing_in env types o = o >>= λ i. key_in types (pair_of i) i.desc >>= λ key. owned_at (owned_of env) key
+abbrev pub external_value_in : Environment → List FuncType → Option Import → Option ExternalValue
+external_value_in env types o = o >>= λ i. key_in types (pair_of i) i.desc >>= λ key. owned_at (owned_of env) key
 
 -- each import is its own end
 abbrev pub ImportsStay : Type 0
 ImportsStay = (t : Module) (n : ℕ) → end_of (one t) (site n) ≡ slice_get t.imports n >>= λ i. Some (Outside (site n))
 
-abbrev pub ImportsStandForTheEnvironments : Type 0
-ImportsStandForTheEnvironments = (env : Environment) (t : Module) (n : ℕ) → imported_thing env (one t) (site n) ≡ thing_in env t.types (slice_get t.imports n)
+abbrev pub ImportsDenoteTheEnvironment : Type 0
+ImportsDenoteTheEnvironment = (env : Environment) (t : Module) (n : ℕ) → imported_external_value env (one t) (site n) ≡ external_value_in env t.types (slice_get t.imports n)
 
 -- ---- index spaces ----
 
 abbrev pub address_in : Environment → List FuncType → List Import → Space → ℕ → Option ℕ
-address_in env types imports k n = thing_in env types (slice_get imports n) >>= address_of k
+address_in env types imports k n = external_value_in env types (slice_get imports n) >>= address_of k
 
 abbrev pub import_places : Space → List Import → List ℕ
 import_places k imports = places (has_kind k) imports 0

@@ -46,7 +46,7 @@ pub record FuncsCorrespond (R : Pairing) (i j : Inst) (f g : tree.Func) : Type 0
   pub locals : f.locals ≡ g.locals
   pub code : CodeRel R i j f.body g.body
 
--- at an address of the first; of a function that is set apart only the type is asked
+-- at an address of the first; of a function that is opaque only the type is asked
 pub data FuncsAt (R : Pairing) (a : ℕ) (i j : Inst) (f g : tree.Func) : Type 0 where
   alike : FuncsCorrespond R i j f g → FuncsAt R a i j f g
   set_apart : R.listed a → slice_get i.types f.ty ≡ slice_get j.types g.ty → FuncsAt R a i j f g
@@ -71,7 +71,7 @@ pub data Partners (env : Environment) (v w : Instantiated) (k : Space) {A : Type
   own : a ≡ b → a < own_count k env → Partners env v w k definitions correspond a b
   defined : (x : DefinedAt env v k definitions a) (y : DefinedAt env w k definitions b) → correspond x.part x.inst x.definition y.part y.inst y.definition → Partners env v w k definitions correspond a b
 
--- at related addresses stand partners: functions (but for those that are set apart), globals and segments that correspond, tables and memories of equal types, data segments of equal bytes
+-- at related addresses stand partners: functions (but for those that are opaque), globals and segments that correspond, tables and memories of equal types, data segments of equal bytes
 pub record DefinitionsCorrespond (R : Pairing) (env : Environment) (v w : Instantiated) : Type 0 where
   pub funcs : (a b : ℕ) → R.of Functions a b → Partners env v w Functions (λ m. m.funcs) (λ p i f q j g. FuncsAt R a i j f g) a b
   pub tables : (a b : ℕ) → R.of Tables a b → Partners env v w Tables (λ m. m.tables) (λ p i t q j u. t ≡ u) a b

@@ -8,15 +8,15 @@ use Rattle.index_remap.specs.Related.{OneToOne, OptRel}
 use Rattle.index_remap.specs.RelatedRuns.{BegunRel}
 use Rattle.index_remap.specs.Laws.{passed, EntryByEntry}
 
--- Where neither world can be instantiated, or both to what corresponds, their runs show the same events. Before the instantiation only what the environment
+-- Where neither world can be instantiated, or both to what corresponds, their runs have equal traces. Before the instantiation only what the environment
 -- offers is in the stores, so that they need not correspond.
-abbrev pub RelatedInstancesShowTheSame : Type 0
-RelatedInstancesShowTheSame =
+abbrev pub RelatedInstancesHaveEqualTraces : Type 0
+RelatedInstancesHaveEqualTraces =
     (of : Space → ℕ → ℕ → Bool) → OneToOne (passed of of []) → (v w : World) (env : Environment) →
     OptRel (BegunRel (passed of of []) (EntryByEntry (passed of of []))) (instantiate env v) (instantiate env w) → (moves : List Move) (n : ℕ) → events v env moves n ≡ events w env moves n
 
 -- The same of what the worlds are instantiated to, whatever the worlds are.
-abbrev pub RelatedBegunShowTheSame : Type 0
-RelatedBegunShowTheSame =
+abbrev pub RelatedBegunHaveEqualTraces : Type 0
+RelatedBegunHaveEqualTraces =
     (of : Space → ℕ → ℕ → Bool) → OneToOne (passed of of []) → (env : Environment) (b c : Option Begun) →
     OptRel (BegunRel (passed of of []) (EntryByEntry (passed of of []))) b c → (moves : List Move) (n : ℕ) → events_of tick (fresh_run env b moves) n ≡ events_of tick (fresh_run env c moves) n

@@ -18,9 +18,9 @@ use Rattle.wasm_meaning.specs.Outcomes.{overwrite, copies}
 use Rattle.wasm_meaning.specs.State.{RefVal, Val, Inst, Func, Table, Memory, Global, Elem, Data, Store}
 use Rattle.wasm_meaning.specs.Values.{ref_of, null_of}
 use Rattle.wasm_meaning.specs.Step.{no_items, no_bytes}
-use Rattle.wasm_meaning.specs.Environment.{Environment, Thing}
+use Rattle.wasm_meaning.specs.Environment.{Environment, ExternalValue}
 use Rattle.wasm_meaning.specs.World.{Begun, all_there, const_value, value_of, new_func, global_with, elem_with, insts_from, own_store, alone, instantiate}
-use Rattle.wasm_meaning.specs.InTurn.{Added, added}
+use Rattle.wasm_meaning.specs.Sequential.{Added, added}
 use Rattle.wasm_meaning.specs.Loader.{LoaderWorld, store_under, primary_added, begun_under}
 use Rattle.world_simulation.specs.Alone.{one}
 use Rattle.world_simulation.specs.Segments.{offset_in}
@@ -112,7 +112,7 @@ pub record Leaves (value : ConstExpr → Option Val) (m : Module) (i : Inst) (be
 -- What a module leaves that is added to a store, where no segment traps;
 abbrev pub AddedModulesLeave : Type 0
 AddedModulesLeave =
-    (s : Store) (m : Module) (things : List Thing) (a : Added) → added s m things ≡ Some a → a.filled.trapped ≡ false → Leaves (const_value s.globals a.inst) m a.inst s a.filled.store
+    (s : Store) (m : Module) (things : List ExternalValue) (a : Added) → added s m things ≡ Some a → a.filled.trapped ≡ false → Leaves (const_value s.globals a.inst) m a.inst s a.filled.store
 
 -- what a module alone leaves of the environment's own entities;
 abbrev pub ModulesAloneLeave : Type 0

@@ -1,7 +1,7 @@
 -- A loader that supplies nothing.
 use Rattle.std.specs.Prelude.{◌≡◌, [], ◌∷◌, map, Some}
 use Rattle.wasm_meaning.specs.Environment.{Environment}
-use Rattle.wasm_meaning.specs.InTurn.{Added}
+use Rattle.wasm_meaning.specs.Sequential.{Added}
 use Rattle.wasm_meaning.specs.World.{World, insts_from, instantiate}
 use Rattle.wasm_meaning.specs.Loader.{LoaderWorld, placeholders_of, primary_added, begun_under}
 use Rattle.world_simulation.specs.Alone.{one}

@@ -8,7 +8,7 @@ use Rattle.wasm_meaning.specs.Control.{type_at}
 use Rattle.wasm_meaning.specs.Step.{enter_at}
 use Rattle.wasm_meaning.specs.Run.{Run, Event, Out, Steps, transition, run_after, tick}
 use Rattle.wasm_meaning.specs.Loader.{Secondary, LoaderWorld, LoaderRun, placeholders_of, secondary_of, store_loaded, with_loaded, tick_loader}
-use Rattle.index_remap.specs.ListedRuns.{calls_placeholder}
+use Rattle.index_remap.specs.OpaqueRuns.{calls_placeholder}
 
 -- ---- no placeholder is called ----
 

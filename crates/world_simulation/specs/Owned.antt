@@ -8,7 +8,7 @@ use Rattle.index_remap.specs.Related.{Pairing, ListRel, TableRel, GlobalRel}
 use Rattle.index_remap.specs.RelatedRuns.{KeyRel}
 use Rattle.index_remap.specs.Laws.{passed}
 
--- each address of the environment's own entities stands for itself
+-- each address of the environment's own entities is related to itself
 pub record SharesOwn (R : Pairing) (env : Environment) : Type 0 where
   pub funcs : (a : ℕ) → a < own_count Functions env → R.of Functions a a
   pub tables : (a : ℕ) → a < own_count Tables env → R.of Tables a a

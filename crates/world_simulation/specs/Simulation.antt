@@ -4,7 +4,7 @@ use Rattle.std.specs.Prelude.{◌≡◌, ℕ, Bool, List, [], Some, true}
 use Rattle.wasm_tree.specs.declared.space.Space.{Space}
 use Rattle.wasm_tree.specs.declared.space.Space.TheVariants.{Functions}
 use Rattle.wasm_meaning.specs.State.{Inst, Store, Text}
-use Rattle.wasm_meaning.specs.Environment.{Environment, Thing, all_of}
+use Rattle.wasm_meaning.specs.Environment.{Environment, ExternalValue, all_of}
 use Rattle.wasm_meaning.specs.Linking.{sites}
 use Rattle.wasm_meaning.specs.World.{World, Begun, insts_from, stores_from, own_store, all_there, seen_as, starts_of, is_matched, segments, begun, instantiate, links}
 use Rattle.wasm_meaning.specs.Run.{Move, events}
@@ -17,14 +17,14 @@ use Rattle.world_simulation.specs.Segments.{ElemsInOrder, DatasInOrder}
 
 -- ---- a world that is instantiated ----
 
--- What instantiation made of a world: the instances of its parts, the store that is allocated for these, what the names of its view stand for, and imports that all
+-- What instantiation made of a world: the instances of its parts, the store that is allocated for these, what the names of its view denote, and imports that all
 -- match; then the segments were copied.
 pub record IsInstantiated (env : Environment) (w : World) (b : Begun) : Type 0 where
   pub insts : List Inst
   pub are_insts : insts_from env w.parts 0 w.parts ≡ Some insts
   pub allocated : Store
   pub is_allocated : stores_from env w.parts insts (own_store env) 0 w.parts insts ≡ Some allocated
-  pub view : List (Text × Thing)
+  pub view : List (Text × ExternalValue)
   pub is_view : all_there (seen_as insts) w.view ≡ Some view
   pub matched : all_of (is_matched env w.parts allocated) (sites w.parts) ≡ true
   pub is : begun env w insts view (segments env w.parts insts allocated) ≡ b
@@ -39,7 +39,7 @@ in_world w insts = record { parts = w.parts; insts = insts }
 
 -- two worlds whose parts have these instances in an environment
 pub record WorldsCorrespond (R : Pairing) (env : Environment) (v w : World) (is js : List Inst) : Type 0 where
-  -- each of the environment's own entities stands for itself
+  -- each of the environment's own entities is related to itself
   pub own : SharesOwn R env
   pub definitions : DefinitionsCorrespond R env (in_world v is) (in_world w js)
   pub elems : ElemsInOrder R env (in_world v is) (in_world w js)
@@ -52,34 +52,34 @@ abbrev pub AreSimilar : Pairing → Environment → World → World → Type 0
 AreSimilar R env v w = (is js : List Inst) → insts_from env v.parts 0 v.parts ≡ Some is → insts_from env w.parts 0 w.parts ≡ Some js → WorldsCorrespond R env v w is js
 
 -- and the same functions are started, in the same order
-abbrev pub StartAlike : Pairing → Environment → World → World → Type 0
-StartAlike R env v w = (is js : List Inst) → insts_from env v.parts 0 v.parts ≡ Some is → insts_from env w.parts 0 w.parts ≡ Some js → ListRel (R.of Functions) (starts_of v.parts is) (starts_of w.parts js)
+abbrev pub StartsCorrespond : Pairing → Environment → World → World → Type 0
+StartsCorrespond R env v w = (is js : List Inst) → insts_from env v.parts 0 v.parts ≡ Some is → insts_from env w.parts 0 w.parts ≡ Some js → ListRel (R.of Functions) (starts_of v.parts is) (starts_of w.parts js)
 
 -- ---- the laws ----
 
 -- what two worlds are instantiated to, but for what they start: related stores, trapped both or neither, and the same names for what is related
-abbrev pub BegunAlike : Pairing → Begun → Begun → Type 0
-BegunAlike R = BegunRel R (λ s t es fs. Unit {0})
+abbrev pub BegunRelated : Pairing → Begun → Begun → Type 0
+BegunRelated R = BegunRel R (λ s t es fs. Unit {0})
 
--- Before segments are copied, the allocated stores are related, whatever functions are set apart.
+-- Before segments are copied, the allocated stores are related, whatever functions are opaque.
 abbrev pub AllocatedStoresCorrespond : Type 0
 AllocatedStoresCorrespond =
     (of named : Space → ℕ → ℕ → Bool) (l : List ℕ) (env : Environment) (v w : World) (is js : List Inst) (s z : Store) → SharesOwn (passed of named l) env → DefinitionsCorrespond (passed of named l) env (in_world v is) (in_world w js) →
     stores_from env v.parts is (own_store env) 0 v.parts is ≡ Some s → stores_from env w.parts js (own_store env) 0 w.parts js ≡ Some z → StoreRel (passed of named l) s z
 
--- Where both are instantiated, it is to what is alike, whatever functions are set apart.
-abbrev pub SimilarWorldsBeginAlike : Type 0
-SimilarWorldsBeginAlike =
+-- Where both are instantiated, it is to what is alike, whatever functions are opaque.
+abbrev pub CorrespondingWorldsBeginRelated : Type 0
+CorrespondingWorldsBeginRelated =
     (of named : Space → ℕ → ℕ → Bool) (l : List ℕ) → OneToOne (passed of named l) → (env : Environment) (v w : World) → AreSimilar (passed of named l) env v w →
-    (b c : Begun) → instantiate env v ≡ Some b → instantiate env w ≡ Some c → BegunAlike (passed of named l) b c
+    (b c : Begun) → instantiate env v ≡ Some b → instantiate env w ≡ Some c → BegunRelated (passed of named l) b c
 
--- Both show `LinkFault`, or both are instantiated, to related states, trapped both or neither; and so they show the same events, step by step.
-abbrev pub SimilarWorldsAreInstantiatedAlike : Type 0
-SimilarWorldsAreInstantiatedAlike =
-    (of : Space → ℕ → ℕ → Bool) → OneToOne (passed of of []) → (env : Environment) (v w : World) → links env v ≡ links env w → AreSimilar (passed of of []) env v w → StartAlike (passed of of []) env v w →
+-- Both show `LinkFault`, or both are instantiated, to related states, trapped both or neither; and so they have equal traces, step by step.
+abbrev pub CorrespondingWorldsAreInstantiatedRelated : Type 0
+CorrespondingWorldsAreInstantiatedRelated =
+    (of : Space → ℕ → ℕ → Bool) → OneToOne (passed of of []) → (env : Environment) (v w : World) → links env v ≡ links env w → AreSimilar (passed of of []) env v w → StartsCorrespond (passed of of []) env v w →
     OptRel (BegunRel (passed of of []) (EntryByEntry (passed of of []))) (instantiate env v) (instantiate env w)
 
-abbrev pub SimilarWorldsShowTheSame : Type 0
-SimilarWorldsShowTheSame =
-    (of : Space → ℕ → ℕ → Bool) → OneToOne (passed of of []) → (env : Environment) (v w : World) → links env v ≡ links env w → AreSimilar (passed of of []) env v w → StartAlike (passed of of []) env v w →
+abbrev pub CorrespondingWorldsHaveEqualTraces : Type 0
+CorrespondingWorldsHaveEqualTraces =
+    (of : Space → ℕ → ℕ → Bool) → OneToOne (passed of of []) → (env : Environment) (v w : World) → links env v ≡ links env w → AreSimilar (passed of of []) env v w → StartsCorrespond (passed of of []) env v w →
     (moves : List Move) (n : ℕ) → events v env moves n ≡ events w env moves n

@@ -24,7 +24,7 @@ pub record CallsEach (s : Store) (a : ℕ) (starts : List ℕ) : Type 0 where
   pub code : slice_get s.funcs a ≡ Some (Code from_nothing_to_nothing inst [] (map Call calls))
   pub each : ListRel (NamesStart s inst) calls starts
 
--- What is seen with the starts one after the other is seen with the one start that calls them, which takes two silent steps more: it is opened, and it ends.
+-- What is seen with the starts one after the other is seen with the one start that calls them, which takes two stuttering steps more: it is opened, and it ends.
 abbrev pub OneStartMayCallSeveral : Type 0
 OneStartMayCallSeveral =
     (env : Environment) (b : Begun) (a : ℕ) → CallsEach b.store a b.starts → (moves : List Move) (n : ℕ) →

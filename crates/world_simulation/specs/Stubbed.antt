@@ -12,7 +12,7 @@ use Rattle.wasm_tree.specs.declared.module.ImportDesc.TheVariants as im
 use Rattle.wasm_meaning.specs.State.{Pair, Func, Store}
 use Rattle.wasm_meaning.specs.Environment.{Environment, own_funcs}
 use Rattle.wasm_meaning.specs.World.{Begun, own_count}
-use Rattle.wasm_meaning.specs.InTurn.{Added}
+use Rattle.wasm_meaning.specs.Sequential.{Added}
 use Rattle.wasm_meaning.specs.Loader.{LoaderWorld, placeholders_of, placeholders_from, slot_of, primary_added, begun_under}
 
 -- ---- a primary that imports its placeholders last ----

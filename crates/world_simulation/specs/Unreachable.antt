@@ -49,6 +49,6 @@ abbrev pub removed : ℕ → Module → Module
 removed n t = declared (renumbered_tree (closing n t) (rest n t))
 
 -- Each embedder whose environment links the module sees the same of it without the function, step by step.
-abbrev pub UnreachableFunctionsAreNotSeen : Type 0
-UnreachableFunctionsAreNotSeen =
+abbrev pub UnreachableFunctionRemovalEquivalent : Type 0
+UnreachableFunctionRemovalEquivalent =
     (t : Module) (n : ℕ) → n < length t.funcs → IsUnreachable n t → Same (λ env. IsTrue (links env (alone t))) (events (alone t)) (events (alone (removed n t))) (λ n. n) (λ n. n)

@@ -7,7 +7,7 @@ use Rattle.eval_behaves_proof.proofs.quiet_runs_are_the_machines.Goals as goal
 pub returns : goal.returns
 returns c =
     let calls = c.quiet_steps_are_known.ensures.calls in
-    let lead = c.quiet_calls_lead_others.ensures.lead in
+    let lead = c.quiet_calls_simulate.ensures.simulate in
     let off = c.steps_agree_off_unknown_places.ensures in
     let reached = c.quiet_runs_end.ensures.reached in
     let typing = c.renumbering_keeps_typing.ensures in

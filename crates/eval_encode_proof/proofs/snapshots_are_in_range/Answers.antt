@@ -7,7 +7,7 @@ use Rattle.eval_encode_proof.proofs.snapshots_are_in_range.Goals as goal
 pub returns : goal.returns
 returns c =
     let layers = c.operands_pass_layer_by_layer.ensures.layers in
-    let spelled = c.spelled_operands_are_in_range.ensures in
+    let spelled = c.encoded_operands_are_in_range.ensures in
     let items = c.valid_where_items_hold.ensures in
     let numbers = c.evaluated_numbers_are_in_range.ensures in
     record {

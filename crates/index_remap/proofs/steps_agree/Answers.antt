@@ -3,7 +3,7 @@ use Rattle.index_remap.proofs.AboveSteps.{step_above, traps_agree}
 use Rattle.index_remap.proofs.Known.{entries_known}
 use Rattle.index_remap.proofs.Shown.{show_all_rel}
 use Rattle.index_remap.proofs.RenumberedCode.{renumbered_rel, replaced_rel}
-use Rattle.index_remap.proofs.Unlisted.{unlisted_renumbered}
+use Rattle.index_remap.proofs.NotOpaque.{unlisted_renumbered}
 use Rattle.index_remap.proofs.ItselfCode.{code_self}
 use Rattle.index_remap.proofs.Replacing.{replaced_typed}
 use Rattle.index_remap.proofs.steps_agree.Goals as goal
@@ -16,7 +16,7 @@ returns c = record {
   traps = λ of named l. traps_agree (passed of named l);
   code = λ of named l m i j code h. renumbered_rel (passed of named l) m i j code h;
   replaced = λ of named l stands m i j types labels listed codes is js may h k. replaced_rel (passed_with of named l stands) m i j types listed codes may labels is js h k;
-  unlisted = unlisted_renumbered;
-  itself = λ of named l i code h. code_self (passed of named l) i h code;
+  not_opaque = unlisted_renumbered;
+  reflexive = λ of named l i code h. code_self (passed of named l) i h code;
   typed = replaced_typed;
 }

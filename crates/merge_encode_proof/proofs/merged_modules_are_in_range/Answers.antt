@@ -7,9 +7,9 @@ pub returns : goal.returns
 returns c = record {
   range = λ parts mode h valid single few.
       let m = joined_module parts mode in
-      let spelled = c.spelled_operands_are_in_range.ensures in
-      tree_in c.operands_pass_layer_by_layer.ensures.layers spelled.range spelled.memory m ((c.valid_where_items_hold.ensures m).0 valid) single few (joined_numbers c.other_numbers_stay.ensures parts mode h);
+      let spelled = c.encoded_operands_are_in_range.ensures in
+      tree_in c.operands_pass_layer_by_layer.ensures.layers spelled.range spelled.memory m ((c.valid_where_items_hold.ensures m).0 valid) single few (joined_numbers c.renumbering_keeps_other_numbers.ensures parts mode h);
   memory = λ parts mode valid single few.
       let m = joined_module parts mode in
-      let spelled = c.spelled_operands_are_in_range.ensures in memory_zero c.operands_pass_layer_by_layer.ensures.layers spelled.range spelled.memory m ((c.valid_where_items_hold.ensures m).0 valid) single few;
+      let spelled = c.encoded_operands_are_in_range.ensures in memory_zero c.operands_pass_layer_by_layer.ensures.layers spelled.range spelled.memory m ((c.valid_where_items_hold.ensures m).0 valid) single few;
 }

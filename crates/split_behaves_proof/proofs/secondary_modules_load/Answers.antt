@@ -7,11 +7,11 @@ returns c =
       items = c.valid_where_items_hold.ensures;
       primary = c.primary_modules_are_valid.ensures.valid;
       secondary = c.secondary_modules_are_valid.ensures.valid;
-      leave = c.modules_leave_what_they_say.ensures.added;
+      leave = c.instantiated_stores_match_their_modules.ensures.added;
       typed = c.instances_stay_typed.ensures.made;
       stays = c.instances_stay_typed.ensures.stays;
       calls = c.stores_are_extended.ensures.call;
       loaders = c.stores_are_extended.ensures.loader;
-      over = c.runs_that_are_over_stay_so.ensures.over;
+      over = c.closed_runs_stay_closed.ensures.over;
     } in
     record { load = secondaries_load laws; always = secondaries_always_load laws }

@@ -3,13 +3,13 @@ use Rattle.split_proof.proofs.PrimaryFits.{primary_fits}
 use Rattle.split_proof.proofs.SecondaryFits.{secondary_fits}
 use Rattle.split_proof.proofs.maps_of_a_split_fit.Goals as goal
 
-laws : (c : goal.After-calls_are_replaced) → BodyLaws
+laws : (c : goal.After-replacing_calls_commutes_with_renumbering) → BodyLaws
 laws c = record {
   inside = c.operands_pass_layer_by_layer.ensures.inside;
   any = c.operands_pass_layer_by_layer.ensures.any;
   layers = c.operands_pass_layer_by_layer.ensures.layers;
   typed = c.steps_agree.ensures.typed;
-  replaced = c.calls_are_replaced.ensures;
+  replaced = c.replacing_calls_commutes_with_renumbering.ensures;
 }
 
 pub returns : goal.returns

@@ -1,14 +1,14 @@
 use Rattle.split_proof.proofs.Whole.{Laws, primary_valid, primary_single, primary_bounded}
 use Rattle.split_proof.proofs.primary_modules_are_valid.Goals as goal
 
-laws : (c : goal.After-calls_are_replaced) → Laws
+laws : (c : goal.After-replacing_calls_commutes_with_renumbering) → Laws
 laws c = record {
   bodies = record {
     inside = c.operands_pass_layer_by_layer.ensures.inside;
     any = c.operands_pass_layer_by_layer.ensures.any;
     layers = c.operands_pass_layer_by_layer.ensures.layers;
     typed = c.steps_agree.ensures.typed;
-    replaced = c.calls_are_replaced.ensures;
+    replaced = c.replacing_calls_commutes_with_renumbering.ensures;
   };
   items = c.valid_where_items_hold.ensures;
   valid = c.declared_trees_are_valid.ensures.valid;

@@ -9,7 +9,7 @@ returns c =
         any = c.operands_pass_layer_by_layer.ensures.any;
         layers = c.operands_pass_layer_by_layer.ensures.layers;
         typed = c.steps_agree.ensures.typed;
-        replaced = c.calls_are_replaced.ensures;
+        replaced = c.replacing_calls_commutes_with_renumbering.ensures;
       };
       items = c.valid_where_items_hold.ensures;
       valid = c.declared_trees_are_valid.ensures.valid;

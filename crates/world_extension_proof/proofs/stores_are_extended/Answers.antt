@@ -4,8 +4,8 @@ use Rattle.world_extension_proof.proofs.stores_are_extended.Goals as goal
 
 pub returns : goal.returns
 returns c = record {
-  step = tick_extends c.steps_write_what_they_touch.ensures.writes;
-  call = call_extends c.steps_write_what_they_touch.ensures.writes;
+  step = tick_extends c.steps_write_only_touched_places.ensures.writes;
+  call = call_extends c.steps_write_only_touched_places.ensures.writes;
   added = added_extends;
-  loader = loader_extends c.steps_write_what_they_touch.ensures.writes;
+  loader = loader_extends c.steps_write_only_touched_places.ensures.writes;
 }

@@ -2,7 +2,7 @@ use Rattle.std.proofs.Common.{◌∙◌, ap, sym, subst, inr, Ok}
 use Rattle.wasm_tree.specs.Bounds.{IsBounded}
 use Rattle.wasm_valid.specs.Validity.{IsValid}
 use Rattle.module_limits.specs.Counts.{over_limit}
-use Rattle.dce_behaves_proof.specs.Laws.{BehavesAs}
+use Rattle.dce_behaves_proof.specs.Laws.{ObservationallyEquivalent}
 use Rattle.dce_sweep_spec.specs.Swept.{swept}
 use Rattle.dce_sweep_spec.specs.Reached.{marks_of}
 use Rattle.dce_sweep.specs.Sweeps.{outcome}
@@ -46,4 +46,4 @@ returns-in-None-clause-behaves c =
     let k = marks_of c.args.marks.now in
     let left = left_is k c.args.input c.into_module.result c.in_ok-module.module c.declare_refs.new.module c.in_ok-declare_refs.ensures.ok c.in_ok-module.ensures c.into_module.ensures.value in
     let valid = subst IsValid c.into_module.ensures.value c.into_module.ensures.valid in
-    subst (BehavesAs k c.args.input) (sym left ∙ sym c.known.ensures) (c.swept_modules_show_the_same.ensures k c.args.input valid c.requires.closed)
+    subst (ObservationallyEquivalent k c.args.input) (sym left ∙ sym c.known.ensures) (c.swept_module_equivalent.ensures k c.args.input valid c.requires.closed)

@@ -5,7 +5,7 @@ use Rattle.module_limits.specs.Counts.{over_limit}
 use Rattle.eval_machine.specs.Kept.{state_in}
 use Rattle.eval_snapshot_spec.specs.Snapshot.{snapshot}
 use Rattle.eval_snapshot_proof.specs.Suits.{Suits}
-use Rattle.eval_behaves_proof.specs.Laws.{BehavesAs}
+use Rattle.eval_behaves_proof.specs.Laws.{ObservationallyEquivalent}
 use Rattle.eval_snapshot.specs.Outcome.{outcome}
 use Rattle.eval_snapshot.proofs.MemoryBytes.{no_bytes}
 use Rattle.eval_snapshot.proofs.Parts.{of_same}
@@ -55,4 +55,4 @@ returns-in-None-clause-behaves c begins =
     let kept = c.args.kept.now in
     let made = of_same m c.into_module.result c.in_ok-made.made k evaluated c.as_slice.result.now kept c.as_slice-2.result.now c.in_ok-made.ensures.tree c.into_module.ensures.value c.as_slice.ensures c.as_slice-2.ensures in
     let valid = subst IsValid c.into_module.ensures.value c.into_module.ensures.valid in
-    subst (BehavesAs m evaluated kept) (sym (c.known.ensures ∙ made)) (c.snapshots_show_the_same.ensures.same m evaluated kept s valid begins c.requires.after)
+    subst (ObservationallyEquivalent m evaluated kept) (sym (c.known.ensures ∙ made)) (c.snapshot_equivalent.ensures.equivalent m evaluated kept s valid begins c.requires.after)

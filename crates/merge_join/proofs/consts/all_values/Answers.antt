@@ -2,7 +2,7 @@ use Rattle.std.proofs.Common.{◌∙◌, ap, sym, subst, ◌+◌, ◌∷◌, [],
 use Rattle.std.proofs.lemmas.List.{length-append}
 use Rattle.merge_spec.specs.Parts.{named_modules}
 use Rattle.merge_join.proofs.ByPart.{part_there}
-use Rattle.merge_join.proofs.Values.{StandForEach, each_more}
+use Rattle.merge_join.proofs.Values.{DenoteEach, each_more}
 use Rattle.merge_join.proofs.consts.all_values.Goals as goal
 
 pub loop-part-preserved : goal.loop-part-preserved
@@ -10,7 +10,7 @@ loop-part-preserved c =
     let ps = named_modules c.args.joining.now.parts.now in
     let values = c.in_ok-values_of.field-0 in (
       ap length c.in_ok-keep.ensures.ok ∙ length-append c.loop-part.all (values ∷ []) ∙ ap (λ n. n + 1) c.loop-part.invariant.0,
-      subst (StandForEach ps (c.loop-part.part + 1)) (sym c.in_ok-keep.ensures.ok) (each_more ps c.loop-part.part c.loop-part.all values c.loop-part.invariant.0 c.in_ok-values_of.ensures c.loop-part.invariant.1),
+      subst (DenoteEach ps (c.loop-part.part + 1)) (sym c.in_ok-keep.ensures.ok) (each_more ps c.loop-part.part c.loop-part.all values c.loop-part.invariant.0 c.in_ok-values_of.ensures c.loop-part.invariant.1),
     )
 
 pub returns : goal.returns

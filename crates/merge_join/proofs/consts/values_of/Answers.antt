@@ -7,7 +7,7 @@ use Rattle.wasm_tree.specs.Spaces.{global_of, imported_globals}
 use Rattle.wasm_valid.specs.Constants.{const_type}
 use Rattle.merge_spec.specs.Parts.{named_modules}
 use Rattle.merge_join.specs.Reads.{HasType}
-use Rattle.merge_join.proofs.Values.{StandFor, one_longer, inside, may_be_named, is_fixed, no_global, none_more, stand_more, stand_all}
+use Rattle.merge_join.proofs.Values.{Denotes, one_longer, inside, may_be_named, is_fixed, no_global, none_more, stand_more, stand_all}
 use Rattle.merge_join.proofs.consts.values_of.Goals as goal
 use Rattle.merge_join.proofs.consts.values_of.Goals.{in-Global+in_ok-keep, in_default}
 
@@ -53,12 +53,12 @@ loop-import-preserved c =
           (subst (λ x. HasType ps p (const.Global x)) c.loop-import.invariant.0 typed))) c.loop-import.invariant.2 in (
             w.global-is ∙ ap (λ k. k + 1) c.loop-import.invariant.0 ∙ sym (one_longer is n i ty c.loop-import-test.true c.import-item.is w.in-Global.is),
             ap length new ∙ length-append values (w.value_of.result ∷ []) ∙ ap (λ k. k + 1) c.loop-import.invariant.1 ∙ sym w.global-is,
-            subst (λ k. StandFor ps p k c.match-import.values) (sym w.global-is) (subst (StandFor ps p (count + 1)) (sym new) stand),
+            subst (λ k. Denotes ps p k c.match-import.values) (sym w.global-is) (subst (Denotes ps p (count + 1)) (sym new) stand),
           )
       | in_default w ↦ (
         w.global-is ∙ c.loop-import.invariant.0 ∙ sym (none_more is n i c.loop-import-test.true c.import-item.is (no_global i.desc w.in_default.not-Global)),
         ap length w.values-is ∙ c.loop-import.invariant.1 ∙ sym w.global-is,
-        subst (λ k. StandFor ps p k c.match-import.values) (sym w.global-is) (subst (StandFor ps p count) (sym w.values-is) c.loop-import.invariant.2),
+        subst (λ k. Denotes ps p k c.match-import.values) (sym w.global-is) (subst (Denotes ps p count) (sym w.values-is) c.loop-import.invariant.2),
       )
     ]
 

@@ -5,7 +5,7 @@ use Rattle.merge_join.proofs.ByPart.{part_more, part_all}
 use Rattle.wasm_tree.specs.declared.space.Space.TheVariants.{ElementSegments, DataSegments}
 use Rattle.merge_join.proofs.Counts.{defined_none, defined_more}
 use Rattle.merge_join.proofs.maps.all_maps.Goals as goal
-use Rattle.merge_behaves_proof.proofs.Standing.{defined_low}
+use Rattle.merge_behaves_proof.proofs.Counterparts.{defined_low}
 
 pub loop-part-init : goal.loop-part-init
 loop-part-init c = record { maps_are = c.new-maps.ensures; elem_is = sym (defined_none ElementSegments (named_modules c.args.parts.now)); data_is = sym (defined_none DataSegments (named_modules c.args.parts.now)) }

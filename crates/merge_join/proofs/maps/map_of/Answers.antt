@@ -7,7 +7,7 @@ use Rattle.merge_spec.specs.Parts.{named_modules}
 use Rattle.wasm_tree.specs.declared.space.Space.TheVariants.{Functions, Tables, Memories, Globals, ElementSegments, DataSegments}
 use Rattle.merge_join.proofs.MapParts.{space_is, map_built}
 use Rattle.merge_join.proofs.maps.map_of.Goals as goal
-use Rattle.merge_behaves_proof.proofs.Standing.{defined_low}
+use Rattle.merge_behaves_proof.proofs.Counterparts.{defined_low}
 
 pub numbers-requires : goal.numbers-requires
 numbers-requires c =

@@ -8,7 +8,7 @@ use Rattle.merge_join.proofs.ByPart.{each_within, each_index, module_exists}
 use Rattle.merge_join.proofs.Counts.{staying_few}
 use Rattle.merge_join.proofs.NewIndex.{all_indices}
 use Rattle.merge_join.proofs.maps.space_map.Goals as goal
-use Rattle.merge_behaves_proof.proofs.Standing.{defined_low}
+use Rattle.merge_behaves_proof.proofs.Counterparts.{defined_low}
 
 pub number_at-first-requires : goal.number_at-first-requires
 number_at-first-requires c =

@@ -11,7 +11,7 @@ use Rattle.merge_spec.specs.View.{linked_world}
 use Rattle.merge_spec.specs.Joined.{joined_module, repeated_name, Joins}
 use Rattle.module_limits.specs.Counts.{over_limit}
 use Rattle.merge_valid_proof.specs.Joinable.{CanBeJoined}
-use Rattle.merge_behaves_proof.specs.Laws.{BehavesAs}
+use Rattle.merge_behaves_proof.specs.Laws.{ObservationallyEquivalent}
 use Rattle.merge_join.specs.LinkedParts.{PartsHold}
 use Rattle.merge_join.proofs.Outcomes.{joined_from}
 use Rattle.merge_join.proofs.merging.join.Goals as goal
@@ -53,14 +53,14 @@ known-requires c =
       bounded = subst IsBounded can.1 (c.merged_modules_are_valid.ensures.bounded ps mode can.0);
     }
 
-pub returns-clause-same : goal.returns-clause-same
-returns-clause-same c =
+pub returns-clause-equivalent : goal.returns-clause-equivalent
+returns-clause-equivalent c =
     let ps = named_modules c.args.parts in
     let mode = c.args.mode in
     let can = can_join ps mode c.in_ok-tree.tree (held c.args.parts c.as_slice.result.now c.as_slice.ensures c.parts_hold.ensures) c.requires.linked c.in_ok-tree.ensures.joined in
-    subst (BehavesAs ps mode) (can.1 ∙ sym c.known.ensures) (c.merged_modules_show_the_same.ensures.same ps mode can.0)
+    subst (ObservationallyEquivalent ps mode) (can.1 ∙ sym c.known.ensures) (c.merged_module_equivalent.ensures.equivalent ps mode can.0)
 
-pub returns-clause-in_turn : goal.returns-clause-in_turn
-returns-clause-in_turn c =
+pub returns-clause-sequential : goal.returns-clause-sequential
+returns-clause-sequential c =
     let hold = held c.args.parts c.as_slice.result.now c.as_slice.ensures c.parts_hold.ensures in
-    c.turns_are_not_seen.ensures.turns (linked_world (named_modules c.args.parts) c.args.mode) (λ p m at. (hold p m at).0)
+    c.sequential_instantiation_equivalent.ensures.equivalent (linked_world (named_modules c.args.parts) c.args.mode) (λ p m at. (hold p m at).0)

@@ -4,7 +4,7 @@ use Rattle.merge_spec.specs.Parts.{named_modules}
 use Rattle.merge_join.proofs.ByPart.{part_more, part_all, named_length}
 use Rattle.merge_join.proofs.Counts.{defined_none, defined_more}
 use Rattle.merge_join.proofs.spaces.firsts_of.Goals as goal
-use Rattle.merge_behaves_proof.proofs.Standing.{defined_low}
+use Rattle.merge_behaves_proof.proofs.Counterparts.{defined_low}
 
 pub loop-part-init : goal.loop-part-init
 loop-part-init c = record { firsts_are = c.new-firsts.ensures; first_is = omega (arith, defined_none c.args.space (named_modules c.args.parts.now)) }

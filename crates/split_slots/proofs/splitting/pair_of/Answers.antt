@@ -6,7 +6,7 @@ use Rattle.module_limits.specs.Counts.{over_limit}
 use Rattle.split_spec.specs.declared.faults.SplitFault.{SplitFault}
 use Rattle.split_spec.specs.declared.faults.SplitFault.TheVariants.{NoMemory, TooMany}
 use Rattle.split_slots.specs.declared.splitting.Pair.{Pair}
-use Rattle.split_behaves_proof.specs.Laws.{AlwaysLoads, BehavesAs, most_params}
+use Rattle.split_behaves_proof.specs.Laws.{AlwaysLoads, ObservationallyEquivalent, most_params}
 use Rattle.split_behaves_proof.specs.Worlds.{pair_in_place}
 use Rattle.split_slots.proofs.Behaving.{can_be_split, of_pair}
 use Rattle.split_slots.proofs.FinishedModules.{can_finish_primary, can_finish_secondary, made_primary, made_secondary}
@@ -65,14 +65,14 @@ returns-clause-fault c =
     subst (λ (o : Option SplitFault). IfErr c.finish_both.result (λ (e : SplitFault). (e ≡ NoMemory) ⊎ (o ≡ Some e)))
     (ap (option_map TooMany) both ∙ sym (built_last names m moved (c.in_ok-drafts.ensures.none refl))) c.finish_both.ensures.fault
 
-pub returns-clause-same : goal.returns-clause-same
-returns-clause-same c =
+pub returns-clause-equivalent : goal.returns-clause-equivalent
+returns-clause-equivalent c =
     let names = c.args.names.now in
     let m = c.args.module in
     let moved = c.args.moved.now in
     let namespace : ℕ → List ℕ = λ slot. names.placeholder_namespace in
-    of_pair (λ first second. BehavesAs m (pair_in_place names m moved first second) (most_params m moved)) c.finish_both.result (returns-clause-primary c) (returns-clause-secondary c)
-    (c.split_modules_show_the_same.ensures.same namespace names m moved (moved ∷ []) (can_be_split names m moved c.requires.valid c.requires.bounded c.requires.can c.requires.ascend (c.in_ok-drafts.ensures.none refl)))
+    of_pair (λ first second. ObservationallyEquivalent m (pair_in_place names m moved first second) (most_params m moved)) c.finish_both.result (returns-clause-primary c) (returns-clause-secondary c)
+    (c.split_module_equivalent.ensures.equivalent namespace names m moved (moved ∷ []) (can_be_split names m moved c.requires.valid c.requires.bounded c.requires.can c.requires.ascend (c.in_ok-drafts.ensures.none refl)))
 
 pub returns-clause-loads : goal.returns-clause-loads
 returns-clause-loads c =

@@ -1,7 +1,7 @@
 use Rattle.std.proofs.Common.{◌≡◌, refl, sym, ap, ap₂, subst, ◌∙◌, ◌⊎◌, inl, inr, ⊎_elim, ℕ, List, Option, None, Some, Result, Ok, Err}
 use Rattle.std.specs.Prelude.{IfErr, IfOk, IsOk}
 use Rattle.wasm_tree.specs.declared.module.Module.{Module}
-use Rattle.split_behaves_proof.specs.Laws.{AlwaysLoads, BehavesAs, most_params}
+use Rattle.split_behaves_proof.specs.Laws.{AlwaysLoads, ObservationallyEquivalent, most_params}
 use Rattle.split_behaves_proof.specs.Worlds.{pair_in_place}
 use Rattle.split_slots.specs.declared.splitting.Pair.{Pair}
 use Rattle.split_spec.specs.declared.faults.SplitFault.{SplitFault}
@@ -27,12 +27,12 @@ returns-clause-first c e is =
     let same = ap₂ (λ m xs. split_fault c.args.names.now m xs) c.into_module.ensures.value c.as_slice.ensures in
     first_told c.pair_of.result (split_fault c.args.names.now c.into_module.result c.as_slice.result.now) c.pair_of.ensures.none c.pair_of.ensures.fault e (same ∙ is)
 
-pub returns-clause-same : goal.returns-clause-same
-returns-clause-same c =
+pub returns-clause-equivalent : goal.returns-clause-equivalent
+returns-clause-equivalent c =
     let names = c.args.names.now in
     let result = c.pair_of.result in
-    subst (λ (xs : List ℕ). IfOk result (λ (pair : Pair). BehavesAs c.args.input (pair_in_place names c.args.input xs pair.primary pair.secondary) (most_params c.args.input xs))) c.as_slice.ensures
-    (subst (λ (m : Module). IfOk result (λ (pair : Pair). BehavesAs m (pair_in_place names m c.as_slice.result.now pair.primary pair.secondary) (most_params m c.as_slice.result.now))) c.into_module.ensures.value c.pair_of.ensures.same)
+    subst (λ (xs : List ℕ). IfOk result (λ (pair : Pair). ObservationallyEquivalent c.args.input (pair_in_place names c.args.input xs pair.primary pair.secondary) (most_params c.args.input xs))) c.as_slice.ensures
+    (subst (λ (m : Module). IfOk result (λ (pair : Pair). ObservationallyEquivalent m (pair_in_place names m c.as_slice.result.now pair.primary pair.secondary) (most_params m c.as_slice.result.now))) c.into_module.ensures.value c.pair_of.ensures.equivalent)
 
 pub returns-clause-loads : goal.returns-clause-loads
 returns-clause-loads c =

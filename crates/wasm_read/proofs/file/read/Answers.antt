@@ -36,10 +36,10 @@ pub returns-clause-limit : goal.returns-clause-limit
 returns-clause-limit c = λ which. told_by _ _ (c.read_file.ensures.bytes) c.faults_have_causes.ensures.causes c.read_file.ensures.gives (fault.Limit which) (λ h. cc)
 
 pub returns-clause-within : goal.returns-clause-within
-returns-clause-within c = λ m. c.spelled_files_are_within_where_nothing_is_over.ensures _ _ m c.read_file.ensures.bytes
+returns-clause-within c = λ m. c.encoded_files_are_within_limits_where_none_is_exceeded.ensures _ _ m c.read_file.ensures.bytes
 
 pub returns-clause-bounded : goal.returns-clause-bounded
-returns-clause-bounded c = found_bounded c.spelled_trees_are_bounded.ensures _ _ (call_found false _ c.read_file.ensures.bytes _ c.read_file.ensures.gives)
+returns-clause-bounded c = found_bounded c.encoded_trees_are_bounded.ensures _ _ (call_found false _ c.read_file.ensures.bytes _ c.read_file.ensures.gives)
 
 pub returns-clause-memory : goal.returns-clause-memory
-returns-clause-memory c = found_zero c.spelled_bodies_name_memory_zero.ensures _ _ (call_found false _ c.read_file.ensures.bytes _ c.read_file.ensures.gives)
+returns-clause-memory c = found_zero c.encoded_bodies_name_memory_zero.ensures _ _ (call_found false _ c.read_file.ensures.bytes _ c.read_file.ensures.gives)

@@ -1,5 +1,5 @@
 use Rattle.std.proofs.Common.{rules, refl, ◌∙◌, arith}
-use Rattle.block_pool.proofs.Plain.{fixed_self, fixed_on, none_listed, unmarked_sound, committed}
+use Rattle.block_pool.proofs.Plain.{fixed_self, fixed_on, no_opaque, unmarked_sound, committed}
 use Rattle.block_pool.proofs.table.Table.commit.Goals as goal
 
 pub loop-self-init : goal.loop-self-init
@@ -21,7 +21,7 @@ loop-self-preserved c =
     record { sound = e.sound; on = e.fixed.marked ∙ w.on; now = c.settle.ensures.settled.now ∙ w.now; blocks = c.settle.ensures.settled.blocks ∙ w.blocks; fixed = fixed_on c.args.self.now c.loop-self.self c.settle.new.self w.fixed e.fixed }
 
 pub returns-clause-sound : goal.returns-clause-sound
-returns-clause-sound c = unmarked_sound c.loop-self.self c.loop-self.invariant.sound (none_listed c.loop-self.self.changed.items (search rules))
+returns-clause-sound c = unmarked_sound c.loop-self.self c.loop-self.invariant.sound (no_opaque c.loop-self.self.changed.items (search rules))
 
 pub returns-clause-kept : goal.returns-clause-kept
-returns-clause-kept c = committed c.args.self.now c.loop-self.self c.loop-self.invariant (none_listed c.loop-self.self.changed.items (search rules))
+returns-clause-kept c = committed c.args.self.now c.loop-self.self c.loop-self.invariant (no_opaque c.loop-self.self.changed.items (search rules))

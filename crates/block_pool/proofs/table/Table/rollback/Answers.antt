@@ -1,5 +1,5 @@
 use Rattle.std.proofs.Common.{rules, refl, ◌∙◌, arith}
-use Rattle.block_pool.proofs.Plain.{fixed_self, fixed_on, none_listed, unmarked_sound, rolled_back}
+use Rattle.block_pool.proofs.Plain.{fixed_self, fixed_on, no_opaque, unmarked_sound, rolled_back}
 use Rattle.block_pool.proofs.table.Table.rollback.Goals as goal
 
 pub loop-self-init : goal.loop-self-init
@@ -21,7 +21,7 @@ loop-self-preserved c =
     record { sound = e.sound; on = e.fixed.marked ∙ w.on; mark = c.take_back.ensures.back.mark ∙ w.mark; blocks = c.take_back.ensures.back.blocks ∙ w.blocks; fixed = fixed_on c.args.self.now c.loop-self.self c.take_back.new.self w.fixed e.fixed }
 
 pub returns-clause-sound : goal.returns-clause-sound
-returns-clause-sound c = unmarked_sound c.loop-self.self c.loop-self.invariant.sound (none_listed c.loop-self.self.changed.items (search rules))
+returns-clause-sound c = unmarked_sound c.loop-self.self c.loop-self.invariant.sound (no_opaque c.loop-self.self.changed.items (search rules))
 
 pub returns-clause-back : goal.returns-clause-back
-returns-clause-back c = rolled_back c.args.self.now c.loop-self.self c.loop-self.invariant (none_listed c.loop-self.self.changed.items (search rules))
+returns-clause-back c = rolled_back c.args.self.now c.loop-self.self c.loop-self.invariant (no_opaque c.loop-self.self.changed.items (search rules))

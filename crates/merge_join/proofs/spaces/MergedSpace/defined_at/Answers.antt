@@ -5,7 +5,7 @@ use Rattle.merge_join.specs.Spaces.{first_of, imported_in}
 use Rattle.merge_join.proofs.ByPart.{each_within, each_index}
 use Rattle.merge_join.proofs.spaces.MergedSpace.defined_at.Goals as goal
 use Rattle.merge_valid_proof.proofs.Entries.{count_is}
-use Rattle.merge_behaves_proof.proofs.Standing.{defined_low}
+use Rattle.merge_behaves_proof.proofs.Counterparts.{defined_low}
 
 pub number_at-imported-requires : goal.number_at-imported-requires
 number_at-imported-requires c =

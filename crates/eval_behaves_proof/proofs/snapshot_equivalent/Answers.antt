@@ -1,0 +1,23 @@
+use Rattle.eval_behaves_proof.proofs.Begin.{Laws}
+use Rattle.eval_behaves_proof.proofs.Same.{none_evaluated}
+use Rattle.eval_behaves_proof.proofs.ShowTheSame.{snapshot_equivalent}
+use Rattle.eval_behaves_proof.proofs.snapshot_equivalent.Goals as goal
+
+pub returns : goal.returns
+returns c =
+    let operands = c.operands_pass_layer_by_layer.ensures in
+    let typing = c.renumbering_keeps_typing.ensures in
+    let off = c.steps_agree_off_unknown_places.ensures in
+    let laws : Laws = record {
+      known = c.quiet_steps_are_known.ensures.calls;
+      lead = c.quiet_calls_simulate.ensures.simulate;
+      agree = off.steps;
+      runs = off.runs;
+      reached = c.quiet_runs_end.ensures.reached;
+      machines = c.quiet_instantiations_are_instantiations.ensures.instantiations;
+      writes = c.steps_write_only_touched_places.ensures.writes;
+      code = record { inside = operands.inside; any = operands.any; layers = operands.layers };
+      items = λ m. (c.valid_where_items_hold.ensures m).0;
+      naming = record { entries = typing.tree_entries; named = typing.tree_named };
+    } in
+    record { equivalent = snapshot_equivalent laws c.related_instances_have_equal_traces.ensures.begun c.evaluated_numbers_are_in_range.ensures.expressible; none = none_evaluated }

@@ -1,5 +1,0 @@
-use Rattle.eval_encode_proof.proofs.Spelled.{spelled_begin}
-use Rattle.eval_encode_proof.proofs.spelled_trees_begin_in_range.Goals as goal
-
-pub returns : goal.returns
-returns c = spelled_begin

@@ -1,0 +1,35 @@
+-- What a quiet call is over another store.
+use Rattle.std.specs.Prelude.{◌≡◌, ℕ, Bool, List, []}
+use Rattle.wasm_tree.specs.declared.space.Space.{Space}
+use Rattle.wasm_tree.specs.declared.module.Module.{Module}
+use Rattle.wasm_meaning.specs.Outcomes.{Gives}
+use Rattle.wasm_meaning.specs.State.{Val, Store, Entry, EndsCall}
+use Rattle.wasm_meaning.specs.Step.{step}
+use Rattle.index_remap.specs.Related.{Pairing, OneToOneWhereWritten, ListRel, EntryRel}
+use Rattle.index_remap.specs.Laws.{passed}
+use Rattle.index_remap.specs.Unknown.{StoreRelOff, GoesOn}
+use Rattle.eval_spec.specs.State.{State, Going, Finished}
+use Rattle.eval_spec.specs.Quiet.{ComesTo}
+use Rattle.eval_spec.specs.Instantiation.{own_inst}
+use Rattle.eval_proof.specs.Known.{RelatesAllButImports, FramesOf, FuncsOf}
+use Rattle.eval_proof.specs.Alone.{LeavesAlone}
+
+-- from there steps that go on, and one that ends the call, lead to a store that is related but for what is unknown after the quiet call
+pub record IsLed (R : Pairing) (t : State) (x : Store) (fs : List Entry) : Type 0 where
+  pub number : ℕ
+  pub store : Store
+  pub entries : List Entry
+  pub steps : GoesOn number x fs store entries
+  pub values : List Val
+  pub after : Store
+  pub rest : List Entry
+  pub ends : step store entries ≡ Gives (EndsCall values after rest)
+  pub related : StoreRelOff R t.unknown t.store after
+  -- and what is not related, or still unknown, is as it was
+  pub alone : LeavesAlone R t.unknown x after
+
+-- A quiet call leads the same call over any store and entries that are related, where nothing need be known of imported tables, memories and globals, nor of what is unknown.
+abbrev pub QuietCallsSimulate : Type 0
+QuietCallsSimulate =
+    (m : Module) (of named : Space → ℕ → ℕ → Bool) → RelatesAllButImports m of named → OneToOneWhereWritten (passed of named []) → (s t : State) (es : List Entry) → FuncsOf (own_inst m) s.store.funcs → FramesOf (own_inst m) es →
+    ComesTo m (Going s es) (Finished t) → (x : Store) (fs : List Entry) → StoreRelOff (passed of named []) s.unknown s.store x → ListRel (EntryRel (passed of named [])) es fs → IsLed (passed of named []) t x fs

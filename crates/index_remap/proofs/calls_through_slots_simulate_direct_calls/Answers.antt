@@ -1,0 +1,14 @@
+use Rattle.index_remap.specs.Laws.{passed_with}
+use Rattle.index_remap.proofs.FramesBetween.{not_seen}
+use Rattle.index_remap.proofs.SlotCalls.{trampolines_enter, slot_calls_enter, trampoline_calls, calls_agree, direct_calls_agree}
+use Rattle.index_remap.proofs.calls_through_slots_simulate_direct_calls.Goals as goal
+
+pub returns : goal.returns
+returns c = record {
+  passing_frames = λ of named l stands apart r q h skips known. not_seen (passed_with of named l stands) apart r q h skips known;
+  trampolines = trampolines_enter;
+  slots = slot_calls_enter;
+  through = λ of named l stands. trampoline_calls (passed_with of named l stands);
+  replaced = λ of named l stands. calls_agree (passed_with of named l stands);
+  direct = λ of named l stands. direct_calls_agree (passed_with of named l stands);
+}

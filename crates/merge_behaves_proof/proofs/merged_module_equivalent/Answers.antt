@@ -1,0 +1,41 @@
+use Rattle.merge_behaves_proof.proofs.SpaceLaws.{SpaceLaws}
+use Rattle.merge_behaves_proof.proofs.ValueGiven.{Laws}
+use Rattle.merge_behaves_proof.proofs.Worlds.{show_the_same}
+use Rattle.merge_behaves_proof.proofs.merged_module_equivalent.Goals as goal
+
+pub returns : goal.returns
+returns c =
+    let alone = c.imports_of_one_module_denote_the_environment.ensures in
+    let own = c.own_entities_correspond.ensures.own in
+    let ends = c.linked_imports_have_ends.ensures in
+    let maps = c.maps_have_entries.ensures in
+    let worlds = c.corresponding_worlds_have_equal_traces.ensures in
+    let spaces : SpaceLaws = record {
+      ends = ends.ends;
+      stays = ends.stays;
+      sites = ends.sites;
+      places = ends.places;
+      indices = ends.indices;
+      defined = ends.defined;
+      types = ends.types;
+      counts = ends.counts;
+      things = alone.external_values;
+      spaces = alone.spaces;
+      own = own;
+    } in
+    let laws : Laws = record {
+      items = c.valid_where_items_hold.ensures;
+      valid = c.merged_modules_are_valid.ensures.valid;
+      entries = maps.entries;
+      reads = maps.reads;
+      there = maps.there;
+      alone_reads = alone.reads;
+      alone_spaces = alone.spaces;
+      own = own;
+      named = c.remapped_code_is_related.ensures.fitting;
+      code = c.steps_agree.ensures.code;
+    } in
+    record {
+      equivalent = λ parts mode can env offers named moves n.
+          show_the_same spaces laws c.starts_take_nothing.ensures.starts worlds.begin worlds.made worlds.allocated c.related_instances_have_equal_traces.ensures.begun c.one_start_for_several_equivalent.ensures.calls env parts mode can moves n;
+    }

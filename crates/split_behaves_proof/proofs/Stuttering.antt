@@ -1,0 +1,91 @@
+-- Stuttering steps of a run under a loader, and what so many steps of the machine are as steps of it.
+use Rattle.std.proofs.Common.{◌≡◌, ◌∙◌, refl, ap, sym, ℕ, zero, suc, ◌≤◌, List, [], ◌∷◌, None, Option, arith}
+use Rattle.base_simulation.specs.Machines.{Machine, events_of, noted, state_after}
+use Rattle.wasm_meaning.specs.Outcomes.{Outcome, Gives, Traps, IllTyped}
+use Rattle.wasm_meaning.specs.State.{CallsOwn, CallsPlaceholder, Ended, EndsCall, Entry, Growing, Mark, Next, Opening, Ran, Running, Store, WaitsGrowth, Waiting}
+use Rattle.wasm_meaning.specs.Loader.{LoaderRun, LoaderWorld, loader_made, tick_loader}
+use Rattle.wasm_meaning.specs.Run.{Run, Steps, transition}
+use Rattle.wasm_meaning.specs.Step.{step}
+use Rattle.index_remap.specs.Trampolines.{go_on}
+
+-- ---- stuttering steps ----
+
+pub data StutteringSteps {S E : Type 0} (t : Machine S E) : ℕ → S → S → Type 0 where
+  here : {s : S} → StutteringSteps t zero s s
+  before : {n : ℕ} {s r q : S} → t s ≡ (r, None) → StutteringSteps t n r q → StutteringSteps t (suc n) s q
+
+module _ {S E : Type 0} (t : Machine S E) where
+  pub stuttering_state : {n : ℕ} {s q : S} → StutteringSteps t n s q → state_after t s n ≡ q
+  stuttering_state here = refl
+  stuttering_state {n = suc n} (before e rest) = ap (λ o. state_after t o.0 n) e ∙ stuttering_state rest
+
+  pub stuttering_events : {n : ℕ} {s q : S} → StutteringSteps t n s q → events_of t s n ≡ []
+  stuttering_events here = refl
+  stuttering_events {n = suc n} (before e rest) = ap (λ o. noted o.1 (events_of t o.0 n)) e ∙ stuttering_events rest
+
+  -- one step more
+  pub last_state : {n : ℕ} {s q : S} {o : S × Option E} → StutteringSteps t n s q → t q ≡ o → state_after t s (suc n) ≡ o.0
+  last_state here f = ap (λ o. o.0) f
+  last_state {n = suc n} (before e rest) f = ap (λ o. state_after t o.0 (suc n)) e ∙ last_state rest f
+
+  pub last_events : {n : ℕ} {s q : S} {o : S × Option E} → StutteringSteps t n s q → t q ≡ o → events_of t s (suc n) ≡ noted o.1 []
+  last_events here f = ap (λ o. noted o.1 []) f
+  last_events {n = suc n} (before e rest) f = ap (λ o. noted o.1 (events_of t o.0 (suc n))) e ∙ last_events rest f
+
+-- ---- steps of the machine ----
+
+-- the run with this stack
+abbrev pub at : Run → Store → List Entry → Run
+at r s es = record r { store = s; entries = es }
+
+-- a step of the machine that gives something is the step of the run
+pub step_is : (r : Run) (s : Store) (es : List Entry) (n : Next) → step s es ≡ Gives n → transition (at r s es) ≡ Steps (at r s es) (Gives n)
+step_is r s (Running f ∷ es) n e = ap (Steps (at r s (Running f ∷ es))) e
+step_is r s [] n e = cc
+step_is r s (Mark ∷ es) n e = cc
+step_is r s (Opening xs ∷ es) n e = cc
+step_is r s (Waiting ts ∷ es) n e = cc
+step_is r s (Ended vs ∷ es) n e = cc
+step_is r s (Growing g ∷ es) n e = cc
+
+-- what goes on is one stuttering step under the loader
+pub ran_is : (w : LoaderWorld) (q : LoaderRun) (x y : Run) (s : Store) (es : List Entry) → transition x ≡ Steps y (Gives (Ran s es)) → tick_loader w (record q { run = x }) ≡ (record q { run = at y s es }, None)
+ran_is w q x y s es e = ap (loader_made w (record q { run = x })) e
+
+-- it goes on to a stack, or comes to something else before
+pub data Reaches (w : LoaderWorld) (q : LoaderRun) (r : Run) (n : ℕ) (s : Store) (es : List Entry) (o : Outcome Next) : Type 0 where
+  whole : (t : Store) (fs : List Entry) → StutteringSteps (tick_loader w) n (record q { run = at r s es }) (record q { run = at r t fs }) → o ≡ Gives (Ran t fs) → Reaches w q r n s es o
+  part : (k : ℕ) → suc k ≤ n → (t : Store) (fs : List Entry) → StutteringSteps (tick_loader w) k (record q { run = at r s es }) (record q { run = at r t fs }) → step t fs ≡ o → ((u : Store) (gs : List Entry) → o ≡ Gives (Ran u gs) → ⊥) → Reaches w q r n s es o
+
+pub reaches : (w : LoaderWorld) (q : LoaderRun) (r : Run) (n : ℕ) (s : Store) (es : List Entry) (o : Outcome Next) → go_on n (Gives (Ran s es)) ≡ o → Reaches w q r n s es o
+reaches w q r zero s es o e = whole s es here (sym e)
+reaches w q r (suc n) s es o e = by (step s es) refl e (λ t fs f. reaches w q r n t fs o f)
+  where
+    stops : (x : Outcome Next) → step s es ≡ x → x ≡ o → ((t : Store) (fs : List Entry) → x ≡ Gives (Ran t fs) → ⊥) → Reaches w q r (suc n) s es o
+    stops x is f other = part 0 (omega arith) s es here (is ∙ f) (λ t fs g. other t fs (f ∙ g))
+
+    further : (t : Store) (fs : List Entry) → step s es ≡ Gives (Ran t fs) → Reaches w q r n t fs o → Reaches w q r (suc n) s es o
+    further t fs is (whole u gs rest f) = whole u gs (before (ran_is w q (at r s es) (at r s es) t fs (step_is r s es (Ran t fs) is)) rest) f
+    further t fs is (part k lt u gs rest f other) = part (suc k) (omega (arith, lt)) u gs (before (ran_is w q (at r s es) (at r s es) t fs (step_is r s es (Ran t fs) is)) rest) f other
+
+    same : (x : Outcome Next) → ((t : Store) (fs : List Entry) → x ≡ Gives (Ran t fs) → ⊥) → go_on n x ≡ x
+    same x other = at_count n x other
+      where
+        at_count : (n : ℕ) (x : Outcome Next) → ((t : Store) (fs : List Entry) → x ≡ Gives (Ran t fs) → ⊥) → go_on n x ≡ x
+        at_count zero x other = refl
+        at_count (suc n) Traps other = refl
+        at_count (suc n) IllTyped other = refl
+        at_count (suc n) (Gives (Ran t fs)) other = absurd (other t fs refl)
+        at_count (suc n) (Gives (CallsOwn p u vs t fs)) other = refl
+        at_count (suc n) (Gives (WaitsGrowth g m k t fs)) other = refl
+        at_count (suc n) (Gives (CallsPlaceholder k vs t fs)) other = refl
+        at_count (suc n) (Gives (EndsCall vs t fs)) other = refl
+
+    by : (x : Outcome Next) → step s es ≡ x → go_on n x ≡ o → ((t : Store) (fs : List Entry) → go_on n (Gives (Ran t fs)) ≡ o → Reaches w q r n t fs o) → Reaches w q r (suc n) s es o
+    by (Gives (Ran t fs)) is e rest = further t fs is (rest t fs e)
+    by Traps is e rest = stops Traps is (sym (same Traps (λ t fs f. cc)) ∙ e) (λ t fs f. cc)
+    by IllTyped is e rest = stops IllTyped is (sym (same IllTyped (λ t fs f. cc)) ∙ e) (λ t fs f. cc)
+    by (Gives (CallsOwn p u vs t fs)) is e rest = stops _ is (sym (same (Gives (CallsOwn p u vs t fs)) (λ t fs f. cc)) ∙ e) (λ t fs f. cc)
+    by (Gives (WaitsGrowth g m k t fs)) is e rest = stops _ is (sym (same (Gives (WaitsGrowth g m k t fs)) (λ t fs f. cc)) ∙ e) (λ t fs f. cc)
+    by (Gives (CallsPlaceholder k vs t fs)) is e rest = stops _ is (sym (same (Gives (CallsPlaceholder k vs t fs)) (λ t fs f. cc)) ∙ e) (λ t fs f. cc)
+    by (Gives (EndsCall vs t fs)) is e rest = stops _ is (sym (same (Gives (EndsCall vs t fs)) (λ t fs f. cc)) ∙ e) (λ t fs f. cc)

@@ -1,5 +1,0 @@
-use Rattle.wasm_read_spec.proofs.NestLaws.{body_ends}
-use Rattle.wasm_read_spec.proofs.laws.bodies_end_themselves.Goals as goal
-
-pub returns : goal.returns
-returns c = λ many text more is js h k. body_ends many text more is js h k

@@ -1,5 +1,0 @@
-use Rattle.wasm_read_spec.proofs.FileLaws.{no_fault}
-use Rattle.wasm_read_spec.proofs.laws.no_fault_where_spelled.Goals as goal
-
-pub returns : goal.returns
-returns c = λ many bytes small. no_fault many bytes small

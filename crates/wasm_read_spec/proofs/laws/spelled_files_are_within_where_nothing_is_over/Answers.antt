@@ -1,5 +1,0 @@
-use Rattle.wasm_read_spec.proofs.WithinLaws.{within_where_nothing_is_over}
-use Rattle.wasm_read_spec.proofs.laws.spelled_files_are_within_where_nothing_is_over.Goals as goal
-
-pub returns : goal.returns
-returns c = λ bytes many m small h. within_where_nothing_is_over bytes many m small h

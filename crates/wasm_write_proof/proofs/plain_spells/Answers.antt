@@ -1,5 +1,0 @@
-use Rattle.wasm_write_proof.proofs.FileTexts.{plain_spelled, plain_within}
-use Rattle.wasm_write_proof.proofs.plain_spells.Goals as goal
-
-pub returns : goal.returns
-returns c = record { spells = plain_spelled; within = plain_within }
