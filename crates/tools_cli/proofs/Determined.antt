@@ -9,7 +9,7 @@ use Rattle.tools_cli.specs.Texts.{fault_text, invalid_text, link_text, join_text
 use Rattle.wasm_tree.specs.declared.which.Which.TheVariants.{InputBytes}
 use Rattle.tools_cli.specs.Job.{IsRead, IsAccepted, invalid, Job, Refused, Gathered, add_first, add_file, HoldBytes, Whole, Lacks, TooLong, gathered, most_input, Loads, loaded, faulty, AllLoad, OneFails, Decision, Refuses, Makes, Merges, not_linked, not_joined, merged, parts_of, Decides, job_of, module_files, contents_of, InputsJob, not_loaded, decided, TaskJob, not_begun, missing, too_long, all_read, HasJob, no_task, asked}
 use Rattle.dce_exact_proof.specs.Laws.{ExactMarksAreOne}
-use Rattle.tools_cli.proofs.Kept.{whole_is, short_enough}
+use Rattle.tools_cli.proofs.Faithful.{whole_is, short_enough}
 use Rattle.tools_cli.proofs.MetadceDecided.{metadce_once}
 use Rattle.tools_cli.proofs.SplitDecided.{NamesAreRead, split_once}
 use Rattle.tools_cli.proofs.CtorEvalDecided.{eval_once}

@@ -16,7 +16,7 @@ pub mod FirstItems
 pub mod Existing
 pub mod Accepted
 pub mod WordTexts
-pub mod Kept
+pub mod Faithful
 pub mod Lines
 pub mod Apart
 pub mod Limits
@@ -25,3 +25,5 @@ pub mod NumberTexts
 pub mod SampleRanges
 pub mod SampleDecided
 pub mod SampleText
+mod FaithfulRows
+mod MadeRows

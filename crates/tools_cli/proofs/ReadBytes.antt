@@ -7,7 +7,7 @@ use Rattle.tool_io.specs.FilesAndSinks.{Contents}
 use Rattle.tools_cli.specs.CommandLine.{Text}
 use Rattle.tools_cli.specs.Effects.{Entry}
 use Rattle.tools_cli.specs.Job.{contents_of}
-use Rattle.tools_cli.specs.Kept.{HoldBytesAt}
+use Rattle.tools_cli.specs.Faithful.{HoldBytesAt}
 use Rattle.tools_cli.specs.Command.{input_entries}
 use Rattle.tools_cli.specs.declared.gather.Input.{Input}
 

@@ -25,7 +25,7 @@ use Rattle.merge_spec.specs.declared.faults.LinkFault.TheVariants as link
 use Rattle.merge_spec.specs.declared.faults.JoinFault.TheVariants as join
 use Rattle.wasm_read_spec.specs.declared.fault.ReadFault.TheVariants as fault
 use Rattle.base_lists.proofs.Places.{map_twice}
-use Rattle.tools_cli.proofs.Kept.{gathered_held}
+use Rattle.tools_cli.proofs.Faithful.{gathered_held}
 use Rattle.tools_cli.proofs.Deciding.{text_contents}
 use Rattle.tools_cli.proofs.Pieces.{prefix_none}
 

@@ -14,4 +14,4 @@ pub mod Command
 pub mod Stop
 pub mod Causes
 pub mod Run
-pub mod Kept
+pub mod Faithful

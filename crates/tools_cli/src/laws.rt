@@ -3,7 +3,7 @@ ghost use Rattle.std.specs.Prelude.{◌≡◌, List, ℕ};
 ghost use Rattle.tool_io.specs.FilesAndSinks.{Contents};
 ghost use Rattle.tools_cli.specs.Effects.{Entry, made};
 ghost use Rattle.tools_cli.specs.Job.{Done, Job, HasJob, HoldBytes};
-ghost use Rattle.tools_cli.specs.Kept.{Keeps, ReadsBytes, SplitWordsAreText};
+ghost use Rattle.tools_cli.specs.Faithful.{IsFaithful, ReadsBytes, SplitWordsAreText};
 
 use dce_behaves_proof::swept_module_equivalent;
 use dce_encode_proof::swept_modules_are_in_range;
@@ -53,14 +53,11 @@ pub fn command_lines_have_jobs()
     plan_faults_have_causes();
 }
 
-/// A job that is done keeps the modules that it read. Of a merge the output spells the module that they are merged into, it is valid, and it behaves as they do where
-/// they are linked by name. Of a metadce it spells what is left of the module by what is reached, it is valid, and it behaves as the whole does through the exports
-/// that are kept. Of a split, whose words are UTF-8, the outputs spell the secondary and the primary module, both are valid, and they behave as the module does,
-/// under the loader of the secondary one; and wherever it is loaded, it links, and none of its segments traps. Of an evaluation of constructors the output spells the
-/// module in the state that those leave which are evaluated, it is valid, and it behaves as the module of which they are evaluated. Of a sample the output, if there is
-/// one, is to its two modules what that of a merge is to the modules that it reads. The files that are read hold bytes.
-pub fn done_jobs_are_sound()
-    ensures { (words : List (List ℕ)) (before : Contents) (writes : List Entry) (lines : List ℕ) → SplitWordsAreText words → ReadsBytes words before → HasJob words before (Done writes lines) → Keeps words before (made writes before) }
+/// A job that is done is faithful: after its writes, each output is a valid module, is what the command makes of the modules and texts that were read, and is observationally
+/// equivalent to the original of its command (`IsFaithful`, with a case for each command). Asked is that the files that are read hold bytes, and that the words of a split
+/// are UTF-8.
+pub fn done_jobs_are_faithful()
+    ensures faithful { (words : List (List ℕ)) (before : Contents) (writes : List Entry) (lines : List ℕ) → SplitWordsAreText words → ReadsBytes words before → HasJob words before (Done writes lines) → IsFaithful words before (made writes before) }
 {
     canonical_encoding_encodes();
     trees_that_fit_have_small_sizes();

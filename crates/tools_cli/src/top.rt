@@ -3,11 +3,11 @@ ghost use Rattle.std.specs.Prelude.{◌≡◌, ◌≤◌, ◌⊎◌, map, string
 ghost use Rattle.tool_io.specs.FilesAndSinks.{NoneFell, Becomes, Rose};
 ghost use Rattle.tools_cli.specs.CommandLine.{task_of, usage_line};
 ghost use Rattle.tools_cli.specs.Stop.{Says};
-ghost use Rattle.tools_cli.specs.Kept.{EndsKept};
+ghost use Rattle.tools_cli.specs.Faithful.{EndsFaithful};
 ghost use Rattle.tools_cli.specs.Run.{ChangesByTheJob, PrintsForTheJob, PrintsNothing, EndsDone, EndsRefused, HasStatus, HasOutsideCause, SomeRose, IsSame, Gains, HostState};
 
 use crate::command_line::said_to_tool;
-use crate::laws::done_jobs_are_sound;
+use crate::laws::done_jobs_are_faithful;
 use crate::stop::{Status, report};
 use crate::work::run_command;
 use std::alloc::Global;
@@ -15,7 +15,7 @@ use tool_io::{Files, Sink};
 
 /// Does what the words of a command line ask for: reads its files, writes its outputs, and then puts
 /// its lines on `out`. A refusal is told on `err`; no file changes then. After any other status than
-/// `Done` the files hold some first writes of the job, and at most the next name a prefix of its bytes.
+/// `Done` the files hold some first writes of the job, and at most the next name its old contents or a prefix of its bytes.
 pub fn run<F: Files, O: Sink, E: Sink>(
     alloc: Global,
     words: &[String],
@@ -38,11 +38,12 @@ pub fn run<F: Files, O: Sink, E: Sink>(
 
     // Each status has its cause.
     ensures done { result ≡ Status.Done → IfSome (F.contents files.old) (λ a. EndsDone (map string_bytes words.now) a (F.contents files.new) (O.bytes out.old) (O.bytes out.new)) × IsSame (E.bytes err.old) (E.bytes err.new) }
-    // Where it is done and the files tell what they hold, each output is a valid module, and is observationally equivalent to what it was made from. Of a merge it is the one
-    // that the modules are merged into which the files held, compared with these, linked by name; of a sample that of its two modules. Of a metadce it is what is left, by what
-    // is reached, of the module which the file held. Of a split there are two, the secondary and the primary module of that one, compared with it under the loader of the
-    // secondary one. Of an evaluation of constructors it is that module in the state which those leave that are evaluated, compared with it after these.
-    ensures kept { result ≡ Status.Done → IfSome (F.contents files.old) (λ a. EndsKept (map string_bytes words.now) a (F.contents files.new)) }
+    // The headline. With status Done, where the files told before what they hold: under each output name there is now an encoding of a valid module, which is what the command
+    // makes of what it read; and what was written is observationally equivalent to its original. merge: the output, to the parts linked by name. split: the primary module under
+    // the loader of the secondary one, to the module. metadce: the output, to the module of which the embedder uses only the exports that are kept. ctor-eval: the output, to the
+    // module after its evaluated constructors. sample: as a merge, of its two modules. Of metadce and ctor-eval in each environment that links the module, of the others in every
+    // one; the numbers of steps stand in `equivalence` (specs/Faithful).
+    ensures faithful { result ≡ Status.Done → IfSome (F.contents files.old) (λ a. EndsFaithful (map string_bytes words.now) a (F.contents files.new)) }
     ensures refused { result ≡ Status.Refused → IfSome (F.contents files.old) (λ a. EndsRefused (map string_bytes words.now) a (E.bytes err.old) (E.bytes err.new)) × IsSame (F.contents files.old) (F.contents files.new) × IsSame (O.bytes out.old) (O.bytes out.new) }
     ensures usage { result ≡ Status.Usage → (task_of (map string_bytes words.now) ≡ None) × Gains (usage_line (map string_bytes words.now)) (E.bytes err.old) (E.bytes err.new) × IsSame (F.contents files.old) (F.contents files.new) × IsSame (O.bytes out.old) (O.bytes out.new) }
     ensures outside { result ≡ Status.Outside → HasOutsideCause (map string_bytes words.now)
@@ -59,7 +60,7 @@ pub fn run<F: Files, O: Sink, E: Sink>(
     // Words that ask for no task are told so, whatever the files are.
     ensures no_task { task_of (map string_bytes words.now) ≡ None → Rose (E.faults err.old) (E.faults err.new) ⊎ ((result ≡ Status.NoMemory) ⊎ (result ≡ Status.Usage)) }
 {
-    done_jobs_are_sound();
+    done_jobs_are_faithful();
     let said = said_to_tool(alloc, words);
     match run_command(alloc, words, &said, files, out) {
         Ok(()) => Status::Done,

@@ -3,7 +3,7 @@ ghost use Rattle.std.specs.Prelude.{◌≡◌, ◌≤◌, ◌++◌, [], map, str
 ghost use Rattle.base_lists.specs.Every.{Every};
 ghost use Rattle.wasm_bytes.specs.Reading.{IsBytes};
 ghost use Rattle.tool_io.specs.FilesAndSinks.{NoneFell, Becomes, AppendsPrefix};
-ghost use Rattle.tools_cli.specs.Kept.{HoldBytesAt, ReadsBytes};
+ghost use Rattle.tools_cli.specs.Faithful.{HoldBytesAt, ReadsBytes};
 ghost use Rattle.tools_cli.specs.Effects.{IsCut, written_names};
 ghost use Rattle.tools_cli.specs.Job.{InputsJob, TaskJob, Done, Refused, Whole, gathered, refused_before, most_input};
 ghost use Rattle.tools_cli.specs.Command.{task_value, arguments_value, input_entries, write_entries};

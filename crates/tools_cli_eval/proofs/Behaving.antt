@@ -1,5 +1,5 @@
--- The module after evaluated constructors behaves as the module of which they are evaluated.
-use Rattle.std.proofs.Common.{◌≡◌, ◌∙◌, ap, sym, refl, subst, ℕ, List, [], take, Option, Some, None, ◌⊎◌, inl, inr}
+-- The module after evaluated constructors behaves as the module of which they are evaluated, and the machine evaluates these too.
+use Rattle.std.proofs.Common.{◌≡◌, ◌∙◌, ap, sym, refl, subst, ℕ, List, [], ◌∷◌, take, Option, Some, None, ◌⊎◌, inl, inr}
 use Rattle.wasm_tree.specs.declared.module.Module.{Module}
 use Rattle.wasm_valid.specs.Validity.{IsValid}
 use Rattle.wasm_meaning.specs.State.{Text}
@@ -8,8 +8,10 @@ use Rattle.eval_spec.specs.Evaluation.{IsQuiet, evaluated, state_at_end}
 use Rattle.eval_proof.specs.Laws.{CountedAreQuiet, NoneCountedBefore}
 use Rattle.eval_numbers_proof.specs.Ranges.{BeginsInRange}
 use Rattle.eval_snapshot_spec.specs.Evaluated.{evaluated_count, evaluated_tree, first_missing, funcs_named, tree_in}
+use Rattle.eval_snapshot_spec.specs.After.{IsAfter}
+use Rattle.eval_behaves_proof.specs.Addresses.{QuietRunsAreTheMachines}
 use Rattle.eval_behaves_proof.specs.Laws.{ObservationallyEquivalent, NoneIsEquivalent, SnapshotEquivalent}
-use Rattle.tools_cli_eval.specs.Trees.{IsSnapshot, TreesBehave}
+use Rattle.tools_cli_eval.specs.Trees.{AreEvaluatedAsByTheMachine, EvaluatedAsByTheMachine, IsSnapshot, TreesBehave}
 use Rattle.tools_cli_eval.proofs.TreesHold.{finished_state, snapshot_at}
 
 -- the instantiation is quiet, or something stops it
@@ -51,4 +53,19 @@ module _ (counted : CountedAreQuiet) (none : NoneCountedBefore) (same : Snapshot
   behave m names kept there valid begins = elim (quiet_or_not m) [
     | inl quiet ↦ quietly m names kept there quiet valid begins
     | inr unquiet ↦ stopped m names kept unquiet
+  ]
+
+module _ (counted : CountedAreQuiet) (none : NoneCountedBefore) (machines : QuietRunsAreTheMachines) where
+  -- what a state tells after constructors is what their quiet evaluation left
+  after_them : (m : Module) (names kept : List Text) (s : State) → IsValid m → IsAfter m names s → EvaluatedAsByTheMachine m names kept
+  after_them m [] kept s valid is = tt
+  after_them m (name ∷ names) kept s valid is = (is.end, is.quiet, λ env ok linked. machines m name names kept is.end valid is.named is.quiet env ok linked)
+
+  pub run_them : AreEvaluatedAsByTheMachine
+  run_them m names kept there valid = elim (quiet_or_not m) [
+    | inl quiet ↦
+        let q = counted m (funcs_named m names) quiet in
+        let is = snapshot_at m names kept there q.0 (ap state_of q.1) in
+        after_them m (take (evaluated_count m names) names) kept is.state valid is.after
+    | inr unquiet ↦ subst (λ n. EvaluatedAsByTheMachine m (take n names) kept) (sym (none m (funcs_named m names) unquiet)) tt
   ]

@@ -1,15 +1,19 @@
 -- The module after evaluated constructors, where no listed name is missing.
-use Rattle.std.specs.Prelude.{◌≡◌, ◌⊎◌, List, None, take}
+use Rattle.std.specs.Prelude.{◌≡◌, ◌⊎◌, List, [], ◌∷◌, None, IsTrue, take}
 use Rattle.wasm_tree.specs.declared.module.Module.{Module}
 use Rattle.wasm_tree.specs.Bounds.{IsBounded}
 use Rattle.wasm_valid.specs.Validity.{IsSingle, IsValid}
 use Rattle.module_limits.specs.Counts.{over_limit}
 use Rattle.wasm_meaning.specs.State.{Text}
-use Rattle.eval_spec.specs.State.{State}
+use Rattle.wasm_meaning.specs.Environment.{Environment, is_environment}
+use Rattle.wasm_meaning.specs.World.{alone, links}
+use Rattle.eval_spec.specs.State.{State, Finished}
+use Rattle.eval_spec.specs.Evaluation.{evaluated}
 use Rattle.eval_numbers_proof.specs.Ranges.{BeginsInRange}
 use Rattle.eval_snapshot_spec.specs.After.{IsAfter}
-use Rattle.eval_snapshot_spec.specs.Evaluated.{evaluated_count, evaluated_tree, first_missing}
+use Rattle.eval_snapshot_spec.specs.Evaluated.{evaluated_count, evaluated_tree, first_missing, funcs_named}
 use Rattle.eval_snapshot_spec.specs.Snapshot.{snapshot}
+use Rattle.eval_behaves_proof.specs.Addresses.{IsTheMachines}
 use Rattle.eval_behaves_proof.specs.Laws.{ObservationallyEquivalent}
 
 -- it is a snapshot in a state that evaluated constructors left
@@ -37,3 +41,15 @@ TreesAreBounded = (m : Module) (names kept : List Text) → first_missing m name
 -- In each environment that links the module, what is seen of it is what is seen of the module after the constructors that are evaluated: step by step.
 abbrev pub TreesBehave : Type 0
 TreesBehave = (m : Module) (names kept : List Text) → first_missing m names ≡ None → IsValid m → BeginsInRange m → ObservationallyEquivalent m (take (evaluated_count m names) names) kept (evaluated_tree m names kept)
+
+-- The evaluation of these constructors is quiet, and it is the machine's run: in each environment that links the module, the instantiation, the start and their calls come to
+-- their ends too, and leave what the evaluation left. Of no constructor nothing is said.
+abbrev pub EvaluatedAsByTheMachine : Module → (evaluated kept : List Text) → Type 0
+EvaluatedAsByTheMachine m [] kept = Unit {0}
+EvaluatedAsByTheMachine m (name ∷ names) kept =
+    (end : State) × (evaluated m (funcs_named m (name ∷ names)) ≡ Finished end)
+    × ((env : Environment) → IsTrue (is_environment env) → IsTrue (links env (alone m)) → IsTheMachines env m (name ∷ names) kept end)
+
+-- So it is with the constructors that are evaluated.
+abbrev pub AreEvaluatedAsByTheMachine : Type 0
+AreEvaluatedAsByTheMachine = (m : Module) (names kept : List Text) → first_missing m names ≡ None → IsValid m → EvaluatedAsByTheMachine m (take (evaluated_count m names) names) kept

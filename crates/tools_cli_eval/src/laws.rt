@@ -1,8 +1,8 @@
 // What is so of the module after evaluated constructors.
 
-ghost use Rattle.tools_cli_eval.specs.Trees.{TreesAreBounded, TreesAreSingle, TreesAreSnapshots, TreesAreValid, TreesBehave};
+ghost use Rattle.tools_cli_eval.specs.Trees.{AreEvaluatedAsByTheMachine, TreesAreBounded, TreesAreSingle, TreesAreSnapshots, TreesAreValid, TreesBehave};
 
-use eval_behaves_proof::snapshot_equivalent;
+use eval_behaves_proof::{quiet_runs_are_the_machines, snapshot_equivalent};
 use eval_proof::{counted_constructors_are_the_longest_quiet_prefix, evaluations_end};
 use eval_snapshot_proof::snapshots_are_valid;
 use eval_suits_proof::evaluated_states_suit;
@@ -24,11 +24,14 @@ pub fn evaluated_modules_are_valid()
 }
 
 /// In each environment that links the module, an embedder sees of the module after evaluated constructors what it sees of the module of which they are evaluated, step by step
-/// (WebAssembly Core 2.0, sections 4.5.4 and 4.5.5): where its data segments hold bytes, and its tables have fewer than 2^32 slots.
+/// (WebAssembly Core 2.0, sections 4.5.4 and 4.5.5): where its data segments hold bytes, and its tables have fewer than 2^32 slots (`behaves`). The constructors that are evaluated
+/// come to their ends in each of these environments, as they did in the evaluation (`machines`).
 pub fn evaluated_modules_behave()
-    ensures { TreesBehave }
+    ensures behaves { TreesBehave }
+    ensures machines { AreEvaluatedAsByTheMachine }
 {
     counted_constructors_are_the_longest_quiet_prefix();
     evaluations_end();
     snapshot_equivalent();
+    quiet_runs_are_the_machines();
 }

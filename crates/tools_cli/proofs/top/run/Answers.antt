@@ -2,13 +2,13 @@ use Rattle.std.proofs.Common.{map, string_bytes, subst, Result}
 use Rattle.tools_cli.specs.Run.{HostState, IsUsage}
 use Rattle.tools_cli.specs.declared.stop.Stop.{Stop}
 use Rattle.tools_cli.proofs.Running.{usage_told, no_stop_is_done, refusal_told, usage_at_stop, says_nothing, says_a_line, outside_cause, complete_at_stop}
-use Rattle.tools_cli.proofs.Kept.{end_keeps}
+use Rattle.tools_cli.proofs.Faithful.{end_is_faithful}
 use Rattle.tools_cli.proofs.WordTexts.{strings_are_text}
 use Rattle.tools_cli.proofs.top.run.Goals as goal
 
-pub returns-in-Ok-clause-kept : goal.returns-in-Ok-clause-kept
-returns-in-Ok-clause-kept g c is =
-    end_keeps c.done_jobs_are_sound.ensures (g.F.Files.contents c.args.files.now) (g.F.Files.contents c.run_command.new.files) (map string_bytes c.args.words.now) (g.O.Sink.bytes c.args.out.now) (g.O.Sink.bytes c.run_command.new.out) (λ split asked. strings_are_text c.args.words.now) c.in-Ok.ensures.bytes c.in-Ok.ensures.done
+pub returns-in-Ok-clause-faithful : goal.returns-in-Ok-clause-faithful
+returns-in-Ok-clause-faithful g c is =
+    end_is_faithful c.done_jobs_are_faithful.ensures.faithful (g.F.Files.contents c.args.files.now) (g.F.Files.contents c.run_command.new.files) (map string_bytes c.args.words.now) (g.O.Sink.bytes c.args.out.now) (g.O.Sink.bytes c.run_command.new.out) (λ split asked. strings_are_text c.args.words.now) c.in-Ok.ensures.bytes c.in-Ok.ensures.done
 
 pub returns-in-Ok-clause-says : goal.returns-in-Ok-clause-says
 returns-in-Ok-clause-says g c = says_nothing _

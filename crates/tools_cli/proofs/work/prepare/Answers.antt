@@ -8,7 +8,7 @@ use Rattle.tools_cli.specs.Stop.{refusal_text}
 use Rattle.tools_cli.specs.Causes.{AreOutputs, PrintsAsAllowed, StopsWith, StopsPreparing}
 use Rattle.tools_cli.proofs.Deciding.{text_contents, inputs_job_allowed}
 use Rattle.tools_cli.proofs.Running.{texts_held, decided_at, not_begun_at, preparing_from_planning, preparing_from_gathering}
-use Rattle.tools_cli.proofs.Kept.{on_ok, read_bytes}
+use Rattle.tools_cli.proofs.Faithful.{on_ok, read_bytes}
 use Rattle.tools_cli.proofs.work.prepare.Goals as goal
 
 pub returns-clause-plan : goal.returns-clause-plan

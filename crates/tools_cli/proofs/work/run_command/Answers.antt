@@ -5,7 +5,7 @@ use Rattle.tools_cli.specs.CommandLine.{task_of}
 use Rattle.tools_cli.specs.Causes.{StopsFinishing}
 use Rattle.tools_cli.specs.Run.{HostState, StopsWork}
 use Rattle.tools_cli.proofs.Running.{changes_from_cut, prints_from_lines, ends_done, finish_stops, prepare_stops, has_no_lines}
-use Rattle.tools_cli.proofs.Kept.{on_ok, words_read}
+use Rattle.tools_cli.proofs.Faithful.{on_ok, words_read}
 use Rattle.tools_cli.proofs.work.run_command.Goals as goal
 
 pub returns-clause-files : goal.returns-clause-files

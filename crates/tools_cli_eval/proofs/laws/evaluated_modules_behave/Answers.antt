@@ -1,5 +1,11 @@
-use Rattle.tools_cli_eval.proofs.Behaving.{behave}
+use Rattle.tools_cli_eval.proofs.Behaving.{behave, run_them}
 use Rattle.tools_cli_eval.proofs.laws.evaluated_modules_behave.Goals as goal
 
 pub returns : goal.returns
-returns c = behave c.counted_constructors_are_the_longest_quiet_prefix.ensures.quiet c.evaluations_end.ensures.none c.snapshot_equivalent.ensures.equivalent c.snapshot_equivalent.ensures.none
+returns c =
+    let quiet = c.counted_constructors_are_the_longest_quiet_prefix.ensures.quiet in
+    let none = c.evaluations_end.ensures.none in
+    record {
+      behaves = behave quiet none c.snapshot_equivalent.ensures.equivalent c.snapshot_equivalent.ensures.none;
+      machines = run_them quiet none c.quiet_runs_are_the_machines.ensures.machines;
+    }

@@ -16,7 +16,7 @@ use Rattle.merge_names.specs.declared.mode.Mode.{Mode}
 use Rattle.tools_cli.specs.Effects.{Entry, made}
 use Rattle.tools_cli.specs.Job.{IsRead, IsAccepted, Job, Usage, Missing, Refused, Done, Gathered, Whole, Lacks, TooLong, add_first, add_file, gathered, most_input, most_output, Loads, loaded, faulty, invalid, AllLoad, Output, Decision, Refuses, Makes, Merges, not_linked, not_joined, merged, GivesMarks, Reduces, no_graph, not_swept, reduced, words_plan, Splits, no_plan, not_parted, parted, Evaluates, not_evaluated, evaluated, Samples, not_merged, sampled, sample_merge, sample_parts, Decides, is_within, spelled_output, job_of, module_files, contents_of, parts_of, AreMerged, InputsJob, not_loaded, decided, TaskJob, not_begun, missing, too_long, all_read, HasJob, no_task, asked}
 use Rattle.tools_cli.specs.Run.{EndsDone}
-use Rattle.tools_cli.specs.Kept.{HoldModules, output_names, Findings, AreMade, equivalence, Holds, Also, TaskIsSound, Keeps, EndsKept, SplitWordsAreText, HoldBytesAt, ReadsBytes}
+use Rattle.tools_cli.specs.Faithful.{HoldModules, output_names, Findings, AreMade, equivalence, Holds, FurtherClaims, TaskIsSound, IsFaithful, EndsFaithful, SplitWordsAreText, HoldBytesAt, ReadsBytes}
 use Rattle.tools_cli.proofs.Apart.{both_of, neither}
 use Rattle.tools_cli.proofs.Deciding.{one_memory}
 use Rattle.tools_cli.proofs.ReadBytes.{all_read_are, first_read}
@@ -27,7 +27,7 @@ use Rattle.eval_snapshot_spec.specs.After.{IsAfter}
 use Rattle.eval_snapshot_spec.specs.Evaluated.{evaluated_count, evaluated_tree, first_missing}
 use Rattle.eval_snapshot_spec.specs.Snapshot.{snapshot}
 use Rattle.tools_cli_eval.specs.declared.evaluation.EvalFault.TheVariants as eval_fault
-use Rattle.tools_cli_eval.specs.Trees.{TreesAreBounded, TreesAreSingle, TreesAreSnapshots, TreesAreValid, TreesBehave}
+use Rattle.tools_cli_eval.specs.Trees.{AreEvaluatedAsByTheMachine, TreesAreBounded, TreesAreSingle, TreesAreSnapshots, TreesAreValid, TreesBehave}
 use Rattle.tools_cli.proofs.WordTexts.{AreTexts, IsTextTask, IsCounted, task_is_text, task_writes_unlike, task_is_counted}
 use Rattle.tools_cli.proofs.SampleDecided.{output_names_are}
 use Rattle.tools_cli.proofs.SampleRanges.{first_in_range, second_in_range}
@@ -128,6 +128,7 @@ pub record Respelled : Type 0 where
   pub after_single : TreesAreSingle
   pub after_sizes : TreesAreBounded
   pub after_behaves : TreesBehave
+  pub after_runs : AreEvaluatedAsByTheMachine
   pub snapshot_in_range : (m : Module) (s : State) (evaluated kept : List Text) → IsValid m → InRange m → BeginsInRange m → IsAfter m evaluated s
       → IsValid (snapshot m s evaluated kept) → IsSingle (snapshot m s evaluated kept) → IsBounded (snapshot m s evaluated kept) → InRange (snapshot m s evaluated kept)
   pub memory_zero : (m : Module) → IsValid m → IsSingle m → IsTrue (memory_zero_funcs m.funcs)
@@ -246,7 +247,7 @@ pub record MakesSoundly (task : Task) (trees : List Module) (contents : List Tex
   pub names : map (λ (o : Output). o.name) outputs ≡ output_names task contents
   pub each : Every (IsSoundOutput (many_of task)) outputs
   pub behaves : IfSome (equivalence task found trees (output_trees outputs)) Holds
-  pub also : Also task found trees (output_trees outputs)
+  pub also : FurtherClaims task found trees (output_trees outputs)
 
 abbrev IsSoundDecision : (task : Task) → (trees : List Module) → (contents : List Text) → Decision → Type 0
 IsSoundDecision task trees contents (Refuses text) = Unit {0}
@@ -444,7 +445,7 @@ evaluating_is_sound k eval file tree decision are loads (evaluated none) =
       names = refl;
       each = ((record { valid = valid; single = λ e. single }, (ranges, k.memory_zero after valid single), refl), tt);
       behaves = k.after_behaves tree eval.ctors eval.kept there loaded.1.valid (k.begins file.1 tree are loaded.0.spelled);
-      also = tt;
+      also = k.after_runs tree eval.ctors eval.kept there loaded.1.valid;
     }
 
 eval_is_sound : Respelled → (eval : CtorEvalTask) (files : List Entry) (trees : List Module) (decision : Decision) → ((bytes : Text) (more : List Text) → contents_of files ≡ bytes ∷ more → IsBytes bytes)
@@ -564,7 +565,7 @@ each_accepted many (o ∷ outputs) h = (h.0.0, each_accepted many outputs h.1)
 -- ---- what a job that is done keeps ----
 
 abbrev pub JobKeeps : List Text → Contents → Job → Type 0
-JobKeeps words before (Done writes lines) = Keeps words before (made writes before)
+JobKeeps words before (Done writes lines) = IsFaithful words before (made writes before)
 JobKeeps words before Usage = Unit {0}
 JobKeeps words before Missing = Unit {0}
 JobKeeps words before (Refused text) = Unit {0}
@@ -642,16 +643,16 @@ job_keeps : Respelled → (words : List Text) (before : Contents) (job : Job) �
 job_keeps k words before job text are (no_task e) = tt
 job_keeps k words before job text are (asked task _ e h) = words_keep words task before job e (task_keeps k task before job (names_are_text words text task e) (task_is_counted words task e) (are task e) (outputs_apart words task e) h)
 
-pub done_keeps : Respelled → (words : List Text) (before : Contents) (writes : List Entry) (lines : Text) → SplitWordsAreText words → ReadsBytes words before → HasJob words before (Done writes lines) → Keeps words before (made writes before)
-done_keeps k words before writes lines text are h = job_keeps k words before (Done writes lines) text are h
+pub done_is_faithful : Respelled → (words : List Text) (before : Contents) (writes : List Entry) (lines : Text) → SplitWordsAreText words → ReadsBytes words before → HasJob words before (Done writes lines) → IsFaithful words before (made writes before)
+done_is_faithful k words before writes lines text are h = job_keeps k words before (Done writes lines) text are h
 
 -- and so does a run that ends done
-abbrev pub DoneKeeps : Type 0
-DoneKeeps = (words : List Text) (before : Contents) (writes : List Entry) (lines : Text) → SplitWordsAreText words → ReadsBytes words before → HasJob words before (Done writes lines) → Keeps words before (made writes before)
+abbrev pub DoneIsFaithful : Type 0
+DoneIsFaithful = (words : List Text) (before : Contents) (writes : List Entry) (lines : Text) → SplitWordsAreText words → ReadsBytes words before → HasJob words before (Done writes lines) → IsFaithful words before (made writes before)
 
-pub end_keeps : DoneKeeps → (held new : Option Contents) (words : List Text) (out out' : Option Text) → SplitWordsAreText words → IfSome held (ReadsBytes words) → IfSome held (λ before. EndsDone words before new out out') → IfSome held (λ before. EndsKept words before new)
-end_keeps law None new words out out' text are h = tt
-end_keeps law (Some before) new words out out' text are (writes, lines, job, (made_all, gains)) = (made writes before, made_all, law words before writes lines text are job)
+pub end_is_faithful : DoneIsFaithful → (held new : Option Contents) (words : List Text) (out out' : Option Text) → SplitWordsAreText words → IfSome held (ReadsBytes words) → IfSome held (λ before. EndsDone words before new out out') → IfSome held (λ before. EndsFaithful words before new)
+end_is_faithful law None new words out out' text are h = tt
+end_is_faithful law (Some before) new words out out' text are (writes, lines, job, (made_all, gains)) = (made writes before, made_all, law words before writes lines text are job)
 
 -- inputs that are bytes come from files that hold bytes
 pub read_bytes : (held : Option Contents) (task : Task) (inputs : List Entry) → IfSome held (λ a. gathered (inputs_of task) a most_input ≡ Whole inputs) → Every (λ (e : Entry). IsBytes e.1) inputs → IfSome held (HoldBytesAt (inputs_of task))

@@ -1,4 +1,5 @@
--- What a command that is done has kept of what it read: said once for all commands, with a case for each where they differ.
+-- The headline: where a command is done, each module that it wrote is valid, and what it wrote is observationally equivalent to the original of its command, in the
+-- environments that are named with it (`equivalence`). It is said once, with a case for each command where they differ.
 use Rattle.std.specs.Prelude.{◌≡◌, ℕ, ◌+◌, ◌*◌, Bool, true, List, [], ◌∷◌, drop, take, length, map, Option, Some, None, Ok, IfSome, IsTrue, IsUtf8, Contains}
 use Rattle.std.specs.FinMap.{get}
 use Rattle.tool_io.specs.FilesAndSinks.{Contents}
@@ -28,27 +29,28 @@ use Rattle.split_behaves_proof.specs.Worlds.{pair_in_place}
 use Rattle.eval_snapshot_spec.specs.Evaluated.{evaluated_count, evaluated_tree}
 use Rattle.eval_behaves_proof.specs.Worlds.{events_evaluated}
 use Rattle.tools_cli_eval.specs.Evaluations.{fault_of}
+use Rattle.tools_cli_eval.specs.Trees.{EvaluatedAsByTheMachine}
 use Rattle.wasm_bytes.specs.Reading.{IsBytes}
 use Rattle.world_sequential_proof.specs.Laws.{SequentialInstantiationEquivalent}
 
--- The file of this name spells this module.
+-- The file of this name holds an encoding of this module; where `many`, its instructions may name a memory by index.
 abbrev pub HoldsModule : Bool → Contents → Text → Module → Type 0
 HoldsModule many files name tree = (bytes : Text) × (get files name ≡ Some bytes) × Spells bytes tree many
 
--- The files of these names spell these modules, in order.
+-- The files of these names hold encodings of these modules, in order.
 abbrev pub HoldModules : Bool → Contents → List Text → List Module → Type 0
 HoldModules many files [] [] = Unit {0}
 HoldModules many files (name ∷ names) (tree ∷ trees) = HoldsModule many files name tree × HoldModules many files names trees
 HoldModules many files _ _ = ⊥
 
--- The names of a task's outputs, in the order of writing, where its files have these contents, those of the modules first.
+-- The names of the files that a task writes, in the order of writing. `contents` is what the files that it reads hold: its modules first, then its other files.
 abbrev pub output_names : Task → (contents : List Text) → List Text
 output_names task contents = outputs_of task (drop (length (modules_of task)) contents)
 
 -- ---- what a task makes ----
 
--- What a task finds out of what it read, by which it is told what it makes and with what this is compared: a merge nothing, a metadce what is reached, a split the
--- names of functions, an evaluation of constructors and a sample nothing.
+-- What the statements below need besides the modules that were read and written: of a metadce the marks on what is reached, of a split the names that the name section gives
+-- functions; of the others nothing.
 abbrev pub Findings : Task → Type 0
 Findings (Merge merge) = Unit {0}
 Findings (Metadce metadce) = Reached
@@ -56,25 +58,27 @@ Findings (Split split) = List FuncName
 Findings (CtorEval eval) = Unit {0}
 Findings (Sample sample) = Unit {0}
 
--- The text holds a graph; of the points of this module these marks are on exactly those that a path from a root of the graph meets; and this is what is left by them.
+-- The text is a graph file. The marks are on exactly those nodes, exports, imports, functions and globals that a path meets from a root of the graph or of the module (its
+-- start, its imported tables and memories, what its active and passive segments name). `left` is the module without what is not marked.
 abbrev pub IsLeft : Text → Module → Reached → Module → Type 0
 IsLeft text tree marks left = (graph : Graph) × GivesMarks text tree graph marks × Sweeps (marks_of marks) tree (Ok left)
 
--- The file of these bytes gives functions these names; by them the words tell which functions move; and these are the secondary and the primary module of the split
--- that moves them, which has no fault.
-abbrev pub ArePair : SplitTask → Text → Module → List FuncName → (first second : Module) → Type 0
-ArePair split bytes tree names first second =
+-- `names` are the function names in the name section of these bytes. With them the words have no fault and say which functions move, and moving these has none (a namespace
+-- or an export name that is taken, a count above its limit). The two modules are the secondary and the primary one of that split.
+abbrev pub ArePair : SplitTask → Text → Module → List FuncName → (secondary_module primary_module : Module) → Type 0
+ArePair split bytes tree names secondary_module primary_module =
     GivesPlan split bytes tree names × (split_fault split.names tree (words_plan split tree names).moved ≡ None)
-    × (first ≡ secondary split.names tree (words_plan split tree names).moved) × (second ≡ primary split.names tree (words_plan split tree names).moved)
+    × (secondary_module ≡ secondary split.names tree (words_plan split tree names).moved)
+    × (primary_module ≡ primary split.names tree (words_plan split tree names).moved)
 
--- No name and no count has a fault, and this is the module after the constructors that are evaluated.
+-- Each listed constructor is an exported function, and `after` is the module whose globals, memory and data segments are as the evaluated ones left them, or the module
+-- itself where none is evaluated; none of its counts is above its limit.
 abbrev pub IsEvaluated : CtorEvalTask → (tree after : Module) → Type 0
 IsEvaluated eval tree after = (fault_of tree eval.ctors eval.kept ≡ None) × (after ≡ evaluated_tree tree eval.ctors eval.kept)
 
--- These are the outputs, in the order of writing, that a task makes of these modules and of the contents of all its files, those of the modules first. A merge: the
--- module that the parts are merged into. A metadce: what is left of the module when of its functions, globals, imports and exports exactly those are kept that a path
--- from a root reaches. A split: the secondary and the primary module. An evaluation of constructors: the module in the state that those leave which are evaluated. A
--- sample: what its two modules are merged into, if anything is written.
+-- These are the outputs, in the order of writing, that a task makes of these modules and of the contents of all its files. A merge: the module that the parts are merged
+-- into. A metadce: the module without the functions, globals, imports and exports that no path from a root reaches. A split: the secondary and the primary module. A
+-- ctor-eval: the module as its evaluated constructors left it. A sample: the module that its two are merged into, where it has an output; else none.
 abbrev pub AreMade : (task : Task) → (trees : List Module) → (contents : List Text) → Findings task → (outputs : List Module) → Type 0
 AreMade (Merge merge) trees contents found (tree ∷ []) = AreMerged (many_of (Merge merge)) (parts_of merge.sources trees) merge.mode tree
 AreMade (Merge merge) trees contents found _ = ⊥
@@ -89,12 +93,12 @@ AreMade (Sample sample) _ _ found _ = ⊥
 
 -- ---- what is seen of it ----
 
--- A way to run something: what is seen in the first steps in an environment whose embedder makes these moves.
+-- A way to run: the trace (the list of events) of its first n steps, in an environment, by these moves of its embedder.
 abbrev pub WayToRun : Type 0
 WayToRun = Environment → List Move → ℕ → List Event
 
--- A claim that what was written behaves as what was read: in these environments, by each list of moves, whatever is seen of the original world in n steps is seen of
--- the written one in `written_bound n`, and the other way round in `original_bound n`.
+-- In each of these environments and for each list of moves, the trace of n steps of the original is a prefix of that of `written_bound n` steps of what was written, and the
+-- trace of n steps of that is a prefix of that of `original_bound n` steps of the original.
 pub record Equivalence : Type 0 where
   pub original_world : WayToRun
   pub written_world : WayToRun
@@ -105,16 +109,18 @@ pub record Equivalence : Type 0 where
 abbrev pub Holds : Equivalence → Type 0
 Holds claim = Same (λ env. IsTrue (claim.environments env)) claim.original_world claim.written_world claim.written_bound claim.original_bound
 
--- These secondary and primary modules in place of the module that a split reads, whose file gives functions these names: the functions that move have their placeholders.
-abbrev pub written_pair : SplitTask → Module → List FuncName → (first second : Module) → LoaderWorld
-written_pair split tree names first second = pair_in_place split.names tree (words_plan split tree names).moved second first
+-- The primary module under its loader: its imports for the functions that move are placeholders, and the first call of one instantiates the secondary module. The embedder
+-- sees the exports of the module that was split, as the primary one has them.
+abbrev pub written_pair : SplitTask → Module → List FuncName → (secondary_module primary_module : Module) → LoaderWorld
+written_pair split tree names secondary_module primary_module =
+    pair_in_place split.names tree (words_plan split tree names).moved primary_module secondary_module
 
--- the names of the constructors that are evaluated: the first of the list, as many as come to their ends
+-- The names of the constructors that are evaluated: the longest prefix of the list that runs to its end with nothing to stop it.
 abbrev pub evaluated_names : CtorEvalTask → Module → List Text
 evaluated_names eval tree = take (evaluated_count tree eval.ctors) eval.ctors
 
--- These parts, linked by their names, of which an embedder sees the exports under the names that the mode gives, and the module alone: each shows in four steps more what
--- the other shows, in every environment.
+-- Original: the parts, linked by name and instantiated at once, with their exports under the names that the mode gives. Written: the module alone. Within n + 4 steps both
+-- ways, in every environment.
 abbrev pub merged_equivalence : List Part → Mode → Module → Equivalence
 merged_equivalence parts mode tree = record {
   original_world = events (linked_world parts mode);
@@ -124,17 +130,14 @@ merged_equivalence parts mode tree = record {
   environments = λ env. true;
 }
 
--- What is claimed of a task that made these outputs of these modules; none where `AreMade` does not hold anyway, and none of a sample that writes nothing.
--- A merge: the parts, linked by their NAMEs, of which an embedder sees the exports under the names that the mode gives, and the output alone, in every environment; each
--- shows in four steps more what the other shows. A metadce: the module, of which an embedder uses only the exports that are kept, and the output alone, in each
--- environment that links the module, step by step. A split: the module, and the primary one under the loader that instantiates the secondary one at the first call of a
--- placeholder and answers each call of one by what is then in its slot, of which an embedder sees the exports of the module, in every environment; what the module shows in n steps these show in (p + 8) (n + 1), where p is the
--- most parameters of a function that moves, and what these show in n steps it shows in n. An evaluation of constructors: the module of which those are evaluated that come to their ends, in the first step,
--- and the output alone, in each environment that links the module, step by step. A sample: its two modules
--- as the parts of a merge, and the output alone.
+-- What is claimed of a task that made these outputs of these modules. It is `None` for lists that `AreMade` refuses, and for a sample that writes nothing, of which no
+-- equivalence is claimed.
 abbrev pub equivalence : (task : Task) → Findings task → (trees outputs : List Module) → Option Equivalence
+-- merge: its parts, and the output alone.
 equivalence (Merge merge) found trees (tree ∷ []) = Some (merged_equivalence (parts_of merge.sources trees) merge.mode tree)
 equivalence (Merge merge) found trees _ = None
+-- metadce. Original: the module, of which the embedder sees only the exports that are kept. Written: what is left, alone. After each number of steps the traces are equal, in
+-- each environment that links the module (with that smaller view; of a valid module this is the same).
 equivalence (Metadce metadce) marks (tree ∷ []) (left ∷ []) = Some (record {
   original_world = events (unswept (marks_of marks) tree);
   written_world = events (alone left);
@@ -143,6 +146,8 @@ equivalence (Metadce metadce) marks (tree ∷ []) (left ∷ []) = Some (record {
   environments = λ env. links env (unswept (marks_of marks) tree);
 })
 equivalence (Metadce metadce) marks _ _ = None
+-- split. Original: the module alone. Written: the primary module under its loader, which answers each call of a placeholder by the function that is then in its slot. n steps
+-- of the original are answered within (p + 8) (n + 1), where p is the most parameters of a function that moves; n steps of the pair within n. In every environment.
 equivalence (Split split) names (tree ∷ []) (first ∷ second ∷ []) = Some (record {
   original_world = events (alone tree);
   written_world = events_loaded (written_pair split tree names first second);
@@ -151,6 +156,9 @@ equivalence (Split split) names (tree ∷ []) (first ∷ second ∷ []) = Some (
   environments = λ env. true;
 })
 equivalence (Split split) names _ _ = None
+-- ctor-eval. Original: the module after its evaluated constructors. Its first step instantiates it, runs its start and calls the evaluated constructors to their ends; the next
+-- opens the view, which has the export names of the output, and a kept name of an evaluated constructor denotes a function that does nothing. Where none is evaluated it is
+-- the module itself. Written: the output alone. After each number of steps the traces are equal, in each environment that links the module.
 equivalence (CtorEval eval) found (tree ∷ []) (after ∷ []) = Some (record {
   original_world = events_evaluated tree (evaluated_names eval tree) eval.kept;
   written_world = events (alone after);
@@ -159,23 +167,27 @@ equivalence (CtorEval eval) found (tree ∷ []) (after ∷ []) = Some (record {
   environments = λ env. links env (alone tree);
 })
 equivalence (CtorEval eval) found _ _ = None
+-- sample: its two modules as the parts of a merge, and the output alone.
 equivalence (Sample sample) found trees (tree ∷ []) = Some (merged_equivalence (sample_parts sample) sample_merge.mode tree)
 equivalence (Sample sample) found trees _ = None
 
--- What is kept besides. A merge and a sample: where the law of world_sequential_proof lets them, the parts may be instantiated one after the other. A split: wherever the loader
--- instantiates the secondary module, it links, and none of its segments traps.
-abbrev pub Also : (task : Task) → Findings task → (trees outputs : List Module) → Type 0
-Also (Merge merge) found trees outputs = SequentialInstantiationEquivalent (linked_world (parts_of merge.sources trees) merge.mode)
-Also (Metadce metadce) marks trees outputs = Unit {0}
-Also (Split split) names (tree ∷ []) (first ∷ second ∷ []) = AlwaysLoads (written_pair split tree names first second)
-Also (Split split) names _ _ = Unit {0}
-Also (CtorEval eval) found trees outputs = Unit {0}
-Also (Sample sample) found trees outputs = SequentialInstantiationEquivalent (linked_world (sample_parts sample) sample_merge.mode)
+-- What is claimed besides. Merge and sample: instantiated one after the other, q parts are equivalent to all at once, within n + 4q steps both ways, where each joined import
+-- leads to an earlier part and no part after one with a start has an active segment, in environments that link them and let no segment trap. Split: wherever the loader
+-- instantiates the secondary module, all imports match and no segment traps. Ctor-eval: the evaluation is the machine's run of these constructors.
+abbrev pub FurtherClaims : (task : Task) → Findings task → (trees outputs : List Module) → Type 0
+FurtherClaims (Merge merge) found trees outputs = SequentialInstantiationEquivalent (linked_world (parts_of merge.sources trees) merge.mode)
+FurtherClaims (Metadce metadce) marks trees outputs = Unit {0}
+FurtherClaims (Split split) names (tree ∷ []) (first ∷ second ∷ []) = AlwaysLoads (written_pair split tree names first second)
+FurtherClaims (Split split) names _ _ = Unit {0}
+FurtherClaims (CtorEval eval) found (tree ∷ []) outputs = EvaluatedAsByTheMachine tree (evaluated_names eval tree) eval.kept
+FurtherClaims (CtorEval eval) found _ outputs = Unit {0}
+FurtherClaims (Sample sample) found trees outputs = SequentialInstantiationEquivalent (linked_world (sample_parts sample) sample_merge.mode)
 
--- ---- what is kept ----
+-- ---- the headline ----
 
--- What a task has kept that is done. Its module files spelled these modules before, and all its files had these contents; its outputs spell what it makes of them, and
--- each is valid; and they behave as what was read. Where an output is one of the files that were read, these are what stood there before.
+-- From before to after a task that is done. Its module files encoded `trees`, and all files that it reads had `contents`; `outputs` are what its command makes of these; the
+-- files under its output names now encode them, and each is valid and has at most one memory; and the claims above hold. An output may have the name of an input: `trees`
+-- and `contents` are then what stood there before.
 pub record TaskIsSound (task : Task) (before after : Contents) : Type 0 where
   pub trees : List Module
   pub contents : List Text
@@ -187,23 +199,24 @@ pub record TaskIsSound (task : Task) (before after : Contents) : Type 0 where
   pub written : HoldModules (many_of task) after (output_names task contents) outputs
   pub accepted : Every (IsAccepted (many_of task)) outputs
   pub behaves : IfSome (equivalence task found trees outputs) Holds
-  pub also : Also task found trees outputs
+  pub also : FurtherClaims task found trees outputs
 
--- Words that ask for a split are text: the names that it adds come from them, and no bytes spell a module whose names are no text. Of other tasks nothing is asked.
+-- Where the words ask for a split, they are UTF-8: names of its imports and exports come from them, and a module with a name that is not UTF-8 has no encoding.
 abbrev pub SplitWordsAreText : List Text → Type 0
 SplitWordsAreText words = (split : SplitTask) → task_of words ≡ Some (Split split) → Every IsUtf8 words
 
--- The files of these names hold bytes, and so do those that a command reads.
+-- The files of these names hold numbers below 256.
 abbrev pub HoldBytesAt : List Text → Contents → Type 0
 HoldBytesAt names files = (name bytes : Text) → Contains names name → get files name ≡ Some bytes → IsBytes bytes
 
+-- So do the files that the task of these words reads.
 abbrev pub ReadsBytes : List Text → Contents → Type 0
 ReadsBytes words files = (task : Task) → task_of words ≡ Some task → HoldBytesAt (inputs_of task) files
 
--- The words ask for a task, and it keeps what it read.
-abbrev pub Keeps : List Text → Contents → Contents → Type 0
-Keeps words before after = (task : Task) × (task_of words ≡ Some task) × TaskIsSound task before after
+-- The words ask for a task, and it is sound from the files before to the files after.
+abbrev pub IsFaithful : (words : List Text) → (before after : Contents) → Type 0
+IsFaithful words before after = (task : Task) × (task_of words ≡ Some task) × TaskIsSound task before after
 
--- The files are told after the run, and the task has kept, in this sense, what it read.
-abbrev pub EndsKept : List Text → Contents → Option Contents → Type 0
-EndsKept words before new = (after : Contents) × (new ≡ Some after) × Keeps words before after
+-- The files tell what they hold after the run, and from before to then it was faithful.
+abbrev pub EndsFaithful : (words : List Text) → (before : Contents) → (new : Option Contents) → Type 0
+EndsFaithful words before new = (after : Contents) × (new ≡ Some after) × IsFaithful words before after
