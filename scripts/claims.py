@@ -1,18 +1,22 @@
 #!/usr/bin/env python3
-"""Checks that what README.md and docs/THEOREMS.md cite is there.
+"""Checks that what README.md and the pages in docs/ cite is there.
 
     python3 scripts/claims.py [TOP OF THE REPOSITORY]
 
 A contract is cited as `crate::function` or `crate::Type::function`, and its clauses as `: `one`, `two`` behind it. `clause.field` cites a
-field of the record that the clause promises. In both files
+field of the record that the clause promises. In all pages
 
 - each such function stands in src/ of the crate as a public function, with each clause that is cited of it (`ensures NAME {`);
+- each file that is cited with its path from the top or from crates/, and each file and heading that is linked, is there;
+- each name that is cited as `NAME` in `FILE` stands in that file.
+
+In README.md and docs/THEOREMS.md
+
 - each row of a table with the column Contract cites one, or has `-` there;
 - in README.md a row of such a table claims at most 25 words in its column Claim;
 - a row with `-` in its column Premises cites no function that asks for something (`requires`);
-- each name of code in a column Refused is a must-fail edit, as `name` or `crate/name`, a contract, or a file.
-
-In all pages each file that is cited with its path from the top or from crates/, and each file that is linked, is there.
+- each name of code in a column Refused is a must-fail edit, as `name` or `crate/name`, a contract, or a file;
+- a block of code behind a line `From `FILE`:` stands in that file, line by line.
 """
 import functools
 import glob
@@ -25,8 +29,10 @@ CONTRACT = re.compile(r"`([a-z]\w*)((?:::\w+)+)`((?:: `[\w.]+`(?:(?:, | and )`[\
 SPAN = re.compile(r"`([^`]+)`")
 FUNCTION = r"\bpub (?:const )?fn {}\b"
 METHOD = r"\bfn {}\b"
+QUOTED = re.compile(r"^From `([^`]+)`:\n\n((?:    .*\n|\n(?=    ))+)", re.M)
 NEXT = re.compile(r"^ *(?:pub(?:\(\w+\))? )?(?:const )?fn \w+", re.M)
 FILE = re.compile(r"^[\w.-]+(?:/[\w.-]+)+\.(?:antt|rt|md|mjs|py|sh|wat|wasm|html|json|edit)$")
+IN_FILE = re.compile(r"((?:`\w+`(?:, | and )?)+) in `((?:[\w-]+/)+[\w-]+\.(?:antt|rt))`")
 MOST_WORDS = 25
 
 
@@ -104,8 +110,18 @@ def is_refused_by(top, name):
 
 
 @functools.lru_cache(maxsize=None)
+def path_of(top, folder, name):
+    """The file that a page in this folder cites by this name."""
+    return next((path for path in (f"{at}/{name}" for at in (top, folder, f"{top}/crates")) if os.path.exists(path)), None)
+
+
 def is_file(top, folder, name):
-    return any(os.path.exists(f"{at}/{name}") for at in (top, folder, f"{top}/crates"))
+    return path_of(top, folder, name) is not None
+
+
+@functools.lru_cache(maxsize=None)
+def text_of(top, folder, name):
+    return open(path_of(top, folder, name), encoding="utf-8").read()
 
 
 def faults_of_rows(top, page, text):
@@ -123,15 +139,38 @@ def faults_of_rows(top, page, text):
                 yield number, f"no edit, contract or file {name}"
 
 
+def without_indent(text):
+    return "\n".join(line.strip() for line in text.strip().split("\n"))
+
+
+def faults_of_quotes(top, text):
+    """The blocks of code that are quoted from a file and do not stand in it."""
+    for found in QUOTED.finditer(text):
+        name = found.group(1)
+        if is_file(top, top, name) and without_indent(found.group(2)) not in without_indent(text_of(top, top, name)):
+            yield text.count("\n", 0, found.start()) + 1, f"{name} does not have this text"
+
+
+@functools.lru_cache(maxsize=None)
+def headings_of(path):
+    """The headings of a page, as links name them."""
+    lines = re.findall(r"^#+ (.*)$", open(path, encoding="utf-8").read(), re.M)
+    return {re.sub(r"[^\w -]", "", line.lower()).replace(" ", "-") for line in lines}
+
+
 def faults_of_files(top, page, text):
-    folder = os.path.dirname(f"{top}/{page}")
+    folder, page_name = os.path.split(f"{top}/{page}")
     for number, line in enumerate(text.split("\n"), 1):
         for name in SPAN.findall(line):
             if FILE.match(name) and not name.startswith((".", "specs/", "proofs/", "src/")) and "NAME" not in name and not is_file(top, folder, name):
                 yield number, f"no file {name}"
-        for target in re.findall(r"\]\(([^)#]+)[^)]*\)", line):
-            if "://" not in target and not os.path.exists(f"{folder}/{target}"):
-                yield number, f"the link leads nowhere: {target}"
+        for names, name in IN_FILE.findall(line):
+            for word in SPAN.findall(names) if is_file(top, folder, name) else ():
+                if not re.search(rf"\b{word}\b", text_of(top, folder, name)):
+                    yield number, f"no {word} in {name}"
+        for target, _, heading in re.findall(r"\]\(([^)#]*)(#([^)]*))?\)", line):
+            if "://" not in target and (not os.path.exists(f"{folder}/{target}") or heading and heading not in headings_of(f"{folder}/{target or page_name}")):
+                yield number, f"the link leads nowhere: {target}#{heading}"
 
 
 def main(top):
@@ -140,12 +179,13 @@ def main(top):
     for page in [*PAGES, *(page for page in others if page not in PAGES)]:
         text = open(f"{top}/{page}", encoding="utf-8").read()
         faults = list(faults_of_files(top, page, text))
+        for found in CONTRACT.finditer(text):
+            number, clauses = text.count("\n", 0, found.start()) + 1, SPAN.findall(found.group(3))
+            count += max(len(clauses), 1)
+            faults += [(number, fault) for fault in faults_of_contract(top, found.group(1), found.group(2)[2:], clauses)]
         if page in PAGES:
-            for found in CONTRACT.finditer(text):
-                number, clauses = text.count("\n", 0, found.start()) + 1, SPAN.findall(found.group(3))
-                count += max(len(clauses), 1)
-                faults += [(number, fault) for fault in faults_of_contract(top, found.group(1), found.group(2)[2:], clauses)]
             faults += faults_of_rows(top, page, text)
+            faults += faults_of_quotes(top, text)
         for number, fault in sorted(faults):
             print(f"{page}:{number}: {fault}")
         failed += len(faults)

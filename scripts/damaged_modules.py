@@ -65,7 +65,7 @@ KNOWN_REFUSAL = re.compile(rb"expected ref.null or ref.func in passive element s
 
 
 def number_of(data, place):
-    """The u32 that is spelled there, and the place behind it; or None."""
+    """The u32 that is encoded there, and the place behind it; or None."""
     value = 0
     for step in range(5):
         if place + step >= len(data):
@@ -77,7 +77,7 @@ def number_of(data, place):
     return None
 
 
-def spelled(value):
+def encoded(value):
     out = bytearray()
     while True:
         byte = value & 0x7F
@@ -164,7 +164,7 @@ def damaged(draw, data):
         place = draw.choice(known)
         number, content = sections[place]
         sections[place] = number, damage(draw, content)
-    return data[:8] + b"".join(bytes([number]) + spelled(len(content)) + content for number, content in sections)
+    return data[:8] + b"".join(bytes([number]) + encoded(len(content)) + content for number, content in sections)
 
 
 def names_of(data):

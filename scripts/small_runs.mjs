@@ -14,7 +14,7 @@ import { SplitInstance } from "../loader/split_instance.mjs";
 
 const CRATES = join(dirname(dirname(fileURLToPath(import.meta.url))), "crates");
 const FOLDER = join(CRATES, "wasm_meaning/proofs");
-const NAMES = ["SmallRuns", "MoreRuns", "EmbedderRuns", "FurtherRuns", "LoaderRuns", "TellingRuns", "TellingWorlds"];
+const NAMES = ["SmallRuns", "MoreRuns", "EmbedderRuns", "FurtherRuns", "LoaderRuns", "OrderAndIndexRuns", "LinkingAndSegmentRuns"];
 const FILES = process.argv.length > 2 ? process.argv.slice(2) : NAMES.map((name) => join(FOLDER, `${name}.antt`));
 // The runs of split modules, and the definitions that they use.
 const SPLIT = join(CRATES, "split_behaves_proof/proofs/SmallRuns.antt");
