@@ -1,5 +1,5 @@
 // What a metadce decides.
-ghost use Rattle.std.specs.Prelude.{◌≡◌, ◌≤◌, ◌<◌, ◌^◌, length, Ok, Err, IfOk, IfErr};
+ghost use Rattle.std.specs.Prelude.{◌≡◌, ◌≤◌, ◌<◌, ◌^◌, List, ℕ, length, Ok, Err, IfOk, IfErr};
 ghost use Rattle.base_lists.specs.Every.{Every};
 ghost use Rattle.wasm_valid.specs.Validity.{IsValid};
 ghost use Rattle.dce_sweep_spec.specs.Closed.{AreClosed};
@@ -60,6 +60,23 @@ fn sweep_by<'a>(alloc: Global, module: Valid, marks: &Reached) -> Result<Valid, 
     }
 }
 
+// Reduces one module by a graph, which any text of a graph file gives that is read as it.
+fn reduce_by<'a>(
+    alloc: Global,
+    metadce: &MetadceTask<'a>,
+    module: Valid,
+    graph: &Graph,
+) -> Result<Decision, Stop<'a>>
+    requires { length graph.now.nodes < 2 ^ 32 }
+    ensures decided { IfOk result (λ decision. (text : List ℕ) → graph_result text ≡ Ok graph.now → Reduces (metadce_value metadce.now) «module» text (decision_value decision)) }
+    ensures stops { IfErr result (StopsWith (λ says. (text : List ℕ) → graph_result text ≡ Ok graph.now → Reduces (metadce_value metadce.now) «module» text (Refuses says))) }
+{
+    let marks = marks_in(alloc, graph, &module)?;
+    let lines = unused_lines(alloc, graph.nodes.as_slice(), marks.nodes.as_slice())?;
+    let left = sweep_by(alloc, module, &marks)?;
+    Ok(one_output(alloc, metadce.output, left, lines)?)
+}
+
 // Reduces one module, by the text of its graph file.
 fn reduce<'a>(
     alloc: Global,
@@ -72,10 +89,7 @@ fn reduce<'a>(
     ensures stops { IfErr result (StopsWith (λ says. Reduces (metadce_value metadce.now) «module» text.now (Refuses says))) }
 {
     let graph = graph_in(alloc, metadce.graph_file, text)?;
-    let marks = marks_in(alloc, &graph, &module)?;
-    let lines = unused_lines(alloc, graph.nodes.as_slice(), marks.nodes.as_slice())?;
-    let left = sweep_by(alloc, module, &marks)?;
-    Ok(one_output(alloc, metadce.output, left, lines)?)
+    reduce_by(alloc, metadce, module, &graph)
 }
 
 /// Reduces the module of a metadce, which is one, by its graph file, whose contents are the second of two.

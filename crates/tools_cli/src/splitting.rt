@@ -1,5 +1,5 @@
 // What a split decides.
-ghost use Rattle.std.specs.Prelude.{◌≡◌, ◌≤◌, ◌<◌, ◌^◌, length, None, IfOk, IfErr};
+ghost use Rattle.std.specs.Prelude.{◌≡◌, ◌≤◌, ◌<◌, ◌^◌, [], ◌∷◌, length, None, IfOk, IfErr};
 ghost use Rattle.wasm_names.specs.NameList.{AreFunctionNames};
 ghost use Rattle.split_plan.specs.Plans.{IsPlan};
 ghost use Rattle.split_spec.specs.Faults.{split_fault};
@@ -7,7 +7,7 @@ ghost use Rattle.split_spec.specs.Primary.{primary};
 ghost use Rattle.split_spec.specs.Secondary.{secondary};
 ghost use Rattle.tools_cli.specs.CommandLine.{Split};
 ghost use Rattle.tools_cli.specs.Command.{split_value, decision_value, input_texts, input_entries};
-ghost use Rattle.tools_cli.specs.Job.{Decides, Splits, Refuses, words_plan, words_fault, most_input};
+ghost use Rattle.tools_cli.specs.Job.{Decides, Makes, Splits, Refuses, words_plan, words_fault, most_input};
 ghost use Rattle.tools_cli.specs.Causes.{StopsWith, PlanFails, SplitFails, total};
 
 use crate::decide::{Decision, plain_output, two_outputs};
@@ -19,7 +19,7 @@ use crate::stop::Stop;
 use split_plan::{Plan, plan};
 use split_slots::{Pair, split};
 use std::alloc::Global;
-use wasm_bytes::Items;
+use wasm_bytes::{Items, NoMemory};
 use wasm_names::{FuncName, function_names};
 use wasm_valid::Valid;
 
@@ -67,6 +67,23 @@ fn split_by<'a>(
     }
 }
 
+// Both modules of a split as outputs, in the order of writing.
+fn both_outputs(
+    alloc: Global,
+    task: &SplitTask<'_>,
+    pair: Pair,
+    lines: Vec<u8>,
+) -> Result<Decision, NoMemory>
+    ensures { IfOk result (λ decision. decision_value decision ≡ Makes
+        (record { name = (split_value task.now).outputs.secondary; tree = pair.secondary; custom = [] } ∷ record { name = (split_value task.now).outputs.primary; tree = pair.primary; custom = [] } ∷ [])
+        lines.items) }
+{
+    let Pair { primary, secondary } = pair;
+    let first = plain_output(alloc, task.outputs.secondary, secondary)?;
+    let second = plain_output(alloc, task.outputs.primary, primary)?;
+    two_outputs(alloc, first, second, lines)
+}
+
 // Splits one module by the words, whose functions have these names.
 fn split_named<'a>(
     alloc: Global,
@@ -87,10 +104,7 @@ fn split_named<'a>(
         plan.kept.as_slice(),
     )?;
     let pair = split_by(alloc, task, module, &plan)?;
-    let Pair { primary, secondary } = pair;
-    let first = plain_output(alloc, task.outputs.secondary, secondary)?;
-    let second = plain_output(alloc, task.outputs.primary, primary)?;
-    Ok(two_outputs(alloc, first, second, lines)?)
+    Ok(both_outputs(alloc, task, pair, lines)?)
 }
 
 /// Splits the module of a split, which is one, by the names in its file.

@@ -39,5 +39,4 @@ returns-clause-decided c =
     let lines = c.in_ok-lines.lines.items in
     let given : GivesPlan split c.args.bytes.now c.args.module names = record { named = c.requires; planned = c.in_ok-plan.ensures.none } in
     let told = c.in_ok-lines.ensures ∙ ap (λ (m : Module). kept_lines m c.as_slice.result.now c.as_slice-2.result.now) c.module-2.ensures.value ∙ ap₂ (λ (ns : List FuncName) ks. kept_lines c.args.module ns ks) c.as_slice.ensures c.as_slice-2.ensures in
-    let made = c.in_ok-two_outputs.ensures ∙ ap₂ (λ (a b : Output). Makes (a ∷ b ∷ []) lines) c.in_ok-first.ensures c.in_ok-second.ensures in
-    parted_made split c.args.module c.args.bytes.now names p pair.secondary pair.primary lines (decision_value c.in_ok-two_outputs.field-0) given c.in_ok-plan.ensures.plan c.in_ok-pair.ensures.none c.in_ok-pair.ensures.secondary c.in_ok-pair.ensures.primary told made
+    parted_made split c.args.module c.args.bytes.now names p pair.secondary pair.primary lines (decision_value c.in_ok-both_outputs.field-0) given c.in_ok-plan.ensures.plan c.in_ok-pair.ensures.none c.in_ok-pair.ensures.secondary c.in_ok-pair.ensures.primary told c.in_ok-both_outputs.ensures
