@@ -19,22 +19,49 @@ fn blank(alloc: Global) -> Func
     }
 }
 
+fn types(alloc: Global) -> Result<Items<FuncType>, NoMemory>
+    ensures { IfOk result (λ types. types ≡ modules.two.types) }
+{
+    let mut types = Items::new(alloc);
+    types.keep(FuncType {
+        params: Items::new(alloc),
+        results: Items::new(alloc),
+    })?;
+    Ok(types)
+}
+
+fn funcs(alloc: Global) -> Result<Items<Func>, NoMemory>
+    ensures { IfOk result (λ funcs. funcs ≡ modules.two.funcs) }
+{
+    let mut funcs = Items::new(alloc);
+    funcs.keep(blank(alloc))?;
+    funcs.keep(blank(alloc))?;
+    Ok(funcs)
+}
+
+fn exports(alloc: Global) -> Result<Items<Export>, NoMemory>
+    ensures { IfOk result (λ exports. exports ≡ modules.two.exports) }
+{
+    let name = Name::from_text(alloc, "f")?;
+    let mut exports = Items::new(alloc);
+    exports.keep(Export {
+        name,
+        desc: ExportDesc::Func(1),
+    })?;
+    Ok(exports)
+}
+
 // Two functions, of which the second is exported.
 fn two(alloc: Global) -> Result<Module, NoMemory>
     ensures { IfOk result (λ m. m ≡ modules.two) }
 {
+    let types = types(alloc)?;
+    let funcs = funcs(alloc)?;
+    let exports = exports(alloc)?;
     let mut module = Module::empty(alloc);
-    module.types.keep(FuncType {
-        params: Items::new(alloc),
-        results: Items::new(alloc),
-    })?;
-    module.funcs.keep(blank(alloc))?;
-    module.funcs.keep(blank(alloc))?;
-    let name = Name::from_text(alloc, "f")?;
-    module.exports.keep(Export {
-        name,
-        desc: ExportDesc::Func(1),
-    })?;
+    module.types = types;
+    module.funcs = funcs;
+    module.exports = exports;
     Ok(module)
 }
 

@@ -96,9 +96,12 @@ fn func_shown(module: &Module) -> Option<(u32, usize, usize, i32)> {
     }
 }
 
-fn export_shown(module: &Module) -> Option<(&str, ExportDesc)> {
-    let export = module.exports.get(0)?;
-    Some((export.name.as_str(), export.desc))
+// Whether export 0 is this function under the name f.
+fn exports_f(module: &Module, func: u32) -> bool {
+    match module.exports.get(0) {
+        Some(export) => export.name.as_str() == "f" && export.desc == ExportDesc::Func(func),
+        None => false,
+    }
 }
 
 // How many types, functions and exports there are, and how much of all else.
@@ -115,37 +118,50 @@ fn counts(module: &Module) -> (usize, usize, usize, usize) {
     )
 }
 
+// Names the first thing in a module that is not as it is to be once function 0 is 1, or nothing.
+fn unlike_moved(module: &Module) -> &'static str {
+    if !exports_f(module, 1) {
+        return "the export";
+    }
+    if type_shown(module) != Some((0, 1, Some(ValType::I32))) {
+        return "the type";
+    }
+    if func_shown(module) != Some((0, 0, 1, 7)) {
+        return "the function";
+    }
+    if counts(module) != (1, 1, 1, 0) {
+        return "how much there is";
+    }
+    ""
+}
+
+// The same of a renumbered copy, and that the module itself stays.
+fn unlike_copied(alloc: Global) -> Result<&'static str, NoMemory> {
+    let map = moved(alloc)?;
+    let module = seven(alloc)?;
+    let new = renumber(alloc, &module, &map)?;
+    if !exports_f(&module, 0) {
+        return Ok("the module");
+    }
+    Ok(unlike_moved(&new))
+}
+
+// The same of the module that is renumbered in its place.
+fn unlike_in_place(alloc: Global) -> Result<&'static str, NoMemory> {
+    let map = moved(alloc)?;
+    let mut module = seven(alloc)?;
+    renumber_in_place(&mut module, &map);
+    Ok(unlike_moved(&module))
+}
+
 #[test]
 fn only_the_export_names_another_function(rt: HostRuntime) -> Result<(), Fail> {
-    let alloc = rt.alloc();
-    let (Ok(module), Ok(map)) = (seven(alloc), moved(alloc)) else {
-        return Err(Fail::new("no memory"));
-    };
-    let Ok(new) = renumber(alloc, &module, &map) else {
-        return Err(Fail::new("no memory"));
-    };
-    assert_eq!(rt; export_shown(&module), Some(("f", ExportDesc::Func(0))));
-    assert_eq!(rt; export_shown(&new), Some(("f", ExportDesc::Func(1))));
-    assert_eq!(rt; type_shown(&new), Some((0, 1, Some(ValType::I32))));
-    assert_eq!(rt; func_shown(&new), Some((0, 0, 1, 7)));
-    assert_eq!(rt; counts(&new), (1, 1, 1, 0));
+    assert_eq!(rt; unlike_copied(rt.alloc())?, "");
     Ok(())
 }
 
 #[test]
 fn in_place_it_becomes_what_the_copy_is(rt: HostRuntime) -> Result<(), Fail> {
-    let alloc = rt.alloc();
-    let (Ok(mut module), Ok(map)) = (seven(alloc), moved(alloc)) else {
-        return Err(Fail::new("no memory"));
-    };
-    let Ok(new) = renumber(alloc, &module, &map) else {
-        return Err(Fail::new("no memory"));
-    };
-    renumber_in_place(&mut module, &map);
-    assert_eq!(rt; export_shown(&module), Some(("f", ExportDesc::Func(1))));
-    assert_eq!(rt; export_shown(&module), export_shown(&new));
-    assert_eq!(rt; type_shown(&module), type_shown(&new));
-    assert_eq!(rt; func_shown(&module), func_shown(&new));
-    assert_eq!(rt; counts(&module), counts(&new));
+    assert_eq!(rt; unlike_in_place(rt.alloc())?, "");
     Ok(())
 }

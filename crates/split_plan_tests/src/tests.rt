@@ -74,20 +74,28 @@ fn told(alloc: Global, found: Result<Plan, PlanFault>) -> Result<String, Fail> {
     })
 }
 
+// The plan of these words.
+fn planned(
+    rt: &impl Abort,
+    alloc: Global,
+    split: Option<&Items<Name>>,
+    keep: Option<&Items<Name>>,
+) -> Result<String, Fail> {
+    let names = names(alloc)?;
+    let input = module(rt, alloc);
+    told(alloc, plan(alloc, &input, &names, split, keep))
+}
+
 // The plan of words to split alone.
 fn split_alone(rt: &impl Abort, alloc: Global, split: &[&str]) -> Result<String, Fail> {
-    let input = module(rt, alloc);
-    let names = names(alloc)?;
     let split = words(alloc, split)?;
-    told(alloc, plan(alloc, &input, &names, Some(&split), None))
+    planned(rt, alloc, Some(&split), None)
 }
 
 // The plan of words to keep alone.
 fn keep_alone(rt: &impl Abort, alloc: Global, keep: &[&str]) -> Result<String, Fail> {
-    let input = module(rt, alloc);
-    let names = names(alloc)?;
     let keep = words(alloc, keep)?;
-    told(alloc, plan(alloc, &input, &names, None, Some(&keep)))
+    planned(rt, alloc, None, Some(&keep))
 }
 
 fn split_and_keep(
@@ -96,14 +104,9 @@ fn split_and_keep(
     split: &[&str],
     keep: &[&str],
 ) -> Result<String, Fail> {
-    let input = module(rt, alloc);
-    let names = names(alloc)?;
     let split = words(alloc, split)?;
     let keep = words(alloc, keep)?;
-    told(
-        alloc,
-        plan(alloc, &input, &names, Some(&split), Some(&keep)),
-    )
+    planned(rt, alloc, Some(&split), Some(&keep))
 }
 
 #[test]

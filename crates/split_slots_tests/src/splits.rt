@@ -1,13 +1,15 @@
-ghost use Rattle.std.specs.Prelude.{◌<◌, ◌^◌, length};
+ghost use Rattle.std.specs.Prelude.{◌<◌, ◌^◌, IfOk, length};
+ghost use Rattle.split_plan.specs.Plans.{IsPlan};
 
 use crate::modules::{ADD, CALL, LINKED, module};
-use split_plan::plan;
+use split_plan::{Plan, plan};
 use split_slots::{Pair, SplitFault, SplitNames, split};
 use std::alloc::Global;
 use std::process::Abort;
 use std::test::Fail;
 use wasm_bytes::{Items, Name};
 use wasm_names::function_names;
+use wasm_valid::Valid;
 use wasm_write::write;
 
 // The primary module for `add`, with a trampoline.
@@ -80,6 +82,19 @@ fn told(alloc: Global, fault: &SplitFault) -> Result<String, Fail> {
     })
 }
 
+// The plan of a split of this module, where this word names what moves.
+fn planned(alloc: Global, input: &Valid, bytes: &[u8], word: &str) -> Result<Plan, Fail>
+    requires { length bytes.now < 2 ^ 32 }
+    ensures { IfOk result (λ plan. IsPlan input.now plan) }
+{
+    let listed = function_names(alloc, bytes)?;
+    let words = words(alloc, word)?;
+    match plan(alloc, input, &listed, Some(&words), None) {
+        Ok(plan) => Ok(plan),
+        Err(_) => Err(Fail::new("no plan")),
+    }
+}
+
 // The split of these bytes, where this word names what moves.
 fn tried(
     rt: &impl Abort,
@@ -89,14 +104,32 @@ fn tried(
 ) -> Result<Result<Pair, SplitFault>, Fail>
     requires { length bytes.now < 2 ^ 32 }
 {
-    let input = module(rt, alloc, bytes);
-    let listed = function_names(alloc, bytes)?;
-    let words = words(alloc, word)?;
-    let Ok(plan) = plan(alloc, &input, &listed, Some(&words), None) else {
-        return Err(Fail::new("no plan"));
-    };
     let names = names(alloc)?;
+    let input = module(rt, alloc, bytes);
+    let plan = planned(alloc, &input, bytes, word)?;
     Ok(split(alloc, input, &plan, &names))
+}
+
+// Whether a module is spelled so.
+fn is_spelled(alloc: Global, module: &Valid, bytes: &[u8]) -> Result<bool, Fail> {
+    let spelled = write(alloc, module.module())?;
+    Ok(spelled.as_slice() == bytes)
+}
+
+// Names the first of both modules that is not spelled so, or nothing.
+fn unlike(
+    alloc: Global,
+    pair: &Pair,
+    primary: &[u8],
+    secondary: &[u8],
+) -> Result<&'static str, Fail> {
+    if !is_spelled(alloc, &pair.primary, primary)? {
+        return Ok("the primary module");
+    }
+    if !is_spelled(alloc, &pair.secondary, secondary)? {
+        return Ok("the secondary module");
+    }
+    Ok("")
 }
 
 // Both modules are spelled so.
@@ -113,10 +146,7 @@ fn is_split(
     let Ok(pair) = tried(rt, alloc, bytes, word)? else {
         return Err(Fail::new("not split"));
     };
-    let first = write(alloc, pair.primary.module())?;
-    assert_eq!(rt; first.as_slice(), primary);
-    let second = write(alloc, pair.secondary.module())?;
-    assert_eq!(rt; second.as_slice(), secondary);
+    assert_eq!(rt; unlike(alloc, &pair, primary, secondary)?, "");
     Ok(())
 }
 

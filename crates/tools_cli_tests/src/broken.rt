@@ -2,23 +2,25 @@
 use crate::given::{A, GIVES, module_of, run_line};
 use std::alloc::Global;
 use std::test::Fail;
-use tool_io::{MemFiles, MemSink};
+use tool_io::MemFiles;
 use tools_cli::Status;
 
-// Merges the bytes alone: what it comes to, what is put on standard error, and the files.
-fn merge_alone(alloc: Global, bytes: &[u8]) -> Result<(Status, MemSink, MemFiles), Fail> {
+// That the merge of the bytes alone, as a.wasm, is refused with this text, or writes them where there is none, and leaves a.wasm as it is.
+fn unlike_told(alloc: Global, bytes: &[u8], text: &str) -> Result<&'static str, Fail> {
     let mut files = MemFiles::new(alloc);
     files.add("a.wasm", bytes)?;
-    let (ended, err) = run_line(alloc, &mut files, "merge a.wasm a -o o.wasm")?;
-    Ok((ended, err, files))
-}
-
-// What is put on standard error where a.wasm is refused with this text, or nothing.
-fn told_of_a(alloc: Global, text: &str) -> Result<String, Fail> {
-    if text.is_empty() {
-        return Ok(String::new(alloc));
+    let ran = run_line(alloc, files, "merge a.wasm a -o o.wasm")?;
+    if !ran.has("a.wasm", bytes) {
+        return Ok("the input");
     }
-    Ok(format!(in alloc; "binkit: a.wasm: {text}\n")?)
+    if !text.is_empty() {
+        let told = format!(in alloc; "binkit: a.wasm: {text}\n")?;
+        return Ok(ran.unlike_refused(told.as_str(), "o.wasm"));
+    }
+    if !ran.has("o.wasm", bytes) {
+        return Ok("the output");
+    }
+    Ok(ran.unlike(Status::Done, "", ""))
 }
 
 // What is said of the first bytes of a module that has 34, from none on: so many counts after one
@@ -39,14 +41,8 @@ fn a_module_that_is_cut_is_written_where_a_section_ends(rt: HostRuntime) -> Resu
     let alloc = rt.alloc();
     let mut bytes = Vec::new(alloc);
     for (counts, text) in CUTS {
-        let told = told_of_a(alloc, text)?;
         for _ in 0..counts {
-            let (ended, err, files) = merge_alone(alloc, bytes.as_slice())?;
-            assert_eq!(rt; err.text(), told.as_bytes(), "{text}");
-            assert_eq!(rt; ended.code(), u8::from(!text.is_empty()), "{text}");
-            assert_eq!(rt; files.contents("a.wasm"), Some(bytes.as_slice()));
-            let written = text.is_empty().then_some(bytes.as_slice());
-            assert_eq!(rt; files.contents("o.wasm"), written, "{text}");
+            assert_eq!(rt; unlike_told(alloc, bytes.as_slice(), text)?, "", "{text}");
             if let Some(byte) = A.get(bytes.len()) {
                 bytes.push(*byte)?;
             }
@@ -87,13 +83,7 @@ fn a_module_with_a_changed_size_or_count_is_refused(rt: HostRuntime) -> Result<(
     let alloc = rt.alloc();
     for (sections, text) in CHANGES {
         let bytes = module_of(alloc, sections)?;
-        let told = told_of_a(alloc, text)?;
-        let (ended, err, files) = merge_alone(alloc, bytes.as_slice())?;
-        assert_eq!(rt; err.text(), told.as_bytes(), "{text}");
-        assert_eq!(rt; ended.code(), u8::from(!text.is_empty()), "{text}");
-        assert_eq!(rt; files.contents("a.wasm"), Some(bytes.as_slice()));
-        let written = text.is_empty().then_some(bytes.as_slice());
-        assert_eq!(rt; files.contents("o.wasm"), written, "{text}");
+        assert_eq!(rt; unlike_told(alloc, bytes.as_slice(), text)?, "", "{text}");
     }
     Ok(())
 }

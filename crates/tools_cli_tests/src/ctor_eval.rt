@@ -1,5 +1,5 @@
 // The evaluation of constructors.
-use crate::given::{CUT, HEADER, LINKED, module_of, run_over, words_of};
+use crate::given::{CUT, HEADER, LINKED, Ran, module_of, run_line, words_of};
 use std::alloc::Global;
 use std::test::Fail;
 use tool_io::{MemFiles, MemSink};
@@ -73,19 +73,25 @@ const ONE: &str = "evaluated a\n";
 
 const STOPPED_AT_B: &str = "evaluated a\nstopped at b: import\n";
 
-// Evaluates the module m.wasm into o.wasm by these words: what it comes to, what is put on standard
-// output and on standard error, and the files.
-fn evaluate_by(
-    alloc: Global,
-    module: &str,
-    words: &str,
-) -> Result<(Status, MemSink, MemSink, MemFiles), Fail> {
+// Evaluates the module m.wasm into o.wasm by these words.
+fn evaluate_by(alloc: Global, module: &str, words: &str) -> Result<Ran, Fail> {
     let module = module_of(alloc, module)?;
     let mut files = MemFiles::new(alloc);
     files.add("m.wasm", module.as_slice())?;
     let line = format!(in alloc; "ctor-eval m.wasm {words} -o o.wasm")?;
-    let (ended, out, err) = run_over(alloc, &mut files, line.as_str())?;
-    Ok((ended, out, err, files))
+    run_line(alloc, files, line.as_str())
+}
+
+// That the evaluation of a module by these words prints these lines and writes this module.
+fn unlike_evaluated(
+    alloc: Global,
+    module: &str,
+    words: &str,
+    lines: &str,
+    after: &str,
+) -> Result<&'static str, Fail> {
+    let ran = evaluate_by(alloc, module, words)?;
+    ran.unlike_done(alloc, lines, "o.wasm", after)
 }
 
 #[test]
@@ -130,12 +136,8 @@ fn constructors_are_evaluated_until_one_is_stopped(rt: HostRuntime) -> Result<()
             REFERENCES_KEPT,
         ),
     ] {
-        let (ended, out, err, files) = evaluate_by(alloc, module, words)?;
-        let after = module_of(alloc, after)?;
-        assert_eq!(rt; err.text(), b"".as_slice(), "{words}");
-        assert_eq!(rt; ended, Status::Done, "{words}");
-        assert_eq!(rt; out.text(), lines.as_bytes(), "{words}");
-        assert_eq!(rt; files.contents("o.wasm"), Some(after.as_slice()), "{words}");
+        let unlike = unlike_evaluated(alloc, module, words, lines, after)?;
+        assert_eq!(rt; unlike, "", "{words}");
     }
     Ok(())
 }
@@ -203,12 +205,8 @@ const STOPPED: [(&str, &str); 11] = [
 fn where_the_first_is_stopped_the_module_stays_as_it_is(rt: HostRuntime) -> Result<(), Fail> {
     let alloc = rt.alloc();
     for (module, line) in STOPPED {
-        let (ended, out, err, files) = evaluate_by(alloc, module, "--ctors=a --kept-exports=a")?;
-        let same = module_of(alloc, module)?;
-        assert_eq!(rt; err.text(), b"".as_slice(), "{line}");
-        assert_eq!(rt; ended, Status::Done, "{line}");
-        assert_eq!(rt; out.text(), line.as_bytes(), "{line}");
-        assert_eq!(rt; files.contents("o.wasm"), Some(same.as_slice()), "{line}");
+        let unlike = unlike_evaluated(alloc, module, "--ctors=a --kept-exports=a", line, module)?;
+        assert_eq!(rt; unlike, "", "{line}");
     }
     Ok(())
 }
@@ -232,56 +230,77 @@ fn a_name_of_no_exported_function_is_refused_before_anything_is_written(
             "binkit: no exported function memory\n",
         ),
     ] {
-        let (ended, out, err, files) = evaluate_by(alloc, module, words)?;
-        assert_eq!(rt; err.text(), text.as_bytes(), "{words}");
-        assert_eq!(rt; ended, Status::Refused, "{words}");
-        assert_eq!(rt; out.text(), b"".as_slice(), "{words}");
-        assert!(rt; files.contents("o.wasm").is_none(), "{words}");
+        let ran = evaluate_by(alloc, module, words)?;
+        assert_eq!(rt; ran.unlike_refused(text, "o.wasm"), "", "{words}");
     }
     Ok(())
+}
+
+// That a failing call of the files, or a failing put on standard output, is told with this text.
+fn unlike_outside(
+    alloc: Global,
+    call: u64,
+    put: u64,
+    text: &str,
+) -> Result<&'static str, Fail> {
+    let module = module_of(alloc, THREE)?;
+    let words = words_of(alloc, "ctor-eval --ctors=a,b,c m.wasm -o o.wasm")?;
+    let mut files = MemFiles::new(alloc);
+    files.add("m.wasm", module.as_slice())?;
+    files.fail_at(call)?;
+    let mut out = MemSink::new(alloc);
+    let mut err = MemSink::new(alloc);
+    out.fail_at(put)?;
+    let ended = run(alloc, words.as_slice(), &mut files, &mut out, &mut err);
+    let after = module_of(alloc, THREE_AFTER)?;
+    if put == 1 && files.contents("o.wasm").unwrap_or(&[]) != after.as_slice() {
+        return Ok("the output");
+    }
+    if err.text() != text.as_bytes() {
+        return Ok("standard error");
+    }
+    if ended != Status::Outside {
+        return Ok("the status");
+    }
+    Ok("")
 }
 
 #[test]
 fn faults_of_its_file_and_of_standard_output_are_told(rt: HostRuntime) -> Result<(), Fail> {
     let alloc = rt.alloc();
-    let module = module_of(alloc, THREE)?;
-    let after = module_of(alloc, THREE_AFTER)?;
-    let words = words_of(alloc, "ctor-eval --ctors=a,b,c m.wasm -o o.wasm")?;
     for (call, put, text) in [
         (1, 0, "binkit: cannot read m.wasm\n"),
         (2, 0, "binkit: cannot write o.wasm\n"),
         (0, 1, "binkit: cannot write standard output\n"),
     ] {
-        let mut files = MemFiles::new(alloc);
-        files.add("m.wasm", module.as_slice())?;
-        files.fail_at(call)?;
-        let mut out = MemSink::new(alloc);
-        let mut err = MemSink::new(alloc);
-        out.fail_at(put)?;
-        let ended = run(alloc, words.as_slice(), &mut files, &mut out, &mut err);
-        assert_eq!(rt; err.text(), text.as_bytes(), "{text}");
-        assert_eq!(rt; ended, Status::Outside, "{text}");
-        if put == 1 {
-            assert_eq!(rt; files.contents("o.wasm"), Some(after.as_slice()));
-        }
+        assert_eq!(rt; unlike_outside(alloc, call, put, text)?, "", "{text}");
     }
     Ok(())
+}
+
+// That a line over these two files is refused with this text.
+fn unlike_refused(alloc: Global, line: &str, text: &str) -> Result<&'static str, Fail> {
+    let mut files = MemFiles::new(alloc);
+    files.add("m.wasm", &CUT)?;
+    files.add("h.wasm", &HEADER)?;
+    let ran = run_line(alloc, files, line)?;
+    Ok(ran.unlike_refused(text, "o.wasm"))
 }
 
 #[test]
 fn its_module_is_read_before_its_names_are_looked_up(rt: HostRuntime) -> Result<(), Fail> {
     let alloc = rt.alloc();
-    let mut files = MemFiles::new(alloc);
-    files.add("m.wasm", &CUT)?;
-    files.add("h.wasm", &HEADER)?;
-    for (file, text) in [
-        ("m.wasm", "binkit: m.wasm: malformed section 3\n"),
-        ("h.wasm", "binkit: no exported function zz\n"),
+    for (line, text) in [
+        (
+            "ctor-eval m.wasm --ctors=zz -o o.wasm",
+            "binkit: m.wasm: malformed section 3\n",
+        ),
+        (
+            "ctor-eval h.wasm --ctors=zz -o o.wasm",
+            "binkit: no exported function zz\n",
+        ),
     ] {
-        let line = format!(in alloc; "ctor-eval {file} --ctors=zz -o o.wasm")?;
-        let (ended, _, err) = run_over(alloc, &mut files, line.as_str())?;
-        assert_eq!(rt; err.text(), text.as_bytes(), "{text}");
-        assert_eq!(rt; ended, Status::Refused, "{text}");
+        assert_eq!(rt; unlike_refused(alloc, line, text)?, "", "{line}");
     }
     Ok(())
 }
@@ -305,14 +324,9 @@ fn its_options_stand_anywhere_and_its_names_differ(rt: HostRuntime) -> Result<()
         "ctor-eval m.wasm --ctors=a --wide -o o.wasm",
         "ctor-eval m.wasm --ctors a -o o.wasm --",
     ] {
-        let mut files = MemFiles::new(alloc);
-        let (ended, _, err) = run_over(alloc, &mut files, line)?;
-        assert_eq!(rt; ended, Status::Usage, "{line}");
-        assert_eq!(rt;
-            err.text(),
-            b"usage: binkit ctor-eval\n".as_slice(),
-            "{line}"
-        );
+        let ran = run_line(alloc, MemFiles::new(alloc), line)?;
+        let usage = "usage: binkit ctor-eval\n";
+        assert_eq!(rt; ran.unlike(Status::Usage, "", usage), "", "{line}");
     }
     Ok(())
 }

@@ -31,34 +31,80 @@ pub fn words_of(alloc: Global, line: &str) -> Result<Vec<String>, Fail> {
     Ok(words)
 }
 
-// What a line of a merge comes to over the files, and what is put on standard error. A merge puts
-// nothing on standard output.
-pub fn run_line(
-    alloc: Global,
-    files: &mut MemFiles,
-    line: &str,
-) -> Result<(Status, MemSink), Fail> {
-    let words = words_of(alloc, line)?;
-    let mut out = MemSink::new(alloc);
-    let mut err = MemSink::new(alloc);
-    let ended = run(alloc, words.as_slice(), files, &mut out, &mut err);
-    if !out.text().is_empty() {
-        return Err(Fail::new("a merge has put something on standard output"));
-    }
-    Ok((ended, err))
+// A command that was run: how it ended, what it put on standard output and on standard error, and the files after it.
+#[derive(Drop)]
+pub struct Ran {
+    ended: Status,
+    out: MemSink,
+    err: MemSink,
+    pub files: MemFiles,
 }
 
-// What a line comes to over the files, and what is put on standard output and standard error.
-pub fn run_over(
-    alloc: Global,
-    files: &mut MemFiles,
-    line: &str,
-) -> Result<(Status, MemSink, MemSink), Fail> {
+// Runs a line over the files.
+pub fn run_line(alloc: Global, mut files: MemFiles, line: &str) -> Result<Ran, Fail> {
     let words = words_of(alloc, line)?;
     let mut out = MemSink::new(alloc);
     let mut err = MemSink::new(alloc);
-    let ended = run(alloc, words.as_slice(), files, &mut out, &mut err);
-    Ok((ended, out, err))
+    let ended = run(alloc, words.as_slice(), &mut files, &mut out, &mut err);
+    Ok(Ran {
+        ended,
+        out,
+        err,
+        files,
+    })
+}
+
+// The functions that are named unlike_ give a name to the first thing that is not as it is to be, or the empty text where each is.
+impl Ran {
+    // That it ended so and put these texts on standard output and on standard error.
+    pub fn unlike(&self, ended: Status, out: &str, err: &str) -> &'static str {
+        if self.err.text() != err.as_bytes() {
+            return "standard error";
+        }
+        if self.ended != ended {
+            return "the status";
+        }
+        if self.out.text() != out.as_bytes() {
+            return "standard output";
+        }
+        ""
+    }
+
+    // Whether there is a file that holds exactly these bytes.
+    pub fn has(&self, name: &str, bytes: &[u8]) -> bool {
+        match self.files.contents(name) {
+            Some(held) => held == bytes,
+            None => false,
+        }
+    }
+
+    // Whether there is a file that holds exactly this module.
+    pub fn has_module(&self, alloc: Global, name: &str, sections: &str) -> Result<bool, Fail> {
+        let module = module_of(alloc, sections)?;
+        Ok(self.has(name, module.as_slice()))
+    }
+
+    // That it is done, with these lines on standard output and nothing on standard error, and that a file holds this module.
+    pub fn unlike_done(
+        &self,
+        alloc: Global,
+        lines: &str,
+        name: &str,
+        sections: &str,
+    ) -> Result<&'static str, Fail> {
+        if !self.has_module(alloc, name, sections)? {
+            return Ok("the output");
+        }
+        Ok(self.unlike(Status::Done, lines, ""))
+    }
+
+    // That it is refused with this text, and that there is no file of this name.
+    pub fn unlike_refused(&self, text: &str, name: &str) -> &'static str {
+        if self.files.contents(name).is_some() {
+            return "the output";
+        }
+        self.unlike(Status::Refused, "", text)
+    }
 }
 
 // Adds the bytes that a text gives in hexadecimal.
@@ -111,18 +157,11 @@ fn two_files(alloc: Global, a: &str, b: &str) -> Result<MemFiles, Fail> {
     Ok(files)
 }
 
-// Merges the parts `a` and `b` into o.wasm, with a flag or none: what it comes to, what is put on
-// standard error, and the files.
-pub fn merge_two(
-    alloc: Global,
-    a: &str,
-    b: &str,
-    flag: &str,
-) -> Result<(Status, MemSink, MemFiles), Fail> {
-    let mut files = two_files(alloc, a, b)?;
+// Merges the parts `a` and `b` into o.wasm, with a flag or none.
+pub fn merge_two(alloc: Global, a: &str, b: &str, flag: &str) -> Result<Ran, Fail> {
+    let files = two_files(alloc, a, b)?;
     let line = format!(in alloc; "merge a.wasm a b.wasm b -o o.wasm {flag}")?;
-    let (ended, err) = run_line(alloc, &mut files, line.as_str())?;
-    Ok((ended, err, files))
+    run_line(alloc, files, line.as_str())
 }
 
 // One function, exported as f, that gives 7.

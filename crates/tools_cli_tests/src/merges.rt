@@ -1,7 +1,7 @@
 use crate::given::{GIVES, merge_two, module_of, module_of_tables, run_line};
 use std::alloc::Global;
 use std::test::Fail;
-use tool_io::{MemFiles, MemSink};
+use tool_io::MemFiles;
 use tools_cli::Status;
 
 // One function, exported as f and as f_1, that gives 7.
@@ -18,6 +18,18 @@ pub const BOTH: &str =
 
 // A start that does nothing.
 const STARTS: &str = "01 04 01 60 00 00 03 02 01 00 08 01 00 0A 04 01 02 00 0B";
+
+// That the merge of two parts, with a flag or none, writes this module.
+fn unlike_merge(
+    alloc: Global,
+    a: &str,
+    b: &str,
+    flag: &str,
+    merged: &str,
+) -> Result<&'static str, Fail> {
+    let ran = merge_two(alloc, a, b, flag)?;
+    ran.unlike_done(alloc, "", "o.wasm", merged)
+}
 
 #[test]
 fn two_parts_are_merged_into_one_module(rt: HostRuntime) -> Result<(), Fail> {
@@ -49,11 +61,7 @@ fn two_parts_are_merged_into_one_module(rt: HostRuntime) -> Result<(), Fail> {
             "01 04 01 60 00 00 03 04 03 00 00 00 08 01 02 0A 0E 03 02 00 0B 02 00 0B 06 00 10 00 10 01 0B",
         ),
     ] {
-        let (ended, err, files) = merge_two(alloc, a, b, flag)?;
-        let merged = module_of(alloc, merged)?;
-        assert_eq!(rt; err.text(), b"".as_slice());
-        assert_eq!(rt; ended, Status::Done);
-        assert_eq!(rt; files.contents("o.wasm"), Some(merged.as_slice()));
+        assert_eq!(rt; unlike_merge(alloc, a, b, flag, merged)?, "", "{a} {b}");
     }
     Ok(())
 }
@@ -80,26 +88,29 @@ fn memories_and_globals_are_joined(rt: HostRuntime) -> Result<(), Fail> {
             "06 0B 02 7F 00 41 05 0B 7F 00 41 05 0B 07 05 01 01 78 03 00",
         ),
     ] {
-        let (ended, err, files) = merge_two(alloc, a, b, "")?;
-        let merged = module_of(alloc, merged)?;
-        assert_eq!(rt; err.text(), b"".as_slice());
-        assert_eq!(rt; ended, Status::Done);
-        assert_eq!(rt; files.contents("o.wasm"), Some(merged.as_slice()));
+        assert_eq!(rt; unlike_merge(alloc, a, b, "", merged)?, "", "{a} {b}");
     }
     Ok(())
 }
 
-// The same merge, and then that of o.wasm alone into p.wasm: what the second comes to, what the
-// first puts on standard error, and the files.
-fn merge_twice(
+// The same, and that the merge of o.wasm alone writes it once more, as p.wasm.
+fn unlike_merges(
     alloc: Global,
     a: &str,
     b: &str,
     flag: &str,
-) -> Result<(Status, MemSink, MemFiles), Fail> {
-    let (_, err, mut files) = merge_two(alloc, a, b, flag)?;
-    let (ended, _) = run_line(alloc, &mut files, "merge o.wasm o -o p.wasm")?;
-    Ok((ended, err, files))
+    merged: &str,
+) -> Result<&'static str, Fail> {
+    let first = merge_two(alloc, a, b, flag)?;
+    let unlike = first.unlike_done(alloc, "", "o.wasm", merged)?;
+    if !unlike.is_empty() {
+        return Ok(unlike);
+    }
+    let second = run_line(alloc, first.files, "merge o.wasm o -o p.wasm")?;
+    if !second.has_module(alloc, "o.wasm", merged)? {
+        return Ok("the input");
+    }
+    second.unlike_done(alloc, "", "p.wasm", merged)
 }
 
 // Part a imports its own f, which gives 7, and its g calls that import.
@@ -109,15 +120,9 @@ const OWN_IMPORT: &str =
 #[test]
 fn a_part_imports_from_itself(rt: HostRuntime) -> Result<(), Fail> {
     let alloc = rt.alloc();
-    let (ended, err, files) = merge_twice(alloc, OWN_IMPORT, "", "")?;
-    let merged = module_of(
-        alloc,
-        "01 05 01 60 00 01 7F 03 03 02 00 00 07 09 02 01 66 00 01 01 67 00 00 0A 0B 02 04 00 10 01 0B 04 00 41 07 0B",
-    )?;
-    assert_eq!(rt; err.text(), b"".as_slice());
-    assert_eq!(rt; ended, Status::Done);
-    assert_eq!(rt; files.contents("o.wasm"), Some(merged.as_slice()));
-    assert_eq!(rt; files.contents("p.wasm"), Some(merged.as_slice()));
+    let merged =
+        "01 05 01 60 00 01 7F 03 03 02 00 00 07 09 02 01 66 00 01 01 67 00 00 0A 0B 02 04 00 10 01 0B 04 00 41 07 0B";
+    assert_eq!(rt; unlike_merges(alloc, OWN_IMPORT, "", "", merged)?, "");
     Ok(())
 }
 
@@ -147,12 +152,7 @@ fn of_what_stays_memories_alone_become_one(rt: HostRuntime) -> Result<(), Fail> 
         (E_T_TWICE, "", E_T_TWICE),
         (E_F_TWICE, "", E_F_TWICE),
     ] {
-        let (ended, err, files) = merge_twice(alloc, a, b, "")?;
-        let merged = module_of(alloc, merged)?;
-        assert_eq!(rt; err.text(), b"".as_slice(), "{a}");
-        assert_eq!(rt; ended, Status::Done, "{a}");
-        assert_eq!(rt; files.contents("o.wasm"), Some(merged.as_slice()), "{a}");
-        assert_eq!(rt; files.contents("p.wasm"), Some(merged.as_slice()), "{a}");
+        assert_eq!(rt; unlike_merges(alloc, a, b, "", merged)?, "", "{a}");
     }
     Ok(())
 }
@@ -176,12 +176,7 @@ fn equal_types_stand_once_and_unused_ones_stay(rt: HostRuntime) -> Result<(), Fa
             "01 08 02 60 01 7F 00 60 00 00 03 02 01 01 0A 04 01 02 00 0B",
         ),
     ] {
-        let (ended, err, files) = merge_twice(alloc, a, b, "")?;
-        let merged = module_of(alloc, merged)?;
-        assert_eq!(rt; err.text(), b"".as_slice(), "{a}");
-        assert_eq!(rt; ended, Status::Done, "{a}");
-        assert_eq!(rt; files.contents("o.wasm"), Some(merged.as_slice()), "{a}");
-        assert_eq!(rt; files.contents("p.wasm"), Some(merged.as_slice()), "{a}");
+        assert_eq!(rt; unlike_merges(alloc, a, b, "", merged)?, "", "{a}");
     }
     Ok(())
 }
@@ -195,15 +190,9 @@ const STARTS_A_S: &str = "01 04 01 60 00 00 02 07 01 01 61 01 73 00 00 08 01 00"
 #[test]
 fn a_function_that_two_parts_start_is_called_twice(rt: HostRuntime) -> Result<(), Fail> {
     let alloc = rt.alloc();
-    let (ended, err, files) = merge_twice(alloc, STARTS_OWN, STARTS_A_S, "")?;
-    let merged = module_of(
-        alloc,
-        "01 04 01 60 00 00 03 03 02 00 00 07 05 01 01 73 00 00 08 01 01 0A 0B 02 02 00 0B 06 00 10 00 10 00 0B",
-    )?;
-    assert_eq!(rt; err.text(), b"".as_slice());
-    assert_eq!(rt; ended, Status::Done);
-    assert_eq!(rt; files.contents("o.wasm"), Some(merged.as_slice()));
-    assert_eq!(rt; files.contents("p.wasm"), Some(merged.as_slice()));
+    let merged =
+        "01 04 01 60 00 00 03 03 02 00 00 07 05 01 01 73 00 00 08 01 01 0A 0B 02 02 00 0B 06 00 10 00 10 00 0B";
+    assert_eq!(rt; unlike_merges(alloc, STARTS_OWN, STARTS_A_S, "", merged)?, "");
     Ok(())
 }
 
@@ -245,12 +234,7 @@ fn globals_take_the_value_at_which_reading_ends(rt: HostRuntime) -> Result<(), F
             "01 04 01 60 00 00 03 03 02 00 00 06 0B 02 70 00 D2 01 0B 70 00 D2 01 0B 07 05 01 01 78 03 01 0A 07 02 02 00 0B 02 00 0B",
         ),
     ] {
-        let (ended, err, files) = merge_twice(alloc, a, b, "")?;
-        let merged = module_of(alloc, merged)?;
-        assert_eq!(rt; err.text(), b"".as_slice(), "{b}");
-        assert_eq!(rt; ended, Status::Done, "{b}");
-        assert_eq!(rt; files.contents("o.wasm"), Some(merged.as_slice()), "{b}");
-        assert_eq!(rt; files.contents("p.wasm"), Some(merged.as_slice()), "{b}");
+        assert_eq!(rt; unlike_merges(alloc, a, b, "", merged)?, "", "{b}");
     }
     Ok(())
 }
@@ -265,15 +249,9 @@ const NAMES_ITSELF: &str =
 fn a_function_whose_export_is_left_out_is_declared(rt: HostRuntime) -> Result<(), Fail> {
     let alloc = rt.alloc();
     let flag = "--skip-export-conflicts";
-    let (ended, err, files) = merge_twice(alloc, DOES_NOTHING, NAMES_ITSELF, flag)?;
-    let merged = module_of(
-        alloc,
-        "01 04 01 60 00 00 03 03 02 00 00 07 05 01 01 66 00 00 09 05 01 03 00 01 01 0A 0A 02 02 00 0B 05 00 D2 01 1A 0B",
-    )?;
-    assert_eq!(rt; err.text(), b"".as_slice());
-    assert_eq!(rt; ended, Status::Done);
-    assert_eq!(rt; files.contents("o.wasm"), Some(merged.as_slice()));
-    assert_eq!(rt; files.contents("p.wasm"), Some(merged.as_slice()));
+    let merged =
+        "01 04 01 60 00 00 03 03 02 00 00 07 05 01 01 66 00 00 09 05 01 03 00 01 01 0A 0A 02 02 00 0B 05 00 D2 01 1A 0B";
+    assert_eq!(rt; unlike_merges(alloc, DOES_NOTHING, NAMES_ITSELF, flag, merged)?, "");
     Ok(())
 }
 
@@ -283,12 +261,10 @@ fn as_many_tables_as_the_limit_are_written(rt: HostRuntime) -> Result<(), Fail> 
     let part = module_of_tables(alloc, "04 9A 75 88 27", 5000, "")?;
     let mut files = MemFiles::new(alloc);
     files.add("a.wasm", part.as_slice())?;
-    let line = "merge a.wasm a a.wasm b -o o.wasm";
-    let (ended, err) = run_line(alloc, &mut files, line)?;
+    let ran = run_line(alloc, files, "merge a.wasm a a.wasm b -o o.wasm")?;
     let merged = module_of_tables(alloc, "04 B2 EA 01 90 4E", 10000, "")?;
-    assert_eq!(rt; err.text(), b"".as_slice());
-    assert_eq!(rt; ended, Status::Done);
-    assert_eq!(rt; files.contents("o.wasm"), Some(merged.as_slice()));
+    assert_eq!(rt; ran.unlike(Status::Done, "", ""), "");
+    assert!(rt; ran.has("o.wasm", merged.as_slice()));
     Ok(())
 }
 
@@ -314,12 +290,9 @@ fn a_module_as_a_linker_leaves_it_is_spelled_plainly(rt: HostRuntime) -> Result<
     let given = format!(in alloc; "{BEFORE_CODE} {PADDED_CODE} {DATA} {CUSTOM}")?;
     let given = module_of(alloc, given.as_str())?;
     let plain = format!(in alloc; "{BEFORE_CODE} {SHORT_CODE} {DATA}")?;
-    let plain = module_of(alloc, plain.as_str())?;
     let mut files = MemFiles::new(alloc);
     files.add("l.wasm", given.as_slice())?;
-    let (ended, err) = run_line(alloc, &mut files, "merge l.wasm main -o o.wasm")?;
-    assert_eq!(rt; err.text(), b"".as_slice());
-    assert_eq!(rt; ended, Status::Done);
-    assert_eq!(rt; files.contents("o.wasm"), Some(plain.as_slice()));
+    let ran = run_line(alloc, files, "merge l.wasm main -o o.wasm")?;
+    assert_eq!(rt; ran.unlike_done(alloc, "", "o.wasm", plain.as_str())?, "");
     Ok(())
 }

@@ -1,8 +1,7 @@
-use crate::given::{CUT, LINKED, NOTHING_GIVEN, module_of, run_over, zeros};
+use crate::given::{CUT, LINKED, NOTHING_GIVEN, Ran, module_of, run_line, zeros};
 use std::alloc::Global;
 use std::test::Fail;
-use tool_io::{MemFiles, MemSink};
-use tools_cli::Status;
+use tool_io::MemFiles;
 
 // The import env.cb, and functions 1 to 3, exported as a, b and c. Function 1 calls the import and names function 3.
 pub const CALLS_BACK: &str =
@@ -18,12 +17,36 @@ pub const LEFT: &str =
 
 const LINE: &str = "metadce m.wasm --graph-file=g.json -o o.wasm";
 
-// A module and a graph, as files.
-fn files_of(alloc: Global, module: &[u8], graph: &str) -> Result<MemFiles, Fail> {
+// Runs a line over a module and a graph.
+fn run_over(alloc: Global, module: &[u8], graph: &[u8], line: &str) -> Result<Ran, Fail> {
     let mut files = MemFiles::new(alloc);
     files.add("m.wasm", module)?;
-    files.add("g.json", graph.as_bytes())?;
-    Ok(files)
+    files.add("g.json", graph)?;
+    run_line(alloc, files, line)
+}
+
+// That this is left of a module by a graph, and these lines are printed.
+fn unlike_left(
+    alloc: Global,
+    module: &str,
+    graph: &str,
+    lines: &str,
+    left: &str,
+) -> Result<&'static str, Fail> {
+    let module = module_of(alloc, module)?;
+    let ran = run_over(alloc, module.as_slice(), graph.as_bytes(), LINE)?;
+    ran.unlike_done(alloc, lines, "o.wasm", left)
+}
+
+// That a module and a graph are refused with this text.
+fn unlike_refused(
+    alloc: Global,
+    module: &[u8],
+    graph: &[u8],
+    text: &str,
+) -> Result<&'static str, Fail> {
+    let ran = run_over(alloc, module, graph, LINE)?;
+    Ok(ran.unlike_refused(text, "o.wasm"))
 }
 
 #[test]
@@ -57,14 +80,8 @@ fn what_no_path_reaches_is_left_out_and_told(rt: HostRuntime) -> Result<(), Fail
             nothing,
         ),
     ] {
-        let module = module_of(alloc, CALLS_BACK)?;
-        let mut files = files_of(alloc, module.as_slice(), graph)?;
-        let (ended, out, err) = run_over(alloc, &mut files, LINE)?;
-        let left = module_of(alloc, left)?;
-        assert_eq!(rt; err.text(), b"".as_slice(), "{graph}");
-        assert_eq!(rt; ended, Status::Done, "{graph}");
-        assert_eq!(rt; out.text(), lines.as_bytes(), "{graph}");
-        assert_eq!(rt; files.contents("o.wasm"), Some(left.as_slice()), "{graph}");
+        let unlike = unlike_left(alloc, CALLS_BACK, graph, lines, left)?;
+        assert_eq!(rt; unlike, "", "{graph}");
     }
     Ok(())
 }
@@ -76,22 +93,17 @@ const LINKED_LEFT: &str =
 #[test]
 fn a_module_as_a_linker_leaves_it_is_swept(rt: HostRuntime) -> Result<(), Fail> {
     let alloc = rt.alloc();
-    let module = module_of(alloc, LINKED)?;
     let graph =
         "[{\"name\":\"main\",\"root\":true,\"reaches\":[\"run\",\"mem\"]},{\"name\":\"run\",\"export\":\"run\"},{\"name\":\"mem\",\"export\":\"memory\"},{\"name\":\"ctors\",\"export\":\"__wasm_call_ctors\"}]";
-    let mut files = files_of(alloc, module.as_slice(), graph)?;
-    let (ended, out, err) = run_over(alloc, &mut files, LINE)?;
-    let left = module_of(alloc, LINKED_LEFT)?;
-    assert_eq!(rt; err.text(), b"".as_slice());
-    assert_eq!(rt; ended, Status::Done);
-    assert_eq!(rt; out.text(), b"unused: ctors\n".as_slice());
-    assert_eq!(rt; files.contents("o.wasm"), Some(left.as_slice()));
+    let unlike = unlike_left(alloc, LINKED, graph, "unused: ctors\n", LINKED_LEFT)?;
+    assert_eq!(rt; unlike, "");
     Ok(())
 }
 
 #[test]
 fn graphs_are_refused_with_their_text(rt: HostRuntime) -> Result<(), Fail> {
     let alloc = rt.alloc();
+    let module = module_of(alloc, CALLS_BACK)?;
     for (graph, text) in [
         ("{", "binkit: g.json: not JSON\n"),
         ("", "binkit: g.json: not JSON\n"),
@@ -113,13 +125,8 @@ fn graphs_are_refused_with_their_text(rt: HostRuntime) -> Result<(), Fail> {
             "binkit: g.json: no node b\n",
         ),
     ] {
-        let module = module_of(alloc, CALLS_BACK)?;
-        let mut files = files_of(alloc, module.as_slice(), graph)?;
-        let (ended, out, err) = run_over(alloc, &mut files, LINE)?;
-        assert_eq!(rt; err.text(), text.as_bytes(), "{graph}");
-        assert_eq!(rt; ended, Status::Refused, "{graph}");
-        assert_eq!(rt; out.text(), b"".as_slice(), "{graph}");
-        assert_eq!(rt; files.contents("o.wasm"), None, "{graph}");
+        let unlike = unlike_refused(alloc, module.as_slice(), graph.as_bytes(), text)?;
+        assert_eq!(rt; unlike, "", "{graph}");
     }
     Ok(())
 }
@@ -127,17 +134,12 @@ fn graphs_are_refused_with_their_text(rt: HostRuntime) -> Result<(), Fail> {
 #[test]
 fn the_module_is_read_and_validated_before_the_graph_is_read(rt: HostRuntime) -> Result<(), Fail> {
     let alloc = rt.alloc();
-    let cut = Vec::from_slice(alloc, &CUT)?;
     let invalid = module_of(alloc, NOTHING_GIVEN)?;
     for (module, text) in [
-        (cut.as_slice(), "binkit: m.wasm: malformed section 3\n"),
+        (CUT.as_slice(), "binkit: m.wasm: malformed section 3\n"),
         (invalid.as_slice(), "binkit: m.wasm: invalid body 0\n"),
     ] {
-        let mut files = files_of(alloc, module, "{")?;
-        let (ended, _, err) = run_over(alloc, &mut files, LINE)?;
-        assert_eq!(rt; err.text(), text.as_bytes());
-        assert_eq!(rt; ended, Status::Refused, "{text}");
-        assert_eq!(rt; files.contents("o.wasm"), None, "{text}");
+        assert_eq!(rt; unlike_refused(alloc, module, b"{", text)?, "", "{text}");
     }
     Ok(())
 }
@@ -152,44 +154,35 @@ fn the_graph_counts_as_input_bytes(rt: HostRuntime) -> Result<(), Fail> {
         "binkit: g.json: limit on input bytes\n",
         "binkit: g.json: not JSON\n",
     ] {
-        let mut files = MemFiles::new(alloc);
-        files.add("m.wasm", module.as_slice())?;
-        files.add("g.json", graph.as_slice())?;
-        let (ended, out, err) = run_over(alloc, &mut files, LINE)?;
-        assert_eq!(rt; err.text(), text.as_bytes());
-        assert_eq!(rt; ended, Status::Refused, "{text}");
-        assert_eq!(rt; out.text(), b"".as_slice(), "{text}");
-        assert_eq!(rt; files.contents("o.wasm"), None, "{text}");
+        let unlike = unlike_refused(alloc, module.as_slice(), graph.as_slice(), text)?;
+        assert_eq!(rt; unlike, "", "{text}");
         graph.pop();
     }
     Ok(())
 }
 
-// What a line comes to over the module and the graph of the host, and the files.
-fn run_over_both(alloc: Global, line: &str) -> Result<(Status, MemSink, MemFiles), Fail> {
+// That a line over the module and the graph of the host is done, and leaves what is left in this file.
+fn unlike_for_the_host(alloc: Global, line: &str, name: &str) -> Result<&'static str, Fail> {
     let module = module_of(alloc, CALLS_BACK)?;
-    let mut files = files_of(alloc, module.as_slice(), HOST)?;
-    let (ended, out, _) = run_over(alloc, &mut files, line)?;
-    Ok((ended, out, files))
+    let ran = run_over(alloc, module.as_slice(), HOST.as_bytes(), line)?;
+    if name != "m.wasm" && !ran.has("m.wasm", module.as_slice()) {
+        return Ok("the module");
+    }
+    if name != "g.json" && !ran.has("g.json", HOST.as_bytes()) {
+        return Ok("the graph");
+    }
+    ran.unlike_done(alloc, "unused: C\n", name, LEFT)
 }
 
 #[test]
 fn the_output_may_be_one_of_its_files(rt: HostRuntime) -> Result<(), Fail> {
     let alloc = rt.alloc();
-    let module = module_of(alloc, CALLS_BACK)?;
-    let left = module_of(alloc, LEFT)?;
-    let line = "metadce m.wasm --graph-file g.json -o m.wasm";
-    let (ended, out, files) = run_over_both(alloc, line)?;
-    assert_eq!(rt; ended, Status::Done);
-    assert_eq!(rt; out.text(), b"unused: C\n".as_slice());
-    assert_eq!(rt; files.contents("m.wasm"), Some(left.as_slice()));
-    assert_eq!(rt; files.contents("g.json"), Some(HOST.as_bytes()));
-    let line = "metadce m.wasm --graph-file g.json -o g.json";
-    let (ended, out, files) = run_over_both(alloc, line)?;
-    assert_eq!(rt; ended, Status::Done);
-    assert_eq!(rt; out.text(), b"unused: C\n".as_slice());
-    assert_eq!(rt; files.contents("m.wasm"), Some(module.as_slice()));
-    assert_eq!(rt; files.contents("g.json"), Some(left.as_slice()));
+    for (line, name) in [
+        ("metadce m.wasm --graph-file g.json -o m.wasm", "m.wasm"),
+        ("metadce m.wasm --graph-file g.json -o g.json", "g.json"),
+    ] {
+        assert_eq!(rt; unlike_for_the_host(alloc, line, name)?, "", "{line}");
+    }
     Ok(())
 }
 
@@ -213,15 +206,9 @@ fn a_segment_too_many_is_told(rt: HostRuntime) -> Result<(), Fail> {
     let alloc = rt.alloc();
     let module = many_segments(alloc)?;
     let graph = "[{\"name\":\"B\",\"root\":true,\"export\":\"b\"}]";
-    let mut files = files_of(alloc, module.as_slice(), graph)?;
-    let (ended, out, err) = run_over(alloc, &mut files, LINE)?;
-    assert_eq!(rt;
-        err.text(),
-        b"binkit: output exceeds the limit on element segments\n".as_slice()
-    );
-    assert_eq!(rt; ended, Status::Refused);
-    assert_eq!(rt; out.text(), b"".as_slice());
-    assert_eq!(rt; files.contents("o.wasm"), None);
+    let text = "binkit: output exceeds the limit on element segments\n";
+    let unlike = unlike_refused(alloc, module.as_slice(), graph.as_bytes(), text)?;
+    assert_eq!(rt; unlike, "");
     Ok(())
 }
 
@@ -233,11 +220,7 @@ fn its_options_stand_anywhere_and_once(rt: HostRuntime) -> Result<(), Fail> {
         "metadce --output=o.wasm m.wasm --graph-file=g.json",
         "metadce --output o.wasm --graph-file=g.json m.wasm",
     ] {
-        let module = module_of(alloc, CALLS_BACK)?;
-        let mut files = files_of(alloc, module.as_slice(), HOST)?;
-        let (ended, out, _) = run_over(alloc, &mut files, line)?;
-        assert_eq!(rt; ended, Status::Done, "{line}");
-        assert_eq!(rt; out.text(), b"unused: C\n".as_slice(), "{line}");
+        assert_eq!(rt; unlike_for_the_host(alloc, line, "o.wasm")?, "", "{line}");
     }
     Ok(())
 }

@@ -6,7 +6,7 @@ use crate::split::{ADDS, ADDS_PRIMARY, ADDS_SECONDARY, COPIES, COPIES_PRIMARY, C
 use std::alloc::Global;
 use std::test::Fail;
 use tool_io::{MemFiles, MemSink};
-use tools_cli::{Status, run};
+use tools_cli::run;
 
 // A function that gives 7, without its last byte.
 const GIVES_CUT: &str =
@@ -286,18 +286,49 @@ fn run_failing(
     Ok((is_silent && is_told, files))
 }
 
+// That a row is as it says, and that the files which were there stay.
+fn unlike_row(
+    alloc: Global,
+    row: (&str, u64, u64, u64, &str, &str, usize, &str, usize),
+) -> Result<&'static str, Fail> {
+    let (line, call, out_put, err_put, told, output, count, second, second_count) = row;
+    let (is_told, files) = run_failing(alloc, line, call, out_put, err_put, told)?;
+    if !is_told {
+        return Ok("what is told");
+    }
+    if !holds(alloc, &files, first_output(line), output, count)? {
+        return Ok("the first output");
+    }
+    if !holds(alloc, &files, "p", second, second_count)? {
+        return Ok("the second output");
+    }
+    if !inputs_stay(alloc, &files)? {
+        return Ok("the inputs");
+    }
+    Ok("")
+}
+
 #[test]
 fn one_call_that_fails_is_told_and_the_files_are_a_first_part(rt: HostRuntime) -> Result<(), Fail> {
     let alloc = rt.alloc();
-    for (line, call, out_put, err_put, told, output, count, second, second_count) in FAILING {
-        let (is_told, files) = run_failing(alloc, line, call, out_put, err_put, told)?;
-        assert!(rt; is_told, "{line}: {told}");
-        let name = first_output(line);
-        assert!(rt; holds(alloc, &files, name, output, count)?, "{line}");
-        assert!(rt; holds(alloc, &files, "p", second, second_count)?, "{line}");
-        assert!(rt; inputs_stay(alloc, &files)?, "{line}");
+    for row in FAILING {
+        assert_eq!(rt; unlike_row(alloc, row)?, "", "{} {}", row.0, row.4);
     }
     Ok(())
+}
+
+// That the merge of two files is refused with this text.
+fn unlike_refused(
+    alloc: Global,
+    first: &[u8],
+    second: &[u8],
+    text: &str,
+) -> Result<&'static str, Fail> {
+    let mut files = MemFiles::new(alloc);
+    files.add("a.wasm", first)?;
+    files.add("b.wasm", second)?;
+    let ran = run_line(alloc, files, "merge a.wasm a b.wasm b -o o.wasm")?;
+    Ok(ran.unlike_refused(text, "o.wasm"))
 }
 
 #[test]
@@ -312,13 +343,8 @@ fn input_files_have_16_mib_at_most_together(rt: HostRuntime) -> Result<(), Fail>
         ),
         (more.as_slice(), "binkit: b.wasm: limit on input bytes\n"),
     ] {
-        let mut files = MemFiles::new(alloc);
-        files.add("a.wasm", half.as_slice())?;
-        files.add("b.wasm", second)?;
-        let (ended, err) = run_line(alloc, &mut files, "merge a.wasm a b.wasm b -o o.wasm")?;
-        assert_eq!(rt; err.text(), text.as_bytes());
-        assert_eq!(rt; ended, Status::Refused, "{text}");
-        assert_eq!(rt; files.contents("o.wasm"), None, "{text}");
+        let unlike = unlike_refused(alloc, half.as_slice(), second, text)?;
+        assert_eq!(rt; unlike, "", "{text}");
     }
     Ok(())
 }

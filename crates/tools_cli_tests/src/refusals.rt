@@ -1,7 +1,7 @@
 use crate::given::{GIVES, merge_two, module_of_tables, run_line};
+use std::alloc::Global;
 use std::test::Fail;
 use tool_io::MemFiles;
-use tools_cli::Status;
 
 // The memory env.memory, with a minimum of 6, and with 1 to 5.
 const FROM_6: &str = "02 0F 01 03 65 6E 76 06 6D 65 6D 6F 72 79 02 00 06";
@@ -17,6 +17,12 @@ const FROM_A: &str = "01 04 01 60 00 00 02 07 01 01 61 01 78 00 00 07 05 01 01 7
 const READS_B: &str = "02 08 01 01 62 01 78 03 7F 00 06 06 01 7F 00 23 00 0B 07 05 01 01 78 03 01";
 
 const READS_A: &str = "02 08 01 01 61 01 78 03 7F 00 06 06 01 7F 00 23 00 0B 07 05 01 01 78 03 01";
+
+// That the merge of two parts is refused with this text.
+fn unlike_refused(alloc: Global, a: &str, b: &str, text: &str) -> Result<&'static str, Fail> {
+    let ran = merge_two(alloc, a, b, "")?;
+    Ok(ran.unlike_refused(text, "o.wasm"))
+}
 
 #[test]
 fn parts_that_do_not_fit_are_refused_with_their_text(rt: HostRuntime) -> Result<(), Fail> {
@@ -41,10 +47,7 @@ fn parts_that_do_not_fit_are_refused_with_their_text(rt: HostRuntime) -> Result<
         ),
         (READS_B, READS_A, "binkit: a.wasm: global 1 has no value\n"),
     ] {
-        let (ended, err, files) = merge_two(alloc, a, b, "")?;
-        assert_eq!(rt; err.text(), text.as_bytes(), "{text}");
-        assert_eq!(rt; ended, Status::Refused, "{text}");
-        assert_eq!(rt; files.contents("o.wasm"), None, "{text}");
+        assert_eq!(rt; unlike_refused(alloc, a, b, text)?, "", "{text}");
     }
     Ok(())
 }
@@ -56,11 +59,8 @@ const LEADS_TO_B: &str = "02 08 01 01 62 01 78 03 7F 00 06 06 01 7F 00 23 00 0B"
 fn the_first_global_that_leads_into_a_cycle_is_told(rt: HostRuntime) -> Result<(), Fail> {
     let alloc = rt.alloc();
     // as part b, READS_B reads itself
-    let (ended, err, files) = merge_two(alloc, LEADS_TO_B, READS_B, "")?;
     let text = "binkit: a.wasm: global 1 has no value\n";
-    assert_eq!(rt; err.text(), text.as_bytes());
-    assert_eq!(rt; ended, Status::Refused);
-    assert_eq!(rt; files.contents("o.wasm"), None);
+    assert_eq!(rt; unlike_refused(alloc, LEADS_TO_B, READS_B, text)?, "");
     Ok(())
 }
 
@@ -109,10 +109,7 @@ fn of_two_faults_the_earlier_in_the_order_is_told(rt: HostRuntime) -> Result<(),
         // before two exports of the name x
         (READS_B, READS_A, "binkit: a.wasm: global 1 has no value\n"),
     ] {
-        let (ended, err, files) = merge_two(alloc, a, b, "")?;
-        assert_eq!(rt; err.text(), text.as_bytes(), "{text}");
-        assert_eq!(rt; ended, Status::Refused, "{text}");
-        assert_eq!(rt; files.contents("o.wasm"), None, "{text}");
+        assert_eq!(rt; unlike_refused(alloc, a, b, text)?, "", "{text}");
     }
     Ok(())
 }
@@ -152,10 +149,7 @@ fn of_the_imports_with_a_fault_the_first_is_told(rt: HostRuntime) -> Result<(), 
             "binkit: a.wasm: import 1 does not match\n",
         ),
     ] {
-        let (ended, err, files) = merge_two(alloc, a, b, "")?;
-        assert_eq!(rt; err.text(), text.as_bytes(), "{text}");
-        assert_eq!(rt; ended, Status::Refused, "{text}");
-        assert_eq!(rt; files.contents("o.wasm"), None, "{text}");
+        assert_eq!(rt; unlike_refused(alloc, a, b, text)?, "", "{text}");
     }
     Ok(())
 }
@@ -197,10 +191,7 @@ fn where_the_earlier_fault_is_mended_the_later_is_told(rt: HostRuntime) -> Resul
             "binkit: b.wasm: import 0 has no end\n",
         ),
     ] {
-        let (ended, err, files) = merge_two(alloc, a, b, "")?;
-        assert_eq!(rt; err.text(), text.as_bytes(), "{text}");
-        assert_eq!(rt; ended, Status::Refused, "{text}");
-        assert_eq!(rt; files.contents("o.wasm"), None, "{text}");
+        assert_eq!(rt; unlike_refused(alloc, a, b, text)?, "", "{text}");
     }
     Ok(())
 }
@@ -211,14 +202,24 @@ const E_M_TWICE: &str = "02 0F 02 01 65 01 6D 02 00 01 01 65 01 6D 02 00 01";
 #[test]
 fn one_part_has_one_memory_even_where_two_are_of_one_name(rt: HostRuntime) -> Result<(), Fail> {
     let alloc = rt.alloc();
-    let (ended, err, files) = merge_two(alloc, E_M_TWICE, "", "")?;
-    assert_eq!(rt;
-        err.text(),
-        b"binkit: a.wasm: invalid memories 2\n".as_slice()
-    );
-    assert_eq!(rt; ended, Status::Refused);
-    assert_eq!(rt; files.contents("o.wasm"), None);
+    let text = "binkit: a.wasm: invalid memories 2\n";
+    assert_eq!(rt; unlike_refused(alloc, E_M_TWICE, "", text)?, "");
     Ok(())
+}
+
+// That the merge by a line of two modules is refused with this text.
+fn unlike_refused_line(
+    alloc: Global,
+    a: &[u8],
+    b: &[u8],
+    line: &str,
+    text: &str,
+) -> Result<&'static str, Fail> {
+    let mut files = MemFiles::new(alloc);
+    files.add("a.wasm", a)?;
+    files.add("b.wasm", b)?;
+    let ran = run_line(alloc, files, line)?;
+    Ok(ran.unlike_refused(text, "o.wasm"))
 }
 
 #[test]
@@ -241,13 +242,8 @@ fn too_many_tables_are_told_after_a_conflict_of_names(rt: HostRuntime) -> Result
             "binkit: output exceeds the limit on tables\n",
         ),
     ] {
-        let mut files = MemFiles::new(alloc);
-        files.add("a.wasm", a.as_slice())?;
-        files.add("b.wasm", b.as_slice())?;
-        let (ended, err) = run_line(alloc, &mut files, line)?;
-        assert_eq!(rt; err.text(), text.as_bytes(), "{line}");
-        assert_eq!(rt; ended, Status::Refused, "{line}");
-        assert_eq!(rt; files.contents("o.wasm"), None, "{line}");
+        let unlike = unlike_refused_line(alloc, a.as_slice(), b.as_slice(), line, text)?;
+        assert_eq!(rt; unlike, "", "{line}");
     }
     Ok(())
 }

@@ -1,4 +1,5 @@
-use crate::given::{module_of, run_over};
+use crate::given::{Ran, run_line};
+use std::alloc::Global;
 use std::test::Fail;
 use tool_io::MemFiles;
 use tools_cli::Status;
@@ -13,6 +14,20 @@ const MERGED: &str =
 // With seed 7 and two functions each.
 const MERGED_OF_TWO: &str =
     "01 06 01 60 01 7F 01 7F 03 05 04 00 00 00 00 07 15 04 02 66 30 00 00 02 66 31 00 01 02 67 30 00 02 02 67 31 00 03 0A 27 04 0B 00 20 00 41 B4 AA B1 E3 04 6A 0B 0B 00 20 00 41 D2 A1 D1 D3 02 6A 0B 06 00 20 00 10 00 0B 06 00 20 00 10 01 0B";
+
+// Runs a line over no file.
+fn run_alone(alloc: Global, line: &str) -> Result<Ran, Fail> {
+    run_line(alloc, MemFiles::new(alloc), line)
+}
+
+// That a line prints these lines alone, and writes nothing.
+fn unlike_printed(alloc: Global, line: &str, lines: &str) -> Result<&'static str, Fail> {
+    let ran = run_alone(alloc, line)?;
+    if ran.files.contents("o.wasm").is_some() {
+        return Ok("the output");
+    }
+    Ok(ran.unlike(Status::Done, lines, ""))
+}
 
 #[test]
 fn a_sample_without_an_output_prints_its_lines(rt: HostRuntime) -> Result<(), Fail> {
@@ -31,14 +46,20 @@ fn a_sample_without_an_output_prints_its_lines(rt: HostRuntime) -> Result<(), Fa
             "sample seed 0 count 3\nparts 2\nfunctions 6\nexports 6\nbytes 116\n",
         ),
     ] {
-        let mut files = MemFiles::new(alloc);
-        let (ended, out, err) = run_over(alloc, &mut files, line)?;
-        assert_eq!(rt; ended, Status::Done, "{line}");
-        assert_eq!(rt; out.text(), lines.as_bytes(), "{line}");
-        assert_eq!(rt; err.text(), b"".as_slice(), "{line}");
-        assert_eq!(rt; files.contents("o.wasm"), None, "{line}");
+        assert_eq!(rt; unlike_printed(alloc, line, lines)?, "", "{line}");
     }
     Ok(())
+}
+
+// That a line prints these lines and writes this module.
+fn unlike_written(
+    alloc: Global,
+    line: &str,
+    lines: &str,
+    merged: &str,
+) -> Result<&'static str, Fail> {
+    let ran = run_alone(alloc, line)?;
+    ran.unlike_done(alloc, lines, "o.wasm", merged)
 }
 
 #[test]
@@ -53,13 +74,7 @@ fn a_sample_writes_what_its_modules_are_merged_into(rt: HostRuntime) -> Result<(
             MERGED_OF_TWO,
         ),
     ] {
-        let mut files = MemFiles::new(alloc);
-        let (ended, out, err) = run_over(alloc, &mut files, line)?;
-        let merged = module_of(alloc, merged)?;
-        assert_eq!(rt; ended, Status::Done, "{line}");
-        assert_eq!(rt; out.text(), lines.as_bytes(), "{line}");
-        assert_eq!(rt; err.text(), b"".as_slice(), "{line}");
-        assert_eq!(rt; files.contents("o.wasm"), Some(merged.as_slice()), "{line}");
+        assert_eq!(rt; unlike_written(alloc, line, lines, merged)?, "", "{line}");
     }
     Ok(())
 }
@@ -71,12 +86,10 @@ fn a_large_sample_prints_the_same_lines_at_each_run(rt: HostRuntime) -> Result<(
         "sample --seed 1 --count 2000",
         "sample --seed 1 --count 2000 -o o.wasm",
     ] {
-        let mut files = MemFiles::new(alloc);
-        let (ended, out, _) = run_over(alloc, &mut files, line)?;
         let lines =
             "sample seed 1 count 2000\nparts 2\nfunctions 4000\nexports 4000\nbytes 77444\n";
-        assert_eq!(rt; ended, Status::Done, "{line}");
-        assert_eq!(rt; out.text(), lines.as_bytes(), "{line}");
+        let ran = run_alone(alloc, line)?;
+        assert_eq!(rt; ran.unlike(Status::Done, lines, ""), "", "{line}");
     }
     Ok(())
 }
@@ -113,11 +126,9 @@ fn other_words_are_answered_with_the_usage_line(rt: HostRuntime) -> Result<(), F
         "sample --seed 1 --count 1 --",
         "sample --help",
     ] {
-        let mut files = MemFiles::new(alloc);
-        let (ended, out, err) = run_over(alloc, &mut files, line)?;
-        assert_eq!(rt; ended, Status::Usage, "{line}");
-        assert_eq!(rt; out.text(), b"".as_slice(), "{line}");
-        assert_eq!(rt; err.text(), b"usage: binkit sample\n".as_slice(), "{line}");
+        let ran = run_alone(alloc, line)?;
+        let usage = "usage: binkit sample\n";
+        assert_eq!(rt; ran.unlike(Status::Usage, "", usage), "", "{line}");
     }
     Ok(())
 }

@@ -1,7 +1,9 @@
-use crate::given::{CUT, HEADER, LINKED, NOTHING_GIVEN, module_of, module_of_tables, run_over};
+use crate::given::{
+    CUT, HEADER, LINKED, NOTHING_GIVEN, Ran, module_of, module_of_tables, run_line,
+};
 use std::alloc::Global;
 use std::test::Fail;
-use tool_io::{MemFiles, MemSink};
+use tool_io::MemFiles;
 use tools_cli::Status;
 
 // The module s.wasm, and an older file p.
@@ -12,17 +14,27 @@ fn files_of(alloc: Global, module: &[u8]) -> Result<MemFiles, Fail> {
     Ok(files)
 }
 
-// Splits a module into p and q by these words: what it comes to, what is put on standard output and
-// on standard error, and the files.
-fn split_by(
-    alloc: Global,
-    module: &[u8],
-    words: &str,
-) -> Result<(Status, MemSink, MemSink, MemFiles), Fail> {
-    let mut files = files_of(alloc, module)?;
+// Splits a module into p and q by these words.
+fn split_by(alloc: Global, module: &[u8], words: &str) -> Result<Ran, Fail> {
+    let files = files_of(alloc, module)?;
     let line = format!(in alloc; "split s.wasm {words} --primary-output=p --secondary-output=q")?;
-    let (ended, out, err) = run_over(alloc, &mut files, line.as_str())?;
-    Ok((ended, out, err, files))
+    run_line(alloc, files, line.as_str())
+}
+
+// That the split of a module by these words prints these lines and writes these modules.
+fn unlike_split(
+    alloc: Global,
+    module: &str,
+    words: &str,
+    lines: &str,
+    (primary, secondary): (&str, &str),
+) -> Result<&'static str, Fail> {
+    let module = module_of(alloc, module)?;
+    let ran = split_by(alloc, module.as_slice(), words)?;
+    if !ran.has_module(alloc, "p", primary)? {
+        return Ok("the primary module");
+    }
+    ran.unlike_done(alloc, lines, "q", secondary)
 }
 
 // A function, exported as add, that adds its parameters. Its primary module calls it through a trampoline.
@@ -88,15 +100,8 @@ fn functions_move_to_the_secondary_module(rt: HostRuntime) -> Result<(), Fail> {
             NAMES_ALL_SECONDARY,
         ),
     ] {
-        let module = module_of(alloc, module)?;
-        let (ended, out, err, files) = split_by(alloc, module.as_slice(), words)?;
-        let primary = module_of(alloc, primary)?;
-        let secondary = module_of(alloc, secondary)?;
-        assert_eq!(rt; err.text(), b"".as_slice(), "{words}");
-        assert_eq!(rt; ended, Status::Done, "{words}");
-        assert_eq!(rt; out.text(), lines.as_bytes(), "{words}");
-        assert_eq!(rt; files.contents("p"), Some(primary.as_slice()), "{words}");
-        assert_eq!(rt; files.contents("q"), Some(secondary.as_slice()), "{words}");
+        let unlike = unlike_split(alloc, module, words, lines, (primary, secondary))?;
+        assert_eq!(rt; unlike, "", "{words}");
     }
     Ok(())
 }
@@ -151,15 +156,8 @@ fn a_call_goes_through_the_slot_under_default_and_given_names(rt: HostRuntime) -
             GIVES_NAMED,
         ),
     ] {
-        let module = module_of(alloc, CALLS)?;
-        let (ended, out, err, files) = split_by(alloc, module.as_slice(), words)?;
-        let primary = module_of(alloc, primary)?;
-        let secondary = module_of(alloc, secondary)?;
-        assert_eq!(rt; err.text(), b"".as_slice(), "{words}");
-        assert_eq!(rt; ended, Status::Done, "{words}");
-        assert_eq!(rt; out.text(), b"".as_slice(), "{words}");
-        assert_eq!(rt; files.contents("p"), Some(primary.as_slice()), "{words}");
-        assert_eq!(rt; files.contents("q"), Some(secondary.as_slice()), "{words}");
+        let unlike = unlike_split(alloc, CALLS, words, "", (primary, secondary))?;
+        assert_eq!(rt; unlike, "", "{words}");
     }
     Ok(())
 }
@@ -213,25 +211,23 @@ const NAMED: [(&str, &str, u32); 13] = [
     ("00 0B 04 6E 61 6D 66 01 04 01 02 01 66", "f", 1),
 ];
 
+// That a word moves this function of the module with these names.
+fn unlike_named(alloc: Global, names: &str, word: &str, func: u32) -> Result<&'static str, Fail> {
+    let module = format!(in alloc; "{CALLS_BESIDE} {names}")?;
+    let words = format!(in alloc; "--split-funcs={word}")?;
+    let modules = if func == 1 {
+        (CALLER_PRIMARY, CALLER_SECONDARY)
+    } else {
+        (BESIDE_PRIMARY, GIVES_SECONDARY)
+    };
+    unlike_split(alloc, module.as_str(), words.as_str(), "", modules)
+}
+
 #[test]
 fn words_name_functions_by_the_name_list_and_then_by_exports(rt: HostRuntime) -> Result<(), Fail> {
     let alloc = rt.alloc();
     for (names, word, func) in NAMED {
-        let module = format!(in alloc; "{CALLS_BESIDE} {names}")?;
-        let module = module_of(alloc, module.as_str())?;
-        let words = format!(in alloc; "--split-funcs={word}")?;
-        let (ended, _, err, files) = split_by(alloc, module.as_slice(), words.as_str())?;
-        let (primary, secondary) = if func == 1 {
-            (CALLER_PRIMARY, CALLER_SECONDARY)
-        } else {
-            (BESIDE_PRIMARY, GIVES_SECONDARY)
-        };
-        let primary = module_of(alloc, primary)?;
-        let secondary = module_of(alloc, secondary)?;
-        assert_eq!(rt; err.text(), b"".as_slice(), "{names}");
-        assert_eq!(rt; ended, Status::Done, "{names}");
-        assert_eq!(rt; files.contents("p"), Some(primary.as_slice()), "{names}");
-        assert_eq!(rt; files.contents("q"), Some(secondary.as_slice()), "{names}");
+        assert_eq!(rt; unlike_named(alloc, names, word, func)?, "", "{names}");
     }
     Ok(())
 }
@@ -267,16 +263,12 @@ fn functions_that_use_a_segment_are_kept_and_told_in_order(rt: HostRuntime) -> R
             "kept 3: uses a segment\nkept 4: uses a segment\n",
         ),
     ] {
-        let (ended, out, err, _) = split_by(alloc, module.as_slice(), words)?;
-        assert_eq!(rt; err.text(), b"".as_slice(), "{words}");
-        assert_eq!(rt; ended, Status::Done, "{words}");
-        assert_eq!(rt; out.text(), lines.as_bytes(), "{words}");
+        let ran = split_by(alloc, module.as_slice(), words)?;
+        assert_eq!(rt; ran.unlike(Status::Done, lines, ""), "", "{words}");
     }
-    let (_, _, _, files) = split_by(alloc, module.as_slice(), "--keep-funcs=m")?;
-    let primary = module_of(alloc, SEGMENTS_PRIMARY)?;
-    let secondary = module_of(alloc, SEGMENTS_SECONDARY)?;
-    assert_eq!(rt; files.contents("p"), Some(primary.as_slice()));
-    assert_eq!(rt; files.contents("q"), Some(secondary.as_slice()));
+    let modules = (SEGMENTS_PRIMARY, SEGMENTS_SECONDARY);
+    let unlike = unlike_split(alloc, SEGMENTS, "--keep-funcs=m", ALL_LINES, modules)?;
+    assert_eq!(rt; unlike, "");
     Ok(())
 }
 
@@ -426,23 +418,30 @@ const REFUSED: [(&str, &str, &str); 38] = [
     ),
 ];
 
+// That the split of a module by these words is refused with this text, and leaves the files as they were.
+fn unlike_refused(
+    alloc: Global,
+    module: &str,
+    words: &str,
+    text: &str,
+) -> Result<&'static str, Fail> {
+    let module = module_of(alloc, module)?;
+    let ran = split_by(alloc, module.as_slice(), words)?;
+    if !ran.has("s.wasm", module.as_slice()) {
+        return Ok("the module");
+    }
+    if !ran.has("p", &HEADER) {
+        return Ok("the older file");
+    }
+    let text = format!(in alloc; "binkit: {text}\n")?;
+    Ok(ran.unlike_refused(text.as_str(), "q"))
+}
+
 #[test]
 fn the_first_fault_is_told_and_no_file_is_written(rt: HostRuntime) -> Result<(), Fail> {
     let alloc = rt.alloc();
     for (module, words, text) in REFUSED {
-        let module = module_of(alloc, module)?;
-        let (ended, out, err, files) = split_by(alloc, module.as_slice(), words)?;
-        let text = format!(in alloc; "binkit: {text}\n")?;
-        assert_eq!(rt; err.text(), text.as_bytes(), "{words}");
-        assert_eq!(rt; ended, Status::Refused, "{words}");
-        assert_eq!(rt; out.text(), b"".as_slice(), "{words}");
-        assert_eq!(rt;
-            files.contents("s.wasm"),
-            Some(module.as_slice()),
-            "{words}"
-        );
-        assert_eq!(rt; files.contents("p"), Some(HEADER.as_slice()), "{words}");
-        assert_eq!(rt; files.contents("q"), None, "{words}");
+        assert_eq!(rt; unlike_refused(alloc, module, words, text)?, "", "{words}");
     }
     Ok(())
 }
@@ -467,24 +466,36 @@ fn many_params(alloc: Global) -> Result<Vec<u8>, Fail> {
     Ok(bytes)
 }
 
+// That the split of a module by these words is refused with this text and writes no secondary module, or writes one where there is no text.
+fn unlike_told(
+    alloc: Global,
+    module: &[u8],
+    words: &str,
+    text: &str,
+) -> Result<&'static str, Fail> {
+    let ran = split_by(alloc, module, words)?;
+    if !text.is_empty() {
+        return Ok(ran.unlike_refused(text, "q"));
+    }
+    if ran.files.contents("q").is_none() {
+        return Ok("the secondary module");
+    }
+    Ok(ran.unlike(Status::Done, "", ""))
+}
+
 #[test]
 fn too_many_parameters_of_functions_that_move_are_told(rt: HostRuntime) -> Result<(), Fail> {
     let alloc = rt.alloc();
     let module = many_params(alloc)?;
-    let text = "binkit: output exceeds the limit on trampolines\n";
-    for (words, text, status) in [
-        ("--keep-funcs=k", text, Status::Refused),
-        ("--keep-funcs=k,l", "", Status::Done),
+    for (words, text) in [
+        (
+            "--keep-funcs=k",
+            "binkit: output exceeds the limit on trampolines\n",
+        ),
+        ("--keep-funcs=k,l", ""),
     ] {
-        let (ended, out, err, files) = split_by(alloc, module.as_slice(), words)?;
-        assert_eq!(rt; err.text(), text.as_bytes(), "{words}");
-        assert_eq!(rt; ended, status, "{words}");
-        assert_eq!(rt; out.text(), b"".as_slice(), "{words}");
-        assert_eq!(rt;
-            files.contents("q").is_some(),
-            status == Status::Done,
-            "{words}"
-        );
+        let unlike = unlike_told(alloc, module.as_slice(), words, text)?;
+        assert_eq!(rt; unlike, "", "{words}");
     }
     Ok(())
 }
@@ -501,16 +512,15 @@ fn a_table_too_many_is_told(rt: HostRuntime) -> Result<(), Fail> {
     let alloc = rt.alloc();
     let most = many_tables(alloc, "04 B2 EA 01 90 4E", 10000)?;
     let fewer = many_tables(alloc, "04 AF EA 01 8F 4E", 9999)?;
-    let text = "binkit: output exceeds the limit on tables\n";
-    for (module, text, status) in [
-        (most.as_slice(), text, Status::Refused),
-        (fewer.as_slice(), "", Status::Done),
+    for (module, text) in [
+        (
+            most.as_slice(),
+            "binkit: output exceeds the limit on tables\n",
+        ),
+        (fewer.as_slice(), ""),
     ] {
-        let (ended, out, err, files) = split_by(alloc, module, "--split-funcs=f")?;
-        assert_eq!(rt; err.text(), text.as_bytes());
-        assert_eq!(rt; ended, status);
-        assert_eq!(rt; out.text(), b"".as_slice());
-        assert_eq!(rt; files.contents("q").is_some(), status == Status::Done);
+        let unlike = unlike_told(alloc, module, "--split-funcs=f", text)?;
+        assert_eq!(rt; unlike, "", "{text}");
     }
     Ok(())
 }
@@ -526,38 +536,46 @@ fn the_module_is_read_and_validated_before_the_words_are_looked_up(
         (invalid.as_slice(), "binkit: s.wasm: invalid body 0\n"),
         (b"".as_slice(), "binkit: s.wasm: not a WebAssembly module\n"),
     ] {
-        let (ended, _, err, files) = split_by(alloc, module, "--split-funcs=zz")?;
-        assert_eq!(rt; err.text(), text.as_bytes());
-        assert_eq!(rt; ended, Status::Refused, "{text}");
-        assert_eq!(rt; files.contents("q"), None, "{text}");
+        let unlike = unlike_told(alloc, module, "--split-funcs=zz", text)?;
+        assert_eq!(rt; unlike, "", "{text}");
     }
     Ok(())
+}
+
+// That a line over the module that calls is done and leaves these modules in these files.
+fn unlike_files(
+    alloc: Global,
+    line: &str,
+    first: (&str, &str),
+    second: (&str, &str),
+) -> Result<&'static str, Fail> {
+    let module = module_of(alloc, CALLS)?;
+    let ran = run_line(alloc, files_of(alloc, module.as_slice())?, line)?;
+    if !ran.has_module(alloc, first.0, first.1)? {
+        return Ok("the first file");
+    }
+    ran.unlike_done(alloc, "", second.0, second.1)
 }
 
 #[test]
 fn an_output_may_be_the_file(rt: HostRuntime) -> Result<(), Fail> {
     let alloc = rt.alloc();
-    let module = module_of(alloc, CALLS)?;
-    let primary = module_of(alloc, CALLS_PRIMARY)?;
-    let secondary = module_of(alloc, GIVES_SECONDARY)?;
-
-    let mut files = files_of(alloc, module.as_slice())?;
-    let line = "split s.wasm --split-funcs=g --primary-output=s.wasm --secondary-output=q";
-    let (ended, out, err) = run_over(alloc, &mut files, line)?;
-    assert_eq!(rt; err.text(), b"".as_slice());
-    assert_eq!(rt; ended, Status::Done);
-    assert_eq!(rt; out.text(), b"".as_slice());
-    assert_eq!(rt; files.contents("s.wasm"), Some(primary.as_slice()));
-    assert_eq!(rt; files.contents("q"), Some(secondary.as_slice()));
-
-    let mut files = files_of(alloc, module.as_slice())?;
-    let line = "split s.wasm --split-funcs=g --primary-output=p --secondary-output=s.wasm";
-    let (ended, out, err) = run_over(alloc, &mut files, line)?;
-    assert_eq!(rt; err.text(), b"".as_slice());
-    assert_eq!(rt; ended, Status::Done);
-    assert_eq!(rt; out.text(), b"".as_slice());
-    assert_eq!(rt; files.contents("s.wasm"), Some(secondary.as_slice()));
-    assert_eq!(rt; files.contents("p"), Some(primary.as_slice()));
+    for (line, primary, secondary) in [
+        (
+            "split s.wasm --split-funcs=g --primary-output=s.wasm --secondary-output=q",
+            "s.wasm",
+            "q",
+        ),
+        (
+            "split s.wasm --split-funcs=g --primary-output=p --secondary-output=s.wasm",
+            "p",
+            "s.wasm",
+        ),
+    ] {
+        let first = (primary, CALLS_PRIMARY);
+        let second = (secondary, GIVES_SECONDARY);
+        assert_eq!(rt; unlike_files(alloc, line, first, second)?, "", "{line}");
+    }
     Ok(())
 }
 
@@ -570,31 +588,32 @@ const NAMELESS_PRIMARY: &str =
 #[test]
 fn an_empty_piece_of_a_list_is_the_empty_name(rt: HostRuntime) -> Result<(), Fail> {
     let alloc = rt.alloc();
-    let module = module_of(alloc, NAMELESS)?;
-    let (ended, _, err, files) = split_by(alloc, module.as_slice(), "--split-funcs=,")?;
-    let primary = module_of(alloc, NAMELESS_PRIMARY)?;
-    let secondary = module_of(alloc, GIVES_SECONDARY)?;
-    assert_eq!(rt; err.text(), b"".as_slice());
-    assert_eq!(rt; ended, Status::Done);
-    assert_eq!(rt; files.contents("p"), Some(primary.as_slice()));
-    assert_eq!(rt; files.contents("q"), Some(secondary.as_slice()));
+    let modules = (NAMELESS_PRIMARY, GIVES_SECONDARY);
+    let unlike = unlike_split(alloc, NAMELESS, "--split-funcs=,", "", modules)?;
+    assert_eq!(rt; unlike, "");
     Ok(())
 }
 
 #[test]
 fn its_options_stand_anywhere_and_once(rt: HostRuntime) -> Result<(), Fail> {
     let alloc = rt.alloc();
-    let module = module_of(alloc, CALLS)?;
-    let secondary = module_of(alloc, GIVES_SECONDARY)?;
-    for line in [
-        "split --split-funcs g --secondary-output q --primary-output p s.wasm",
-        "split --secondary-output=q s.wasm --primary-output=p --keep-funcs=f",
-        "split --split-funcs=g --secondary-output=q --primary-output=-p s.wasm",
+    for (line, primary) in [
+        (
+            "split --split-funcs g --secondary-output q --primary-output p s.wasm",
+            "p",
+        ),
+        (
+            "split --secondary-output=q s.wasm --primary-output=p --keep-funcs=f",
+            "p",
+        ),
+        (
+            "split --split-funcs=g --secondary-output=q --primary-output=-p s.wasm",
+            "-p",
+        ),
     ] {
-        let mut files = files_of(alloc, module.as_slice())?;
-        let (ended, _, _) = run_over(alloc, &mut files, line)?;
-        assert_eq!(rt; ended, Status::Done, "{line}");
-        assert_eq!(rt; files.contents("q"), Some(secondary.as_slice()), "{line}");
+        let first = (primary, CALLS_PRIMARY);
+        let second = ("q", GIVES_SECONDARY);
+        assert_eq!(rt; unlike_files(alloc, line, first, second)?, "", "{line}");
     }
     Ok(())
 }

@@ -1,4 +1,4 @@
-use crate::given::{A, CUT, HEADER, run_line, run_over, words_of};
+use crate::given::{A, CUT, HEADER, run_line, words_of};
 use crate::metadce::NO_SWEEP;
 use crate::split::NO_SPLIT;
 use std::alloc::Global;
@@ -63,6 +63,14 @@ const MANY_PARAMETERS: [u8; 14] = [
 
 const ALL_USAGE: &str = "usage: binkit merge|split|metadce|ctor-eval|sample\n";
 
+// That a line over one module without sections writes it to this file.
+fn unlike_copied(alloc: Global, line: &str, output: &str) -> Result<&'static str, Fail> {
+    let mut files = MemFiles::new(alloc);
+    files.add("h.wasm", &HEADER)?;
+    let ran = run_line(alloc, files, line)?;
+    ran.unlike_done(alloc, "", output, "")
+}
+
 #[test]
 fn options_stand_anywhere_in_a_line(rt: HostRuntime) -> Result<(), Fail> {
     let alloc = rt.alloc();
@@ -75,12 +83,7 @@ fn options_stand_anywhere_in_a_line(rt: HostRuntime) -> Result<(), Fail> {
         ("merge --skip-export-conflicts h.wasm -o o m", "o"),
         ("merge h.wasm m -o o --rename-export-conflicts", "o"),
     ] {
-        let mut files = MemFiles::new(alloc);
-        files.add("h.wasm", &HEADER)?;
-        let (ended, err) = run_line(alloc, &mut files, line)?;
-        assert_eq!(rt; ended, Status::Done, "{line}");
-        assert_eq!(rt; err.text(), b"".as_slice(), "{line}");
-        assert_eq!(rt; files.contents(output), Some(HEADER.as_slice()), "{line}");
+        assert_eq!(rt; unlike_copied(alloc, line, output)?, "", "{line}");
     }
     Ok(())
 }
@@ -118,28 +121,28 @@ const NO_MERGE: [&str; 29] = [
     "merge h.wasm m -o o --skip-export-conflicts --rename-export-conflicts",
 ];
 
-// Whether a line is answered with this usage line alone.
-fn is_told(alloc: Global, line: &str, usage: &str) -> Result<bool, Fail> {
+// That a line is answered with this usage line alone.
+fn unlike_usage(alloc: Global, line: &str, usage: &str) -> Result<&'static str, Fail> {
     let mut files = MemFiles::new(alloc);
     files.add("h.wasm", &HEADER)?;
-    let (ended, out, err) = run_over(alloc, &mut files, line)?;
-    Ok(ended == Status::Usage && out.text().is_empty() && err.text() == usage.as_bytes())
+    let ran = run_line(alloc, files, line)?;
+    Ok(ran.unlike(Status::Usage, "", usage))
 }
 
 #[test]
 fn words_that_ask_for_nothing_are_told_what_there_is(rt: HostRuntime) -> Result<(), Fail> {
     let alloc = rt.alloc();
     for line in NO_MERGE {
-        assert!(rt; is_told(alloc, line, "usage: binkit merge\n")?, "{line}");
+        assert_eq!(rt; unlike_usage(alloc, line, "usage: binkit merge\n")?, "", "{line}");
     }
     for line in NO_SPLIT {
-        assert!(rt; is_told(alloc, line, "usage: binkit split\n")?, "{line}");
+        assert_eq!(rt; unlike_usage(alloc, line, "usage: binkit split\n")?, "", "{line}");
     }
     for line in NO_SWEEP {
-        assert!(rt; is_told(alloc, line, "usage: binkit metadce\n")?, "{line}");
+        assert_eq!(rt; unlike_usage(alloc, line, "usage: binkit metadce\n")?, "", "{line}");
     }
     for line in ["", "--help", "merges h.wasm m -o o.wasm"] {
-        assert!(rt; is_told(alloc, line, ALL_USAGE)?, "{line}");
+        assert_eq!(rt; unlike_usage(alloc, line, ALL_USAGE)?, "", "{line}");
     }
     Ok(())
 }
@@ -166,6 +169,25 @@ fn a_thousand_and_one_parts_are_refused_before_a_file_is_read(rt: HostRuntime) -
     assert_eq!(rt; out.text(), b"".as_slice());
     assert_eq!(rt; err.text(), b"binkit: limit on parts\n".as_slice());
     Ok(())
+}
+
+// That the merge of these bytes writes these, or is refused with this text and writes nothing where there is one.
+fn unlike_written(
+    alloc: Global,
+    bytes: &[u8],
+    written: &[u8],
+    text: &str,
+) -> Result<&'static str, Fail> {
+    let mut files = MemFiles::new(alloc);
+    files.add("a.wasm", bytes)?;
+    let ran = run_line(alloc, files, "merge a.wasm a -o o.wasm")?;
+    if !text.is_empty() {
+        return Ok(ran.unlike_refused(text, "o.wasm"));
+    }
+    if !ran.has("o.wasm", written) {
+        return Ok("the output");
+    }
+    Ok(ran.unlike(Status::Done, "", ""))
 }
 
 #[test]
@@ -210,17 +232,7 @@ fn each_module_is_written_or_refused_with_its_text(rt: HostRuntime) -> Result<()
             "binkit: a.wasm: invalid body 0\n",
         ),
     ] {
-        let mut files = MemFiles::new(alloc);
-        files.add("a.wasm", bytes)?;
-        let (ended, err) = run_line(alloc, &mut files, "merge a.wasm a -o o.wasm")?;
-        assert_eq!(rt; err.text(), text.as_bytes());
-        assert_eq!(rt; ended.code(), u8::from(!text.is_empty()), "{text}");
-        assert_eq!(rt; files.contents("o.wasm").unwrap_or(&[]), written, "{text}");
-        assert_eq!(rt;
-            files.contents("o.wasm").is_some(),
-            text.is_empty(),
-            "{text}"
-        );
+        assert_eq!(rt; unlike_written(alloc, bytes, written, text)?, "", "{text}");
     }
     Ok(())
 }
@@ -230,6 +242,22 @@ const ASKS_FOR_ANOTHER_TYPE: [u8; 23] = [
     0x00, 0x61, 0x73, 0x6D, 0x01, 0x00, 0x00, 0x00, 0x01, 0x04, 0x01, 0x60, 0x00, 0x00, 0x02, 0x07,
     0x01, 0x01, 0x61, 0x01, 0x66, 0x00, 0x00,
 ];
+
+// That a merge of these two modules and a third is refused with this text.
+fn unlike_refused(
+    alloc: Global,
+    line: &str,
+    a: &[u8],
+    b: &[u8],
+    text: &str,
+) -> Result<&'static str, Fail> {
+    let mut files = MemFiles::new(alloc);
+    files.add("a.wasm", a)?;
+    files.add("b.wasm", b)?;
+    files.add("c.wasm", ASKS_FOR_ANOTHER_TYPE.as_slice())?;
+    let ran = run_line(alloc, files, line)?;
+    Ok(ran.unlike_refused(text, "o.wasm"))
+}
 
 #[test]
 fn modules_are_read_and_validated_one_by_one_before_they_are_linked(
@@ -262,14 +290,7 @@ fn modules_are_read_and_validated_one_by_one_before_they_are_linked(
             "merge a.wasm a b.wasm b -o o.wasm",
             "merge a.wasm a b.wasm b c.wasm c -o o.wasm",
         ] {
-            let mut files = MemFiles::new(alloc);
-            files.add("a.wasm", a)?;
-            files.add("b.wasm", b)?;
-            files.add("c.wasm", ASKS_FOR_ANOTHER_TYPE.as_slice())?;
-            let (ended, err) = run_line(alloc, &mut files, line)?;
-            assert_eq!(rt; err.text(), text.as_bytes(), "{text}");
-            assert_eq!(rt; ended, Status::Refused, "{text}");
-            assert_eq!(rt; files.contents("o.wasm"), None, "{text}");
+            assert_eq!(rt; unlike_refused(alloc, line, a, b, text)?, "", "{text}");
         }
     }
     Ok(())

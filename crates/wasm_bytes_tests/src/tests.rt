@@ -45,27 +45,43 @@ const S64: [(&[u8], Result<(i64, usize), Wrong>); 4] = [
 ];
 
 #[test]
-fn numbers_are_read_and_written(rt: HostRuntime) -> Result<(), Fail> {
+fn unsigned_numbers_are_read(rt: HostRuntime) {
     for (bytes, expected) in U32 {
         let mut cursor = Cursor::new(bytes);
         let read = cursor.u32();
         assert_eq!(rt; read.map(|value| (value, cursor.left())), expected);
     }
+}
+
+#[test]
+fn signed_numbers_of_32_bits_are_read(rt: HostRuntime) {
     for (bytes, expected) in S32 {
         let mut cursor = Cursor::new(bytes);
         let read = cursor.s32();
         assert_eq!(rt; read.map(|value| (value, cursor.left())), expected);
     }
+}
+
+#[test]
+fn signed_numbers_of_33_bits_are_read(rt: HostRuntime) {
     for (bytes, expected) in S33 {
         let mut cursor = Cursor::new(bytes);
         let read = cursor.s33();
         assert_eq!(rt; read.map(|value| (value, cursor.left())), expected);
     }
+}
+
+#[test]
+fn signed_numbers_of_64_bits_are_read(rt: HostRuntime) {
     for (bytes, expected) in S64 {
         let mut cursor = Cursor::new(bytes);
         let read = cursor.s64();
         assert_eq!(rt; read.map(|value| (value, cursor.left())), expected);
     }
+}
+
+#[test]
+fn numbers_are_written(rt: HostRuntime) -> Result<(), Fail> {
     let mut out = Out::new(rt.alloc());
     out.u32(624_485)?;
     out.s32(-123_456)?;
@@ -78,11 +94,21 @@ fn numbers_are_read_and_written(rt: HostRuntime) -> Result<(), Fail> {
     Ok(())
 }
 
+// A section of a name and two bytes.
+const FRAMED: [u8; 7] = *b"\x00\x05\x02\xC3\xA9\x01\x02";
+
 #[test]
-fn bytes_and_names_are_read_and_written(rt: HostRuntime) -> Result<(), Fail> {
+fn a_name_is_what_it_was_made_of(rt: HostRuntime) -> Result<(), Fail> {
     let alloc = rt.alloc();
     let name = Name::from_text(alloc, "é")?.copy(alloc)?;
     assert_eq!(rt; name.as_str(), "é");
+    Ok(())
+}
+
+#[test]
+fn bytes_and_names_are_written(rt: HostRuntime) -> Result<(), Fail> {
+    let alloc = rt.alloc();
+    let name = Name::from_text(alloc, "é")?;
     let mut content = Out::new(alloc);
     content.byte(9)?;
     content.clear();
@@ -91,12 +117,13 @@ fn bytes_and_names_are_read_and_written(rt: HostRuntime) -> Result<(), Fail> {
     assert_eq!(rt; content.len(), 5);
     let mut out = Out::new(alloc);
     out.framed(0, &content)?;
-    let bytes = out.into_bytes();
-    assert_eq!(rt;
-        bytes.as_slice(),
-        b"\x00\x05\x02\xC3\xA9\x01\x02".as_slice()
-    );
-    let mut cursor = Cursor::new(bytes.as_slice());
+    assert_eq!(rt; out.into_bytes().as_slice(), FRAMED.as_slice());
+    Ok(())
+}
+
+#[test]
+fn bytes_and_names_are_read(rt: HostRuntime) {
+    let mut cursor = Cursor::new(FRAMED.as_slice());
     assert_eq!(rt; cursor.peek(), Some(0));
     assert_eq!(rt; cursor.byte(), Ok(0));
     assert_eq!(rt; cursor.byte(), Ok(5));
@@ -104,15 +131,17 @@ fn bytes_and_names_are_read_and_written(rt: HostRuntime) -> Result<(), Fail> {
     assert_eq!(rt; cursor.take(3), Err(Wrong::Short));
     assert_eq!(rt; cursor.take(2), Ok(b"\x01\x02".as_slice()));
     assert_eq!(rt; cursor.byte(), Err(Wrong::Short));
+}
+
+#[test]
+fn names_that_are_cut_or_no_text_are_not_read(rt: HostRuntime) {
     assert_eq!(rt; Cursor::new(b"\x01\xFF").name(), Err(Wrong::Spelling));
     assert_eq!(rt; Cursor::new(b"\x02\x41").name(), Err(Wrong::Short));
-    Ok(())
 }
 
 #[test]
 fn items_are_kept_in_order(rt: HostRuntime) -> Result<(), Fail> {
-    let alloc = rt.alloc();
-    let mut items = Items::new(alloc);
+    let mut items = Items::new(rt.alloc());
     assert!(rt; items.push(7u32).is_ok());
     items.keep(8)?;
     if let Some(item) = items.get_mut(0) {
@@ -121,6 +150,13 @@ fn items_are_kept_in_order(rt: HostRuntime) -> Result<(), Fail> {
     assert_eq!(rt; items.len(), 2);
     assert_eq!(rt; items.get(0).copied(), Some(6));
     assert_eq!(rt; items.get(2).copied(), None);
+    Ok(())
+}
+
+#[test]
+fn items_are_appended_behind_and_cut_off(rt: HostRuntime) -> Result<(), Fail> {
+    let alloc = rt.alloc();
+    let mut items = Items::from_slice(alloc, &[6u32, 8])?;
     let mut copy = Items::from_slice(alloc, items.as_slice())?;
     assert_eq!(rt; copy.as_slice(), &[6u32, 8][..]);
     assert_eq!(rt; copy.pop(), Some(8));
