@@ -1,5 +1,5 @@
 -- Small runs of what is claimed of each command, computed: what is seen of the modules that a task reads and of the outputs that it makes of them; and of each a wrong output
--- that only the first half of the claim refuses, and one that only the second half refuses.
+-- that the first half of the claim refuses, by moves and steps for which the second half stands, and one that the second half refuses, where the first stands.
 use Rattle.std.proofs.Common.{◌≡◌, refl, sym, subst, ℕ, List, [], ◌∷◌, true, false, Option, Some, None, rules}
 use Rattle.std.specs.Prelude.{pos, IsTrue, codes}
 use Rattle.std.specs.Fmt.{digits}
@@ -98,7 +98,7 @@ falls_short claim e es s =
     let second : SecondHalf claim s.moves s.steps = rw (s.in_steps.1, s.in_bounds.0) (e ∷ es, refl) in
     record { refused = λ holds. first (holds offering offering_is_one s.named s.moves s.steps).0; moves = s.moves; steps = s.steps; first = first; second = second }
 
--- where the original world does
+-- where the original world shows no more than its opening
 goes_beyond : (claim : Equivalence) (e : Event) (es : List Event) → Shows claim (Linked ∷ []) (Linked ∷ (e ∷ es)) → SecondRefuses claim
 goes_beyond claim e es s =
     let second : SecondHalf claim s.moves s.steps → ⊥ = rw (s.in_steps.1, s.in_bounds.0) (λ p. let k = p.1 in cc) in
@@ -209,7 +209,7 @@ merge_of_an_endless_part_refuses_an_end = goes_beyond _ asks (number 5 ∷ []) (
 abbrev pub reducing : MetadceTask
 reducing = record { file = codes "in.wasm"; graph_file = codes "graph.json"; output = codes "out.wasm" }
 
--- f is reached, with what its body names, and a is not
+-- f is reached, with what its body names, and a is not (of the endless body below, which names less, more is kept than is reached)
 abbrev pub reached : Reached
 reached = record { nodes = true ∷ []; exports = true ∷ false ∷ []; imports = true ∷ []; funcs = true ∷ true ∷ false ∷ []; globals = true ∷ [] }
 

@@ -1,11 +1,11 @@
--- That what the tasks of FaithfulRows.antt write is made of what they read, computed.
-use Rattle.std.proofs.Common.{◌≡◌, refl, sym, ap, subst, ◌∙◌, zero, suc, List, [], ◌∷◌, ◌++◌, length, true, false, Some, None, Ok, inr, true≢false, rules, arith}
+-- That what the tasks of FaithfulRows.antt write is made of the modules that they read, computed: whatever bytes encode these modules, and for a split whatever bytes that have
+-- no name section.
+use Rattle.std.proofs.Common.{◌≡◌, refl, sym, ap, subst, ◌∙◌, zero, suc, List, [], ◌∷◌, length, true, false, Some, None, Ok, inr, true≢false, rules, arith}
 use Rattle.std.specs.Prelude.{codes, Contains}
 use Rattle.std.specs.Fmt.{digits}
 use Rattle.std.specs.Str.{is_utf8, chars}
 use Rattle.serde_json.proofs.OnLiterals.{serde_json_on_literals}
 use Rattle.base_lists.specs.Every.{Every}
-use Rattle.wasm_bytes.specs.Frames.{header}
 use Rattle.wasm_tree.specs.declared.instr.Instr.{fold_out-Instr, out-Instr, the_lemmas}
 use Rattle.wasm_num.specs.Operations.{wrapped, signed}
 use Rattle.wasm_meaning.specs.State.{Text}
@@ -43,9 +43,9 @@ unfolding joined_module merged staying staying_of place_of_end new_index merged_
     merged_import starts defined_funcs all_exports stays out-Instr denote.Hole.Carrier.out
 they_are_both = simp fold_out-Instr refl
 
-both_are_made : AreMade (Merge merging) (with asking ∷ calling ∷ []) [] tt (both asking ∷ [])
+both_are_made : (first second : Text) → AreMade (Merge merging) (with asking ∷ calling ∷ []) (first ∷ second ∷ []) tt (both asking ∷ [])
 unfolding link_fault import_fault stays kept_limits clash_fault memory_count memory_fault defined_globals global_fault repeated_name conflict_behind all_exports over_limit
-both_are_made = (refl, rw they_are_both refl)
+both_are_made first second = (refl, rw they_are_both refl)
 
 -- ---- metadce ----
 
@@ -103,9 +103,9 @@ it_is_swept : swept (marks_of reached) (with asking) ≡ without_a asking
 unfolding swept
 it_is_swept = search (rules, the_lemmas)
 
-without_a_is_made : AreMade (Metadce reducing) (with asking ∷ []) ([] ∷ graph_text ∷ []) reached (without_a asking ∷ [])
+without_a_is_made : (bytes : Text) → AreMade (Metadce reducing) (with asking ∷ []) (bytes ∷ graph_text ∷ []) reached (without_a asking ∷ [])
 unfolding over_limit
-without_a_is_made = (graph, record { read = it_is_read; exact = record { exactly = λ p. ((λ h. (are_right p h).0), are_marked p); one_each = one_each } }, rw it_is_swept refl)
+without_a_is_made bytes = (graph, record { read = it_is_read; exact = record { exactly = λ p. ((λ h. (are_right p h).0), are_marked p); one_each = one_each } }, rw it_is_swept refl)
   where
     one_each : (p : Point) → length (flags reached p) ≡ point_count graph (with asking) p
     one_each (point.Node n) = refl
@@ -128,13 +128,9 @@ nothing_is_at_fault : split_fault splitting.names (with asking) (1 ∷ []) ≡ N
 unfolding digits over_limit
 nothing_is_at_fault = search (rules, the_lemmas, the_primary, the_secondary)
 
--- where the file has no byte, it gives no function a name
-nothing_is_named : (names : List FuncName) → SpellsFunctionNames [] names → ⊥
-nothing_is_named names s = let stands : [] ≡ header ++ s.framed.1 = s.framed.4 ∙ ap (λ front. front ++ s.framed.1) s.framed.2 in cc
-
-the_pair_is_made : AreMade (Split splitting) (with asking ∷ []) ([] ∷ []) [] (moving asking ∷ keeping ∷ [])
-the_pair_is_made = (
-  record { named = inr (nothing_is_named, refl); planned = search (rules, the_lemmas) },
+the_pair_is_made : (bytes : Text) → ((names : List FuncName) → SpellsFunctionNames bytes names → ⊥) → AreMade (Split splitting) (with asking ∷ []) (bytes ∷ []) [] (moving asking ∷ keeping ∷ [])
+the_pair_is_made bytes unnamed = (
+  record { named = inr (unnamed, refl); planned = search (rules, the_lemmas) },
   ap (split_fault splitting.names (with asking)) f_moves ∙ nothing_is_at_fault,
   sym (ap (secondary splitting.names (with asking)) f_moves ∙ the_secondary),
   sym (ap (primary splitting.names (with asking)) f_moves ∙ the_primary),
@@ -146,9 +142,9 @@ it_begins_with_7 : evaluated_tree (with asking) (a ∷ []) [] ≡ set_to_7 askin
 unfolding declared_snapshot out-Instr denote.Hole.Carrier.out wrapped signed
 it_begins_with_7 = search (rules, the_lemmas)
 
-set_to_7_is_made : AreMade (CtorEval evaluating) (with asking ∷ []) ([] ∷ []) tt (set_to_7 asking ∷ [])
+set_to_7_is_made : (bytes : Text) → AreMade (CtorEval evaluating) (with asking ∷ []) (bytes ∷ []) tt (set_to_7 asking ∷ [])
 unfolding over_limit
-set_to_7_is_made = (rw it_begins_with_7 refl, sym it_begins_with_7)
+set_to_7_is_made bytes = (rw it_begins_with_7 refl, sym it_begins_with_7)
 
 -- ---- sample ----
 

@@ -63,8 +63,8 @@ Findings (Sample sample) = Unit {0}
 abbrev pub IsLeft : Text → Module → Reached → Module → Type 0
 IsLeft text tree marks left = (graph : Graph) × GivesMarks text tree graph marks × Sweeps (marks_of marks) tree (Ok left)
 
--- `names` are the function names in the name section of these bytes. With them the words have no fault and say which functions move, and moving these has none (a namespace
--- or an export name that is taken, a count above its limit). The two modules are the secondary and the primary one of that split.
+-- `names` are the function names in the name section of these bytes. With them the words have no fault and say which functions move, and moving these has no fault either (a
+-- namespace or an export name that is taken, a count above its limit). The two modules are the secondary and the primary one of that split.
 abbrev pub ArePair : SplitTask → Text → Module → List FuncName → (secondary_module primary_module : Module) → Type 0
 ArePair split bytes tree names secondary_module primary_module =
     GivesPlan split bytes tree names × (split_fault split.names tree (words_plan split tree names).moved ≡ None)
@@ -78,7 +78,7 @@ IsEvaluated eval tree after = (fault_of tree eval.ctors eval.kept ≡ None) × (
 
 -- These are the outputs, in the order of writing, that a task makes of these modules and of the contents of all its files. A merge: the module that the parts are merged
 -- into. A metadce: the module without the functions, globals, imports and exports that no path from a root reaches. A split: the secondary and the primary module. A
--- ctor-eval: the module as its evaluated constructors left it. A sample: the module that its two are merged into, where it has an output; else none.
+-- ctor-eval: the module as its evaluated constructors left it. A sample: each output is the module that its two are merged into.
 abbrev pub AreMade : (task : Task) → (trees : List Module) → (contents : List Text) → Findings task → (outputs : List Module) → Type 0
 AreMade (Merge merge) trees contents found (tree ∷ []) = AreMerged (many_of (Merge merge)) (parts_of merge.sources trees) merge.mode tree
 AreMade (Merge merge) trees contents found _ = ⊥
@@ -130,8 +130,8 @@ merged_equivalence parts mode tree = record {
   environments = λ env. true;
 }
 
--- What is claimed of a task that made these outputs of these modules. It is `None` for lists that `AreMade` refuses, and for a sample that writes nothing, of which no
--- equivalence is claimed.
+-- What is claimed of a task that made these outputs of these modules. It is `None` for lists of another length than the command's, which `AreMade` or `written` refuses, and for
+-- a sample that writes nothing: there is no output then that could be equivalent.
 abbrev pub equivalence : (task : Task) → Findings task → (trees outputs : List Module) → Option Equivalence
 -- merge: its parts, and the output alone.
 equivalence (Merge merge) found trees (tree ∷ []) = Some (merged_equivalence (parts_of merge.sources trees) merge.mode tree)
@@ -171,8 +171,9 @@ equivalence (CtorEval eval) found _ _ = None
 equivalence (Sample sample) found trees (tree ∷ []) = Some (merged_equivalence (sample_parts sample) sample_merge.mode tree)
 equivalence (Sample sample) found trees _ = None
 
--- What is claimed besides. Merge and sample: instantiated one after the other, q parts are equivalent to all at once, within n + 4q steps both ways, where each joined import
--- leads to an earlier part and no part after one with a start has an active segment, in environments that link them and let no segment trap. Split: wherever the loader
+-- What is claimed besides. Merge and sample, also a sample that writes nothing: instantiated one after the other, q parts are equivalent to all at once, within n + 4q steps both
+-- ways, where there is at least one, each joined import leads to an earlier part and no part after one with a start has an active segment, in environments that link them and let
+-- no segment trap. Split: wherever the loader
 -- instantiates the secondary module, all imports match and no segment traps. Ctor-eval: the evaluation is the machine's run of these constructors.
 abbrev pub FurtherClaims : (task : Task) → Findings task → (trees outputs : List Module) → Type 0
 FurtherClaims (Merge merge) found trees outputs = SequentialInstantiationEquivalent (linked_world (parts_of merge.sources trees) merge.mode)

@@ -42,7 +42,8 @@ pub fn run<F: Files, O: Sink, E: Sink>(
     // makes of what it read; and what was written is observationally equivalent to its original. merge: the output, to the parts linked by name. split: the primary module under
     // the loader of the secondary one, to the module. metadce: the output, to the module of which the embedder uses only the exports that are kept. ctor-eval: the output, to the
     // module after its evaluated constructors. sample: as a merge, of its two modules. Of metadce and ctor-eval in each environment that links the module, of the others in every
-    // one; the numbers of steps stand in `equivalence` (specs/Faithful).
+    // one; the numbers of steps stand in `equivalence` (specs/Faithful). Besides (`also`): the parts of a merge or a sample may be instantiated one after the other; the secondary
+    // module of a split always loads; the evaluation of a ctor-eval is the machine's run.
     ensures faithful { result ≡ Status.Done → IfSome (F.contents files.old) (λ a. EndsFaithful (map string_bytes words.now) a (F.contents files.new)) }
     ensures refused { result ≡ Status.Refused → IfSome (F.contents files.old) (λ a. EndsRefused (map string_bytes words.now) a (E.bytes err.old) (E.bytes err.new)) × IsSame (F.contents files.old) (F.contents files.new) × IsSame (O.bytes out.old) (O.bytes out.new) }
     ensures usage { result ≡ Status.Usage → (task_of (map string_bytes words.now) ≡ None) × Gains (usage_line (map string_bytes words.now)) (E.bytes err.old) (E.bytes err.new) × IsSame (F.contents files.old) (F.contents files.new) × IsSame (O.bytes out.old) (O.bytes out.new) }
