@@ -16,6 +16,7 @@ use Rattle.wasm_tree.specs.declared.module.ElemMode.{ElemMode}
 use Rattle.wasm_tree.specs.declared.module.ElemMode.TheVariants as elem
 use Rattle.wasm_tree.specs.declared.module.ElemSeg.{ElemSeg}
 use Rattle.wasm_tree.specs.declared.module.GlobalDef.{GlobalDef}
+use Rattle.wasm_tree.specs.declared.module.Func as tree
 use Rattle.wasm_tree.specs.declared.module.Module.{Module}
 use Rattle.wasm_tree.specs.Spaces.{imported_globals, imported_memories, imported_tables}
 use Rattle.wasm_meaning.specs.State.{RefVal, Inst, Store, Global, Elem}
@@ -38,7 +39,7 @@ use Rattle.world_simulation.proofs.Places.{both_at, map_length, opt_at, opt_both
 use Rattle.world_simulation.proofs.Stored.{own_same, ref_rel, type_same}
 use Rattle.eval_spec.specs.Instantiation.{imported_store, own_inst, reads_global, unknown_at_first, unknown_items, value_in}
 use Rattle.eval_behaves_proof.specs.Addresses.{addresses_in}
-use Rattle.eval_behaves_proof.specs.Worlds.{with_empty_func}
+use Rattle.eval_behaves_proof.proofs.OneMore.{with_funcs}
 use Rattle.eval_behaves_proof.proofs.InRange.{each_index}
 use Rattle.eval_behaves_proof.proofs.FuncsAtFirst.{behind, funcs_related}
 use Rattle.eval_behaves_proof.proofs.Related.{defined, named}
@@ -101,33 +102,33 @@ item_known es j p e x h k q = by (reads_global x) refl
 
 -- ---- what is defined ----
 
-module _ (env : Environment) (m : Module) (i : Inst) (is : IsInst env (one (with_empty_func m)) 0 (with_empty_func m) i) where
+module _ (env : Environment) (m : Module) (fs : List tree.Func) (i : Inst) (is : IsInst env (one (with_funcs m fs)) 0 (with_funcs m fs) i) where
   -- where it stands in both
   record DefinedBoth (k : Space) (n a : ℕ) : Type 0 where
     place : ℕ
     first_at : n ≡ length (imports_of k m) + place
     second_at : a ≡ own_count k env + place
-    low : place < defined_count k (with_empty_func m)
+    low : place < defined_count k (with_funcs m fs)
 
-  defined_both : (k : Space) → is_written k ≡ true → space env (one (with_empty_func m)) k 0 (with_empty_func m) ≡ Some (addresses_in i k) → (n a : ℕ) → (R env m i is).of k n a → DefinedBoth k n a
-  defined_both k w h n a r = by (entry_at env (one (with_empty_func m)) k 0 (with_empty_func m) (addresses_in i k)
-      (is_space env (one (with_empty_func m)) k 0 (with_empty_func m) (addresses_in i k) h) n a (named m i k n a r))
+  defined_both : (k : Space) → is_written k ≡ true → space env (one (with_funcs m fs)) k 0 (with_funcs m fs) ≡ Some (addresses_in i k) → (n a : ℕ) → (R env m fs i is).of k n a → DefinedBoth k n a
+  defined_both k w h n a r = by (entry_at env (one (with_funcs m fs)) k 0 (with_funcs m fs) (addresses_in i k)
+      (is_space env (one (with_funcs m fs)) k 0 (with_funcs m fs) (addresses_in i k) h) n a (named m i k n a r))
     where
-      by : Entry env (one (with_empty_func m)) k 0 (with_empty_func m) n a → DefinedBoth k n a
+      by : Entry env (one (with_funcs m fs)) k 0 (with_funcs m fs) n a → DefinedBoth k n a
       by (imports p at address) = let l = slice_get_within (imports_of k m) n p at in let g = defined m i k w n a r in absurd (omega (arith, l, g))
       by (defines j e low d) = record { place = j; first_at = e; second_at = let z : a ≡ own_count k env + j = omega (arith, d) in z; low = low }
 
   -- segments have the same address in both
-  elem_both : (n a : ℕ) → (R env m i is).of ElementSegments n a → (n < length m.elems) × (a ≡ n)
+  elem_both : (n a : ℕ) → (R env m fs i is).of ElementSegments n a → (n < length m.elems) × (a ≡ n)
   elem_both n a r = let x = numbers_is (length m.elems) n a (ap (λ l. slice_get l n) (sym is.elems) ∙ named m i ElementSegments n a r) in (x.0, sym x.1)
 
-  data_both : (n a : ℕ) → (R env m i is).of DataSegments n a → (n < length m.datas) × (a ≡ n)
+  data_both : (n a : ℕ) → (R env m fs i is).of DataSegments n a → (n < length m.datas) × (a ≡ n)
   data_both n a r = let x = numbers_is (length m.datas) n a (ap (λ l. slice_get l n) (sym is.datas) ∙ named m i DataSegments n a r) in (x.0, sym x.1)
 
   module _ (names_only : TreeNamesOnly (with_entry (each_index m)) m) (quiet there : Store) (q : AddsWith (value_in m) m (own_inst m) quiet)
-      (t : AddsWith (value_there env m i is) (with_empty_func m) i there) where
+      (t : AddsWith (value_there env m fs i is) (with_funcs m fs) i there) where
     abbrev S : Pairing
-    S = R env m i is
+    S = R env m fs i is
 
     abbrev first : Store
     first = joined_stores (imported_store m) quiet
@@ -158,19 +159,19 @@ module _ (env : Environment) (m : Module) (i : Inst) (is : IsInst env (one (with
 
     -- a global, where the initialiser reads none
     global_off : (known : Bool) (g : GlobalDef) (y z : Global) → (known ≡ true → reads_global g.init ≡ false) → global_with (value_in m) g ≡ Some y →
-        global_with (value_there env m i is) g ≡ Some z → GlobalOff S known y z
+        global_with (value_there env m fs i is) g ≡ Some z → GlobalOff S known y z
     global_off known g y z reads f h =
         let v = and_then_is (value_in m g.init) (λ v. Some (record { ty = g.ty; value = v })) y f in
-        let w = and_then_is (value_there env m i is g.init) (λ v. Some (record { ty = g.ty; value = v })) z h in
+        let w = and_then_is (value_there env m fs i is g.init) (λ v. Some (record { ty = g.ty; value = v })) z h in
         subst (λ y. GlobalOff S known y z) (same_Some _ y v.2)
-        (subst (λ z. GlobalOff S known (record { ty = g.ty; value = v.0 }) z) (same_Some _ z w.2) (record { type = refl; value = λ k. value_alike env m i is g.init v.0 w.0 (reads k) v.1 w.1 }))
+        (subst (λ z. GlobalOff S known (record { ty = g.ty; value = v.0 }) z) (same_Some _ z w.2) (record { type = refl; value = λ k. value_alike env m fs i is g.init v.0 w.0 (reads k) v.1 w.1 }))
 
     global_related : (n a : ℕ) → S.of Globals n a → BothRel (GlobalOff S (not (is_among (unknown_at_first m).globals n))) (slice_get first.globals n) (slice_get second.globals a)
     global_related n a r =
         let p = defined_both Globals refl is.globals n a r in
         let g = slice_get_there m.globals p.place p.low in
         let y = all_there_at (global_with (value_in m)) m.globals quiet.globals q.globals p.place g.0 g.1 in
-        let z = all_there_at (global_with (value_there env m i is)) m.globals there.globals t.globals p.place g.0 g.1 in
+        let z = all_there_at (global_with (value_there env m fs i is)) m.globals there.globals t.globals p.place g.0 g.1 in
         let counted = globals_counted m.imports 0 in
         let many = map_length (λ t. record { ty = t; value = _ }) (imported_globals m.imports) ∙ sym counted in
         let at = p.first_at in
@@ -180,14 +181,15 @@ module _ (env : Environment) (m : Module) (i : Inst) (is : IsInst env (one (with
 
     -- ---- element segments ----
 
-    item_related : (x : ConstExpr) (y z : RefVal) → reads_global x ≡ false → option_and_then ref_of (value_in m x) ≡ Some y → option_and_then ref_of (value_there env m i is x) ≡ Some z → RefRel S y z
+    item_related : (x : ConstExpr) (y z : RefVal) → reads_global x ≡ false → option_and_then ref_of (value_in m x) ≡ Some y →
+        option_and_then ref_of (value_there env m fs i is x) ≡ Some z → RefRel S y z
     item_related x y z r f h =
         let v = and_then_is (value_in m x) ref_of y f in
-        let w = and_then_is (value_there env m i is x) ref_of z h in
-        opt_both (ref_rel S (value_alike env m i is x v.0 w.0 r v.1 w.1)) v.2 w.2
+        let w = and_then_is (value_there env m fs i is x) ref_of z h in
+        opt_both (ref_rel S (value_alike env m fs i is x v.0 w.0 r v.1 w.1)) v.2 w.2
 
     items_off : (known : ℕ → Bool) (xs : List ConstExpr) (ys zs : List RefVal) → ((p : ℕ) (x : ConstExpr) → slice_get xs p ≡ Some x → known p ≡ true → reads_global x ≡ false) →
-        all_there (λ x. option_and_then ref_of (value_in m x)) xs ≡ Some ys → all_there (λ x. option_and_then ref_of (value_there env m i is x)) xs ≡ Some zs → RefsOff S known ys zs
+        all_there (λ x. option_and_then ref_of (value_in m x)) xs ≡ Some ys → all_there (λ x. option_and_then ref_of (value_there env m fs i is x)) xs ≡ Some zs → RefsOff S known ys zs
     items_off known xs ys zs reads f h = record { size = first_many ∙ sym second_many; each = λ p k. at p k (slice_get xs p) refl }
       where
         first_many : length ys ≡ length xs
@@ -213,10 +215,10 @@ module _ (env : Environment) (m : Module) (i : Inst) (is : IsInst env (one (with
     mode_off known elem.Declarative ys zs h = record { size = refl; each = λ p k. none }
 
     elem_off : (known : ℕ → Bool) (e : ElemSeg) (y z : Elem) → ((p : ℕ) (x : ConstExpr) → slice_get e.items p ≡ Some x → known p ≡ true → reads_global x ≡ false) →
-        elem_with (value_in m) e ≡ Some y → elem_with (value_there env m i is) e ≡ Some z → RefsOff S known y.items z.items
+        elem_with (value_in m) e ≡ Some y → elem_with (value_there env m fs i is) e ≡ Some z → RefsOff S known y.items z.items
     elem_off known e y z reads f h =
         let v = and_then_is (all_there (λ x. option_and_then ref_of (value_in m x)) e.items) (λ items. Some (new_elem e.mode items)) y f in
-        let w = and_then_is (all_there (λ x. option_and_then ref_of (value_there env m i is x)) e.items) (λ items. Some (new_elem e.mode items)) z h in
+        let w = and_then_is (all_there (λ x. option_and_then ref_of (value_there env m fs i is x)) e.items) (λ items. Some (new_elem e.mode items)) z h in
         subst (λ (y : Elem). RefsOff S known y.items z.items) (same_Some _ y v.2)
         (subst (λ (z : Elem). RefsOff S known (new_elem e.mode v.0).items z.items) (same_Some _ z w.2) (mode_off known e.mode v.0 w.0 (items_off known e.items v.0 w.0 reads v.1 w.1)))
 
@@ -226,7 +228,7 @@ module _ (env : Environment) (m : Module) (i : Inst) (is : IsInst env (one (with
         let b = elem_both n a r in
         let e = slice_get_there m.elems n b.0 in
         let y = all_there_at (elem_with (value_in m)) m.elems quiet.elems q.elems n e.0 e.1 in
-        let z = all_there_at (elem_with (value_there env m i is)) m.elems there.elems t.elems n e.0 e.1 in
+        let z = all_there_at (elem_with (value_there env m fs i is)) m.elems there.elems t.elems n e.0 e.1 in
         both_at first.elems second.elems n a y.0 z.0 y.2 (ap (slice_get there.elems) b.1 ∙ z.2) (elem_off _ e.0 y.0 z.0 (λ p x h k. item_known m.elems n p e.0 x e.1 h k) y.1 z.1)
 
     data_related : (n a : ℕ) → S.of DataSegments n a → BothRel (λ d e. d.bytes ≡ e.bytes) (slice_get first.datas n) (slice_get second.datas a)
@@ -240,9 +242,9 @@ module _ (env : Environment) (m : Module) (i : Inst) (is : IsInst env (one (with
 
     pub related_at_first : StoreRelOff S (unknown_at_first m) first second
     related_at_first = record {
-      types = λ {a} {b} r. type_same S (funcs_related m names_only env i is quiet there q t a b r);
-      owns = λ {a} {b} r. own_same S (funcs_related m names_only env i is quiet there q t a b r);
-      funcs = λ {a} {b} r free. funcs_related m names_only env i is quiet there q t a b r;
+      types = λ {a} {b} r. type_same S (funcs_related m names_only env fs i is quiet there q t a b r);
+      owns = λ {a} {b} r. own_same S (funcs_related m names_only env fs i is quiet there q t a b r);
+      funcs = λ {a} {b} r free. funcs_related m names_only env fs i is quiet there q t a b r;
       tables = λ {a} {b} r. table_off _ a b r;
       mems = λ {a} {b} r. memory_same a b r;
       globals = λ {a} {b} r. global_related a b r;

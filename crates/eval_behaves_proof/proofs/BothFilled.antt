@@ -1,4 +1,4 @@
--- The instantiation of the quiet run, and of the module with one function more in an environment: all segments of the one are copied in the other.
+-- The instantiation of the quiet run, and of the module with more functions, if any, in an environment: all segments of the one are copied in the other.
 use Rattle.std.proofs.Common.{◌≡◌, ◌∙◌, sym, ap, ap₂, subst, refl, ℕ, suc, ◌+◌, ◌<◌, List, [], ◌∷◌, length, append-nil, Bool, true, false, cond, Option, Some, None, arith, slice_get, option_and_then}
 use Rattle.std.specs.Prelude.{nat_lt}
 use Rattle.std.proofs.lemmas.Option.{same_Some}
@@ -8,6 +8,7 @@ use Rattle.wasm_tree.specs.declared.module.ElemMode.{ElemMode}
 use Rattle.wasm_tree.specs.declared.module.ElemMode.TheVariants as elem
 use Rattle.wasm_tree.specs.declared.module.ElemSeg.{ElemSeg}
 use Rattle.wasm_tree.specs.declared.module.DataSeg.{DataSeg}
+use Rattle.wasm_tree.specs.declared.module.Func as tree
 use Rattle.wasm_tree.specs.declared.module.Module.{Module}
 use Rattle.wasm_tree.specs.Spaces.{memories_of}
 use Rattle.wasm_meaning.specs.State.{RefVal, Inst, Store, Elem}
@@ -25,7 +26,7 @@ use Rattle.eval_spec.specs.declared.stop.Stop.TheVariants as why
 use Rattle.eval_spec.specs.State.{State, Stage, Going, Stopped, Finished}
 use Rattle.eval_spec.specs.Instantiation.{filled_from, imported_store, in_order, instantiated, none_written, own_inst, state_at_first, unknown_at_first, value_in, with_data, with_elem, with_segments}
 use Rattle.eval_proof.specs.Known.{FuncsOf}
-use Rattle.eval_behaves_proof.specs.Worlds.{with_empty_func}
+use Rattle.eval_behaves_proof.proofs.OneMore.{with_funcs}
 use Rattle.eval_behaves_proof.proofs.AtFirst.{related_at_first}
 use Rattle.eval_behaves_proof.proofs.FuncsAtFirst.{code_of}
 use Rattle.eval_behaves_proof.proofs.InRange.{each_index}
@@ -42,59 +43,59 @@ began f (Going s es) xs r e = absurd (let k = e in cc)
 abbrev AreWhole : ℕ → List ElemSeg → Store → Type 0
 AreWhole n es s = (k : ℕ) (e : ElemSeg) → slice_get es k ≡ Some e → (y : Elem) → slice_get s.elems (n + k) ≡ Some y → IsWhole e.mode e y
 
-module _ (env : Environment) (m : Module) (i : Inst) (is : IsInst env (one (with_empty_func m)) 0 (with_empty_func m) i) (apart : OneToOneWhereWritten (R env m i is)) where
+module _ (env : Environment) (m : Module) (fs : List tree.Func) (i : Inst) (is : IsInst env (one (with_funcs m fs)) 0 (with_funcs m fs) i) (apart : OneToOneWhereWritten (R env m fs i is)) where
   abbrev Alike : State → State → Filled → Type 0
-  Alike = CopiedAlike env m i is apart
+  Alike = CopiedAlike env m fs i is apart
 
   -- one copy, and then others
   then_alike : (s r t : State) (f : Filled) (g : Store → Filled) (a : Alike s r f) → Alike r t (g a.store) → Alike s t (and_then f g)
   then_alike s r t f g a b = record { store = b.store; filled = ap (λ f. and_then f g) a.filled ∙ b.filled; related = b.related; funcs = b.funcs ∙ a.funcs; turns = b.turns ∙ a.turns }
 
-  elems_alike : (es : List ElemSeg) (n : ℕ) (s t : State) (x : Store) → ((k : ℕ) → k < length es → n + k < length m.elems) → AreWhole n es s.store → StoreRelOff (R env m i is) s.unknown s.store x →
+  elems_alike : (es : List ElemSeg) (n : ℕ) (s t : State) (x : Store) → ((k : ℕ) → k < length es → n + k < length m.elems) → AreWhole n es s.store → StoreRelOff (R env m fs i is) s.unknown s.store x →
       in_order (with_elem m) (Finished s) (segments_in 0 (own_inst m) (numbers n (length es)) es) ≡ Finished t →
-      Alike s t (one_by_one (run_elem env (one (with_empty_func m)) (i ∷ [])) x (segments_in 0 i (numbers n (length es)) es))
-  elems_alike [] n s t x low whole r h = nothing_copied env m i is apart s t x r h
+      Alike s t (one_by_one (run_elem env (one (with_funcs m fs)) (i ∷ [])) x (segments_in 0 i (numbers n (length es)) es))
+  elems_alike [] n s t x low whole r h = nothing_copied env m fs i is apart s t x r h
   elems_alike (e ∷ es) n s t x low whole r h =
       let z : n + 0 ≡ n = omega arith in
       let first_low : n < length m.elems = let l = low 0 (omega arith) in omega (arith, l) in
       let b = began (with_elem m) (with_elem m s (record { part = 0; inst = own_inst m; address = n; segment = e })) (segments_in 0 (own_inst m) (numbers (suc n) (length es)) es) t h in
-      let a = elem_alike env m i is apart s b.0 x n e first_low r e.mode (λ y q. whole 0 e refl y (ap (slice_get s.store.elems) z ∙ q)) refl b.1 in
+      let a = elem_alike env m fs i is apart s b.0 x n e first_low r e.mode (λ y q. whole 0 e refl y (ap (slice_get s.store.elems) z ∙ q)) refl b.1 in
       let more_whole : AreWhole (suc n) es b.0.store = λ k d at y q.
       let w : n + suc k ≡ suc n + k = omega arith in
       whole (suc k) d at y (ap (slice_get s.store.elems) w ∙ sym (a.others (suc n + k) (λ e. omega (arith, e))) ∙ q) in
       let c = a.copied in
       let rest = elems_alike es (suc n) b.0 t c.store (λ k l. let w = low (suc k) (omega (arith, l)) in omega (arith, w)) more_whole c.related
       (ap (λ t. in_order (with_elem m) t (segments_in 0 (own_inst m) (numbers (suc n) (length es)) es)) (sym b.1) ∙ h) in
-      then_alike s b.0 t _ (λ x. one_by_one (run_elem env (one (with_empty_func m)) (i ∷ [])) x (segments_in 0 i (numbers (suc n) (length es)) es)) c rest
+      then_alike s b.0 t _ (λ x. one_by_one (run_elem env (one (with_funcs m fs)) (i ∷ [])) x (segments_in 0 i (numbers (suc n) (length es)) es)) c rest
 
-  datas_alike : (ds : List DataSeg) (n : ℕ) (s t : State) (x : Store) → ((k : ℕ) → k < length ds → n + k < length m.datas) → StoreRelOff (R env m i is) s.unknown s.store x →
+  datas_alike : (ds : List DataSeg) (n : ℕ) (s t : State) (x : Store) → ((k : ℕ) → k < length ds → n + k < length m.datas) → StoreRelOff (R env m fs i is) s.unknown s.store x →
       in_order (with_data m) (Finished s) (segments_in 0 (own_inst m) (numbers n (length ds)) ds) ≡ Finished t →
-      Alike s t (one_by_one (run_data env (one (with_empty_func m)) (i ∷ [])) x (segments_in 0 i (numbers n (length ds)) ds))
-  datas_alike [] n s t x low r h = nothing_copied env m i is apart s t x r h
+      Alike s t (one_by_one (run_data env (one (with_funcs m fs)) (i ∷ [])) x (segments_in 0 i (numbers n (length ds)) ds))
+  datas_alike [] n s t x low r h = nothing_copied env m fs i is apart s t x r h
   datas_alike (d ∷ ds) n s t x low r h =
       let first_low : n < length m.datas = let l = low 0 (omega arith) in omega (arith, l) in
       let b = began (with_data m) (with_data m s (record { part = 0; inst = own_inst m; address = n; segment = d })) (segments_in 0 (own_inst m) (numbers (suc n) (length ds)) ds) t h in
-      let c = data_alike env m i is apart s b.0 x n d first_low r d.mode refl b.1 in
+      let c = data_alike env m fs i is apart s b.0 x n d first_low r d.mode refl b.1 in
       let rest = datas_alike ds (suc n) b.0 t c.store (λ k l. let w = low (suc k) (omega (arith, l)) in omega (arith, w)) c.related
       (ap (λ t. in_order (with_data m) t (segments_in 0 (own_inst m) (numbers (suc n) (length ds)) ds)) (sym b.1) ∙ h) in
-      then_alike s b.0 t _ (λ x. one_by_one (run_data env (one (with_empty_func m)) (i ∷ [])) x (segments_in 0 i (numbers (suc n) (length ds)) ds)) c rest
+      then_alike s b.0 t _ (λ x. one_by_one (run_data env (one (with_funcs m fs)) (i ∷ [])) x (segments_in 0 i (numbers (suc n) (length ds)) ds)) c rest
 
   -- all segments
-  segments_alike : (s t : State) (x : Store) → AreWhole 0 m.elems s.store → StoreRelOff (R env m i is) s.unknown s.store x → with_segments m s ≡ Finished t →
-      Alike s t (segments env (one (with_empty_func m)) (i ∷ []) x)
+  segments_alike : (s t : State) (x : Store) → AreWhole 0 m.elems s.store → StoreRelOff (R env m fs i is) s.unknown s.store x → with_segments m s ≡ Finished t →
+      Alike s t (segments env (one (with_funcs m fs)) (i ∷ []) x)
   segments_alike s t x whole r h =
       let elems = segments_in 0 (own_inst m) (own_inst m).elems m.elems in
       let datas = segments_in 0 (own_inst m) (own_inst m).datas m.datas in
       let b = began (with_data m) (in_order (with_elem m) (Finished s) elems) datas t h in
       let first = elems_alike m.elems 0 s b.0 x (λ k l. omega (arith, l)) whole r b.1 in
       let second = datas_alike m.datas 0 b.0 t first.store (λ k l. omega (arith, l)) first.related (ap (λ t. in_order (with_data m) t datas) (sym b.1) ∙ h) in
-      let placed_first : segments_in 0 i (numbers 0 (length m.elems)) m.elems ≡ placed_elems 0 (one (with_empty_func m)) (i ∷ []) = ap (λ ns. segments_in 0 i ns m.elems) (sym is.elems)
+      let placed_first : segments_in 0 i (numbers 0 (length m.elems)) m.elems ≡ placed_elems 0 (one (with_funcs m fs)) (i ∷ []) = ap (λ ns. segments_in 0 i ns m.elems) (sym is.elems)
       ∙ sym (append-nil (segments_in 0 i i.elems m.elems)) in
-      let placed_second : segments_in 0 i (numbers 0 (length m.datas)) m.datas ≡ placed_datas 0 (one (with_empty_func m)) (i ∷ []) = ap (λ ns. segments_in 0 i ns m.datas) (sym is.datas)
+      let placed_second : segments_in 0 i (numbers 0 (length m.datas)) m.datas ≡ placed_datas 0 (one (with_funcs m fs)) (i ∷ []) = ap (λ ns. segments_in 0 i ns m.datas) (sym is.datas)
       ∙ sym (append-nil (segments_in 0 i i.datas m.datas)) in
-      subst (Alike s t) (ap₂ (λ xs ys. and_then (one_by_one (run_elem env (one (with_empty_func m)) (i ∷ [])) x xs)
-      (λ s. one_by_one (run_data env (one (with_empty_func m)) (i ∷ [])) s ys)) placed_first placed_second)
-      (then_alike s b.0 t _ (λ s. one_by_one (run_data env (one (with_empty_func m)) (i ∷ [])) s (segments_in 0 i (numbers 0 (length m.datas)) m.datas)) first second)
+      subst (Alike s t) (ap₂ (λ xs ys. and_then (one_by_one (run_elem env (one (with_funcs m fs)) (i ∷ [])) x xs)
+      (λ s. one_by_one (run_data env (one (with_funcs m fs)) (i ∷ [])) s ys)) placed_first placed_second)
+      (then_alike s b.0 t _ (λ s. one_by_one (run_data env (one (with_funcs m fs)) (i ∷ [])) s (segments_in 0 i (numbers 0 (length m.datas)) m.datas)) first second)
 
   -- ---- from what is allocated ----
 
@@ -115,20 +116,20 @@ module _ (env : Environment) (m : Module) (i : Inst) (is : IsInst env (one (with
   -- both stores once the segments are copied
   pub record BothFilled (turns : ℕ) (t : State) (there : Store) : Type 0 where
     pub store : Store
-    pub filled : segments env (one (with_empty_func m)) (i ∷ []) (joined_stores (own_store env) there) ≡ record { store = store; trapped = false }
-    pub related : StoreRelOff (R env m i is) t.unknown t.store store
+    pub filled : segments env (one (with_funcs m fs)) (i ∷ []) (joined_stores (own_store env) there) ≡ record { store = store; trapped = false }
+    pub related : StoreRelOff (R env m fs i is) t.unknown t.store store
     pub funcs : FuncsOf (own_inst m) t.store.funcs
     pub left : t.turns ≡ turns
 
-  module _ (names : TreeNamesOnly (with_entry (each_index m)) m) (there : Store) (allocated : part_store env (one (with_empty_func m)) (i ∷ []) 0 (with_empty_func m) i ≡ Some there) where
+  module _ (names : TreeNamesOnly (with_entry (each_index m)) m) (there : Store) (allocated : part_store env (one (with_funcs m fs)) (i ∷ []) 0 (with_funcs m fs) i ≡ Some there) where
     filled_alike : (turns : ℕ) (t : State) (o : Option Store) → store_with (value_in m) m (own_inst m) ≡ o →
         filled_from m turns (option_and_then (λ defined. Some
         (record { store = joined_stores (imported_store m) defined; unknown = unknown_at_first m; written = none_written m.mems; turns = turns })) o) ≡ Finished t → BothFilled turns t there
     filled_alike turns t None e h = absurd (let k = h in cc)
     filled_alike turns t (Some quiet) e h =
         let q = adds_with (value_in m) m (own_inst m) quiet e in
-        let d = adds_with (value_there env m i is) (with_empty_func m) i there allocated in
-        let first = related_at_first env m i is names quiet there q d in
+        let d = adds_with (value_there env m fs i is) (with_funcs m fs) i there allocated in
+        let first = related_at_first env m fs i is names quiet there q d in
         let s : State = record { store = joined_stores (imported_store m) quiet; unknown = unknown_at_first m; written = none_written m.mems; turns = turns } in
         let a = segments_alike s t (joined_stores (own_store env) there) (whole_at_first quiet q) first h in
         record { store = a.store; filled = a.filled; related = a.related; funcs = subst (FuncsOf (own_inst m)) (sym a.funcs) (code_of m names quiet q); left = a.turns }

@@ -29,13 +29,12 @@ use Rattle.world_simulation.proofs.Owned.{null_rel}
 use Rattle.world_simulation.proofs.Places.{opt_at}
 use Rattle.eval_spec.specs.Instantiation.{own_inst, reads_global, value_in}
 use Rattle.eval_behaves_proof.specs.Addresses.{addresses_in, names_at, stands_at}
-use Rattle.eval_behaves_proof.specs.Worlds.{with_empty_func}
 use Rattle.eval_behaves_proof.proofs.CodeAlike.{IndexAlike, kept_alike}
 use Rattle.eval_behaves_proof.proofs.InRange.{below, each_index}
-use Rattle.eval_behaves_proof.proofs.OneMore.{funcs_many, globals_many, mems_many, tables_many}
+use Rattle.eval_behaves_proof.proofs.OneMore.{funcs_many, globals_many, mems_many, tables_many, with_funcs}
 use Rattle.eval_behaves_proof.proofs.Related.{relates}
 
-module _ (env : Environment) (m : Module) (i : Inst) (is : IsInst env (one (with_empty_func m)) 0 (with_empty_func m) i) where
+module _ (env : Environment) (m : Module) (fs : List tree.Func) (i : Inst) (is : IsInst env (one (with_funcs m fs)) 0 (with_funcs m fs) i) where
   abbrev pub R : Pairing
   R = passed (stands_at m i) (names_at m i) []
 
@@ -60,16 +59,16 @@ module _ (env : Environment) (m : Module) (i : Inst) (is : IsInst env (one (with
     pub no_fewer : many k ≤ length (addresses_in i k)
 
   funcs_have : HasAddresses Functions
-  funcs_have = record { own = refl; no_fewer = let e = funcs_many env m i is in omega (arith, e) }
+  funcs_have = record { own = refl; no_fewer = let e = funcs_many env m fs i is in omega (arith, e) }
 
   tables_have : HasAddresses Tables
-  tables_have = record { own = refl; no_fewer = let e = tables_many env m i is in omega (arith, e) }
+  tables_have = record { own = refl; no_fewer = let e = tables_many env m fs i is in omega (arith, e) }
 
   mems_have : HasAddresses Memories
-  mems_have = record { own = refl; no_fewer = let e = mems_many env m i is in omega (arith, e) }
+  mems_have = record { own = refl; no_fewer = let e = mems_many env m fs i is in omega (arith, e) }
 
   globals_have : HasAddresses Globals
-  globals_have = record { own = refl; no_fewer = let e = globals_many env m i is in omega (arith, e) }
+  globals_have = record { own = refl; no_fewer = let e = globals_many env m fs i is in omega (arith, e) }
 
   elems_have : HasAddresses ElementSegments
   elems_have = record { own = refl; no_fewer = let e = ap length is.elems in let f = length-numbers 0 (length m.elems) in omega (arith, e, f) }
@@ -140,7 +139,7 @@ module _ (env : Environment) (m : Module) (i : Inst) (is : IsInst env (one (with
   -- ---- constant expressions ----
 
   abbrev pub value_there : ConstExpr → Option Val
-  value_there = value_of env (one (with_empty_func m)) (i ∷ []) 0
+  value_there = value_of env (one (with_funcs m fs)) (i ∷ []) 0
 
   func_ref_alike : (f : ℕ) (v w : Val) → value_in m (const.Func f) ≡ Some v → value_there (const.Func f) ≡ Some w → ValRel R v w
   func_ref_alike f v w h k =

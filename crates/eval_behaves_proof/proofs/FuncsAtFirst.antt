@@ -16,6 +16,7 @@ use Rattle.wasm_tree.specs.declared.types.FuncType.{FuncType}
 use Rattle.wasm_tree.specs.declared.module.Import.{Import}
 use Rattle.wasm_tree.specs.declared.module.ImportDesc.{ImportDesc}
 use Rattle.wasm_tree.specs.declared.module.ImportDesc.TheVariants as im
+use Rattle.wasm_tree.specs.declared.module.Func as tree
 use Rattle.wasm_tree.specs.declared.module.Module.{Module}
 use Rattle.wasm_tree.specs.Spaces.{func_of, funcs_of, imported_funcs, space_of_import}
 use Rattle.wasm_meaning.specs.State.{Pair, Inst, Func, Own, Store}
@@ -34,8 +35,7 @@ use Rattle.world_simulation.proofs.Places.{both_at, map_length, opt_both}
 use Rattle.world_simulation.proofs.Stored.{func_rel}
 use Rattle.eval_spec.specs.Instantiation.{imported_func, imported_store, own_inst, value_in}
 use Rattle.eval_proof.specs.Known.{FuncsOf, IsCodeOf}
-use Rattle.eval_snapshot_spec.specs.Snapshot.{empty_func}
-use Rattle.eval_behaves_proof.specs.Worlds.{with_empty_func}
+use Rattle.eval_behaves_proof.proofs.OneMore.{with_funcs}
 use Rattle.eval_behaves_proof.proofs.InRange.{below, each_index}
 use Rattle.eval_behaves_proof.proofs.OwnFuncs.{own_found}
 use Rattle.eval_behaves_proof.proofs.Related.{named}
@@ -80,8 +80,8 @@ module _ (m : Module) where
     pub imported_many : length (imported_store m).funcs ≡ length (imports_of Functions m)
     imported_many = ap length all_chosen ∙ sym (places_many (has_kind Functions) chosen m.imports (λ x. desc_kind (pair_of x) x.desc) 0)
 
-    module _ (env : Environment) (i : Inst) (is : IsInst env (one (with_empty_func m)) 0 (with_empty_func m) i) (quiet there : Store) (q : AddsWith (value_in m) m (own_inst m) quiet)
-        (t : AddsWith (value_there env m i is) (with_empty_func m) i there) where
+    module _ (env : Environment) (fs : List tree.Func) (i : Inst) (is : IsInst env (one (with_funcs m fs)) 0 (with_funcs m fs) i) (quiet there : Store) (q : AddsWith (value_in m) m (own_inst m) quiet)
+        (t : AddsWith (value_there env m fs i is) (with_funcs m fs) i there) where
       abbrev first : Store
       first = joined_stores (imported_store m) quiet
 
@@ -90,25 +90,25 @@ module _ (m : Module) where
 
       -- ---- imported ones ----
 
-      import_related : (n a p : ℕ) → slice_get (imports_of Functions m) n ≡ Some p → import_address env (one (with_empty_func m)) Functions 0 p ≡ Some a →
-          BothRel (FuncRel (R env m i is)) (slice_get first.funcs n) (slice_get second.funcs a)
+      import_related : (n a p : ℕ) → slice_get (imports_of Functions m) n ≡ Some p → import_address env (one (with_funcs m fs)) Functions 0 p ≡ Some a →
+          BothRel (FuncRel (R env m fs i is)) (slice_get first.funcs n) (slice_get second.funcs a)
       import_related n a p h address =
           let c = place_of (has_kind Functions) chosen m.imports (λ x. desc_kind (pair_of x) x.desc) 0 n p h in
           go c.0 c.1 c.2 c.3 c.4 c.5 c.1.desc refl
         where
           go : (k : ℕ) (x : Import) → p ≡ 0 + k → slice_get m.imports k ≡ Some x → has_kind Functions x ≡ true → slice_get (filter_map chosen m.imports) n ≡ chosen x → (d : ImportDesc) →
-              x.desc ≡ d → BothRel (FuncRel (R env m i is)) (slice_get first.funcs n) (slice_get second.funcs a)
+              x.desc ≡ d → BothRel (FuncRel (R env m fs i is)) (slice_get first.funcs n) (slice_get second.funcs a)
           go k x e at kind here (im.Func ty) d =
               let low = below (length m.types) ty (subst (ImportNamesOnly (with_entry (each_index m))) d (names_only.imports k x at)) in
               let u = slice_get_there m.types ty low in
               let same : chosen x ≡ Some (Own (pair_of x) u.0) = ap (by_pair (pair_of x)) d ∙ ap (λ o. Some (Own (pair_of x) (unwrap_or o none_named))) u.1 in
               let stands : slice_get first.funcs n ≡ Some (Own (pair_of x) u.0) = append_at_left (imported_store m).funcs quiet.funcs n _ (ap (λ l. slice_get l n) all_chosen ∙ here ∙ same) in
-              let thing = and_then_is (imported_external_value env (one (with_empty_func m)) (site p)) (address_of Functions) a address in
+              let thing = and_then_is (imported_external_value env (one (with_funcs m fs)) (site p)) (address_of Functions) a address in
               let import_at : slice_get m.imports p ≡ Some x = let z : p ≡ k = omega (arith, e) in ap (slice_get m.imports) z ∙ at in
               let key : external_value_in env m.types (Some x) ≡ owned_at (owned_of env) (FuncKey (pair_of x) u.0) =
               ap (λ d. option_and_then (λ key. owned_at (owned_of env) key) (key_in m.types (pair_of x) d)) d
               ∙ ap (λ o. option_and_then (λ key. owned_at (owned_of env) key) (option_and_then (λ t. Some (FuncKey (pair_of x) t)) o)) u.1 in
-              let f = own_found (pair_of x) u.0 env thing.0 (sym key ∙ ap (external_value_in env m.types) (sym import_at) ∙ sym (thing_is env (with_empty_func m) p) ∙ thing.1) in
+              let f = own_found (pair_of x) u.0 env thing.0 (sym key ∙ ap (external_value_in env m.types) (sym import_at) ∙ sym (thing_is env (with_funcs m fs) p) ∙ thing.1) in
               let addressed : Some (0 + f.place) ≡ Some a = sym (ap (address_of Functions) f.thing) ∙ thing.2 in
               let place_is = same_Some (0 + f.place) a addressed in
               let z : a ≡ f.place = omega (arith, place_is) in
@@ -121,22 +121,22 @@ module _ (m : Module) where
       -- ---- defined ones ----
 
       defined_related : (n a j : ℕ) → n ≡ length (imports_of Functions m) + j → j < length m.funcs → a ≡ length (own_funcs env) + j →
-          BothRel (FuncRel (R env m i is)) (slice_get first.funcs n) (slice_get second.funcs a)
+          BothRel (FuncRel (R env m fs i is)) (slice_get first.funcs n) (slice_get second.funcs a)
       defined_related n a j e low d =
           let f = slice_get_there m.funcs j low in
           let y = all_there_at (new_func (own_inst m)) m.funcs quiet.funcs q.funcs j f.0 f.1 in
-          let z = all_there_at (new_func i) (with_empty_func m).funcs there.funcs t.funcs j f.0 (append_at_left m.funcs (empty_func m ∷ []) j f.0 f.1) in
-          let correspond : FuncsCorrespond (R env m i is) (own_inst m) i f.0 f.0 =
-          record { type = ap (λ ts. slice_get ts f.0.ty) (sym is.types); locals = refl; code = body_alike env m i is f.0 (names_only.funcs j f.0 f.1) } in
-          let related = opt_both (func_rel (R env m i is) correspond) y.1 z.1 in
+          let z = all_there_at (new_func i) (with_funcs m fs).funcs there.funcs t.funcs j f.0 (append_at_left m.funcs fs j f.0 f.1) in
+          let correspond : FuncsCorrespond (R env m fs i is) (own_inst m) i f.0 f.0 =
+          record { type = ap (λ ts. slice_get ts f.0.ty) (sym is.types); locals = refl; code = body_alike env m fs i is f.0 (names_only.funcs j f.0 f.1) } in
+          let related = opt_both (func_rel (R env m fs i is) correspond) y.1 z.1 in
           both_at first.funcs second.funcs n a y.0 z.0 (behind (imported_store m).funcs quiet.funcs n (length (imports_of Functions m)) j imported_many e ∙ y.2)
           (behind (own_funcs env) there.funcs a (length (own_funcs env)) j refl d ∙ z.2) related
 
       -- ---- all of them ----
 
-      pub funcs_related : (n a : ℕ) → (R env m i is).of Functions n a → BothRel (FuncRel (R env m i is)) (slice_get first.funcs n) (slice_get second.funcs a)
-      funcs_related n a r = by (entry_at env (one (with_empty_func m)) Functions 0 (with_empty_func m) i.funcs
-          (is_space env (one (with_empty_func m)) Functions 0 (with_empty_func m) i.funcs is.funcs) n a (named m i Functions n a r))
+      pub funcs_related : (n a : ℕ) → (R env m fs i is).of Functions n a → BothRel (FuncRel (R env m fs i is)) (slice_get first.funcs n) (slice_get second.funcs a)
+      funcs_related n a r = by (entry_at env (one (with_funcs m fs)) Functions 0 (with_funcs m fs) i.funcs
+          (is_space env (one (with_funcs m fs)) Functions 0 (with_funcs m fs) i.funcs is.funcs) n a (named m i Functions n a r))
         where
           few : n < length (funcs_of m)
           few =
@@ -144,7 +144,7 @@ module _ (m : Module) where
               let e = length-numbers 0 (length (funcs_of m)) in
               omega (arith, l, e)
 
-          by : Entry env (one (with_empty_func m)) Functions 0 (with_empty_func m) n a → BothRel (FuncRel (R env m i is)) (slice_get first.funcs n) (slice_get second.funcs a)
+          by : Entry env (one (with_funcs m fs)) Functions 0 (with_funcs m fs) n a → BothRel (FuncRel (R env m fs i is)) (slice_get first.funcs n) (slice_get second.funcs a)
           by (imports p h address) = import_related n a p h address
           by (defines j e low d) =
               let l = few in

@@ -10,6 +10,7 @@ use Rattle.wasm_tree.specs.declared.module.ExportDesc.{ExportDesc}
 use Rattle.wasm_tree.specs.declared.module.ExportDesc.TheVariants as ex
 use Rattle.wasm_tree.specs.declared.module.ImportDesc.{ImportDesc}
 use Rattle.wasm_tree.specs.declared.module.ImportDesc.TheVariants as im
+use Rattle.wasm_tree.specs.declared.module.Func as tree
 use Rattle.wasm_tree.specs.declared.module.Module.{Module}
 use Rattle.wasm_tree.specs.Spaces.{func_of, funcs_of, imported_funcs}
 use Rattle.wasm_valid.specs.Validity.{IsValid}
@@ -27,10 +28,12 @@ use Rattle.eval_spec.specs.State.{State, Stage, Going, Stopped, Finished}
 use Rattle.eval_spec.specs.Evaluation.{called_in_order, evaluated}
 use Rattle.eval_spec.specs.Instantiation.{after_start, instantiated}
 use Rattle.eval_snapshot_spec.specs.Evaluated.{first_missing, func_exported, func_named, funcs_named}
+use Rattle.eval_snapshot_spec.specs.Snapshot.{empty_func}
 use Rattle.eval_behaves_proof.specs.Worlds.{evaluated_world, with_empty_func}
 use Rattle.eval_behaves_proof.proofs.BothFilled.{both_filled}
 use Rattle.eval_behaves_proof.proofs.InRange.{NamingLaws, below, each_index, names_there}
 use Rattle.eval_behaves_proof.proofs.MoreLinked.{MoreMade, more_made}
+use Rattle.eval_behaves_proof.proofs.OneMore.{with_funcs}
 use Rattle.eval_behaves_proof.proofs.QuietRuns.{BothInstantiated, start_of}
 use Rattle.eval_behaves_proof.proofs.Related.{apart}
 use Rattle.eval_behaves_proof.proofs.Rows.{rows}
@@ -38,7 +41,7 @@ use Rattle.eval_behaves_proof.proofs.Counterparts.{R, func_stands, func_there}
 
 -- ---- a quiet evaluation begins with a quiet instantiation ----
 
-instantiated_first : (m : Module) (c : Stage) (o : Option ℕ) (ns : List ℕ) (t : State) → called_in_order m (after_start m c o) ns ≡ Finished t → (s : State) × (c ≡ Finished s)
+pub instantiated_first : (m : Module) (c : Stage) (o : Option ℕ) (ns : List ℕ) (t : State) → called_in_order m (after_start m c o) ns ≡ Finished t → (s : State) × (c ≡ Finished s)
 instantiated_first m (Finished s) o ns t e = (s, refl)
 instantiated_first m (Stopped x left) o [] t e = absurd (let k = e in cc)
 instantiated_first m (Stopped x left) o (n ∷ ns) t e = absurd (let k = e in cc)
@@ -72,7 +75,7 @@ module _ (m : Module) (names : TreeNamesOnly (with_entry (each_index m)) m) wher
   named_funcs : (constructors : List Text) (k f : ℕ) → slice_get (funcs_named m constructors) k ≡ Some f → f < length (funcs_of m)
   named_funcs constructors k f h = let x = chosen_from (func_named m) constructors k f h in named_func x.0 f x.2
 
-  started_func : (f : ℕ) → m.start ≡ Some f → f < length (funcs_of m)
+  pub started_func : (f : ℕ) → m.start ≡ Some f → f < length (funcs_of m)
   started_func f h = below (length (funcs_of m)) f (names.start f h)
 
   -- where a function is there so is a type
@@ -98,32 +101,33 @@ module _ (m : Module) (names : TreeNamesOnly (with_entry (each_index m)) m) wher
       by true e k = let f = is_some_there (func_named m name) e in typed f.0 (named_func name f.0 f.1)
       by false e k = absurd (let q = k in cc)
 
-  module _ (env : Environment) (i : Inst) (is : IsInst env (one (with_empty_func m)) 0 (with_empty_func m) i) where
+  module _ (env : Environment) (fs : List tree.Func) (i : Inst) (is : IsInst env (one (with_funcs m fs)) 0 (with_funcs m fs) i) where
     -- their addresses
-    pub record HaveAddresses (fs : List ℕ) : Type 0 where
+    pub record HaveAddresses (ns : List ℕ) : Type 0 where
       pub addresses : List ℕ
-      pub are : all_there (slice_get i.funcs) fs ≡ Some addresses
-      pub related : ListRel ((R env m i is).of Functions) fs addresses
+      pub are : all_there (slice_get i.funcs) ns ≡ Some addresses
+      pub related : ListRel ((R env m fs i is).of Functions) ns addresses
 
-    have_addresses : (fs : List ℕ) → ((k f : ℕ) → slice_get fs k ≡ Some f → f < length (funcs_of m)) → HaveAddresses fs
+    have_addresses : (ns : List ℕ) → ((k f : ℕ) → slice_get ns k ≡ Some f → f < length (funcs_of m)) → HaveAddresses ns
     have_addresses [] low = record { addresses = []; are = refl; related = nil }
-    have_addresses (f ∷ fs) low =
-        let x = func_there env m i is f (low 0 f refl) in
-        let r = have_addresses fs (λ k. low (suc k)) in
-        record { addresses = x.address ∷ r.addresses; are = rw (x.is_there, r.are) refl; related = cons (func_stands env m i is f x.address x.named) r.related }
+    have_addresses (f ∷ ns) low =
+        let x = func_there env m fs i is f (low 0 f refl) in
+        let r = have_addresses ns (λ k. low (suc k)) in
+        record { addresses = x.address ∷ r.addresses; are = rw (x.is_there, r.are) refl; related = cons (func_stands env m fs i is f x.address x.named) r.related }
 
-    started : (o : Option ℕ) → ((f : ℕ) → o ≡ Some f → f < length (funcs_of m)) → ListRel ((R env m i is).of Functions) (start_of o) (start_in i o ++ [])
+    pub started : (o : Option ℕ) → ((f : ℕ) → o ≡ Some f → f < length (funcs_of m)) → ListRel ((R env m fs i is).of Functions) (start_of o) (start_in i o ++ [])
     started None low = nil
-    started (Some f) low = let x = func_there env m i is f (low f refl) in rw x.is_there (cons (func_stands env m i is f x.address x.named) nil)
+    started (Some f) low = let x = func_there env m fs i is f (low f refl) in rw x.is_there (cons (func_stands env m fs i is f x.address x.named) nil)
 
 -- ---- both ----
 
 module _ (env : Environment) (m : Module) (constructors kept : List Text) (t : State) where
   made_both : (names : TreeNamesOnly (with_entry (each_index m)) m) → MoreMade env m constructors kept → (s : State) → instantiated m MOST_TURNS ≡ Finished s → BothInstantiated env m constructors kept
   made_both names made s h =
+      let more = empty_func m ∷ [] in
       let i = made.inst in
-      let both = both_filled env m i made.shape (apart m i (rows env m i made.shape)) names made.defined made.is_defined MOST_TURNS s h in
-      let called = have_addresses m names env i made.shape (funcs_named m constructors) (named_funcs m names constructors) in
+      let both = both_filled env m more i made.shape (apart m i (rows env m more i made.shape)) names made.defined made.is_defined MOST_TURNS s h in
+      let called = have_addresses m names env more i made.shape (funcs_named m constructors) (named_funcs m names constructors) in
       let filled = segments env (one (with_empty_func m)) (i ∷ []) (joined_stores (own_store env) made.defined) in
       let left = both.left in
       record {
@@ -140,7 +144,7 @@ module _ (env : Environment) (m : Module) (constructors kept : List Text) (t : S
         turns = omega (arith, left);
         funcs = both.funcs;
         related = both.related;
-        called = append_rel (started m names env i made.shape m.start (started_func m names)) called.related;
+        called = append_rel (started m names env more i made.shape m.start (started_func m names)) called.related;
       }
 
 pub both_instantiated : NamingLaws → (env : Environment) (m : Module) (name : Text) (names kept : List Text) (t : State) → IsValid m → first_missing m (name ∷ names) ≡ None →

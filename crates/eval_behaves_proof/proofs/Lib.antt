@@ -45,3 +45,4 @@ mod SegmentCopies
 mod SegmentsAlike
 mod BothFilled
 mod Instantiated
+mod QuietStarts

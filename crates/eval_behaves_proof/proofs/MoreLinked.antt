@@ -146,14 +146,29 @@ module _ (env : Environment) (m : Module) (names : TreeNamesOnly (with_entry (ea
     -- ---- names ----
 
     thing_there : (d : ExportDesc) → ExportNamesOnly (with_entry (each_index m)) d → (x : ExternalValue) × (address_in j d ≡ Some x)
-    thing_there (ex.Func n) h = let l = below (length (funcs_of m)) n h in let e = funcs_many env m j b in let x = slice_get_there j.funcs n (omega (arith, l, e)) in (FuncAt x.0, rw x.1 refl)
-    thing_there (ex.Table n) h = let l = below (length (tables_of m)) n h in let e = tables_many env m j b in let x = slice_get_there j.tables n (omega (arith, l, e)) in (TableAt x.0, rw x.1 refl)
-    thing_there (ex.Memory n) h = let l = below (length (memories_of m)) n h in let e = mems_many env m j b in let x = slice_get_there j.mems n (omega (arith, l, e)) in (MemoryAt x.0, rw x.1 refl)
-    thing_there (ex.Global n) h = let l = below (length (globals_of m)) n h in let e = globals_many env m j b in let x = slice_get_there j.globals n (omega (arith, l, e)) in
+    thing_there (ex.Func n) h =
+        let l = below (length (funcs_of m)) n h in
+        let e = funcs_many env m (empty_func m ∷ []) j b in
+        let x = slice_get_there j.funcs n (omega (arith, l, e)) in
+        (FuncAt x.0, rw x.1 refl)
+    thing_there (ex.Table n) h =
+        let l = below (length (tables_of m)) n h in
+        let e = tables_many env m (empty_func m ∷ []) j b in
+        let x = slice_get_there j.tables n (omega (arith, l, e)) in
+        (TableAt x.0, rw x.1 refl)
+    thing_there (ex.Memory n) h =
+        let l = below (length (memories_of m)) n h in
+        let e = mems_many env m (empty_func m ∷ []) j b in
+        let x = slice_get_there j.mems n (omega (arith, l, e)) in
+        (MemoryAt x.0, rw x.1 refl)
+    thing_there (ex.Global n) h =
+        let l = below (length (globals_of m)) n h in
+        let e = globals_many env m (empty_func m ∷ []) j b in
+        let x = slice_get_there j.globals n (omega (arith, l, e)) in
         (GlobalAt x.0, rw x.1 refl)
 
     last_there : (x : ExternalValue) × (address_in j (ex.Func (length (funcs_of m))) ≡ Some x)
-    last_there = let e = funcs_many env m j b in let x = slice_get_there j.funcs (length (funcs_of m)) (omega (arith, e)) in (FuncAt x.0, rw x.1 refl)
+    last_there = let e = funcs_many env m (empty_func m ∷ []) j b in let x = slice_get_there j.funcs (length (funcs_of m)) (omega (arith, e)) in (FuncAt x.0, rw x.1 refl)
 
     left_there : (evaluated kept : List Text) (e d : Export) → ExportNamesOnly (with_entry (each_index m)) e.desc → export_left evaluated kept (length (funcs_of m)) e ≡ Some d →
         (x : ExternalValue) × (address_in j d.desc ≡ Some x)

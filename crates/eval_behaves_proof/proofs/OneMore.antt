@@ -11,6 +11,7 @@ use Rattle.wasm_tree.specs.declared.space.Space.{Space}
 use Rattle.wasm_tree.specs.declared.space.Space.TheVariants.{Types, Functions, Tables, Memories, Globals, ElementSegments, DataSegments}
 use Rattle.wasm_tree.specs.declared.module.ConstExpr.{ConstExpr}
 use Rattle.wasm_tree.specs.declared.module.ConstExpr.TheVariants as const
+use Rattle.wasm_tree.specs.declared.module.Func as tree
 use Rattle.wasm_tree.specs.declared.module.Module.{Module}
 use Rattle.wasm_tree.specs.Spaces.{imported_funcs, imported_tables, imported_memories, imported_globals, funcs_of, tables_of, memories_of, globals_of}
 use Rattle.wasm_meaning.specs.State.{Val, Ref, FuncRef, Inst}
@@ -22,6 +23,44 @@ use Rattle.world_simulation.proofs.Instancing.{IsInst, is_space}
 use Rattle.world_simulation.proofs.Places.{map_length, number_is}
 use Rattle.eval_snapshot_spec.specs.Snapshot.{empty_func}
 use Rattle.eval_behaves_proof.specs.Worlds.{with_empty_func}
+
+-- the module with more functions, if any
+abbrev pub with_funcs : Module → List tree.Func → Module
+with_funcs m fs = record m { funcs = m.funcs ++ fs }
+
+-- ---- how many there are ----
+
+module _ (env : Environment) (m : Module) (fs : List tree.Func) (i : Inst) (is : IsInst env (one (with_funcs m fs)) 0 (with_funcs m fs) i) where
+  pub funcs_many : length i.funcs ≡ length (funcs_of m) + length fs
+  funcs_many =
+      let s = (is_space env (one (with_funcs m fs)) Functions 0 (with_funcs m fs) i.funcs is.funcs).size in
+      let e = funcs_counted m.imports 0 in
+      let f = length-append (imported_funcs m.imports) (map (λ f. f.ty) m.funcs) in
+      let g = map_length (λ f. f.ty) m.funcs in
+      let k = length-append m.funcs fs in
+      omega (arith, s, e, f, g, k)
+
+  pub tables_many : length i.tables ≡ length (tables_of m)
+  tables_many =
+      let s = (is_space env (one (with_funcs m fs)) Tables 0 (with_funcs m fs) i.tables is.tables).size in
+      let e = tables_counted m.imports 0 in
+      let f = length-append (imported_tables m.imports) m.tables in
+      omega (arith, s, e, f)
+
+  pub mems_many : length i.mems ≡ length (memories_of m)
+  mems_many =
+      let s = (is_space env (one (with_funcs m fs)) Memories 0 (with_funcs m fs) i.mems is.mems).size in
+      let e = memories_counted m.imports 0 in
+      let f = length-append (imported_memories m.imports) m.mems in
+      omega (arith, s, e, f)
+
+  pub globals_many : length i.globals ≡ length (globals_of m)
+  globals_many =
+      let s = (is_space env (one (with_funcs m fs)) Globals 0 (with_funcs m fs) i.globals is.globals).size in
+      let e = globals_counted m.imports 0 in
+      let f = length-append (imported_globals m.imports) (map (λ g. g.ty) m.globals) in
+      let g = map_length (λ g. g.ty) m.globals in
+      omega (arith, s, e, f, g)
 
 module _ (env : Environment) (m : Module) where
   abbrev pub more : Module
@@ -61,34 +100,6 @@ module _ (env : Environment) (m : Module) where
             ∙ numbers_at (own_count k env) (defined_count k more) j.0 (omega (arith, l, few)) ∙ ap Some (sym r.1)
       ] in
       ap (λ l. slice_get l n) (sym second) ∙ ap (λ l. slice_get (l ++ numbers (own_count k env) (defined_count k more)) n) (sym both) ∙ stays
-
-  -- ---- how many there are ----
-
-  module _ (i : Inst) (is : IsInst env (one more) 0 more i) where
-    pub funcs_many : length i.funcs ≡ length (funcs_of m) + 1
-    funcs_many =
-        let s = (is_space env (one more) Functions 0 more i.funcs is.funcs).size in
-        let e = funcs_counted m.imports 0 in
-        let f = length-append (imported_funcs m.imports) (map (λ f. f.ty) m.funcs) in
-        let g = map_length (λ f. f.ty) m.funcs in
-        let k = length-append m.funcs (empty_func m ∷ []) in
-        omega (arith, s, e, f, g, k)
-
-    pub tables_many : length i.tables ≡ length (tables_of m)
-    tables_many = let s = (is_space env (one more) Tables 0 more i.tables is.tables).size in let e = tables_counted m.imports 0 in let f = length-append (imported_tables m.imports) m.tables in
-        omega (arith, s, e, f)
-
-    pub mems_many : length i.mems ≡ length (memories_of m)
-    mems_many = let s = (is_space env (one more) Memories 0 more i.mems is.mems).size in let e = memories_counted m.imports 0 in let f = length-append (imported_memories m.imports) m.mems in
-        omega (arith, s, e, f)
-
-    pub globals_many : length i.globals ≡ length (globals_of m)
-    globals_many =
-        let s = (is_space env (one more) Globals 0 more i.globals is.globals).size in
-        let e = globals_counted m.imports 0 in
-        let f = length-append (imported_globals m.imports) (map (λ g. g.ty) m.globals) in
-        let g = map_length (λ g. g.ty) m.globals in
-        omega (arith, s, e, f, g)
 
   -- ---- values of constant expressions ----
 

@@ -19,6 +19,7 @@ use Rattle.eval_proof.specs.Alone.{LeavesAlone}
 use Rattle.eval_proof.specs.QuietCalls.{QuietCallsSimulate}
 use Rattle.eval_proof.specs.Laws.{EndsAreReached}
 use Rattle.eval_snapshot_spec.specs.Evaluated.{funcs_named}
+use Rattle.eval_snapshot_spec.specs.Snapshot.{empty_func}
 use Rattle.eval_behaves_proof.specs.Worlds.{addresses_of, evaluated_world, with_empty_func}
 use Rattle.eval_behaves_proof.specs.Addresses.{IsTheMachines, names_at, stands_at}
 use Rattle.eval_behaves_proof.proofs.CallsAlike.{calls_alike}
@@ -30,7 +31,7 @@ abbrev pub start_of : Option ℕ → List ℕ
 start_of None = []
 start_of (Some func) = func ∷ []
 
-start_first : (m : Module) (s : State) (o : Option ℕ) (ns : List ℕ) → called_in_order m (after_start m (Finished s) o) ns ≡ called_in_order m (Finished s) (start_of o ++ ns)
+pub start_first : (m : Module) (s : State) (o : Option ℕ) (ns : List ℕ) → called_in_order m (after_start m (Finished s) o) ns ≡ called_in_order m (Finished s) (start_of o ++ ns)
 start_first m s None ns = refl
 start_first m s (Some func) ns = refl
 
@@ -61,8 +62,8 @@ module _ (known : QuietCallsAreKnown) (lead : QuietCallsSimulate) (agree : Steps
   quiet_run b e =
       let ns = funcs_named m constructors in
       let in_order : called_in_order m (Finished b.quiet) (start_of m.start ++ ns) ≡ Finished t = sym (start_first m b.quiet m.start ns) ∙ ap (λ (c : Stage). called_in_order m (after_start m c m.start) ns) (sym b.is_quiet) ∙ e in
-      let r = (calls_alike known lead agree runs reached m (stands_at m b.inst) (names_at m b.inst) (relates m b.inst) (apart m b.inst (rows env m b.inst b.shape)) (start_of m.start ++ ns) (b.begun.starts ++ b.addresses) b.called b.quiet t b.begun.store
-      b.funcs b.turns b.related in_order).ends in
+      let r = (calls_alike known lead agree runs reached m (stands_at m b.inst) (names_at m b.inst) (relates m b.inst) (apart m b.inst (rows env m (empty_func m ∷ []) b.inst b.shape))
+      (start_of m.start ++ ns) (b.begun.starts ++ b.addresses) b.called b.quiet t b.begun.store b.funcs b.turns b.related in_order).ends in
       record {
         machines = record {
           begun = record b.begun { store = r.after; starts = [] };

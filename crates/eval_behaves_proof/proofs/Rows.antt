@@ -1,9 +1,10 @@
 -- In the instance of a module with one more function each index space that may be written has what is imported first, and then what is defined in a row.
-use Rattle.std.proofs.Common.{◌≡◌, ◌∙◌, sym, ap, refl, arith, ◌++◌, length, [], Some, true, true≢false}
+use Rattle.std.proofs.Common.{◌≡◌, ◌∙◌, sym, ap, refl, arith, ◌++◌, length, List, [], Some, true, true≢false}
 use Rattle.base_lists.specs.Places.{numbers}
 use Rattle.base_lists.proofs.Options.{and_then_is, all_there_length}
 use Rattle.wasm_tree.specs.declared.space.Space.{Space}
 use Rattle.wasm_tree.specs.declared.space.Space.TheVariants.{Types, Functions, Tables, Memories, Globals, ElementSegments, DataSegments}
+use Rattle.wasm_tree.specs.declared.module.Func as tree
 use Rattle.wasm_tree.specs.declared.module.Module.{Module}
 use Rattle.wasm_meaning.specs.State.{Inst}
 use Rattle.wasm_meaning.specs.Linking.{imports_of}
@@ -14,13 +15,13 @@ use Rattle.world_simulation.specs.Alone.{addresses, import_places, one}
 use Rattle.world_simulation.proofs.Alone.{space_is}
 use Rattle.world_simulation.proofs.Instancing.{IsInst}
 use Rattle.eval_behaves_proof.specs.Addresses.{addresses_in}
-use Rattle.eval_behaves_proof.specs.Worlds.{with_empty_func}
+use Rattle.eval_behaves_proof.proofs.OneMore.{with_funcs}
 use Rattle.eval_behaves_proof.proofs.Related.{InARow}
 
-module _ (env : Environment) (m : Module) (i : Inst) (is : IsInst env (one (with_empty_func m)) 0 (with_empty_func m) i) where
-  in_space : (k : Space) → imports_of k (with_empty_func m) ≡ imports_of k m → space env (one (with_empty_func m)) k 0 (with_empty_func m) ≡ Some (addresses_in i k) → InARow m i k
+module _ (env : Environment) (m : Module) (fs : List tree.Func) (i : Inst) (is : IsInst env (one (with_funcs m fs)) 0 (with_funcs m fs) i) where
+  in_space : (k : Space) → imports_of k (with_funcs m fs) ≡ imports_of k m → space env (one (with_funcs m fs)) k 0 (with_funcs m fs) ≡ Some (addresses_in i k) → InARow m i k
   in_space k same h =
-      let t = with_empty_func m in
+      let t = with_funcs m fs in
       let x = and_then_is (addresses env t.types t.imports k) _ (addresses_in i k) (sym (space_is env t k) ∙ h) in
       let all : x.0 ++ numbers (own_count k env) (defined_count k t) ≡ addresses_in i k = cc in
       record { imported = x.0; many = let size = all_there_length _ (import_places k t.imports) x.0 x.1 ∙ ap length same in omega (arith, size); base = own_count k env; count = defined_count k t; all = sym all }

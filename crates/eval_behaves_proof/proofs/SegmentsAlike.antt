@@ -12,6 +12,7 @@ use Rattle.wasm_tree.specs.declared.module.ElemSeg.{ElemSeg}
 use Rattle.wasm_tree.specs.declared.module.DataMode.{DataMode}
 use Rattle.wasm_tree.specs.declared.module.DataMode.TheVariants as data'
 use Rattle.wasm_tree.specs.declared.module.DataSeg.{DataSeg}
+use Rattle.wasm_tree.specs.declared.module.Func as tree
 use Rattle.wasm_tree.specs.declared.module.Module.{Module}
 use Rattle.wasm_tree.specs.Spaces.{memories_of, tables_of}
 use Rattle.wasm_meaning.specs.Outcomes.{Gives, overwrite}
@@ -32,7 +33,7 @@ use Rattle.index_remap.specs.Related as related
 use Rattle.eval_spec.specs.State.{State, Finished}
 use Rattle.eval_spec.specs.Stops.{is_imported, written_after}
 use Rattle.eval_spec.specs.Instantiation.{copied_slots, data_tests, elem_tests, own_inst, place_in, reads_global, value_in, with_data_mode, with_elem_mode}
-use Rattle.eval_behaves_proof.specs.Worlds.{with_empty_func}
+use Rattle.eval_behaves_proof.proofs.OneMore.{with_funcs}
 use Rattle.eval_behaves_proof.proofs.Overwritten.{KnownAfter, copied_off}
 use Rattle.eval_behaves_proof.proofs.Related.{relates}
 use Rattle.eval_behaves_proof.proofs.SlotsTold.{other_table, this_table}
@@ -46,9 +47,9 @@ abbrev pub IsWhole : ElemMode → ElemSeg → Elem → Type 0
 IsWhole (elem.Active table offset) e y = length y.items ≡ length e.items
 IsWhole _ e y = Unit {0}
 
-module _ (env : Environment) (m : Module) (i : Inst) (is : IsInst env (one (with_empty_func m)) 0 (with_empty_func m) i) (apart : OneToOneWhereWritten (R env m i is)) where
+module _ (env : Environment) (m : Module) (fs : List tree.Func) (i : Inst) (is : IsInst env (one (with_funcs m fs)) 0 (with_funcs m fs) i) (apart : OneToOneWhereWritten (R env m fs i is)) where
   abbrev S : Pairing
-  S = R env m i is
+  S = R env m fs i is
 
   abbrev pub quiet_task : {A : Type 0} → ℕ → A → PlacedSegment A
   quiet_task n e = record { part = 0; inst = own_inst m; address = n; segment = e }
@@ -75,11 +76,11 @@ module _ (env : Environment) (m : Module) (i : Inst) (is : IsInst env (one (with
 
   elem_related : (n : ℕ) → n < length m.elems → S.of ElementSegments n n
   elem_related n lt = relates m i ElementSegments n n
-      (ap (nat_lt n) (none_imported ElementSegments refl m.imports 0) ∙ le-ltb n 0 (omega arith)) (elem_itself env m i is n lt)
+      (ap (nat_lt n) (none_imported ElementSegments refl m.imports 0) ∙ le-ltb n 0 (omega arith)) (elem_itself env m fs i is n lt)
 
   data_related : (n : ℕ) → n < length m.datas → S.of DataSegments n n
   data_related n lt = relates m i DataSegments n n
-      (ap (nat_lt n) (none_imported DataSegments refl m.imports 0) ∙ le-ltb n 0 (omega arith)) (data_itself env m i is n lt)
+      (ap (nat_lt n) (none_imported DataSegments refl m.imports 0) ∙ le-ltb n 0 (omega arith)) (data_itself env m fs i is n lt)
 
   -- ---- element segments ----
 
@@ -123,10 +124,10 @@ module _ (env : Environment) (m : Module) (i : Inst) (is : IsInst env (one (with
       ((y : Elem) → slice_get s.store.elems n ≡ Some y → length y.items ≡ length e.items) →
       reads_global offset ≡ false → is_imported m Tables table ≡ false → ElemCopied s.store n (own_inst m) table (offset_in (value_in m) offset) →
       with_slots s n table (place_in m offset) (length e.items) (copy_elem s.store n (own_inst m) table (offset_in (value_in m) offset)).store ≡ t →
-      ElemAlike n s t (copy_elem x n i table (offset_in (value_there env m i is) offset))
+      ElemAlike n s t (copy_elem x n i table (offset_in (value_there env m fs i is) offset))
   elem_went s t x n e table offset low r whole reads own c same =
       let index = numbers_is (length (tables_of m)) table c.address c.address_is in
-      let there = table_there env m i is table index.0 in
+      let there = table_there env m fs i is table index.0 in
       let at : S.of Tables table there.address = relates m i Tables table there.address own there.named in
       let table_is : slice_get s.store.tables table ≡ Some c.table = ap (slice_get s.store.tables) index.1 ∙ c.table_is in
       let u = both_there (r.tables {a = table} {b = there.address} at) c.table table_is in
@@ -143,10 +144,10 @@ module _ (env : Environment) (m : Module) (i : Inst) (is : IsInst env (one (with
       let left : (copy_elem s.store n (own_inst m) table (offset_in (value_in m) offset)).store ≡ with_table s.store n table c.table c.slots =
       c.left ∙ ap (λ a. with_table s.store n a c.table c.slots) (sym index.1) in
       let end : state (with_table s.store n table c.table c.slots) c.place ≡ t = sym (ap₂ state left (ap (λ o. unwrap_or o 0) c.place_is)) ∙ same in
-      subst (λ t. ElemAlike n s t (copy_elem x n i table (offset_in (value_there env m i is) offset))) end (record {
+      subst (λ t. ElemAlike n s t (copy_elem x n i table (offset_in (value_there env m fs i is) offset))) end (record {
         copied = record {
           store = with_table x n there.address u.0 k.slots;
-          filled = elem_copies x n i table _ c.place there.address u.0 d.0 k.slots (offset_stays env m i is offset c.place reads c.place_is) there.is_there u.1 d.1 k.written;
+          filled = elem_copies x n i table _ c.place there.address u.0 d.0 k.slots (offset_stays env m fs i is offset c.place reads c.place_is) there.is_there u.1 d.1 k.written;
           related = second;
           funcs = refl;
           turns = refl;
@@ -159,7 +160,7 @@ module _ (env : Environment) (m : Module) (i : Inst) (is : IsInst env (one (with
 
   pub elem_alike : (s t : State) (x : Store) (n : ℕ) (e : ElemSeg) → n < length m.elems → StoreRelOff S s.unknown s.store x → (mode : ElemMode) →
       ((y : Elem) → slice_get s.store.elems n ≡ Some y → IsWhole mode e y) → e.mode ≡ mode → with_elem_mode m s (quiet_task n e) mode ≡ Finished t →
-      ElemAlike n s t (run_elem_with (value_there env m i is) x (task n e) mode)
+      ElemAlike n s t (run_elem_with (value_there env m fs i is) x (task n e) mode)
   elem_alike s t x n e low r elem.Passive whole is_mode h = elem_none n s t x r h
   elem_alike s t x n e low r elem.Declarative whole is_mode h = elem_none n s t x r h
   elem_alike s t x n e low r (elem.Active table offset) whole is_mode h =
@@ -177,10 +178,10 @@ module _ (env : Environment) (m : Module) (i : Inst) (is : IsInst env (one (with
       is_imported m Memories memory ≡ false →
       DataCopied s.store n (own_inst m) memory (offset_in (value_in m) offset) →
       record s { store = (copy_data s.store n (own_inst m) memory (offset_in (value_in m) offset)).store; written = written } ≡ t →
-      CopiedAlike s t (copy_data x n i memory (offset_in (value_there env m i is) offset))
+      CopiedAlike s t (copy_data x n i memory (offset_in (value_there env m fs i is) offset))
   data_went s t x n memory offset written low r reads own c same =
       let index = numbers_is (length (memories_of m)) memory c.address c.address_is in
-      let there = memory_there env m i is memory index.0 in
+      let there = memory_there env m fs i is memory index.0 in
       let at : S.of Memories memory there.address = relates m i Memories memory there.address own there.named in
       let memory_is : slice_get s.store.mems memory ≡ Some c.memory = ap (slice_get s.store.mems) index.1 ∙ c.memory_is in
       let u = both_there (r.mems {a = memory} {b = there.address} at) c.memory memory_is in
@@ -192,9 +193,9 @@ module _ (env : Environment) (m : Module) (i : Inst) (is : IsInst env (one (with
       let left : (copy_data s.store n (own_inst m) memory (offset_in (value_in m) offset)).store ≡ with_memory s.store n memory c.memory c.bytes =
       c.left ∙ ap (λ a. with_memory s.store n a c.memory c.bytes) (sym index.1) in
       let end : state (with_memory s.store n memory c.memory c.bytes) ≡ t = sym (ap state left) ∙ same in
-      subst (λ t. CopiedAlike s t (copy_data x n i memory (offset_in (value_there env m i is) offset))) end (record {
+      subst (λ t. CopiedAlike s t (copy_data x n i memory (offset_in (value_there env m fs i is) offset))) end (record {
         store = with_memory x n there.address c.memory c.bytes;
-        filled = data_copies x n i memory _ c.place there.address c.memory d.0 c.bytes (offset_stays env m i is offset c.place reads c.place_is) there.is_there memory_there_is d.1 written_there;
+        filled = data_copies x n i memory _ c.place there.address c.memory d.0 c.bytes (offset_stays env m fs i is offset c.place reads c.place_is) there.is_there memory_there_is d.1 written_there;
         related = second;
         funcs = refl;
         turns = refl;
@@ -202,7 +203,7 @@ module _ (env : Environment) (m : Module) (i : Inst) (is : IsInst env (one (with
 
   pub data_alike : (s t : State) (x : Store) (n : ℕ) (d : DataSeg) → n < length m.datas → StoreRelOff S s.unknown s.store x → (mode : DataMode) → d.mode ≡ mode →
       with_data_mode m s (quiet_task n d) mode ≡ Finished t →
-      CopiedAlike s t (run_data_with (value_there env m i is) x (task n d) mode)
+      CopiedAlike s t (run_data_with (value_there env m fs i is) x (task n d) mode)
   data_alike s t x n d low r data'.Passive is_mode h = nothing_copied s t x r h
   data_alike s t x n d low r (data'.Active memory offset) is_mode h =
       let filled = run_data_with (value_in m) s.store (quiet_task n d) d.mode in

@@ -1,5 +1,5 @@
 -- Small modules after evaluated constructors, and their snapshots: what is seen of both, computed.
-use Rattle.std.proofs.Common.{◌≡◌, refl, rules}
+use Rattle.std.proofs.Common.{◌≡◌, refl, option_map, rules}
 use Rattle.std.specs.Prelude.{ℕ, pos, List, [], ◌∷◌, Some, None, true, false}
 use Rattle.wasm_tree.specs.declared.instr.Instr.{Instr, out-Instr, the_lemmas}
 use Rattle.wasm_tree.specs.declared.instr.Instr.TheVariants as i
@@ -18,15 +18,17 @@ use Rattle.wasm_tree.specs.declared.module.Func.{Func}
 use Rattle.wasm_tree.specs.declared.module.GlobalDef.{GlobalDef}
 use Rattle.wasm_tree.specs.declared.module.ImportDesc.TheVariants as im
 use Rattle.wasm_tree.specs.declared.module.Module.{Module}
-use Rattle.wasm_num.specs.Operations.{wrapped, signed}
-use Rattle.wasm_meaning.specs.State.{Text}
+use Rattle.wasm_num.specs.Operations.{W32, wrapped, signed}
+use Rattle.wasm_meaning.specs.State.{Text, Global, Num}
 use Rattle.wasm_meaning.specs.Access.{store_from, stored, little_bytes}
 use Rattle.wasm_meaning.specs.Environment.{Environment, Number, OwnFunc}
-use Rattle.wasm_meaning.specs.World.{alone}
+use Rattle.wasm_meaning.specs.World.{Begun, alone}
 use Rattle.wasm_meaning.specs.Run.{Event, Linked, LinkFault, Asked, Returned, Got, Done, BadMove, Move, Call, Answer, Get, Set, Named, events}
+use Rattle.eval_spec.specs.State.{State}
+use Rattle.eval_spec.specs.Evaluation.{state_at_end}
 use Rattle.eval_snapshot_spec.specs.Evaluated.{evaluated_tree}
 use Rattle.eval_snapshot_spec.specs.Snapshot.{declared_snapshot}
-use Rattle.eval_behaves_proof.specs.Worlds.{events_evaluated}
+use Rattle.eval_behaves_proof.specs.Worlds.{events_evaluated, started_begun}
 
 -- ---- names, types and functions ----
 
@@ -120,6 +122,23 @@ the_view_opens_at_once = refl
 before_setting : events_evaluated setting [] [] [] (Call b [] ∷ (Call a [] ∷ (Call b [] ∷ []))) 20 ≡ Linked ∷ (number 0 ∷ (Returned [] ∷ (number 7 ∷ [])))
 unfolding out-Instr denote.Hole.Carrier.out wrapped
 before_setting = refl
+
+-- ---- a start, where none is evaluated ----
+
+-- the start sets the global, in the quiet run and in an environment that offers nothing
+abbrev pub starting : Module
+starting = record setting { start = Some 0 }
+
+abbrev pub seven_is_left : List Global
+seven_is_left = record { ty = mutable_i32; value = Num W32 7 } ∷ []
+
+quiet_start : option_map (λ (s : State). s.store.globals) (state_at_end starting []) ≡ Some seven_is_left
+unfolding out-Instr denote.Hole.Carrier.out wrapped
+quiet_start = refl
+
+start_there : option_map (λ (b : Begun). b.store.globals) (started_begun [] starting) ≡ Some seven_is_left
+unfolding out-Instr denote.Hole.Carrier.out wrapped
+start_there = refl
 
 -- ---- a constructor whose name is kept ----
 

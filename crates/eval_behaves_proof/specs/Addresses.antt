@@ -1,5 +1,5 @@
 -- The quiet run, in whose store each index is an address, as the machine's run in an environment: which address an index denotes there.
-use Rattle.std.specs.Prelude.{◌≡◌, ℕ, List, [], ◌∷◌, length, Bool, false, not, ◌&&◌, None, Some, slice_get, nat_lt, IsTrue}
+use Rattle.std.specs.Prelude.{◌≡◌, ℕ, List, [], ◌∷◌, length, Bool, false, not, ◌&&◌, Option, None, Some, slice_get, nat_lt, IsTrue}
 use Rattle.wasm_tree.specs.declared.space.Space.{Space}
 use Rattle.wasm_tree.specs.declared.space.Space.TheVariants.{Types, Functions, Tables, Memories, Globals, ElementSegments, DataSegments}
 use Rattle.wasm_tree.specs.declared.module.Module.{Module}
@@ -17,7 +17,7 @@ use Rattle.eval_spec.specs.Stops.{is_imported}
 use Rattle.eval_spec.specs.Instantiation.{own_inst}
 use Rattle.eval_spec.specs.Evaluation.{evaluated}
 use Rattle.eval_snapshot_spec.specs.Evaluated.{first_missing, funcs_named}
-use Rattle.eval_behaves_proof.specs.Worlds.{evaluated_begun, with_empty_func}
+use Rattle.eval_behaves_proof.specs.Worlds.{evaluated_begun, started_begun, with_empty_func}
 
 -- the addresses of an index space; types have none
 abbrev pub addresses_in : Inst → Space → List ℕ
@@ -37,17 +37,32 @@ names_at m i k n a = nat_lt n (length (addresses_in (own_inst m) k)) && is_addre
 abbrev pub stands_at : Module → Inst → Space → (index address : ℕ) → Bool
 stands_at m i k n a = names_at m i k n a && not (not (same_space k Functions) && is_imported m k n)
 
--- In this environment the instantiation, the start and the calls of the constructors come to their ends, and leave what the quiet run leaves, but for what is unknown.
-pub record IsTheMachines (env : Environment) (m : Module) (constructors kept : List Text) (t : State) : Type 0 where
+-- What an environment makes of `other`, which is the module or the module with one function more: segments do not trap, the calls come to their ends, and what they leave is what the
+-- quiet run leaves, but for what is unknown.
+pub record LeavesTheSame (env : Environment) (m other : Module) (made : Option Begun) (t : State) : Type 0 where
   pub begun : Begun
-  pub is_begun : evaluated_begun env m constructors kept ≡ Some begun
+  pub is_begun : made ≡ Some begun
   pub untrapped : begun.trapped ≡ false
   pub inst : Inst
-  pub is_inst : insts_from env (one (with_empty_func m)) 0 (one (with_empty_func m)) ≡ Some (inst ∷ [])
+  pub is_inst : insts_from env (one other) 0 (one other) ≡ Some (inst ∷ [])
   pub related : StoreRelOff (passed (stands_at m inst) (names_at m inst) []) t.unknown t.store begun.store
 
--- So it is in every environment that links the module, where at least one constructor is named. (Where none is, the module may have no type for the function that is added.)
+-- In this environment the instantiation, with one function more, the start and the calls of the constructors come to their ends, and leave what the quiet run leaves, but for what is
+-- unknown.
+abbrev pub IsTheMachines : Environment → Module → (constructors kept : List Text) → State → Type 0
+IsTheMachines env m constructors kept t = LeavesTheSame env m (with_empty_func m) (evaluated_begun env m constructors kept) t
+
+-- so do the instantiation of the module itself and its start, as the quiet run of no constructor
+abbrev pub StartIsTheMachines : Environment → Module → State → Type 0
+StartIsTheMachines env m t = LeavesTheSame env m m (started_begun env m) t
+
+-- So it is in every environment that links the module, where at least one constructor is named.
 abbrev pub QuietRunsAreTheMachines : Type 0
 QuietRunsAreTheMachines =
     (m : Module) (name : Text) (names kept : List Text) (t : State) → IsValid m → first_missing m (name ∷ names) ≡ None → evaluated m (funcs_named m (name ∷ names)) ≡ Finished t →
     (env : Environment) → IsTrue (is_environment env) → IsTrue (links env (alone m)) → IsTheMachines env m (name ∷ names) kept t
+
+-- And where none is, of the module itself. (With one function more it need not be valid then, since it may have no type for this function.)
+abbrev pub QuietStartsAreTheMachines : Type 0
+QuietStartsAreTheMachines =
+    (m : Module) (t : State) → IsValid m → evaluated m [] ≡ Finished t → (env : Environment) → IsTrue (is_environment env) → IsTrue (links env (alone m)) → StartIsTheMachines env m t

@@ -63,10 +63,16 @@ addresses_of env m funcs = space env (one m) Functions 0 m >>= λ addresses. all
 abbrev pub evaluated_from : Begun → (constructors : List ℕ) → Option Begun
 evaluated_from b constructors = all_called b.store (b.starts ++ constructors) >>= λ s. Some (record b { store = s; starts = [] })
 
--- What the first step makes of the world: the instantiation, the start and the calls of the constructors. None where the environment does not link it.
+-- What the first step makes of the world: the instantiation, the start and the calls of the constructors. None where the environment does not link it, and also where a constructor
+-- is not there, or the start or a constructor traps, waits for the host or does not end within `most_steps`. (Of evaluated constructors of a valid module this never comes:
+-- `quiet_runs_are_the_machines`.)
 abbrev pub evaluated_begun : Environment → Module → (evaluated kept : List Text) → Option Begun
 evaluated_begun env m evaluated kept =
     instantiate env (evaluated_world m evaluated kept) >>= λ b. addresses_of env (with_empty_func m) (funcs_named m evaluated) >>= λ constructors. evaluated_from b constructors
+
+-- where no constructor is evaluated: the instantiation of the module itself, and its start
+abbrev pub started_begun : Environment → Module → Option Begun
+started_begun env m = instantiate env (alone m) >>= λ b. evaluated_from b []
 
 -- The events of the first n steps. Where no constructor is evaluated it is the module's own world.
 abbrev pub events_evaluated : Module → (evaluated kept : List Text) → Environment → List Move → ℕ → List Event

@@ -2,7 +2,7 @@
 //! snapshots in `proofs/WrongSnapshots`.
 #![tactic(auto)]
 
-ghost use Rattle.eval_behaves_proof.specs.Addresses.{QuietRunsAreTheMachines};
+ghost use Rattle.eval_behaves_proof.specs.Addresses.{QuietRunsAreTheMachines, QuietStartsAreTheMachines};
 ghost use Rattle.eval_behaves_proof.specs.Laws.{EvaluatedRunsAreDetermined, NoneIsEquivalent, ShorterEvaluatedRunsArePrefixes, SnapshotEquivalent};
 
 use eval_numbers_proof::evaluated_numbers_are_in_range;
@@ -25,9 +25,11 @@ pub fn evaluated_runs_are_determined()
 {}
 
 /// A quiet evaluation is the machine's, in every environment that links the module (WebAssembly Core 2.0, sections 4.5.4 and 4.5.5): there the instantiation, with one function
-/// more, the start and the calls of the constructors come to their ends too, no segment traps, and what they leave is related to what the quiet run leaves, but for what is unknown.
+/// more, the start and the calls of the constructors come to their ends too, no segment traps, and what they leave is related to what the quiet run leaves, but for what is unknown
+/// (`machines`). Where no constructor is named, so it is of the instantiation of the module itself and its start (`starts`).
 pub fn quiet_runs_are_the_machines()
     ensures machines { QuietRunsAreTheMachines }
+    ensures starts { QuietStartsAreTheMachines }
 {
     renumbering_keeps_typing();
     quiet_steps_are_known();

@@ -9,7 +9,7 @@ use Rattle.eval_proof.specs.Laws.{CountedAreQuiet, NoneCountedBefore}
 use Rattle.eval_numbers_proof.specs.Ranges.{BeginsInRange}
 use Rattle.eval_snapshot_spec.specs.Evaluated.{evaluated_count, evaluated_tree, first_missing, funcs_named, tree_in}
 use Rattle.eval_snapshot_spec.specs.After.{IsAfter}
-use Rattle.eval_behaves_proof.specs.Addresses.{QuietRunsAreTheMachines}
+use Rattle.eval_behaves_proof.specs.Addresses.{QuietRunsAreTheMachines, QuietStartsAreTheMachines}
 use Rattle.eval_behaves_proof.specs.Laws.{ObservationallyEquivalent, NoneIsEquivalent, SnapshotEquivalent}
 use Rattle.tools_cli_eval.specs.Trees.{AreEvaluatedAsByTheMachine, EvaluatedAsByTheMachine, IsSnapshot, TreesBehave}
 use Rattle.tools_cli_eval.proofs.TreesHold.{finished_state, snapshot_at}
@@ -55,10 +55,13 @@ module _ (counted : CountedAreQuiet) (none : NoneCountedBefore) (same : Snapshot
     | inr unquiet ↦ stopped m names kept unquiet
   ]
 
-module _ (counted : CountedAreQuiet) (none : NoneCountedBefore) (machines : QuietRunsAreTheMachines) where
+module _ (counted : CountedAreQuiet) (none : NoneCountedBefore) (machines : QuietRunsAreTheMachines) (starts : QuietStartsAreTheMachines) where
+  of_none : (m : Module) (kept : List Text) → IsValid m → EvaluatedAsByTheMachine m [] kept
+  of_none m kept valid = λ end quiet env ok linked. starts m end valid quiet env ok linked
+
   -- what a state tells after constructors is what their quiet evaluation left
   after_them : (m : Module) (names kept : List Text) (s : State) → IsValid m → IsAfter m names s → EvaluatedAsByTheMachine m names kept
-  after_them m [] kept s valid is = tt
+  after_them m [] kept s valid is = of_none m kept valid
   after_them m (name ∷ names) kept s valid is = (is.end, is.quiet, λ env ok linked. machines m name names kept is.end valid is.named is.quiet env ok linked)
 
   pub run_them : AreEvaluatedAsByTheMachine
@@ -67,5 +70,5 @@ module _ (counted : CountedAreQuiet) (none : NoneCountedBefore) (machines : Quie
         let q = counted m (funcs_named m names) quiet in
         let is = snapshot_at m names kept there q.0 (ap state_of q.1) in
         after_them m (take (evaluated_count m names) names) kept is.state valid is.after
-    | inr unquiet ↦ subst (λ n. EvaluatedAsByTheMachine m (take n names) kept) (sym (none m (funcs_named m names) unquiet)) tt
+    | inr unquiet ↦ subst (λ n. EvaluatedAsByTheMachine m (take n names) kept) (sym (none m (funcs_named m names) unquiet)) (of_none m kept valid)
   ]

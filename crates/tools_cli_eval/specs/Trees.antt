@@ -13,7 +13,7 @@ use Rattle.eval_numbers_proof.specs.Ranges.{BeginsInRange}
 use Rattle.eval_snapshot_spec.specs.After.{IsAfter}
 use Rattle.eval_snapshot_spec.specs.Evaluated.{evaluated_count, evaluated_tree, first_missing, funcs_named}
 use Rattle.eval_snapshot_spec.specs.Snapshot.{snapshot}
-use Rattle.eval_behaves_proof.specs.Addresses.{IsTheMachines}
+use Rattle.eval_behaves_proof.specs.Addresses.{IsTheMachines, StartIsTheMachines}
 use Rattle.eval_behaves_proof.specs.Laws.{ObservationallyEquivalent}
 
 -- it is a snapshot in a state that evaluated constructors left
@@ -38,14 +38,17 @@ TreesAreSingle = (m : Module) (names kept : List Text) → first_missing m names
 abbrev pub TreesAreBounded : Type 0
 TreesAreBounded = (m : Module) (names kept : List Text) → first_missing m names ≡ None → IsValid m → IsBounded m → over_limit (evaluated_tree m names kept) ≡ None → IsBounded (evaluated_tree m names kept)
 
--- In each environment that links the module, what is seen of it is what is seen of the module after the constructors that are evaluated: step by step.
+-- In each environment that links the module, what is seen of it is what is seen of the module after the constructors that are evaluated, step by step: of a valid module whose data
+-- segments hold bytes and whose tables have fewer than 2 ^ 32 slots.
 abbrev pub TreesBehave : Type 0
 TreesBehave = (m : Module) (names kept : List Text) → first_missing m names ≡ None → IsValid m → BeginsInRange m → ObservationallyEquivalent m (take (evaluated_count m names) names) kept (evaluated_tree m names kept)
 
 -- The evaluation of these constructors is quiet, and it is the machine's run: in each environment that links the module, the instantiation, the start and their calls come to
--- their ends too, and leave what the evaluation left. Of no constructor nothing is said.
+-- their ends too, and leave what the evaluation left, but for what is unknown (imported tables, memories and globals, and what was read of them). Of no constructor, so it is with
+-- the instantiation and the start, where nothing stops these.
 abbrev pub EvaluatedAsByTheMachine : Module → (evaluated kept : List Text) → Type 0
-EvaluatedAsByTheMachine m [] kept = Unit {0}
+EvaluatedAsByTheMachine m [] kept =
+    (end : State) → evaluated m [] ≡ Finished end → (env : Environment) → IsTrue (is_environment env) → IsTrue (links env (alone m)) → StartIsTheMachines env m end
 EvaluatedAsByTheMachine m (name ∷ names) kept =
     (end : State) × (evaluated m (funcs_named m (name ∷ names)) ≡ Finished end)
     × ((env : Environment) → IsTrue (is_environment env) → IsTrue (links env (alone m)) → IsTheMachines env m (name ∷ names) kept end)

@@ -23,9 +23,10 @@ pub fn evaluated_modules_are_valid()
     evaluated_states_suit();
 }
 
-/// In each environment that links the module, an embedder sees of the module after evaluated constructors what it sees of the module of which they are evaluated, step by step
-/// (WebAssembly Core 2.0, sections 4.5.4 and 4.5.5): where its data segments hold bytes, and its tables have fewer than 2^32 slots (`behaves`). The constructors that are evaluated
-/// come to their ends in each of these environments, as they did in the evaluation (`machines`).
+/// In each environment that links a valid module, an embedder sees of the module after evaluated constructors what it sees of the module of which they are evaluated, step by step
+/// (WebAssembly Core 2.0, sections 4.5.4 and 4.5.5): where its data segments hold bytes, and its tables have fewer than 2^32 slots (`behaves`). The instantiation, the start and
+/// the constructors that are evaluated come to their ends in each of these environments, as they did in the evaluation, and leave what it left, but for what is unknown; where no
+/// constructor is evaluated, so do the instantiation and the start, if nothing stopped these (`machines`).
 pub fn evaluated_modules_behave()
     ensures behaves { TreesBehave }
     ensures machines { AreEvaluatedAsByTheMachine }

@@ -2,6 +2,7 @@ use Rattle.std.specs.Prelude.{◌∷◌}
 use Rattle.eval_behaves_proof.proofs.InRange.{NamingLaws}
 use Rattle.eval_behaves_proof.proofs.Instantiated.{both_instantiated}
 use Rattle.eval_behaves_proof.proofs.QuietRuns.{quiet_run}
+use Rattle.eval_behaves_proof.proofs.QuietStarts.{start_is}
 use Rattle.eval_behaves_proof.proofs.quiet_runs_are_the_machines.Goals as goal
 
 pub returns : goal.returns
@@ -17,4 +18,5 @@ returns c =
           let b = both_instantiated naming env m name names kept t valid none quiet linked in
           let r = quiet_run calls lead off.steps off.runs reached env m (name ∷ names) kept t b quiet in
           r.machines;
+      starts = λ m t valid quiet env is linked. start_is calls lead off.steps off.runs reached naming env m t valid quiet linked;
     }

@@ -7,5 +7,5 @@ returns c =
     let none = c.evaluations_end.ensures.none in
     record {
       behaves = behave quiet none c.snapshot_equivalent.ensures.equivalent c.snapshot_equivalent.ensures.none;
-      machines = run_them quiet none c.quiet_runs_are_the_machines.ensures.machines;
+      machines = run_them quiet none c.quiet_runs_are_the_machines.ensures.machines c.quiet_runs_are_the_machines.ensures.starts;
     }
