@@ -6,7 +6,7 @@ use Rattle.tools_cli_words.specs.Words.{Text, Arguments, said_together}
 use Rattle.tools_cli_words.specs.Vocabularies.{vocabulary_of}
 use Rattle.tools_cli_words.specs.declared.tool.Tool.{Tool}
 use Rattle.tools_cli_words.specs.declared.tool.Tool.TheVariants as tool
-use Rattle.tools_cli.specs.CommandLine.{Task, Source, are_apart, some_apart, make_merge, merge_of, metadce_of, split_of, ctor_eval_of, sample_of, task_of, tool_named, tool_in, said_to_tool, task_of_arguments}
+use Rattle.tools_cli.specs.CommandLine.{Source, are_apart, some_apart, make_merge, merge_of, metadce_of, split_of, ctor_eval_of, sample_of, task_of, tool_named, tool_in, said_to_tool, task_of_arguments}
 use Rattle.merge_names.specs.declared.mode.Mode.{Mode}
 use Rattle.tools_cli.specs.Sources.{source_values, source_names}
 use Rattle.tools_cli.specs.declared.merge.Source as code

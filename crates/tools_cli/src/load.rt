@@ -21,11 +21,12 @@ fn accept<'a>(alloc: Global, file: &'a str, tree: Module) -> Result<Valid, Stop<
     ensures accepted { IfOk result (λ valid. (valid ≡ tree) × IsAccepted false tree) }
     ensures stops { IfErr result (StopsWith (InvalidText file.entry.now tree)) }
 {
-    match validate(alloc, tree) {
-        Ok(valid) => Ok(valid),
-        Err(Rejected::Invalid(_, item)) => Err(Stop::Refused(refuse_item(alloc, file, item)?)),
-        Err(Rejected::NoMemory(_)) => Err(Stop::NoMemory),
-    }
+    let item = match validate(alloc, tree) {
+        Ok(valid) => return Ok(valid),
+        Err(Rejected::Invalid(_, item)) => item,
+        Err(Rejected::NoMemory(_)) => return Err(Stop::NoMemory),
+    };
+    Err(Stop::Refused(refuse_item(alloc, file, item)?))
 }
 
 // The module that a file holds.

@@ -1,5 +1,4 @@
-use Rattle.std.proofs.Common.{◌≡◌, Err, Ok, List, ℕ, arith}
-use Rattle.dce_graph.specs.GraphFile.{graph_result}
+use Rattle.std.proofs.Common.{◌≡◌, Err, arith}
 use Rattle.tools_cli.specs.CommandLine.{Text}
 use Rattle.tools_cli.specs.Command.{metadce_value}
 use Rattle.tools_cli.specs.Job.{Reduces, Refuses}

@@ -1,9 +1,9 @@
-use Rattle.std.proofs.Common.{◌≡◌, ◌∙◌, ◌∷◌, [], ap, ap₂, Err, List, arith}
+use Rattle.std.proofs.Common.{◌≡◌, ◌∙◌, ap, ap₂, Err, List, arith}
 use Rattle.wasm_tree.specs.declared.module.Module.{Module}
 use Rattle.wasm_names.specs.declared.func_name.FuncName.{FuncName}
 use Rattle.tools_cli.specs.CommandLine.{Text}
 use Rattle.tools_cli.specs.Command.{split_value, decision_value}
-use Rattle.tools_cli.specs.Job.{Output, Makes, Splits, Refuses, GivesPlan}
+use Rattle.tools_cli.specs.Job.{Splits, Refuses, GivesPlan}
 use Rattle.tools_cli.specs.KeptFuncs.{kept_lines}
 use Rattle.tools_cli.specs.Causes.{PlanFails, SplitFails}
 use Rattle.tools_cli.proofs.Loading.{stops_weaker}
