@@ -1,8 +1,6 @@
 -- A snapshot, list by list.
-use Rattle.std.proofs.Common.{◌≡◌, ◌∙◌, ap, ap₂, refl, ◌<◌, List, [], ◌∷◌, ◌++◌, filter_map, length, None, arith}
-use Rattle.wasm_tree.specs.declared.module.DataSeg.{DataSeg}
+use Rattle.std.proofs.Common.{◌≡◌, ◌∙◌, ap, ap₂, refl, ℕ, ◌<◌, List, [], ◌∷◌, ◌++◌, filter_map, length, None, arith}
 use Rattle.wasm_tree.specs.declared.module.Export.{Export}
-use Rattle.wasm_tree.specs.declared.module.Func.{Func}
 use Rattle.wasm_tree.specs.declared.module.GlobalDef.{GlobalDef}
 use Rattle.wasm_tree.specs.declared.module.Module.{Module}
 use Rattle.wasm_tree.specs.Spaces.{funcs_of, imported_globals}
@@ -12,9 +10,11 @@ use Rattle.eval_machine.specs.declared.kept.Kept.{Kept}
 use Rattle.eval_machine.specs.Kept.{state_in}
 use Rattle.eval_snapshot_spec.specs.Snapshot.{added_funcs, declared_snapshot, export_left, globals_left, memory_segments, old_segments, snapshot, snapshot_tree}
 
-pub tree_is : (m : Module) (s : State) (evaluated kept : List Text) (fs : List Func) (gs : List GlobalDef) (es : List Export) (ds : List DataSeg) → fs ≡ m.funcs ++ added_funcs m evaluated kept → gs ≡ globals_left m s (length (imported_globals m.imports)) m.globals →
-    es ≡ filter_map (export_left evaluated kept (length (funcs_of m))) m.exports → ds ≡ old_segments m s ++ memory_segments m s → record m { funcs = fs; globals = gs; exports = es; start = None; datas = ds } ≡ snapshot_tree m s evaluated kept
-tree_is m s evaluated kept fs gs es ds a b c d = rw (a, b, c, d) refl
+-- the segments, then the globals, the functions and the exports
+pub tree_is : (m : Module) (s : State) (evaluated kept : List Text) (n i : ℕ) (put t : Module) (gs : List GlobalDef) (es : List Export) → n ≡ length (funcs_of m) → i ≡ length (imported_globals m.imports) →
+    put ≡ record m { datas = old_segments m s ++ memory_segments m s } → gs ≡ globals_left m s i put.globals → t ≡ record put { globals = gs; funcs = put.funcs ++ added_funcs put evaluated kept } →
+    es ≡ filter_map (export_left evaluated kept n) t.exports → record t { exports = es; start = None } ≡ snapshot_tree m s evaluated kept
+tree_is m s evaluated kept n i put t gs es en ei ep eg et ee = rw (ee, et, eg, ep, en, ei) refl
 
 -- where no constructor was evaluated, and where some were
 pub of_none : (m : Module) (s : State) (evaluated kept : List Text) → length evaluated ≡ 0 → m ≡ snapshot m s evaluated kept

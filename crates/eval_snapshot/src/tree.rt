@@ -1,13 +1,15 @@
 // The module with the state that evaluated constructors left, of which references are yet to be declared.
 
-ghost use Rattle.std.specs.Prelude.{◌≡◌, ◌∷◌, ◌++◌, ◌≤◌, ◌<◌, ◌^◌, [], IfOk, OnOk, cond, length, unwrap_or};
+ghost use Rattle.std.specs.Prelude.{◌≡◌, ◌++◌, ◌<◌, ◌^◌, List, IfOk, OnOk, length, unwrap_or};
+ghost use Rattle.std.specs.List.{filter_map};
 ghost use Rattle.base_lists.specs.Places.{first_place};
-ghost use Rattle.wasm_tree.specs.declared.module.Module.{Module as Tree};
 ghost use Rattle.wasm_tree.specs.Bounds.{IsBounded};
 ghost use Rattle.wasm_valid.specs.Validity.{IsValid};
+ghost use Rattle.wasm_meaning.specs.State.{Text};
 ghost use Rattle.eval_spec.specs.Stops.{takes_and_gives_nothing};
 ghost use Rattle.eval_machine.specs.Kept.{Fits, state_in};
-ghost use Rattle.eval_snapshot_spec.specs.Snapshot.{memory_segments, segments_left, snapshot_tree};
+ghost use Rattle.eval_snapshot_spec.specs.Snapshot.{added_funcs, export_left, memory_segments, old_segments, snapshot_tree};
+ghost use Rattle.eval_snapshot.specs.Names.{HasEvaluated};
 
 use crate::contents::add_contents;
 use crate::data_use::any_uses_data;
@@ -16,9 +18,10 @@ use crate::left::{empty_segments, initialise_globals};
 use crate::names::evaluated_names;
 use eval_machine::Machine;
 use std::alloc::Global;
+use std::collections::BTreeMap;
 use std::mem;
 use wasm_bytes::{Items, Name, NoMemory};
-use wasm_tree::{DataSeg, Func, FuncType, Module};
+use wasm_tree::{Export, Func, FuncType, Module};
 use wasm_valid::valid_where_items_hold;
 
 // The least type that takes and gives nothing, and 0 where none does.
@@ -34,58 +37,84 @@ fn empty_type(types: &[FuncType]) -> u32
     0
 }
 
-// What the memory holds that the module defines.
-fn memory_contents(
-    alloc: Global,
-    module: &Module,
-    machine: &Machine,
-) -> Result<Items<DataSeg>, NoMemory>
-    requires fits { Fits «module».now machine.now }
-    requires valid { IsValid «module».now }
-    requires bounded { IsBounded «module».now }
-    ensures { IfOk result (λ all. all ≡ memory_segments «module».now (state_in «module».now machine.now)) }
+// Leaves the old segments where a body names one.
+fn leave_segments(alloc: Global, tree: &mut Module, machine: &Machine)
+    requires fits { Fits tree.old machine.now }
+    requires few { length tree.old.datas < 2 ^ 32 }
+    ensures { tree.new ≡ record tree.old { datas = old_segments tree.old (state_in tree.old machine.now) } }
+{
+    if any_uses_data(tree.funcs.as_slice()) {
+        empty_segments(alloc, &mut tree.datas, machine);
+    } else {
+        tree.datas = Items::new(alloc);
+    }
+}
+
+// The same, and behind them what the memory holds that the module defines.
+fn put_segments(alloc: Global, tree: &mut Module, machine: &Machine) -> Result<(), NoMemory>
+    requires fits { Fits tree.old machine.now }
+    requires valid { IsValid tree.old }
+    requires bounded { IsBounded tree.old }
+    ensures { OnOk result (tree.new ≡ record tree.old { datas = old_segments tree.old (state_in tree.old machine.now) ++ memory_segments tree.old (state_in tree.old machine.now) }) }
 {
     valid_where_items_hold();
-    let mut all = Items::new(alloc);
+    let imported = tree.imported_memories() as u32;
+    leave_segments(alloc, tree, machine);
     if let Some(paged) = machine.memory() {
-        add_contents(alloc, &mut all, paged, module.imported_memories() as u32)?;
+        add_contents(alloc, &mut tree.datas, paged, imported)?;
     }
-    Ok(all)
+    Ok(())
 }
 
-// The old segments where a body names one, and behind them those of the memory.
-fn datas_left(
-    alloc: Global,
-    datas: Items<DataSeg>,
-    named: bool,
-    contents: Items<DataSeg>,
-    machine: &Machine,
-) -> Result<Items<DataSeg>, NoMemory>
-    requires few { length datas < 2 ^ 32 }
-    ensures { (m : Tree) → Fits m machine.now → IfOk result (λ all. all ≡ cond named (segments_left (state_in m machine.now) 0 datas) [] ++ contents) }
+// Adds the empty function where an export stays for it.
+fn add_empty(alloc: Global, tree: &mut Module, names: &BTreeMap<&str, bool>) -> Result<(), NoMemory>
+    requires few { length tree.old.types < 2 ^ 32 }
+    ensures { (evaluated kept : List Text) → HasEvaluated evaluated kept names.now → OnOk result (tree.new ≡ record tree.old { funcs = tree.old.funcs ++ added_funcs tree.old evaluated kept }) }
 {
-    let mut all = datas;
-    if named {
-        empty_segments(alloc, &mut all, machine);
-    } else {
-        all = Items::new(alloc);
-    }
-    let mut contents = contents;
-    all.append(&mut contents)?;
-    Ok(all)
-}
-
-// Adds the empty function of this type where it is asked for.
-fn add_empty(alloc: Global, funcs: &mut Items<Func>, adds: bool, ty: u32) -> Result<(), NoMemory>
-    ensures { OnOk result (funcs.new ≡ funcs.old ++ cond adds (record { ty = ty; locals = []; body = [] } ∷ []) []) }
-{
-    if adds {
-        funcs.keep(Func {
+    let ty = empty_type(tree.types.as_slice());
+    if any_kept(tree.exports.as_slice(), names) {
+        tree.funcs.keep(Func {
             ty,
             locals: Items::new(alloc),
             body: Items::new(alloc),
         })?;
     }
+    Ok(())
+}
+
+// Leaves the exports that are left, where the empty function has this index.
+fn leave_exports(
+    alloc: Global,
+    exports: &mut Items<Export>,
+    names: &BTreeMap<&str, bool>,
+    empty: u32,
+) -> Result<(), NoMemory>
+    ensures { (evaluated kept : List Text) → HasEvaluated evaluated kept names.now → OnOk result (exports.new ≡ filter_map (export_left evaluated kept empty) exports.old) }
+{
+    let all = mem::replace(exports, Items::new(alloc));
+    *exports = exports_left(alloc, all, names, empty)?;
+    Ok(())
+}
+
+// Puts into a module the state that constructors of these names left.
+fn put_state(
+    alloc: Global,
+    tree: &mut Module,
+    machine: &Machine,
+    names: &BTreeMap<&str, bool>,
+) -> Result<(), NoMemory>
+    requires fits { Fits tree.old machine.now }
+    requires valid { IsValid tree.old }
+    requires bounded { IsBounded tree.old }
+    ensures { (evaluated kept : List Text) → HasEvaluated evaluated kept names.now → OnOk result (tree.new ≡ snapshot_tree tree.old (state_in tree.old machine.now) evaluated kept) }
+{
+    let empty = tree.func_space() as u32;
+    let imported = tree.imported_globals() as u32;
+    put_segments(alloc, tree, machine)?;
+    initialise_globals(&mut tree.globals, machine, imported);
+    add_empty(alloc, tree, names)?;
+    leave_exports(alloc, &mut tree.exports, names, empty)?;
+    tree.start = None;
     Ok(())
 }
 
@@ -103,19 +132,7 @@ pub(crate) fn tree(
     ensures { IfOk result (λ tree. tree ≡ snapshot_tree from (state_in from machine.now) evaluated.now kept.now) }
 {
     let names = evaluated_names(alloc, evaluated, kept)?;
-    let empty = from.func_space() as u32;
-    let imported = from.imported_globals() as u32;
-    let ty = empty_type(from.types.as_slice());
-    let adds = any_kept(from.exports.as_slice(), &names);
-    let named = any_uses_data(from.funcs.as_slice());
-    let contents = memory_contents(alloc, &from, machine)?;
     let mut tree = from;
-    add_empty(alloc, &mut tree.funcs, adds, ty)?;
-    initialise_globals(&mut tree.globals, machine, imported);
-    let exports = mem::replace(&mut tree.exports, Items::new(alloc));
-    tree.exports = exports_left(alloc, exports, &names, empty)?;
-    let datas = mem::replace(&mut tree.datas, Items::new(alloc));
-    tree.datas = datas_left(alloc, datas, named, contents, machine)?;
-    tree.start = None;
+    put_state(alloc, &mut tree, machine, &names)?;
     Ok(tree)
 }
