@@ -115,27 +115,49 @@ fn module_after(
 // Evaluates constructors, which are these functions, on a machine on which the module is instantiated.
 fn evaluate_on(
     alloc: Global,
-    machine: Machine,
+    machine: &mut Machine,
     input: Valid,
     funcs: &[u32],
     ctors: &[Name],
     kept: &Items<Name>,
 ) -> Result<Evaluation, EvalFault>
-    requires ready { IsReady input machine }
+    requires ready { IsReady input machine.old }
     requires named { first_missing input ctors.now ≡ None }
     requires funcs { funcs.now ≡ funcs_named input ctors.now }
     requires there { AreFuncsOf input funcs.now }
     ensures evaluated { IfOk result (IsEvaluation input ctors.now kept.now) }
     ensures fault { IfErr result (λ f. (f ≡ OutOfMemory) ⊎ (fault_of input ctors.now kept.now ≡ Some f)) }
 {
-    let mut machine = machine;
-    let calls = call_all(&mut machine, &input, funcs)?;
-    let module = module_after(alloc, input, &machine, ctors, calls.count, kept)?;
+    let calls = call_all(machine, &input, funcs)?;
+    let module = module_after(alloc, input, machine, ctors, calls.count, kept)?;
     Ok(Evaluation {
         module,
         count: calls.count,
         ending: ending_of_calls(calls.stopped),
     })
+}
+
+// Evaluates constructors, which are these functions.
+fn evaluate_funcs(
+    alloc: Global,
+    input: Valid,
+    funcs: &[u32],
+    ctors: &[Name],
+    kept: &Items<Name>,
+) -> Result<Evaluation, EvalFault>
+    requires named { first_missing input ctors.now ≡ None }
+    requires funcs { funcs.now ≡ funcs_named input ctors.now }
+    requires there { AreFuncsOf input funcs.now }
+    ensures evaluated { IfOk result (IsEvaluation input ctors.now kept.now) }
+    ensures fault { IfErr result (λ f. (f ≡ OutOfMemory) ⊎ (fault_of input ctors.now kept.now ≡ Some f)) }
+{
+    match Machine::boot(alloc, &input)? {
+        Booted::Stopped(stop) => unevaluated(input, stop),
+        Booted::Ready(machine) => {
+            let mut machine = machine;
+            evaluate_on(alloc, &mut machine, input, funcs, ctors, kept)
+        }
+    }
 }
 
 /// Evaluates the constructors that exports of a module name: after the instantiation and the start they are called in order, until something stops one
@@ -155,8 +177,5 @@ pub fn evaluate(
 {
     let names = ctors.as_slice();
     let funcs = funcs_named(alloc, input.module(), names)?;
-    match Machine::boot(alloc, &input)? {
-        Booted::Stopped(stop) => unevaluated(input, stop),
-        Booted::Ready(machine) => evaluate_on(alloc, machine, input, funcs.as_slice(), names, kept),
-    }
+    evaluate_funcs(alloc, input, funcs.as_slice(), names, kept)
 }

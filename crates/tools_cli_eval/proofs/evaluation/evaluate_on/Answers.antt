@@ -29,5 +29,5 @@ returns-in_err-module-clause-fault c =
 pub returns-clause-evaluated : goal.returns-clause-evaluated
 returns-clause-evaluated c =
     let over = subst (λ fs. HaveEnded c.args.input fs c.in_ok-calls.calls c.call_all.new.machine) c.requires.funcs c.in_ok-calls.ensures.ended in
-    some_evaluation c.args.input c.args.ctors.now c.requires.named c.in_ok-calls.calls c.call_all.new.machine over c.args.kept.now _ (ready_unstopped c.args.input c.args.machine c.requires.ready)
+    some_evaluation c.args.input c.args.ctors.now c.requires.named c.in_ok-calls.calls c.call_all.new.machine over c.args.kept.now _ (ready_unstopped c.args.input c.args.machine.now c.requires.ready)
     c.in_ok-module.ensures.none c.in_ok-module.ensures.tree refl c.ending_of_calls.ensures
