@@ -1,11 +1,12 @@
 // Both modules of a split, in the indices of the module that is split.
 
-ghost use Rattle.std.specs.Prelude.{◌≡◌, ◌+◌, ◌∷◌, ◌<◌, ◌≤◌, ◌^◌, [], length, map as each, None, IfOk};
+ghost use Rattle.std.specs.Prelude.{◌≡◌, ◌+◌, ◌∷◌, ◌<◌, ◌≤◌, ◌^◌, [], length, map as each, None, IfOk, OnOk};
 ghost use Rattle.std.specs.List.Sorted.{IsStrictlyIncreasing};
 ghost use Rattle.base_lists.specs.Places.{numbers};
 ghost use Rattle.wasm_tree.specs.Bounds.{IsBounded};
 ghost use Rattle.split_proof.specs.Premises.{CanMove};
-ghost use Rattle.split_spec.specs.Primary.{added_exports};
+ghost use Rattle.split_spec.specs.Primary.{added_exports, primary_tree};
+ghost use Rattle.split_spec.specs.Secondary as secondary;
 ghost use Rattle.split_spec.specs.Slots as spec;
 ghost use Rattle.split_slots.specs.PartedTrees.{own_func};
 ghost use Rattle.split_slots.specs.Replacing.{FewSlots};
@@ -98,13 +99,47 @@ fn secondary_draft(
     })
 }
 
+// The secondary module. What is left of the module is the primary one.
+fn parted(
+    alloc: Global,
+    tree: &mut Module,
+    moved: &[u32],
+    survey: &Survey,
+    added: &mut Items<Export>,
+    names: &SplitNames,
+) -> Result<Draft, NoMemory>
+    requires bounded { IsBounded tree.old }
+    requires can { CanMove tree.old moved.now }
+    requires ascend { IsStrictlyIncreasing moved.now }
+    requires few { FewFuncs tree.old moved.now }
+    requires survey { IsSurvey tree.old moved.now survey.now }
+    requires added { added.old ≡ added_exports names.now.export_prefix tree.old moved.now }
+    ensures primary { OnOk result (tree.new ≡ primary_tree (λ slot. names.now.placeholder_namespace) names.now.export_prefix tree.old moved.now) }
+    ensures secondary { IfOk result (λ draft. draft.tree ≡ secondary.secondary_tree names.now tree.old moved.now moved.now 0) }
+    ensures map { IfOk result (λ draft. draft.map ≡ secondary.secondary_map tree.old moved.now moved.now) }
+{
+    let table = tree.table_space() as u32;
+    let base = tree.func_space() as u32;
+    let frame = frame_of(alloc, tree, moved, survey, names)?;
+    let own = part_module(alloc, tree, moved, survey, added, names)?;
+    let calls = Calls {
+        types: survey.types.as_slice(),
+        slots: &survey.slots,
+        table,
+        base,
+        first: 0,
+        end: moved.len() as u32,
+    };
+    secondary_draft(alloc, frame, own, &calls)
+}
+
 /// Both modules, in the indices of the module that is split, and where these go. The functions that move are moved.
 pub(crate) fn drafted(
     alloc: Global,
     module: Module,
     moved: &[u32],
     survey: &Survey,
-    added: Items<Export>,
+    added: &mut Items<Export>,
     names: &SplitNames,
 ) -> Result<Drafts, NoMemory>
     requires bounded { IsBounded «module» }
@@ -112,27 +147,13 @@ pub(crate) fn drafted(
     requires ascend { IsStrictlyIncreasing moved.now }
     requires few { FewFuncs «module» moved.now }
     requires survey { IsSurvey «module» moved.now survey.now }
-    requires added { added ≡ added_exports names.now.export_prefix «module» moved.now }
+    requires added { added.old ≡ added_exports names.now.export_prefix «module» moved.now }
     ensures { IfOk result (λ drafts. AreDrafts names.now «module» moved.now drafts) }
 {
+    let mut tree = module;
     let count = moved.len() as u32;
-    let table = module.table_space() as u32;
-    let base = module.func_space() as u32;
-    let frame = frame_of(alloc, &module, moved, survey, names)?;
-    let map = primary_map(alloc, &module, survey.left.as_slice(), count)?;
-    let rest = part_module(alloc, module, moved, survey, added, names)?;
-    let calls = Calls {
-        types: survey.types.as_slice(),
-        slots: &survey.slots,
-        table,
-        base,
-        first: 0,
-        end: count,
-    };
-    let secondary = secondary_draft(alloc, frame, rest.own, &calls)?;
-    let primary = Draft {
-        tree: rest.tree,
-        map,
-    };
+    let map = primary_map(alloc, &tree, survey.left.as_slice(), count)?;
+    let secondary = parted(alloc, &mut tree, moved, survey, added, names)?;
+    let primary = Draft { tree, map };
     Ok(Drafts { primary, secondary })
 }

@@ -25,40 +25,26 @@ use std::mem;
 use wasm_bytes::{Items, Name, NoMemory};
 use wasm_tree::{Export, Func, FuncType, Module};
 
-/// The functions that are left, and those that moved.
-#[derive(Drop)]
-struct Parted {
-    left: Items<Func>,
-    own: Items<Func>,
-}
-
-/// What is left of the module, and the functions that moved.
-#[derive(Drop)]
-pub(crate) struct Rest {
-    pub(crate) tree: Module,
-    pub(crate) own: Items<Func>,
-}
-
-// What becomes of the defined functions, of which the first has this index, by marks of what is left.
+// Leaves of the defined functions, of which the first has this index, those that are marked, as they are left; and gives those that move.
 fn part(
     alloc: Global,
-    funcs: Items<Func>,
+    funcs: &mut Items<Func>,
     first: u32,
     types: &[FuncType],
     left: &[bool],
     calls: &Calls<'_>,
-) -> Result<Parted, NoMemory>
+) -> Result<Items<Func>, NoMemory>
     requires few { FewSlots calls.now }
-    requires params { EachFewParams types.now funcs }
-    requires there { first + length funcs ≤ length left.now }
-    requires counted { first + length funcs ≤ 2 ^ 32 }
-    ensures left { IfOk result (λ parted. parted.left ≡ kept (drop first left.now) (parted_funcs types.now calls.now first funcs)) }
-    ensures own { IfOk result (λ parted. parted.own ≡ own_funcs calls.now first funcs) }
+    requires params { EachFewParams types.now funcs.old }
+    requires there { first + length funcs.old ≤ length left.now }
+    requires counted { first + length funcs.old ≤ 2 ^ 32 }
+    ensures left { OnOk result (funcs.new ≡ kept (drop first left.now) (parted_funcs types.now calls.now first funcs.old)) }
+    ensures own { IfOk result (λ own. own ≡ own_funcs calls.now first funcs.old) }
 {
-    let mut funcs = funcs;
-    let own = part_funcs(alloc, &mut funcs, first, types, calls)?;
-    let left = keep_marked(alloc, funcs, &left[first as usize..])?;
-    Ok(Parted { left, own })
+    let own = part_funcs(alloc, funcs, first, types, calls)?;
+    let all = mem::replace(funcs, Items::new(alloc));
+    *funcs = keep_marked(alloc, all, &left[first as usize..])?;
+    Ok(own)
 }
 
 // Adds the placeholders, the slot table, the exports and the segment that puts the placeholders into the slots, where each function has its type.
@@ -69,69 +55,63 @@ fn add_parts(
     moved: &[u32],
     table: u32,
     namespace: &Name,
-    added: Items<Export>,
+    added: &mut Items<Export>,
 ) -> Result<(), NoMemory>
     requires typed { Every (λ func. func < length types.now) moved.now }
     requires few { length types.now + length moved.now < 2 ^ 32 }
     ensures { OnOk result (tree.new ≡ record tree.old {
       imports = tree.old.imports ++ placeholders_of namespace.now types.now 0 moved.now;
       tables = tree.old.tables ++ spec.slot_table_type (length moved.now) ∷ [];
-      exports = tree.old.exports ++ added;
+      exports = tree.old.exports ++ added.old;
       elems = tree.old.elems ++ spec.slot_segment table 0 (numbers (length types.now) (length moved.now)) ∷ [];
     }) }
 {
-    let mut added = added;
     add_placeholders(alloc, &mut tree.imports, namespace, types, moved)?;
     tree.tables.keep(slot_table_type(moved.len() as u32))?;
-    tree.exports.append(&mut added)?;
+    tree.exports.append(added)?;
     let segment = slot_segment(alloc, table, types.len() as u32, moved.len())?;
     tree.elems.keep(segment)
 }
 
-/// Takes out the functions that move, and adds what calls them through their slots.
+/// Takes out the functions that move, which it gives, and adds what calls them through their slots.
 pub(crate) fn part_module(
     alloc: Global,
-    module: Module,
+    tree: &mut Module,
     moved: &[u32],
     survey: &Survey,
-    added: Items<Export>,
+    added: &mut Items<Export>,
     names: &SplitNames,
-) -> Result<Rest, NoMemory>
-    requires bounded { IsBounded «module» }
-    requires can { CanMove «module» moved.now }
+) -> Result<Items<Func>, NoMemory>
+    requires bounded { IsBounded tree.old }
+    requires can { CanMove tree.old moved.now }
     requires ascend { IsStrictlyIncreasing moved.now }
-    requires few { FewFuncs «module» moved.now }
-    requires survey { IsSurvey «module» moved.now survey.now }
-    requires added { added ≡ added_exports names.now.export_prefix «module» moved.now }
-    ensures tree { IfOk result (λ rest. rest.tree ≡ primary_tree (λ slot. names.now.placeholder_namespace) names.now.export_prefix «module» moved.now) }
-    ensures own { IfOk result (λ rest. rest.own ≡ spec.defined_at «module» moved.now) }
+    requires few { FewFuncs tree.old moved.now }
+    requires survey { IsSurvey tree.old moved.now survey.now }
+    requires added { added.old ≡ added_exports names.now.export_prefix tree.old moved.now }
+    ensures tree { OnOk result (tree.new ≡ primary_tree (λ slot. names.now.placeholder_namespace) names.now.export_prefix tree.old moved.now) }
+    ensures own { IfOk result (λ own. own ≡ spec.defined_at tree.old moved.now) }
 {
-    let first = module.imported_funcs() as u32;
-    let table = module.table_space() as u32;
+    let first = tree.imported_funcs() as u32;
+    let table = tree.table_space() as u32;
+    let types = survey.types.as_slice();
+    let left = survey.left.as_slice();
     let calls = Calls {
-        types: survey.types.as_slice(),
+        types,
         slots: &survey.slots,
         table,
-        base: module.func_space() as u32,
+        base: tree.func_space() as u32,
         first: 0,
         end: 0,
     };
-    let mut tree = module;
-    let funcs = mem::replace(&mut tree.funcs, Items::new(alloc));
-    let parted = part(
+    let own = part(
         alloc,
-        funcs,
+        &mut tree.funcs,
         first,
         tree.types.as_slice(),
-        survey.left.as_slice(),
+        left,
         &calls,
     )?;
-    tree.funcs = parted.left;
-    let types = survey.types.as_slice();
     let namespace = &names.placeholder_namespace;
-    add_parts(alloc, &mut tree, types, moved, table, namespace, added)?;
-    Ok(Rest {
-        tree,
-        own: parted.own,
-    })
+    add_parts(alloc, tree, types, moved, table, namespace, added)?;
+    Ok(own)
 }

@@ -1,6 +1,6 @@
 // Splitting a module.
 
-ghost use Rattle.std.specs.Prelude.{◌≡◌, ◌⊎◌, Err, None, Some, option_map, IfErr, IfOk, IsOk};
+ghost use Rattle.std.specs.Prelude.{◌≡◌, ◌⊎◌, Err, None, Some, option_map, IfErr, IfOk, IsOk, OnOk};
 ghost use Rattle.std.specs.List.Sorted.{IsStrictlyIncreasing};
 ghost use Rattle.std.specs.Option.{option_or};
 ghost use Rattle.wasm_tree.specs.Bounds.{IsBounded};
@@ -13,21 +13,22 @@ ghost use Rattle.split_behaves_proof.specs.Worlds.{pair_in_place};
 ghost use Rattle.split_spec.specs.declared.faults.SplitFault.{SplitFault as Fault};
 ghost use Rattle.split_spec.specs.declared.faults.SplitFault.TheVariants.{NoMemory as OutOfMemory, TooMany};
 ghost use Rattle.split_spec.specs.Faults.{split_fault};
-ghost use Rattle.split_spec.specs.Primary.{primary as primary_of};
+ghost use Rattle.split_spec.specs.Primary.{added_exports as exports_of, primary as primary_of};
 ghost use Rattle.split_spec.specs.Secondary.{secondary as secondary_of};
-ghost use Rattle.split_slots.specs.Surveyed.{AreDrafts, CanFinish, MaySplit, made};
+ghost use Rattle.split_slots.specs.Surveyed.{AreDrafts, CanFinish, IsSurvey, MaySplit, made};
 
 use crate::drafting::{Draft, Drafts, drafted};
 use crate::exports::added_exports;
-use crate::finishing::finished;
+use crate::finishing::finish_tree;
 use crate::refusing::refuse;
-use crate::surveying::surveyed;
+use crate::surveying::{Survey, surveyed};
 use split_behaves_proof::{secondary_modules_load, split_module_equivalent};
 use split_plan::Plan;
 use split_proof::{maps_of_a_split_fit, primary_modules_are_valid, secondary_modules_are_valid};
 use split_spec::{SplitFault, SplitNames};
 use std::alloc::Global;
-use wasm_tree::Module;
+use wasm_bytes::Items;
+use wasm_tree::{Export, Module};
 use wasm_valid::{Valid, valid_where_items_hold};
 
 /// The two modules of a split.
@@ -39,15 +40,28 @@ pub struct Pair {
     pub secondary: Valid,
 }
 
-// A module with its own indices, or of what it has too much.
-fn finish(alloc: Global, draft: Draft) -> Result<Valid, SplitFault>
-    requires { CanFinish draft }
-    ensures value { IfOk result (λ valid. valid ≡ made draft) }
-    ensures none { IsOk result → counts.over_limit (made draft) ≡ None }
-    ensures fault { IfErr result (λ e. (e ≡ OutOfMemory) ⊎ (option_map TooMany (counts.over_limit (made draft)) ≡ Some e)) }
+// Gives a module its own indices, or tells of what it has too much.
+fn finish(alloc: Global, draft: &mut Draft) -> Result<(), SplitFault>
+    requires { CanFinish draft.old }
+    ensures tree { OnOk result (draft.new.tree ≡ made draft.old) }
+    ensures none { IsOk result → counts.over_limit (made draft.old) ≡ None }
+    ensures fault { IfErr result (λ e. (e ≡ OutOfMemory) ⊎ (option_map TooMany (counts.over_limit (made draft.old)) ≡ Some e)) }
 {
-    let tree = finished(alloc, draft.tree, &draft.map)?;
-    Ok(Valid::known(tree))
+    finish_tree(alloc, &mut draft.tree, &draft.map)
+}
+
+// Gives both modules their own indices, or tells of what the first that has too much of something has too much.
+fn finish_each(alloc: Global, drafts: &mut Drafts) -> Result<(), SplitFault>
+    requires primary { CanFinish drafts.old.primary }
+    requires secondary { CanFinish drafts.old.secondary }
+    ensures primary { OnOk result (drafts.new.primary.tree ≡ made drafts.old.primary) }
+    ensures secondary { OnOk result (drafts.new.secondary.tree ≡ made drafts.old.secondary) }
+    ensures one { IsOk result → counts.over_limit (made drafts.old.primary) ≡ None }
+    ensures other { IsOk result → counts.over_limit (made drafts.old.secondary) ≡ None }
+    ensures fault { IfErr result (λ e. (e ≡ OutOfMemory) ⊎ (option_map TooMany (option_or (counts.over_limit (made drafts.old.primary)) (counts.over_limit (made drafts.old.secondary))) ≡ Some e)) }
+{
+    finish(alloc, &mut drafts.primary)?;
+    finish(alloc, &mut drafts.secondary)
 }
 
 // Both modules with their own indices, or of what the first that has too much of something has too much.
@@ -59,12 +73,60 @@ fn finish_both(alloc: Global, drafts: Drafts) -> Result<Pair, SplitFault>
     ensures none { IsOk result → option_or (counts.over_limit (made drafts.primary)) (counts.over_limit (made drafts.secondary)) ≡ None }
     ensures fault { IfErr result (λ e. (e ≡ OutOfMemory) ⊎ (option_map TooMany (option_or (counts.over_limit (made drafts.primary)) (counts.over_limit (made drafts.secondary))) ≡ Some e)) }
 {
-    let primary = finish(alloc, drafts.primary)?;
-    let secondary = finish(alloc, drafts.secondary)?;
-    Ok(Pair { primary, secondary })
+    let mut drafts = drafts;
+    finish_each(alloc, &mut drafts)?;
+    let Drafts { primary, secondary } = drafts;
+    Ok(Pair {
+        primary: Valid::known(primary.tree),
+        secondary: Valid::known(secondary.tree),
+    })
 }
 
-// Both modules in the indices of the module that is split, or the first fault that is told before anything is built.
+// The exports that are added, where no fault is told before anything is built; or the first such fault.
+fn exports_added(
+    alloc: Global,
+    module: &Module,
+    moved: &[u32],
+    survey: &Survey,
+    names: &SplitNames,
+) -> Result<Items<Export>, SplitFault>
+    requires bounded { IsBounded «module».now }
+    requires can { CanMove «module».now moved.now }
+    requires ascend { IsStrictlyIncreasing moved.now }
+    requires survey { IsSurvey «module».now moved.now survey.now }
+    ensures added { IfOk result (λ added. added ≡ exports_of names.now.export_prefix «module».now moved.now) }
+    ensures none { IsOk result → MaySplit names.now «module».now moved.now }
+    ensures fault { IfErr result (λ e. (e ≡ OutOfMemory) ⊎ (split_fault names.now «module».now moved.now ≡ Some e)) }
+{
+    let table = module.table_space() as u32;
+    let added = added_exports(alloc, &names.export_prefix, &survey.marks, table)?;
+    let types = survey.types.as_slice();
+    refuse(alloc, module, types, moved, added.as_slice(), names)?;
+    Ok(added)
+}
+
+// Both modules in the indices of the module that is split, by what is known of it; or the first fault that is told before anything is built.
+fn drafts_by(
+    alloc: Global,
+    module: Module,
+    moved: &[u32],
+    survey: &Survey,
+    names: &SplitNames,
+) -> Result<Drafts, SplitFault>
+    requires bounded { IsBounded «module» }
+    requires can { CanMove «module» moved.now }
+    requires ascend { IsStrictlyIncreasing moved.now }
+    requires survey { IsSurvey «module» moved.now survey.now }
+    ensures drafts { IfOk result (λ drafts. AreDrafts names.now «module» moved.now drafts) }
+    ensures none { IsOk result → MaySplit names.now «module» moved.now }
+    ensures fault { IfErr result (λ e. (e ≡ OutOfMemory) ⊎ (split_fault names.now «module» moved.now ≡ Some e)) }
+{
+    let mut added = exports_added(alloc, &module, moved, survey, names)?;
+    let drafts = drafted(alloc, module, moved, survey, &mut added, names)?;
+    Ok(drafts)
+}
+
+// The same of a module that is valid.
 fn drafts_of(
     alloc: Global,
     module: Module,
@@ -80,12 +142,7 @@ fn drafts_of(
     ensures fault { IfErr result (λ e. (e ≡ OutOfMemory) ⊎ (split_fault names.now «module» moved.now ≡ Some e)) }
 {
     let survey = surveyed(alloc, &module, moved)?;
-    let table = module.table_space() as u32;
-    let added = added_exports(alloc, &names.export_prefix, &survey.marks, table)?;
-    let types = survey.types.as_slice();
-    refuse(alloc, &module, types, moved, added.as_slice(), names)?;
-    let drafts = drafted(alloc, module, moved, &survey, added, names)?;
-    Ok(drafts)
+    drafts_by(alloc, module, moved, &survey, names)
 }
 
 // Both modules, or the first fault.
