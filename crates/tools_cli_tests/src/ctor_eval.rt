@@ -237,12 +237,7 @@ fn a_name_of_no_exported_function_is_refused_before_anything_is_written(
 }
 
 // That a failing call of the files, or a failing put on standard output, is told with this text.
-fn unlike_outside(
-    alloc: Global,
-    call: u64,
-    put: u64,
-    text: &str,
-) -> Result<&'static str, Fail> {
+fn unlike_outside(alloc: Global, call: u64, put: u64, text: &str) -> Result<&'static str, Fail> {
     let module = module_of(alloc, THREE)?;
     let words = words_of(alloc, "ctor-eval --ctors=a,b,c m.wasm -o o.wasm")?;
     let mut files = MemFiles::new(alloc);

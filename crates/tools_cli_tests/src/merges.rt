@@ -192,7 +192,10 @@ fn a_function_that_two_parts_start_is_called_twice(rt: HostRuntime) -> Result<()
     let alloc = rt.alloc();
     let merged =
         "01 04 01 60 00 00 03 03 02 00 00 07 05 01 01 73 00 00 08 01 01 0A 0B 02 02 00 0B 06 00 10 00 10 00 0B";
-    assert_eq!(rt; unlike_merges(alloc, STARTS_OWN, STARTS_A_S, "", merged)?, "");
+    assert_eq!(rt;
+        unlike_merges(alloc, STARTS_OWN, STARTS_A_S, "", merged)?,
+        ""
+    );
     Ok(())
 }
 
@@ -251,7 +254,10 @@ fn a_function_whose_export_is_left_out_is_declared(rt: HostRuntime) -> Result<()
     let flag = "--skip-export-conflicts";
     let merged =
         "01 04 01 60 00 00 03 03 02 00 00 07 05 01 01 66 00 00 09 05 01 03 00 01 01 0A 0A 02 02 00 0B 05 00 D2 01 1A 0B";
-    assert_eq!(rt; unlike_merges(alloc, DOES_NOTHING, NAMES_ITSELF, flag, merged)?, "");
+    assert_eq!(rt;
+        unlike_merges(alloc, DOES_NOTHING, NAMES_ITSELF, flag, merged)?,
+        ""
+    );
     Ok(())
 }
 

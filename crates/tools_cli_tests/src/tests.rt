@@ -133,13 +133,25 @@ fn unlike_usage(alloc: Global, line: &str, usage: &str) -> Result<&'static str, 
 fn words_that_ask_for_nothing_are_told_what_there_is(rt: HostRuntime) -> Result<(), Fail> {
     let alloc = rt.alloc();
     for line in NO_MERGE {
-        assert_eq!(rt; unlike_usage(alloc, line, "usage: binkit merge\n")?, "", "{line}");
+        assert_eq!(rt;
+            unlike_usage(alloc, line, "usage: binkit merge\n")?,
+            "",
+            "{line}"
+        );
     }
     for line in NO_SPLIT {
-        assert_eq!(rt; unlike_usage(alloc, line, "usage: binkit split\n")?, "", "{line}");
+        assert_eq!(rt;
+            unlike_usage(alloc, line, "usage: binkit split\n")?,
+            "",
+            "{line}"
+        );
     }
     for line in NO_SWEEP {
-        assert_eq!(rt; unlike_usage(alloc, line, "usage: binkit metadce\n")?, "", "{line}");
+        assert_eq!(rt;
+            unlike_usage(alloc, line, "usage: binkit metadce\n")?,
+            "",
+            "{line}"
+        );
     }
     for line in ["", "--help", "merges h.wasm m -o o.wasm"] {
         assert_eq!(rt; unlike_usage(alloc, line, ALL_USAGE)?, "", "{line}");
