@@ -1,11 +1,8 @@
 -- What is kept of a list by marks: what stands at its places, and what is kept of lists that are joined, mapped or chosen from others.
-use Rattle.std.proofs.Common.{◌≡◌, ◌∙◌, ap, sym, subst, refl, ℕ, zero, suc, ◌+◌, ◌<◌, ◌≤◌, List, [], ◌∷◌, ◌++◌, map, take, drop, length, replicate, Option, Some, None, is_some, Bool, true, false, cond, arith, filter_map, slice_get, slice_index, true≢false, reverse, append_assoc}
-use Rattle.std.specs.Prelude.{Contains}
-use Rattle.std.specs.List.{cons_option}
-use Rattle.std.proofs.lemmas.List.{reverse-append, append-nil, map-append}
-use Rattle.std.proofs.lemmas.Option.{slice_get_within, slice_get-get_or, get_or_from_slice_get}
+use Rattle.base_lists.proofs.Common.{◌≡◌, ◌∙◌, ap, sym, subst, refl, ℕ, zero, suc, ◌+◌, ◌<◌, ◌≤◌, List, [], ◌∷◌, ◌++◌, map, take, drop, length, replicate, Option, Some, None, is_some, Bool, true, false, cond, arith, slice_get, slice_index, true≢false, reverse, append_assoc, Contains, cons_option, reverse-append, map-append, slice_get_within, slice_get-get_or, get_or_from_slice_get, map_numbers_index, numbers_more}
+use Rattle.std.proofs.Common.{filter_map}
+use Rattle.std.proofs.lemmas.List.{append-nil}
 use Rattle.base_lists.specs.Places.{numbers, places}
-use Rattle.base_lists.proofs.Numbers.{map_numbers_index, numbers_more}
 use Rattle.base_kept.specs.Kept.{kept, is_marked, kept_before, new_places}
 
 -- ---- places ----

@@ -8,3 +8,4 @@ pub mod Pigeons
 pub mod Walk
 pub mod Found
 pub mod Same
+pub mod Common

@@ -1,10 +1,6 @@
-use Rattle.std.proofs.Common.{◌≡◌, ◌∙◌, sym, ap, refl, subst, inl, inr, ℕ, zero, suc, ◌<◌, ◌≤◌, ◌-◌, List, [], ◌∷◌, length, arith, slice_get, Option, Some, None}
-use Rattle.std.proofs.lemmas.Option.{slice_get_within}
-use Rattle.std.proofs.lemmas.Bool.{cases_eq}
+use Rattle.base_lists.proofs.Common.{◌≡◌, ◌∙◌, sym, ap, refl, subst, inl, inr, ℕ, zero, suc, ◌<◌, ◌≤◌, ◌-◌, List, [], ◌∷◌, length, arith, slice_get, Option, Some, None, slice_get_within, cases_eq, pigeons, Has, slice_get_there}
 use Rattle.base_paths.specs.Paths.{Reaches, IsEnd, by_step, followed, the_end}
 use Rattle.base_paths.specs.Paths.Reaches.{stop, go}
-use Rattle.base_lists.proofs.Pigeons.{pigeons}
-use Rattle.base_lists.proofs.Places.{Has, slice_get_there}
 
 -- after k steps the path ends at e
 abbrev pub EndsIn : List (Option ℕ) → ℕ → ℕ → ℕ → Type 0

@@ -1,8 +1,6 @@
 -- Places with something to end with, by the places at which going on stops.
-use Rattle.std.proofs.Common.{◌≡◌, ◌∙◌, sym, ap, refl, subst, ℕ, ◌<◌, List, Option, Some, None, map, slice_get}
+use Rattle.base_lists.proofs.Common.{◌≡◌, ◌∙◌, sym, ap, refl, subst, ℕ, ◌<◌, List, Option, Some, None, map, slice_get, slice_get-map, length-map}
 use Rattle.std.specs.Option.{option_and_then, option_map}
-use Rattle.std.proofs.lemmas.Option.{slice_get-map}
-use Rattle.std.proofs.lemmas.List.{length-map}
 use Rattle.base_paths.specs.declared.follow.Step.{Step}
 use Rattle.base_paths.specs.declared.follow.Step.TheVariants.{Goes, Ends, Nowhere}
 use Rattle.base_paths.specs.Paths.{Reaches, IsEnd, AreEnds, AreThere}

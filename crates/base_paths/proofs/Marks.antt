@@ -1,7 +1,5 @@
-use Rattle.std.proofs.Common.{◌≡◌, ◌⊎◌, inl, inr, ℕ, ◌+◌, ◌<◌, ◌≤◌, List, [], ◌∷◌, ◌++◌, Option, Some, None, length, set, slice_get, refl, sym, ◌∙◌, ap, subst, arith, length-set}
-use Rattle.std.proofs.lemmas.Option.{slice_get_within}
-use Rattle.std.proofs.lemmas.Bool.{cases_eq}
-use Rattle.base_lists.proofs.Places.{set_at, set_other, push_last, push_before}
+use Rattle.base_lists.proofs.Common.{◌≡◌, ◌⊎◌, inl, inr, ℕ, ◌+◌, ◌<◌, ◌≤◌, List, [], ◌∷◌, ◌++◌, Option, Some, None, length, set, slice_get, refl, sym, ◌∙◌, ap, subst, arith, slice_get_within, cases_eq, set_at, set_other, push_last, push_before}
+use Rattle.std.proofs.Common.{length-set}
 use Rattle.base_paths.specs.Paths.{Reaches, IsEnd, Marked, Keeps}
 use Rattle.base_paths.specs.Paths.Reaches.{stop, go}
 use Rattle.base_paths.proofs.Lists.{got_left}

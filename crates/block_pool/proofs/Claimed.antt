@@ -1,9 +1,7 @@
 -- A block is taken from the pool for a slot, with the bytes that the slot had.
-use Rattle.std.proofs.Common.{◌≡◌, ◌≢◌, ◌⊎◌, ℕ, ◌+◌, ◌<◌, List, [], ◌∷◌, ◌++◌, length, map, Bool, true, false, Option, Some, None, is_some, slice_set, slice_index, slice_index_or, count_by, replicate, refl, sym, ap, ◌∙◌, inl, inr, arith, true≢false}
-use Rattle.std.specs.Prelude.{unwrap_or, Contains, vec_capacity, if◌then◌else◌}
-use Rattle.std.proofs.lemmas.List.{map-set, get_or-replicate, get_or_past, length_push, length-replicate, get_or_default}
-use Rattle.std.proofs.lemmas.List.Elements.{Contains-push, Contains-push_cases, Contains-append_left}
-use Rattle.std.proofs.lemmas.Bool.{cases_lt}
+use Rattle.base_lists.proofs.Common.{◌≡◌, ◌≢◌, ◌⊎◌, ℕ, ◌+◌, ◌<◌, List, [], ◌∷◌, ◌++◌, length, map, Bool, true, false, Option, Some, None, is_some, slice_set, slice_index, slice_index_or, count_by, replicate, refl, sym, ap, ◌∙◌, inl, inr, arith, true≢false, Contains, vec_capacity, if◌then◌else◌, get_or-replicate, get_or_past, length_push, length-replicate, get_or_default, Contains-push, Contains-push_cases, Contains-append_left, cases_lt, is_some_there}
+use Rattle.std.specs.Prelude.{unwrap_or}
+use Rattle.std.proofs.lemmas.List.{map-set}
 use Rattle.std.proofs.Math.Seq.{map-set_same}
 use Rattle.base_lists.specs.Places.{numbers}
 use Rattle.block_pool.specs.Blocks.{Blocks, held, IsLive, used, zeros, Changes}
@@ -14,7 +12,6 @@ use Rattle.block_pool.specs.declared.table.Table.{Table}
 use Rattle.block_pool.proofs.Counts.{count_within, count_fewer}
 use Rattle.block_pool.proofs.Replaced.{Replaces, before_named, bytes_after, contents_after, dead}
 use Rattle.block_pool.proofs.Moved.{Moves, sound_after}
-use Rattle.base_lists.proofs.Options.{is_some_there}
 
 pub present_named : (s : Slot) (b : ℕ) → present s ≡ Some b → Names s b
 present_named s b e = inl e

@@ -1,10 +1,7 @@
 -- The blocks that a range reaches are counted one by one.
-use Rattle.std.proofs.Common.{◌≡◌, ◌≢◌, ℕ, suc, ◌+◌, ◌-◌, ◌*◌, ◌/◌, ◌<◌, ◌≤◌, List, [], ◌∷◌, length, map, Bool, true, false, ◌||◌, slice_index_or, slice_set, refl, sym, ap, ap₂, ◌∙◌, inl, inr, arith, zero-add, length-set}
-use Rattle.std.specs.Prelude.{if◌then◌else◌}
-use Rattle.std.proofs.lemmas.Bool.{cases_eq, cases_Bool}
-use Rattle.std.proofs.lemmas.List.{ext_get_or, get_or-set_same, get_or-set_other, length-map}
+use Rattle.base_lists.proofs.Common.{◌≡◌, ◌≢◌, ℕ, suc, ◌+◌, ◌-◌, ◌*◌, ◌/◌, ◌<◌, ◌≤◌, List, [], ◌∷◌, length, map, Bool, true, false, ◌||◌, slice_index_or, slice_set, refl, sym, ap, ap₂, ◌∙◌, inl, inr, arith, zero-add, if◌then◌else◌, cases_eq, cases_Bool, ext_get_or, get_or-set_same, get_or-set_other, length-map, same_tests}
+use Rattle.std.proofs.Common.{length-set}
 use Rattle.std.proofs.lemmas.List.Sums.{count_by-le-length}
-use Rattle.base_lists.proofs.Bools.{same_tests}
 use Rattle.block_pool.specs.Pages.{reaches, with_reached}
 use Rattle.block_pool.specs.Table.{is_present, slot_at, IsSound}
 use Rattle.block_pool.specs.declared.table.Table.{Table}

@@ -1,8 +1,5 @@
 -- How many elements pass a test, where one element is replaced.
-use Rattle.std.proofs.lemmas.Bool.{cases_lt}
-use Rattle.std.proofs.Common.{◌≡◌, ℕ, zero, suc, ◌+◌, ◌<◌, ◌≤◌, List, [], ◌∷◌, length, Bool, true, false, Option, Some, None, is_some, cond, slice_index_or, slice_set, count_by, refl, sym, ap, ◌∙◌, inl, inr, arith}
-use Rattle.std.proofs.lemmas.List.{get_or_past}
-use Rattle.std.proofs.lemmas.Option.{none-some}
+use Rattle.base_lists.proofs.Common.{cases_lt, ◌≡◌, ℕ, zero, suc, ◌+◌, ◌<◌, ◌≤◌, List, [], ◌∷◌, length, Bool, true, false, Option, Some, None, is_some, cond, slice_index_or, slice_set, count_by, refl, sym, ap, ◌∙◌, inl, inr, arith, get_or_past, none-some}
 use Rattle.std.proofs.lemmas.List.Sums.{sum_by-set, sum_by-cons}
 
 abbrev pub flag : Bool → ℕ

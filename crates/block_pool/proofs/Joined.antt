@@ -1,8 +1,7 @@
 -- Two writes that follow one another are one.
-use Rattle.std.proofs.Common.{◌≡◌, ℕ, suc, ◌+◌, ◌-◌, ◌*◌, ◌<◌, ◌≤◌, List, [], ◌∷◌, ◌++◌, length, Bool, true, false, ◌&&◌, ◌||◌, nat_lt, slice_index, refl, sym, ap, ap₂, ◌∙◌, inl, inr, arith, length-append, add-zero, take-append-drop}
-use Rattle.std.proofs.lemmas.Bool.{cases_lt, and_parts, or_cases, ltb-true}
-use Rattle.std.proofs.lemmas.List.{get_or_append_left, get_or-append_right}
-use Rattle.base_lists.proofs.Bools.{same_tests}
+use Rattle.base_lists.proofs.Common.{◌≡◌, ℕ, suc, ◌+◌, ◌-◌, ◌*◌, ◌<◌, ◌≤◌, List, [], ◌∷◌, ◌++◌, length, Bool, true, false, ◌&&◌, ◌||◌, nat_lt, slice_index, refl, sym, ap, ap₂, ◌∙◌, inl, inr, arith, add-zero, cases_lt, and_parts, ltb-true, get_or_append_left, get_or-append_right, same_tests}
+use Rattle.std.proofs.Common.{length-append, take-append-drop}
+use Rattle.std.proofs.lemmas.Bool.{or_cases}
 use Rattle.block_pool.specs.Blocks.{with_part}
 use Rattle.block_pool.specs.Pages.{Contents, Pages, Writes, written_over, reaches, with_reached, size}
 use Rattle.block_pool.proofs.Parts.{is_part, part_length, part_below, part_inside, part_above}

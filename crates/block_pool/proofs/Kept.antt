@@ -1,11 +1,8 @@
 -- The blocks that a pool keeps, where one is taken, given back or written.
-use Rattle.std.proofs.Common.{◌≡◌, ◌≢◌, ℕ, zero, suc, ◌+◌, ◌-◌, ◌<◌, List, [], ◌∷◌, ◌++◌, length, Bool, true, false, Option, Some, None, is_some}
-use Rattle.std.proofs.Common.{cond, count_by, slice_index, slice_index_or, slice_set, refl, sym, ap, ◌∙◌, inl, inr, arith, length-set, length-append}
-use Rattle.std.proofs.lemmas.Bool.{cases_lt, cases_eq}
-use Rattle.std.proofs.lemmas.List.{get_or_past, get_or-set_same, get_or-set_other, get_or_append_left, get_or_push}
+use Rattle.base_lists.proofs.Common.{◌≡◌, ◌≢◌, ℕ, zero, suc, ◌+◌, ◌-◌, ◌<◌, List, [], ◌∷◌, ◌++◌, length, Bool, true, false, Option, Some, None, is_some, cond, count_by, slice_index, slice_index_or, slice_set, refl, sym, ap, ◌∙◌, inl, inr, arith, cases_lt, cases_eq, get_or_past, get_or-set_same, get_or-set_other, get_or_append_left, none-some, is_some_there}
+use Rattle.std.proofs.Common.{length-set, length-append}
+use Rattle.std.proofs.lemmas.List.{get_or_push}
 use Rattle.std.proofs.lemmas.List.Sums.{sum_by_push}
-use Rattle.std.proofs.lemmas.Option.{none-some}
-use Rattle.base_lists.proofs.Options.{is_some_there}
 use Rattle.block_pool.specs.Blocks.{Blocks, Changes}
 use Rattle.block_pool.specs.Kept.{IsKept, live_blocks}
 use Rattle.block_pool.proofs.Counts.{flag, counted_set, as_many}

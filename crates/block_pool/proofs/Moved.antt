@@ -1,7 +1,6 @@
 -- A step of the table: one slot is replaced, and the counts and the list follow. What is so of every table is kept.
-use Rattle.std.proofs.Common.{◌≡◌, ◌≢◌, ◌⊎◌, ℕ, ◌+◌, ◌<◌, ◌≤◌, [], length, Bool, true, false, slice_set, inl, inr, arith, length-set}
-use Rattle.std.specs.Prelude.{Contains, vec_capacity, count_by}
-use Rattle.std.proofs.lemmas.Bool.{cases_eq}
+use Rattle.base_lists.proofs.Common.{◌≡◌, ◌≢◌, ◌⊎◌, ℕ, ◌+◌, ◌<◌, ◌≤◌, [], length, Bool, true, false, slice_set, inl, inr, arith, Contains, vec_capacity, count_by, cases_eq}
+use Rattle.std.proofs.Common.{length-set}
 use Rattle.block_pool.specs.Blocks.{used}
 use Rattle.block_pool.specs.Table.{is_present, has_older, is_changed, slot_at, IsSound}
 use Rattle.block_pool.specs.declared.table.Slot.{Slot}

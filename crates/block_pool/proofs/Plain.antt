@@ -1,8 +1,5 @@
 -- No block is left that was written since the mark.
-use Rattle.std.proofs.Common.{◌≡◌, ℕ, suc, ◌/◌, ◌%◌, List, [], ◌∷◌, length, map, Bool, true, false, Some, None, is_some, count_by, refl, sym, ap, ap₂, ◌∙◌, inl, inr, arith}
-use Rattle.std.specs.Prelude.{Contains, if◌then◌else◌}
-use Rattle.std.proofs.Math.Path.{fun_ext}
-use Rattle.std.proofs.lemmas.Bool.{cases_Bool}
+use Rattle.base_lists.proofs.Common.{◌≡◌, ℕ, suc, ◌/◌, ◌%◌, List, [], ◌∷◌, length, map, Bool, true, false, Some, None, is_some, count_by, refl, sym, ap, ap₂, ◌∙◌, inl, inr, arith, Contains, if◌then◌else◌, fun_ext, cases_Bool}
 use Rattle.base_lists.specs.Places.{numbers}
 use Rattle.block_pool.specs.Blocks.{used}
 use Rattle.block_pool.specs.Pages.{RollsBack, Commits, written_count}

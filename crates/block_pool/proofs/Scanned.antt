@@ -1,7 +1,6 @@
 -- The search for a byte that is not zero goes from block to block.
-use Rattle.std.proofs.Common.{◌≡◌, ℕ, ◌+◌, ◌-◌, ◌*◌, ◌/◌, ◌%◌, ◌<◌, ◌≤◌, List, length, take, drop, min, slice_index, sym, ap, ◌∙◌, inl, inr, arith, length-take-le, length-drop}
-use Rattle.std.proofs.lemmas.Bool.{cases_lt}
-use Rattle.std.proofs.lemmas.List.{get_or-take, get_or-drop, get_or_past}
+use Rattle.base_lists.proofs.Common.{◌≡◌, ℕ, ◌+◌, ◌-◌, ◌*◌, ◌/◌, ◌%◌, ◌<◌, ◌≤◌, List, length, take, drop, min, slice_index, sym, ap, ◌∙◌, inl, inr, arith, cases_lt, get_or-take, get_or-drop, get_or_past}
+use Rattle.std.proofs.Common.{length-take-le, length-drop}
 use Rattle.block_pool.specs.Pages.{IsNextNonzero, IsZeroFrom, IsZeroTo}
 use Rattle.block_pool.specs.Table.{pages_of, IsBlock, IsZeroBlock}
 use Rattle.block_pool.specs.declared.table.Table.{Table}

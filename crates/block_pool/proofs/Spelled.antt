@@ -1,7 +1,5 @@
 -- The number that bytes spell, in the words of the standard library.
-use Rattle.std.proofs.Common.{◌≡◌, ℕ, zero, suc, replicate, take, drop, ◌+◌, ◌-◌, List, [], ◌∷◌, length, slice_index, refl, sym, ap, ◌∙◌, inl, inr, arith}
-use Rattle.std.proofs.lemmas.Bool.{cases_lt}
-use Rattle.std.proofs.lemmas.List.{get_or-take, get_or-drop}
+use Rattle.base_lists.proofs.Common.{◌≡◌, ℕ, zero, suc, replicate, take, drop, ◌+◌, ◌-◌, List, [], ◌∷◌, length, slice_index, refl, sym, ap, ◌∙◌, inl, inr, arith, cases_lt, get_or-take, get_or-drop}
 use Rattle.std.specs.Int.{from_le_bytes, w64}
 use Rattle.block_pool.specs.Pages.{little, IsZeroTo}
 

@@ -1,6 +1,5 @@
 -- Bytes are written from a place on within one block.
-use Rattle.std.proofs.Common.{◌≡◌, ℕ, zero, suc, ◌+◌, ◌*◌, ◌/◌, ◌%◌, ◌<◌, ◌≤◌, List, length, true, Option, Some, is_some, slice_index_or, refl, sym, ap, ◌∙◌, subst, arith}
-use Rattle.std.proofs.lemmas.List.{get_or_default}
+use Rattle.base_lists.proofs.Common.{◌≡◌, ℕ, zero, suc, ◌+◌, ◌*◌, ◌/◌, ◌%◌, ◌<◌, ◌≤◌, List, length, true, Option, Some, is_some, slice_index_or, refl, sym, ap, ◌∙◌, subst, arith, get_or_default}
 use Rattle.block_pool.specs.Blocks.{Blocks, WritesPart}
 use Rattle.block_pool.specs.Pages.{Writes, little_bytes}
 use Rattle.block_pool.specs.Table.{present, is_changed, slot_at, pages_of, IsSound, IsFixed, Claims}

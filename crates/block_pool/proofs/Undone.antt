@@ -1,8 +1,6 @@
 -- A block that was written since the mark is taken back, or kept for good.
-use Rattle.std.proofs.Common.{◌≡◌, ◌≢◌, ◌⊎◌, ℕ, ◌+◌, ◌<◌, ◌≤◌, List, [], ◌∷◌, ◌++◌, length, Bool, true, false, Some, None, is_some, slice_set, slice_index, count_by, refl, sym, ap, ◌∙◌, inl, inr, arith, true≢false}
-use Rattle.std.specs.Prelude.{unwrap_or, vec_capacity}
-use Rattle.std.proofs.lemmas.List.{length_push}
-use Rattle.std.proofs.lemmas.List.Elements.{Contains-push, Contains-push_cases, Contains-append_left}
+use Rattle.base_lists.proofs.Common.{◌≡◌, ◌≢◌, ◌⊎◌, ℕ, ◌+◌, ◌<◌, ◌≤◌, List, [], ◌∷◌, ◌++◌, length, Bool, true, false, Some, None, is_some, slice_set, slice_index, count_by, refl, sym, ap, ◌∙◌, inl, inr, arith, true≢false, vec_capacity, length_push, Contains-push, Contains-push_cases, Contains-append_left}
+use Rattle.std.specs.Prelude.{unwrap_or}
 use Rattle.block_pool.specs.Blocks.{Blocks, IsLive, used, Changes}
 use Rattle.block_pool.specs.Table.{present, before, older, is_present, has_older, is_changed, slot_at, byte_in, Names, Owns, IsSound, TakesBack, Settles}
 use Rattle.block_pool.specs.declared.table.Slot.{Slot}

@@ -1,10 +1,7 @@
 -- Bytes are written to a block that the table may write to.
-use Rattle.std.proofs.Common.{◌≡◌, ◌≢◌, ℕ, ◌+◌, ◌-◌, ◌*◌, ◌/◌, ◌%◌, ◌<◌, ◌≤◌, List, [], length, map, true, Option, Some, None, slice_index, refl, sym, ap, ◌∙◌, inl, inr, arith, zero-add}
+use Rattle.base_lists.proofs.Common.{◌≡◌, ◌≢◌, ℕ, ◌+◌, ◌-◌, ◌*◌, ◌/◌, ◌%◌, ◌<◌, ◌≤◌, List, [], length, map, true, Option, Some, None, slice_index, refl, sym, ap, ◌∙◌, inl, inr, arith, zero-add, cases_eq, set-get_or, get_or-set_same, get_or-set_other, length-map, map_numbers_index, length-numbers}
 use Rattle.std.specs.Prelude.{unwrap_or}
-use Rattle.std.proofs.lemmas.Bool.{cases_eq}
-use Rattle.std.proofs.lemmas.List.{set-get_or, get_or-set_same, get_or-set_other, length-map}
 use Rattle.base_lists.specs.Places.{numbers}
-use Rattle.base_lists.proofs.Numbers.{map_numbers_index, length-numbers}
 use Rattle.block_pool.specs.Blocks.{Blocks, held, IsLive, used, with_bytes, with_part, WritesPart}
 use Rattle.block_pool.specs.Pages.{Writes, size}
 use Rattle.block_pool.specs.Table.{present, before, older, is_present, is_changed, slot_at, byte_in, byte_at, pages_of, Names, IsSound, IsFixed, Claims}

@@ -1,15 +1,11 @@
 -- The addresses of imports of which only some are kept.
-use Rattle.std.proofs.Common.{◌≡◌, ◌∙◌, ap, sym, subst, refl, ℕ, ◌+◌, ◌≤◌, List, [], ◌∷◌, filter, filter_map, length, Option, Some, None, is_some, Bool, true, false, cond, arith, option_and_then, slice_get}
-use Rattle.std.specs.List.{cons_option}
-use Rattle.base_lists.proofs.Filtered.{at_places, places_many}
-use Rattle.base_lists.proofs.Options.{and_then_is}
-use Rattle.wasm_tree.specs.declared.space.Space.{Space}
-use Rattle.wasm_tree.specs.declared.types.FuncType.{FuncType}
-use Rattle.wasm_tree.specs.declared.module.Import.{Import}
-use Rattle.wasm_meaning.specs.Linking.{has_kind}
-use Rattle.wasm_meaning.specs.Environment.{Environment}
-use Rattle.wasm_meaning.specs.World.{address_of, all_there}
-use Rattle.world_simulation.specs.Alone.{external_value_in, address_in, addresses, import_places}
+use Rattle.base_lists.proofs.Common.{◌≡◌, ◌∙◌, ap, sym, subst, refl, ℕ, ◌+◌, ◌≤◌, List, [], ◌∷◌, length, Option, Some, None, is_some, Bool, true, false, cond, arith, option_and_then, slice_get, cons_option, places_many, and_then_is}
+use Rattle.std.proofs.Common.{filter, filter_map}
+use Rattle.base_lists.proofs.Filtered.{at_places}
+use Rattle.wasm_tree_spec.specs.Prelude.{Space, FuncType, Import}
+use Rattle.wasm_meaning.specs.Prelude.{has_kind, Environment, address_of, all_there}
+use Rattle.world_simulation.specs.Prelude.{external_value_in, addresses, import_places}
+use Rattle.world_simulation.specs.Alone.{address_in}
 use Rattle.base_kept.specs.Kept.{kept, is_marked}
 use Rattle.base_kept.proofs.Laws.{AreKeptAlike, kept_chosen}
 

@@ -1,36 +1,15 @@
 -- An environment that links a module links what is left of it.
-use Rattle.std.proofs.Common.{◌≡◌, ◌∙◌, ap, ap₂, sym, subst, refl, ℕ, zero, suc, ◌+◌, ◌<◌, ◌⊎◌, inl, inr, List, [], ◌∷◌, ◌++◌, map, length, Option, Some, None, Bool, true, false, arith, option_and_then, slice_get, unwrap_or}
-use Rattle.std.specs.Prelude.{IsTrue}
-use Rattle.std.proofs.lemmas.List.{length-append, length-map}
-use Rattle.std.proofs.lemmas.Option.{slice_get_within}
-use Rattle.base_lists.proofs.Options.{and_then_is, all_there_at, all_there_from, unwrap_or_false_is}
-use Rattle.base_lists.proofs.Places.{append_from, map_at, map_from, slice_get_there}
-use Rattle.wasm_tree.specs.declared.space.Space.TheVariants.{Functions, Tables, Memories, Globals}
-use Rattle.wasm_tree.specs.declared.module.ConstExpr.{ConstExpr}
-use Rattle.wasm_tree.specs.declared.module.ElemSeg.{ElemSeg}
+use Rattle.base_lists.proofs.Common.{◌≡◌, ◌∙◌, ap, ap₂, sym, subst, refl, ℕ, zero, suc, ◌+◌, ◌<◌, ◌⊎◌, inl, inr, List, [], ◌∷◌, ◌++◌, map, length, Option, Some, None, Bool, true, false, arith, option_and_then, slice_get, unwrap_or, IsTrue, length-append, length-map, slice_get_within, and_then_is, all_there_at, all_there_from, unwrap_or_false_is, append_from, map_at, map_from, slice_get_there}
+use Rattle.wasm_tree_spec.specs.Prelude.{Functions, Tables, Memories, Globals, ConstExpr, ElemSeg, GlobalDef, Import, ImportDesc, Module, imported_funcs, funcs_of}
 use Rattle.wasm_tree.specs.declared.module.Func as tree
-use Rattle.wasm_tree.specs.declared.module.GlobalDef.{GlobalDef}
-use Rattle.wasm_tree.specs.declared.module.Import.{Import}
-use Rattle.wasm_tree.specs.declared.module.ImportDesc.{ImportDesc}
 use Rattle.wasm_tree.specs.declared.module.ImportDesc.TheVariants as im
-use Rattle.wasm_tree.specs.declared.module.Module.{Module}
-use Rattle.wasm_tree.specs.Spaces.{imported_funcs, funcs_of}
-use Rattle.wasm_meaning.specs.State.{Inst, Func, Global, Elem, Store, RefVal}
-use Rattle.wasm_meaning.specs.Environment.{Environment, ExternalValue, all_of}
-use Rattle.wasm_meaning.specs.Linking.{sites}
+use Rattle.wasm_meaning.specs.Prelude.{Inst, Func, Global, Elem, Store, RefVal, Environment, ExternalValue, all_of, sites, own_store, joined_stores, part_store, stores_from, insts_from, is_match, is_matched, all_there, seen_as, links, alone, Begun}
 use Rattle.wasm_meaning.specs.Linking as linking
-use Rattle.wasm_meaning.specs.World.{own_store, joined_stores, part_store, stores_from, insts_from, is_match, is_matched, all_there, seen_as, links, alone, Begun}
 use Rattle.wasm_meaning.specs.World as world
 use Rattle.index_remap.specs.declared.remap.Remap.{Remap}
-use Rattle.index_remap.specs.References.{declared_refs}
-use Rattle.index_remap.specs.Renumbered.{new_func, new_elem, new_global, new_const}
-use Rattle.index_remap.specs.Related.{Pairing, StoreRel, OptRel, RefRel}
-use Rattle.index_remap.specs.RelatedRuns.{ExternalValueRel}
-use Rattle.index_remap.specs.Laws.{passed, RenumberedCodeIsRelated}
+use Rattle.index_remap.specs.Prelude.{declared_refs, new_func, new_elem, new_global, new_const, Pairing, StoreRel, OptRel, RefRel, ExternalValueRel, passed, RenumberedCodeIsRelated}
 use Rattle.index_remap_proof.specs.Indices.{TreeNamesOnly}
-use Rattle.world_simulation.specs.Alone.{one, site, external_value_in}
-use Rattle.world_simulation.specs.Definitions.{FuncsCorrespond, Instantiated, values_in}
-use Rattle.world_simulation.specs.Simulation.{IsInstantiated}
+use Rattle.world_simulation.specs.Prelude.{one, site, external_value_in, FuncsCorrespond, Instantiated, values_in, IsInstantiated}
 use Rattle.world_simulation.proofs.Alone.{thing_is, on_some, funcs_counted}
 use Rattle.world_simulation.proofs.Allocated.{Adds, adds, part_there}
 use Rattle.world_simulation.proofs.Declared.{last_segments, last_elems}

@@ -1,12 +1,7 @@
 -- Where addresses go when some of what a module defines is left out, and what index spaces name then.
-use Rattle.std.proofs.Common.{◌≡◌, ◌∙◌, ap, ap₂, sym, refl, ℕ, zero, suc, ◌+◌, ◌-◌, ◌<◌, ◌≤◌, ◌&&◌, ◌⊎◌, inl, inr, List, [], ◌∷◌, ◌++◌, length, drop, Some, Bool, true, false, cond, nat_eq, nat_lt, arith, slice_get}
-use Rattle.std.proofs.lemmas.Bool.{cases_lt, eq-eqb, eqb-true, ltb-true, ltb-false}
-use Rattle.std.proofs.lemmas.Bool.Decides.{nat_tests}
-use Rattle.base_lists.proofs.Bools.{left_true, right_true}
-use Rattle.base_lists.proofs.Numbers.{numbers_at}
-use Rattle.base_lists.proofs.Places.{append_at_left, append_left, append_right, slice_get_there}
+use Rattle.base_lists.proofs.Common.{◌≡◌, ◌∙◌, ap, ap₂, sym, refl, ℕ, zero, suc, ◌+◌, ◌-◌, ◌<◌, ◌≤◌, ◌&&◌, ◌⊎◌, inl, inr, List, [], ◌∷◌, ◌++◌, length, drop, Some, Bool, true, false, cond, nat_eq, nat_lt, arith, slice_get, cases_lt, eq-eqb, eqb-true, ltb-true, ltb-false, nat_tests, left_true, right_true, numbers_at, append_at_left, append_left, append_right, slice_get_there}
 use Rattle.base_lists.specs.Places.{numbers}
-use Rattle.index_remap.specs.Related.{OptRel, some, ListRel}
+use Rattle.index_remap.specs.Prelude.{OptRel, some, ListRel}
 use Rattle.index_remap.proofs.Rel.{get_rel}
 use Rattle.world_simulation.proofs.Places.{opt_at, opt_self}
 use Rattle.base_kept.specs.Kept.{kept, is_marked, kept_before}

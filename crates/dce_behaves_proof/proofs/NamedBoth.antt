@@ -1,23 +1,13 @@
 -- What is kept names only indices that are kept and have an entry; and so the imports that are kept are those of the module.
-use Rattle.std.proofs.Common.{◌≡◌, ◌∙◌, ap, ap₂, sym, refl, ℕ, suc, List, [], ◌∷◌, map, length, Some, Bool, true, ◌&&◌, slice_get}
-use Rattle.std.specs.Prelude.{IsTrue}
-use Rattle.wasm_tree.specs.declared.instr.Instr.{Instr}
-use Rattle.wasm_tree.specs.declared.module.ConstExpr.{ConstExpr}
+use Rattle.base_lists.proofs.Common.{◌≡◌, ◌∙◌, ap, ap₂, sym, refl, ℕ, suc, List, [], ◌∷◌, map, length, Some, Bool, true, ◌&&◌, slice_get, IsTrue}
+use Rattle.wasm_tree_spec.specs.Prelude.{Instr, ConstExpr, DataMode, ElemMode, ExportDesc, Import, ImportDesc, Module, ListLayers, PassesLayerByLayer}
 use Rattle.wasm_tree.specs.declared.module.ConstExpr.TheVariants as const
-use Rattle.wasm_tree.specs.declared.module.DataMode.{DataMode}
 use Rattle.wasm_tree.specs.declared.module.DataMode.TheVariants as «data»
-use Rattle.wasm_tree.specs.declared.module.ElemMode.{ElemMode}
 use Rattle.wasm_tree.specs.declared.module.ElemMode.TheVariants as elem
-use Rattle.wasm_tree.specs.declared.module.ExportDesc.{ExportDesc}
 use Rattle.wasm_tree.specs.declared.module.ExportDesc.TheVariants as ex
-use Rattle.wasm_tree.specs.declared.module.Import.{Import}
-use Rattle.wasm_tree.specs.declared.module.ImportDesc.{ImportDesc}
 use Rattle.wasm_tree.specs.declared.module.ImportDesc.TheVariants as im
-use Rattle.wasm_tree.specs.declared.module.Module.{Module}
-use Rattle.wasm_tree.specs.Layers.{ListLayers}
-use Rattle.wasm_tree.specs.OperandLaws.{PassesLayerByLayer}
 use Rattle.wasm_tree.proofs.OperandLaws.{passes_both}
-use Rattle.index_remap.specs.Renumbered.{new_import, new_import_desc}
+use Rattle.index_remap.specs.Prelude.{new_import, new_import_desc}
 use Rattle.index_remap_proof.specs.Indices.{Indices, with_entry, LayerNamesOnly, ConstNamesOnly, ImportNamesOnly, ExportNamesOnly, ElemModeNamesOnly, DataModeNamesOnly, TreeNamesOnly}
 use Rattle.index_remap_proof.proofs.Lists.{both_true}
 use Rattle.world_simulation.proofs.Holes.{stays_at}

@@ -1,18 +1,11 @@
 -- What is left of a module by closed marks shows what the module shows.
-use Rattle.std.proofs.Common.{◌≡◌, ◌∙◌, ap, sym, ℕ, List, [], ◌∷◌, Some, true, option_and_then}
-use Rattle.std.specs.Prelude.{IsTrue}
-use Rattle.wasm_tree.specs.declared.space.Space.TheVariants.{Functions, Tables, Memories, Globals}
-use Rattle.wasm_tree.specs.declared.module.Module.{Module}
-use Rattle.wasm_meaning.specs.State.{Inst}
-use Rattle.wasm_meaning.specs.Environment.{Environment}
-use Rattle.wasm_meaning.specs.World.{insts_from, starts_of, instantiate, links, alone}
-use Rattle.wasm_meaning.specs.Run.{Move, events}
-use Rattle.index_remap.specs.Related.{ListRel}
-use Rattle.index_remap.specs.Laws.{RenumberedCodeIsRelated}
+use Rattle.base_lists.proofs.Common.{◌≡◌, ◌∙◌, ap, sym, ℕ, List, [], ◌∷◌, Some, true, option_and_then, IsTrue}
+use Rattle.wasm_tree_spec.specs.Prelude.{Functions, Tables, Memories, Globals, Module}
+use Rattle.wasm_meaning.specs.Prelude.{Inst, Environment, insts_from, starts_of, instantiate, links, alone, Move, events}
+use Rattle.index_remap.specs.Prelude.{ListRel, RenumberedCodeIsRelated}
 use Rattle.index_remap_proof.specs.Indices.{TreeNamesOnly}
-use Rattle.world_simulation.specs.Alone.{one}
+use Rattle.world_simulation.specs.Prelude.{one, AreSimilar, StartsCorrespond, WorldsCorrespond}
 use Rattle.world_simulation.specs.Instances.{RelatedInstancesHaveEqualTraces}
-use Rattle.world_simulation.specs.Simulation.{AreSimilar, StartsCorrespond, WorldsCorrespond}
 use Rattle.world_simulation.proofs.Instancing.{IsInst, inst_is, inst_there}
 use Rattle.world_simulation.proofs.Simulated.{what_is_made, instances_rel}
 use Rattle.world_simulation.proofs.Single.{one_inst, there_is}

@@ -1,48 +1,19 @@
 -- A module and what is left of it by closed marks: its records of the law for two worlds.
-use Rattle.std.proofs.Common.{◌≡◌, ◌∙◌, ap, ap₂, sym, subst, refl, ℕ, suc, ◌+◌, ◌-◌, ◌<◌, ◌≤◌, ◌&&◌, ◌⊎◌, inl, inr, List, [], ◌∷◌, ◌++◌, map, length, drop, replicate, Option, Some, None, Bool, true, false, arith, option_and_then, append-nil, slice_get, slice_index}
-use Rattle.std.specs.Prelude.{IsTrue}
-use Rattle.std.proofs.lemmas.Bool.{ltb-true}
-use Rattle.std.proofs.lemmas.List.{length-append, length-map, length-replicate, length-drop, map-id}
-use Rattle.std.proofs.lemmas.Option.{slice_get_within, same_Some}
-use Rattle.base_lists.proofs.Bools.{left_true, right_true}
-use Rattle.base_lists.proofs.Numbers.{length-numbers, numbers_at}
-use Rattle.base_lists.proofs.Options.{and_then_is, all_there_at, all_there_from}
-use Rattle.base_lists.proofs.Places.{append_at_left, append_from, map_at, map_from, map_twice, slice_get_there, slice_get_none}
+use Rattle.base_lists.proofs.Common.{◌≡◌, ◌∙◌, ap, ap₂, sym, subst, refl, ℕ, suc, ◌+◌, ◌-◌, ◌<◌, ◌≤◌, ◌&&◌, ◌⊎◌, inl, inr, List, [], ◌∷◌, ◌++◌, map, length, drop, replicate, Option, Some, None, Bool, true, false, arith, option_and_then, append-nil, slice_get, slice_index, IsTrue, ltb-true, length-append, length-map, length-replicate, length-drop, map-id, slice_get_within, same_Some, left_true, right_true, length-numbers, numbers_at, and_then_is, all_there_at, all_there_from, append_at_left, append_from, map_at, map_from, map_twice, slice_get_there, slice_get_none}
 use Rattle.base_lists.specs.Places.{numbers}
-use Rattle.wasm_tree.specs.declared.space.Space.{Space}
-use Rattle.wasm_tree.specs.declared.space.Space.TheVariants.{Types, Functions, Tables, Memories, Globals, ElementSegments, DataSegments}
-use Rattle.wasm_tree.specs.declared.module.ConstExpr.{ConstExpr}
+use Rattle.wasm_tree_spec.specs.Prelude.{Space, Types, Functions, Tables, Memories, Globals, ElementSegments, DataSegments, ConstExpr, ElemMode, ElemSeg, DataSeg, Export, GlobalDef, Module, imported_funcs, imported_tables, imported_memories, imported_globals, funcs_of, tables_of, memories_of, globals_of}
 use Rattle.wasm_tree.specs.declared.module.ConstExpr.TheVariants as const
-use Rattle.wasm_tree.specs.declared.module.ElemMode.{ElemMode}
 use Rattle.wasm_tree.specs.declared.module.ElemMode.TheVariants as elem
-use Rattle.wasm_tree.specs.declared.module.ElemSeg.{ElemSeg}
-use Rattle.wasm_tree.specs.declared.module.DataSeg.{DataSeg}
-use Rattle.wasm_tree.specs.declared.module.Export.{Export}
 use Rattle.wasm_tree.specs.declared.module.Func as tree
-use Rattle.wasm_tree.specs.declared.module.GlobalDef.{GlobalDef}
-use Rattle.wasm_tree.specs.declared.module.Module.{Module}
-use Rattle.wasm_tree.specs.Spaces.{imported_funcs, imported_tables, imported_memories, imported_globals, funcs_of, tables_of, memories_of, globals_of}
-use Rattle.wasm_meaning.specs.State.{Inst, Text, Val}
-use Rattle.wasm_meaning.specs.Environment.{Environment, own_globals}
-use Rattle.wasm_meaning.specs.Linking.{Entity, imports_of, has_kind}
-use Rattle.wasm_meaning.specs.World.{PlacedSegment, segments_in, own_count, defined_count, insts_from, starts_of, seen_as, alone}
+use Rattle.wasm_meaning.specs.Prelude.{Inst, Text, Val, Environment, own_globals, Entity, imports_of, has_kind, PlacedSegment, segments_in, own_count, defined_count, insts_from, starts_of, seen_as, alone}
 use Rattle.wasm_meaning.specs.World as world
 use Rattle.index_remap.specs.declared.remap.Remap.{Remap}
-use Rattle.index_remap.specs.References.{declared_refs}
-use Rattle.index_remap.specs.Renumbered.{entries, has, new_func, new_elem, new_elem_mode, new_data, new_global, new_const, new_export, new_start}
-use Rattle.index_remap.specs.Related.{Pairing, OneToOne, OptRel, none, some, ListRel, cons, nil, ValRel, number, reference, func}
-use Rattle.index_remap.specs.RelatedRuns.{KeyRel, turned, HasNoPartner}
-use Rattle.index_remap.specs.Laws.{passed, RenumberedCodeIsRelated}
+use Rattle.index_remap.specs.Prelude.{declared_refs, entries, has, new_func, new_elem, new_elem_mode, new_data, new_global, new_const, new_export, new_start, Pairing, OneToOne, OptRel, none, some, ListRel, cons, nil, ValRel, number, reference, func, KeyRel, turned, HasNoPartner, passed, RenumberedCodeIsRelated}
 use Rattle.index_remap.proofs.Rel.{append_rel, get_rel}
 use Rattle.index_remap_proof.specs.Indices.{Indices, with_entry, ConstNamesOnly, ExportNamesOnly, FuncNamesOnly, TreeNamesOnly}
-use Rattle.world_simulation.specs.Alone.{one, addresses}
-use Rattle.world_simulation.specs.Definitions.{FuncsAt, FuncsCorrespond, GlobalsCorrespond, ElemsCorrespond, Partners, DefinitionsCorrespond, Instantiated, values_in, is_declarative}
+use Rattle.world_simulation.specs.Prelude.{one, addresses, FuncsAt, FuncsCorrespond, GlobalsCorrespond, ElemsCorrespond, Partners, DefinitionsCorrespond, Instantiated, values_in, is_declarative, EntriesName, SharesOwn, InOrder, ends, only_second, ElemsPartner, ElemAlone, DatasPartner, DataAlone, ElemsInOrder, DatasInOrder, WorldsCorrespond}
 use Rattle.world_simulation.specs.Definitions as partners
-use Rattle.world_simulation.specs.Named.{EntriesName}
-use Rattle.world_simulation.specs.Owned.{SharesOwn}
-use Rattle.world_simulation.specs.Segments.{InOrder, ends, only_second, ElemsPartner, ElemAlone, DatasPartner, DataAlone, ElemsInOrder, DatasInOrder}
 use Rattle.world_simulation.specs.Segments as order
-use Rattle.world_simulation.specs.Simulation.{WorldsCorrespond}
 use Rattle.world_simulation.proofs.Alone.{space_is, funcs_counted, tables_counted, memories_counted, globals_counted}
 use Rattle.world_simulation.proofs.Declared.{Keeps, keeps, last_segments}
 use Rattle.world_simulation.proofs.Holes.{all_in_step, stays_at}

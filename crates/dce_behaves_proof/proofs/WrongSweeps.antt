@@ -1,27 +1,15 @@
 -- Sweeps that are wrong, of a small module: what is seen of the module is not seen of what they leave, by computation. The module is valid and its marks
 -- are closed, so that the law `swept_module_equivalent` speaks of it: a sweep that leaves such a module breaks it.
-use Rattle.std.proofs.Common.{◌≡◌, refl, ap, subst, sym, ℕ, zero, suc, List, [], ◌∷◌, Some, None, true, false, arith, slice_get}
-use Rattle.std.specs.Prelude.{Contains, get_or}
-use Rattle.std.proofs.lemmas.Option.{same_Some}
-use Rattle.wasm_tree.specs.declared.instr.Instr.{out-Instr, the_lemmas}
+use Rattle.base_lists.proofs.Common.{◌≡◌, refl, ap, subst, sym, ℕ, zero, suc, List, [], ◌∷◌, Some, None, true, false, arith, slice_get, Contains, get_or, same_Some}
+use Rattle.wasm_tree_spec.specs.Prelude.{the_lemmas, FuncType, Space, Types, Functions, Tables, Memories, Globals, ElementSegments, DataSegments, Export, Func, Import, Module}
+use Rattle.wasm_tree.specs.declared.instr.Instr.{out-Instr}
 use Rattle.wasm_tree.specs.declared.instr.Instr.TheVariants as i
-use Rattle.wasm_tree.specs.declared.types.FuncType.{FuncType}
-use Rattle.wasm_tree.specs.declared.space.Space.{Space}
-use Rattle.wasm_tree.specs.declared.space.Space.TheVariants.{Types, Functions, Tables, Memories, Globals, ElementSegments, DataSegments}
-use Rattle.wasm_tree.specs.declared.module.Export.{Export}
 use Rattle.wasm_tree.specs.declared.module.ExportDesc.TheVariants as ex
-use Rattle.wasm_tree.specs.declared.module.Func.{Func}
-use Rattle.wasm_tree.specs.declared.module.Import.{Import}
 use Rattle.wasm_tree.specs.declared.module.ImportDesc.TheVariants as im
-use Rattle.wasm_tree.specs.declared.module.Module.{Module}
 use Rattle.wasm_num.specs.Operations.{wrapped}
 use Rattle.wasm_valid_bodies.specs.Typing.{WellTyped, Gives}
-use Rattle.wasm_valid.specs.Validity.{IsValid, body_context}
-use Rattle.wasm_meaning.specs.State.{Text}
-use Rattle.wasm_meaning.specs.Linking.{imports_of}
-use Rattle.wasm_meaning.specs.Environment.{Environment, Offer}
-use Rattle.wasm_meaning.specs.World.{alone}
-use Rattle.wasm_meaning.specs.Run.{Event, Linked, Asked, Returned, BadMove, Move, Answer, Call, IsPrefix, events}
+use Rattle.wasm_valid.specs.Prelude.{IsValid, body_context}
+use Rattle.wasm_meaning.specs.Prelude.{Text, imports_of, Environment, Offer, alone, Event, Linked, Asked, Returned, BadMove, Move, Answer, Call, IsPrefix, events}
 use Rattle.index_remap_proof.specs.Indices.{FuncNamesOnly, ExportNamesOnly, ImportNamesOnly}
 use Rattle.base_kept.specs.Kept.{is_marked}
 use Rattle.dce_sweep_spec.specs.Marks.{Marks, stays}

@@ -1,9 +1,8 @@
 -- What is left of a module shows what the module shows to an embedder that uses only the exports that are kept.
 use Rattle.std.specs.Prelude.{IsTrue}
-use Rattle.wasm_tree.specs.declared.module.Module.{Module}
-use Rattle.wasm_valid.specs.Validity.{IsValid}
-use Rattle.wasm_meaning.specs.World.{alone, links}
-use Rattle.wasm_meaning.specs.Run.{Same, events}
+use Rattle.wasm_tree_spec.specs.Prelude.{Module}
+use Rattle.wasm_valid.specs.Prelude.{IsValid}
+use Rattle.wasm_meaning.specs.Prelude.{alone, links, Same, events}
 use Rattle.dce_sweep_spec.specs.Marks.{Marks}
 use Rattle.dce_sweep_spec.specs.Closed.{AreClosed}
 use Rattle.dce_sweep_spec.specs.Swept.{swept}

@@ -1,25 +1,14 @@
 -- What is left of a module has the numbers of the module.
-use Rattle.std.proofs.Common.{List, [], ◌∷◌, Bool, true, false, cond, filter}
-use Rattle.std.specs.Prelude.{IsUtf8}
+use Rattle.base_lists.proofs.Common.{List, [], ◌∷◌, Bool, true, false, cond, IsUtf8}
+use Rattle.std.proofs.Common.{filter}
 use Rattle.base_lists.specs.Every.{Every}
 use Rattle.base_kept.specs.Kept.{kept}
-use Rattle.wasm_tree.specs.declared.module.ConstExpr.{ConstExpr}
-use Rattle.wasm_tree.specs.declared.module.ImportDesc.{ImportDesc}
+use Rattle.wasm_tree_spec.specs.Prelude.{ConstExpr, ImportDesc, Import, Export, Func, GlobalDef, ElemMode, ElemSeg, DataMode, DataSeg, Module}
 use Rattle.wasm_tree.specs.declared.module.ImportDesc.TheVariants as im
-use Rattle.wasm_tree.specs.declared.module.Import.{Import}
-use Rattle.wasm_tree.specs.declared.module.Export.{Export}
-use Rattle.wasm_tree.specs.declared.module.Func.{Func}
-use Rattle.wasm_tree.specs.declared.module.GlobalDef.{GlobalDef}
-use Rattle.wasm_tree.specs.declared.module.ElemMode.{ElemMode}
 use Rattle.wasm_tree.specs.declared.module.ElemMode.TheVariants as elem
-use Rattle.wasm_tree.specs.declared.module.ElemSeg.{ElemSeg}
-use Rattle.wasm_tree.specs.declared.module.DataMode.{DataMode}
 use Rattle.wasm_tree.specs.declared.module.DataMode.TheVariants as segment
-use Rattle.wasm_tree.specs.declared.module.DataSeg.{DataSeg}
-use Rattle.wasm_tree.specs.declared.module.Module.{Module}
 use Rattle.index_remap.specs.declared.remap.Remap.{Remap}
-use Rattle.index_remap.specs.Renumbered.{new_const, new_import, new_import_desc, new_func, new_global, new_export, new_elem_mode, new_elem, new_data_mode, new_data}
-use Rattle.index_remap.specs.References.{declared_refs}
+use Rattle.index_remap.specs.Prelude.{new_const, new_import, new_import_desc, new_func, new_global, new_export, new_elem_mode, new_elem, new_data_mode, new_data, declared_refs}
 use Rattle.dce_sweep_spec.specs.Marks.{Marks}
 use Rattle.dce_sweep_spec.specs.Swept.{is_kept_ref, kept_items, kept_elem, defined_funcs, defined_globals, sweep_map, renumbered_kept, swept}
 use Rattle.wasm_write_proof.specs.Ranges.{ConstInRange, ImportDescInRange, ImportInRange, ExportInRange, ElemModeInRange, ElemInRange, DataModeInRange, FuncInRange, InRange}

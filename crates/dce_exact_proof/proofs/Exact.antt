@@ -1,13 +1,13 @@
 -- There are marks that are exactly on what is reached, and they are one.
-use Rattle.std.proofs.Common.{◌≡◌, ◌∙◌, ◌⊎◌, inl, inr, refl, sym, ap, ap₂, ℕ, zero, suc, ◌+◌, ◌<◌, List, [], ◌∷◌, ◌++◌, length, length-append, Bool, true, false, get_or, arith}
-use Rattle.std.specs.Prelude.{◌↔◌}
-use Rattle.wasm_tree.specs.declared.module.Module.{Module}
+use Rattle.base_lists.proofs.Common.{◌≡◌, ◌∙◌, ◌⊎◌, inl, inr, refl, sym, ap, ap₂, ℕ, zero, suc, ◌+◌, ◌<◌, List, [], ◌∷◌, ◌++◌, length, Bool, true, false, get_or, arith, ◌↔◌}
+use Rattle.std.proofs.Common.{length-append}
+use Rattle.wasm_tree_spec.specs.Prelude.{Module}
 use Rattle.dce_graph.specs.declared.graph.Graph.{Graph}
 use Rattle.dce_graph.specs.declared.point.Point.{Point}
 use Rattle.dce_graph.specs.declared.point.Point.TheVariants.{Export, Import, Func, Global}
 use Rattle.dce_graph.specs.declared.marks.Reached.{Reached}
-use Rattle.dce_graph.specs.Reach.{routes, roots, edges}
-use Rattle.dce_graph.specs.Marks.{flags, marked, unmet, unmarked, with_mark, blank_marks, Spread}
+use Rattle.dce_graph.specs.Prelude.{routes, roots, edges, flags, marked, unmarked, Spread}
+use Rattle.dce_graph.specs.Marks.{unmet, with_mark, blank_marks}
 use Rattle.dce_graph.proofs.Marking.{spread_none, spread_old, spread_new, spread_then}
 use Rattle.dce_graph.proofs.Searching.{Good, good_start, good_more, good_end}
 use Rattle.dce_sweep_spec.specs.Marks.{Marks}

@@ -1,6 +1,6 @@
 -- The laws of marks that are exactly on what is reached.
 use Rattle.std.specs.Prelude.{◌≡◌}
-use Rattle.wasm_tree.specs.declared.module.Module.{Module}
+use Rattle.wasm_tree_spec.specs.Prelude.{Module}
 use Rattle.dce_graph.specs.declared.graph.Graph.{Graph}
 use Rattle.dce_graph.specs.declared.marks.Reached.{Reached}
 use Rattle.dce_sweep_spec.specs.Reached.{AreExact, marks_of}

@@ -1,6 +1,5 @@
 -- Modules and fields, each of which is followed once.
-use Rattle.std.proofs.Common.{◌≡◌, ◌∙◌, sym, ap, refl, subst, ℕ, ◌<◌, List, map, length, replicate, slice_set, Bool, true, false, Option, Some, None, ap₂, inl, ⊎_elim, arith}
-use Rattle.std.proofs.lemmas.List.{take_all}
+use Rattle.base_lists.proofs.Common.{◌≡◌, ◌∙◌, sym, ap, refl, subst, ℕ, ◌<◌, List, map, length, replicate, slice_set, Bool, true, false, Option, Some, None, ap₂, inl, ⊎_elim, arith, take_all}
 use Rattle.base_lists.specs.Places.{places}
 use Rattle.dce_graph.specs.declared.graph.Node.{Node as GraphNode}
 use Rattle.dce_graph.specs.declared.marks.Reached.{Reached}
@@ -8,10 +7,8 @@ use Rattle.dce_graph.specs.declared.point.Point.{Point}
 use Rattle.dce_graph.specs.declared.point.Point.TheVariants.{Node}
 use Rattle.dce_graph.specs.declared.search.Search.{Search}
 use Rattle.dce_graph.specs.declared.walk.Walk.{Walk}
-use Rattle.dce_graph.specs.GraphFile.{Text}
-use Rattle.dce_graph.specs.Marks.{Spread}
-use Rattle.dce_graph.specs.Reach.{place_in_kind}
-use Rattle.dce_graph.specs.Walks.{AreFollowed, AreLookups, AreMet, found_pair, is_of_pair, last_place}
+use Rattle.dce_graph.specs.Prelude.{Text, Spread, place_in_kind, AreFollowed, found_pair, is_of_pair, last_place}
+use Rattle.dce_graph.specs.Walks.{AreLookups, AreMet}
 use Rattle.dce_graph.proofs.Marking.{list_other}
 use Rattle.dce_graph.proofs.Searching.{none_marked}
 use Rattle.dce_graph.proofs.StandingNodes.{IsLastBefore, last_before, meeting_starts, meeting_ends, pair_there}

@@ -1,39 +1,21 @@
 -- Edges and roots that are imports.
-use Rattle.std.proofs.Common.{◌≡◌, ◌∙◌, sym, ap, refl, subst, ℕ, zero, suc, ◌+◌, List, [], ◌∷◌, ◌++◌, map, Bool, true, false, cond, Option, Some, None, slice_get, ◌⊎◌, inl, inr, ⊎_elim, arith}
-use Rattle.std.specs.Prelude.{◌↔◌, Contains, option_map}
-use Rattle.std.specs.List.{cons_option, filter_map, flat_map}
-use Rattle.std.proofs.lemmas.List.Elements.{Contains-append_left, Contains-append_right, Contains-append_cases}
-use Rattle.std.proofs.lemmas.Option.{slice_get_within}
+use Rattle.base_lists.proofs.Common.{◌≡◌, ◌∙◌, sym, ap, refl, subst, ℕ, zero, suc, ◌+◌, List, [], ◌∷◌, ◌++◌, map, Bool, true, false, cond, Option, Some, None, slice_get, ◌⊎◌, inl, inr, ⊎_elim, arith, ◌↔◌, Contains, option_map, cons_option, filter_map, flat_map, Contains-append_left, Contains-append_right, Contains-append_cases, slice_get_within, every_at, place_back, place_there, map_at, map_from, append_at_left, append_from}
 use Rattle.base_lists.specs.Every.{Every}
 use Rattle.base_lists.specs.Places.{places}
-use Rattle.base_lists.proofs.Each.{every_at}
-use Rattle.base_lists.proofs.Filtered.{place_back, place_there}
-use Rattle.base_lists.proofs.Places.{map_at, map_from, append_at_left, append_from}
-use Rattle.wasm_tree.specs.declared.space.Space.{Space}
-use Rattle.wasm_tree.specs.declared.space.Space.TheVariants.{Types, Functions, Tables, Memories, Globals, ElementSegments, DataSegments}
-use Rattle.wasm_tree.specs.declared.space.Operand.{Operand}
-use Rattle.wasm_tree.specs.declared.module.ConstExpr.{ConstExpr}
+use Rattle.wasm_tree_spec.specs.Prelude.{Space, Types, Functions, Tables, Memories, Globals, ElementSegments, DataSegments, Operand, ConstExpr, DataMode, ElemMode, ExportDesc, GlobalDef, ImportDesc, Module, same_space, space_of_import}
 use Rattle.wasm_tree.specs.declared.module.ConstExpr.TheVariants as const
-use Rattle.wasm_tree.specs.declared.module.DataMode.{DataMode}
 use Rattle.wasm_tree.specs.declared.module.DataMode.TheVariants as «data»
-use Rattle.wasm_tree.specs.declared.module.ElemMode.{ElemMode}
 use Rattle.wasm_tree.specs.declared.module.ElemMode.TheVariants as elem
 use Rattle.wasm_tree.specs.declared.module.Export.{Export as ModuleExport}
-use Rattle.wasm_tree.specs.declared.module.ExportDesc.{ExportDesc}
 use Rattle.wasm_tree.specs.declared.module.ExportDesc.TheVariants as export
 use Rattle.wasm_tree.specs.declared.module.Func.{Func as ModuleFunc}
-use Rattle.wasm_tree.specs.declared.module.GlobalDef.{GlobalDef}
 use Rattle.wasm_tree.specs.declared.module.Import.{Import as ModuleImport}
-use Rattle.wasm_tree.specs.declared.module.ImportDesc.{ImportDesc}
 use Rattle.wasm_tree.specs.declared.module.ImportDesc.TheVariants as im
-use Rattle.wasm_tree.specs.declared.module.Module.{Module}
-use Rattle.wasm_tree.specs.Operands.{same_space}
-use Rattle.wasm_tree.specs.Spaces.{space_of_import}
 use Rattle.dce_graph.specs.declared.graph.Graph.{Graph}
 use Rattle.dce_graph.specs.declared.point.Point.{Point}
 use Rattle.dce_graph.specs.declared.point.Point.TheVariants.{Node, Export, Import, Func, Global}
-use Rattle.dce_graph.specs.GraphFile.{Text}
-use Rattle.dce_graph.specs.Reach.{IsReached, root, along, roots, edges, point_of, operand_point, body_points, body_operands, const_point, const_points, imports_into, export_place, export_of_node, from_node, from_export, from_import, from_funcs, from_globals, edges_of, stays_imported, stands_for, elem_points, data_points, root_nodes, start_points, import_points}
+use Rattle.dce_graph.specs.Prelude.{Text, IsReached, root, along, roots, edges, operand_point, body_points, body_operands, const_point, const_points, imports_into, export_place, export_of_node, from_node, from_import, stays_imported, stands_for, elem_points, data_points, root_nodes, start_points, import_points}
+use Rattle.dce_graph.specs.Reach.{point_of, from_export, from_funcs, from_globals, edges_of}
 use Rattle.dce_graph.proofs.Marking.{nowhere, alone, only_one}
 
 -- ---- lists without imports ----

@@ -1,13 +1,11 @@
 -- One mark more, and points that are met one after another.
-use Rattle.std.proofs.Common.{◌≡◌, ℕ, zero, suc, ◌<◌, List, [], ◌∷◌, ◌++◌, length, Bool, true, false, get_or, slice_get, slice_set, ◌⊎◌, inl, inr, ⊎_elim, refl, sym, ap, ◌∙◌, subst, arith}
-use Rattle.std.specs.Prelude.{Contains}
-use Rattle.std.proofs.lemmas.List.Elements.{Contains-push, Contains-append_left, Contains-append_right, Contains-push_cases, Contains-append_cases}
+use Rattle.base_lists.proofs.Common.{◌≡◌, ℕ, zero, suc, ◌<◌, List, [], ◌∷◌, ◌++◌, length, Bool, true, false, get_or, slice_get, slice_set, ◌⊎◌, inl, inr, ⊎_elim, refl, sym, ap, ◌∙◌, subst, arith, Contains, Contains-push, Contains-append_left, Contains-append_right, Contains-push_cases, Contains-append_cases}
 use Rattle.dce_graph.specs.declared.point.Point.{Point}
 use Rattle.dce_graph.specs.declared.point.Point.TheVariants.{Node, Export, Import, Func, Global}
 use Rattle.dce_graph.specs.declared.marks.Reached.{Reached}
 use Rattle.dce_graph.specs.declared.search.Search.{Search}
-use Rattle.dce_graph.specs.Reach.{place_in_kind}
-use Rattle.dce_graph.specs.Marks.{flags, marked, not_set, unmet, with_mark, blanks, unmarked, HasMark, Spread}
+use Rattle.dce_graph.specs.Prelude.{place_in_kind, flags, marked, unmarked, Spread}
+use Rattle.dce_graph.specs.Marks.{not_set, unmet, with_mark, blanks, HasMark}
 
 -- ---- in one list ----
 

@@ -1,16 +1,13 @@
 -- Places of names, one name further.
-use Rattle.std.proofs.Common.{◌≡◌, ◌∙◌, sym, ap, refl, ℕ, zero, suc, ◌+◌, ◌<◌, List, [], ◌∷◌, ◌++◌, length, take, drop, get_or, Option, Some, None, Bool, true, false, cond, is_some, arith}
-use Rattle.std.specs.Prelude.{option_map}
-use Rattle.std.specs.Str.{bytes_eq}
+use Rattle.base_lists.proofs.Common.{◌≡◌, ◌∙◌, sym, ap, refl, ℕ, zero, suc, ◌+◌, ◌<◌, List, [], ◌∷◌, ◌++◌, length, take, drop, get_or, Option, Some, None, Bool, true, false, cond, is_some, arith, option_map, bytes_eq, bytes_eq-Decides, length-take-le}
 use Rattle.dce_graph.specs.declared.fault.GraphFault.{GraphFault}
 use Rattle.dce_graph.specs.declared.fault.GraphFault.TheVariants.{UnknownNode}
 use Rattle.std.proofs.lemmas.Bool.{false≢true}
-use Rattle.std.proofs.lemmas.Slice.Eq.{bytes_eq-Decides}
-use Rattle.std.proofs.lemmas.List.{length-take-le}
 use Rattle.base_lists.specs.Places.{first_place}
-use Rattle.dce_graph.specs.GraphFile.{Text, names_of, place_of_name, repeated_after, first_unknown, reached_names}
+use Rattle.dce_graph.specs.Prelude.{Text, names_of, place_of_name, first_unknown, reached_names, entries_now}
+use Rattle.dce_graph.specs.GraphFile.{repeated_after}
 use Rattle.dce_graph.specs.declared.entry.Entry.{Entry as Read}
-use Rattle.dce_graph.specs.Entries.{entry_now, entries_now}
+use Rattle.dce_graph.specs.Entries.{entry_now}
 use Rattle.dce_graph.proofs.Steps.{left_more, done_more}
 
 same_from : (x y : Text) → bytes_eq x y ≡ true → x ≡ y

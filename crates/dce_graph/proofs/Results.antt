@@ -1,9 +1,5 @@
 -- From what each stage of reading finds to what the file comes to.
-use Rattle.std.proofs.Common.{◌≡◌, ◌∙◌, sym, ap, refl, ℕ, List, map, Option, Some, None, Bool, true, false, cond, subst, Ok, ◌⊎◌, inl, inr}
-use Rattle.std.specs.Prelude.{IsUtf8, option_map}
-use Rattle.std.specs.List.{filter_map}
-use Rattle.std.specs.Str.{is_utf8}
-use Rattle.std.proofs.lemmas.Str.{IsUtf8-from_is_utf8, is_utf8-from_IsUtf8}
+use Rattle.base_lists.proofs.Common.{◌≡◌, ◌∙◌, sym, ap, refl, ℕ, List, map, Option, Some, None, Bool, true, false, cond, subst, Ok, ◌⊎◌, inl, inr, IsUtf8, option_map, filter_map, is_utf8, IsUtf8-from_is_utf8, is_utf8-from_IsUtf8}
 use Rattle.serde_json.specs.Data.{Data}
 use Rattle.serde_json.specs.Find.{as_array}
 use Rattle.serde_json.specs.Read.{read}
@@ -12,7 +8,8 @@ use Rattle.serde_json.specs.declared.value.Value.{Value}
 use Rattle.dce_graph.specs.declared.fault.GraphFault.{GraphFault}
 use Rattle.dce_graph.specs.declared.fault.GraphFault.TheVariants.{GraphText, GraphShape, NodeTwice, UnknownNode}
 use Rattle.dce_graph.specs.declared.graph.Node.{Node}
-use Rattle.dce_graph.specs.GraphFile.{Text, Entry, value_of, entry_of, misshapen, names_of, place_of_name, first_repeated, first_unknown, reached_names, node_of, if_shaped, if_distinct, if_known, if_text, if_array, graph_of_values, graph_result, fault_of, IsFault}
+use Rattle.dce_graph.specs.Prelude.{Text, entry_of, misshapen, names_of, place_of_name, first_repeated, first_unknown, reached_names, node_of, if_text, graph_result, fault_of}
+use Rattle.dce_graph.specs.GraphFile.{Entry, value_of, if_shaped, if_distinct, if_known, if_array, graph_of_values, IsFault}
 use Rattle.dce_graph.proofs.Texts.{listed_items}
 
 -- a fault that is told of a part is told of the whole, where the part's is the whole's

@@ -1,16 +1,13 @@
 -- Small graph files, and a small graph with a small module, computed: what is read, where edges lead, and what is reached.
-use Rattle.std.proofs.Common.{◌≡◌, refl, ℕ, List, [], ◌∷◌, Option, Some, None, Bool, true, false, Result, Ok, Err, codes, sym, subst, rules, arith}
-use Rattle.std.specs.Prelude.{Contains}
+use Rattle.base_lists.proofs.Common.{◌≡◌, refl, ℕ, List, [], ◌∷◌, Option, Some, None, Bool, true, false, Result, Ok, Err, codes, sym, subst, rules, arith, Contains}
 use Rattle.serde_json.proofs.OnLiterals.{serde_json_on_literals}
-use Rattle.wasm_tree.specs.declared.types.ValType.TheVariants.{I32}
-use Rattle.wasm_tree.specs.declared.instr.Instr.{Instr, the_lemmas}
+use Rattle.wasm_tree_spec.specs.Prelude.{I32, Instr, the_lemmas, Module}
 use Rattle.wasm_tree.specs.declared.instr.Instr.TheVariants as i
 use Rattle.wasm_tree.specs.declared.module.ConstExpr.TheVariants as const
 use Rattle.wasm_tree.specs.declared.module.DataMode.TheVariants as «data»
 use Rattle.wasm_tree.specs.declared.module.ExportDesc.TheVariants as ex
 use Rattle.wasm_tree.specs.declared.module.Func.{Func as ModuleFunc}
 use Rattle.wasm_tree.specs.declared.module.ImportDesc.TheVariants as im
-use Rattle.wasm_tree.specs.declared.module.Module.{Module}
 use Rattle.serde_json.specs.Read.{read}
 use Rattle.dce_graph.specs.declared.fault.GraphFault.{GraphFault}
 use Rattle.dce_graph.specs.declared.fault.GraphFault.TheVariants.{GraphText, GraphShape, NodeTwice, UnknownNode}
@@ -18,8 +15,7 @@ use Rattle.dce_graph.specs.declared.graph.Graph.{Graph}
 use Rattle.dce_graph.specs.declared.graph.Node.{Node as GraphNode}
 use Rattle.dce_graph.specs.declared.point.Point.{Point}
 use Rattle.dce_graph.specs.declared.point.Point.TheVariants.{Node, Export, Import, Func, Global}
-use Rattle.dce_graph.specs.GraphFile.{if_text}
-use Rattle.dce_graph.specs.Reach.{IsReached, edges, roots, root, along}
+use Rattle.dce_graph.specs.Prelude.{if_text, IsReached, edges, roots, root, along}
 
 -- ---- files ----
 

@@ -1,15 +1,13 @@
 -- From the roots to all that is reached.
-use Rattle.std.proofs.Common.{◌≡◌, ℕ, zero, suc, ◌<◌, List, [], ◌∷◌, ◌++◌, length, replicate, true, false, get_or, ◌⊎◌, inl, inr, ⊎_elim, sym, ◌∙◌, subst}
-use Rattle.std.specs.Prelude.{◌↔◌, Contains}
-use Rattle.std.proofs.lemmas.List.{length-replicate}
-use Rattle.std.proofs.lemmas.List.Elements.{Contains-push, Contains-append_left, Contains-push_cases}
-use Rattle.wasm_tree.specs.declared.module.Module.{Module}
+use Rattle.base_lists.proofs.Common.{◌≡◌, ℕ, zero, suc, ◌<◌, List, [], ◌∷◌, ◌++◌, length, replicate, true, false, get_or, ◌⊎◌, inl, inr, ⊎_elim, sym, ◌∙◌, subst, ◌↔◌, Contains, length-replicate, Contains-push, Contains-append_left, Contains-push_cases}
+use Rattle.wasm_tree_spec.specs.Prelude.{Module}
 use Rattle.dce_graph.specs.declared.graph.Graph.{Graph}
 use Rattle.dce_graph.specs.declared.point.Point.{Point}
 use Rattle.dce_graph.specs.declared.point.Point.TheVariants.{Node, Export, Import, Func, Global}
 use Rattle.dce_graph.specs.declared.search.Search.{Search}
-use Rattle.dce_graph.specs.Reach.{Routes, IsThere, IsReachedBy, root, along, place_in_kind, routes, roots, point_count}
-use Rattle.dce_graph.specs.Marks.{flags, marked, with_stack, blank_marks, HasMark, Spread}
+use Rattle.dce_graph.specs.Prelude.{root, along, place_in_kind, routes, roots, point_count, flags, marked, Spread}
+use Rattle.dce_graph.specs.Reach.{Routes, IsThere, IsReachedBy}
+use Rattle.dce_graph.specs.Marks.{with_stack, blank_marks, HasMark}
 use Rattle.dce_graph.proofs.Marking.{nowhere}
 
 -- what holds before each step

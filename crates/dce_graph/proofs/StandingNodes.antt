@@ -1,21 +1,8 @@
 -- The nodes that denote one module and field, met from the last to the first.
-use Rattle.std.proofs.Common.{◌≡◌, ◌∙◌, sym, ap, refl, ℕ, zero, suc, ◌+◌, ◌<◌, ◌≤◌, List, [], ◌∷◌, ◌++◌, map, take, drop, length, Bool, true, false, cond, Option, Some, None, slice_get, subst, ap₂, ◌&&◌, inl, inr, ⊎_elim, Ordering, Less, Equal, Greater, arith}
-use Rattle.std.specs.Prelude.{Contains}
-use Rattle.std.specs.Prelude.{option_and_then}
-use Rattle.std.specs.Option.{option_or}
+use Rattle.base_lists.proofs.Common.{◌≡◌, ◌∙◌, sym, ap, refl, ℕ, zero, suc, ◌+◌, ◌<◌, ◌≤◌, List, [], ◌∷◌, ◌++◌, map, take, drop, length, Bool, true, false, cond, Option, Some, None, slice_get, subst, ap₂, ◌&&◌, inl, inr, ⊎_elim, Ordering, Less, Equal, Greater, arith, Contains, option_and_then, option_or, nat_cmp, ordering_then, slice_cmp, cases_eq, is_eq-slice_cmp, slice_get_within, push_last, push_before, append_at_left, bytes_eq, and_parts, length-append, length-take-le, take_all, drop_all, take-append-le, Contains-push, Contains-append_left, Contains-append_right, Contains-push_cases, Contains-append_cases, bytes_eq-Decides}
 use Rattle.std.specs.BTreeMap.{BTreeMap}
-use Rattle.std.specs.Ordering.{nat_cmp, ordering_then, is_eq}
-use Rattle.std.specs.Cmp.Lexicographic.{slice_cmp}
+use Rattle.std.specs.Ordering.{is_eq}
 use denote.Ref.{Bor}
-use Rattle.std.proofs.lemmas.Bool.{cases_eq}
-use Rattle.std.proofs.lemmas.Map.Text.{is_eq-slice_cmp}
-use Rattle.std.proofs.lemmas.Option.{slice_get_within}
-use Rattle.base_lists.proofs.Places.{push_last, push_before, append_at_left}
-use Rattle.std.specs.Str.{bytes_eq}
-use Rattle.std.proofs.lemmas.Bool.{and_parts}
-use Rattle.std.proofs.lemmas.List.{length-append, length-take-le, take_all, drop_all, take-append-le}
-use Rattle.std.proofs.lemmas.List.Elements.{Contains-push, Contains-append_left, Contains-append_right, Contains-push_cases, Contains-append_cases}
-use Rattle.std.proofs.lemmas.Slice.Eq.{bytes_eq-Decides}
 use Rattle.base_lists.specs.Places.{places}
 use Rattle.dce_graph.specs.declared.graph.ImportPair.{ImportPair}
 use Rattle.dce_graph.specs.declared.graph.Node.{Node as GraphNode}
@@ -23,10 +10,8 @@ use Rattle.dce_graph.specs.declared.point.Point.{Point}
 use Rattle.dce_graph.specs.declared.point.Point.TheVariants.{Node}
 use Rattle.dce_graph.specs.declared.search.Search.{Search}
 use Rattle.dce_graph.specs.declared.walk.Walk.{Walk}
-use Rattle.dce_graph.specs.GraphFile.{Text}
-use Rattle.dce_graph.specs.Marks.{Spread}
-use Rattle.dce_graph.specs.Reach.{pair_is}
-use Rattle.dce_graph.specs.Walks.{last_place, last_of_pair, is_of_pair, found_pair, AreStanding, AreLookups, IsMeeting, ahead}
+use Rattle.dce_graph.specs.Prelude.{Text, Spread, pair_is, last_place, is_of_pair, found_pair, AreStanding}
+use Rattle.dce_graph.specs.Walks.{last_of_pair, AreLookups, IsMeeting, ahead}
 use Rattle.dce_graph.proofs.Marking.{spread_none, spread_then, spread_as}
 
 -- where the last is nowhere, there are no places

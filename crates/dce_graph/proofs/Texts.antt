@@ -1,17 +1,12 @@
 -- Lists of values that are texts.
-use Rattle.std.proofs.Common.{◌≡◌, ◌≢◌, ◌∙◌, sym, ap, refl, List, [], ◌∷◌, map, length, Option, Some, None, true, false, is_some}
-use Rattle.std.specs.Prelude.{option_and_then}
-use Rattle.std.specs.List.{list_all}
+use Rattle.base_lists.proofs.Common.{◌≡◌, ◌≢◌, ◌∙◌, sym, ap, refl, List, [], ◌∷◌, map, length, Option, Some, None, true, false, is_some, option_and_then, list_all, all_there_length, length-map, and_parts}
 use Rattle.base_lists.specs.Options.{all_there}
-use Rattle.base_lists.proofs.Options.{all_there_length}
-use Rattle.std.proofs.lemmas.List.{length-map}
-use Rattle.std.proofs.lemmas.Bool.{and_parts}
 use Rattle.serde_json.specs.Data.{Data}
 use Rattle.serde_json.specs.Find.{as_array, as_str}
 use Rattle.serde_json.specs.View.{view, items_of, items_view}
 use Rattle.serde_json.specs.declared.value.Value.{Value}
-use Rattle.dce_graph.specs.GraphFile.{Text, listed, texts_of, import_pair_of_two}
-use Rattle.dce_graph.specs.Entries.{texts_in}
+use Rattle.dce_graph.specs.Prelude.{Text, texts_in}
+use Rattle.dce_graph.specs.GraphFile.{listed, texts_of, import_pair_of_two}
 
 -- the items of an array of values are these values
 pub listed_items : (ds : List Data) → listed (items_of ds) ≡ ds

@@ -1,22 +1,14 @@
 -- Points that a loop has met, one item further.
-use Rattle.std.proofs.Common.{◌≡◌, ◌∙◌, sym, ap, refl, ℕ, suc, ◌+◌, ◌<◌, List, [], ◌∷◌, ◌++◌, map, take, length, get_or, append_assoc, append-nil, Bool, true, false, cond, Option, Some, None, Result, Ok, Err, arith}
-use Rattle.std.specs.Prelude.{OnOk}
-use Rattle.std.specs.List.{cons_option, filter_map, flat_map}
-use Rattle.std.proofs.lemmas.Grind.{flat_map-append}
-use Rattle.std.proofs.lemmas.List.{map-append, length-take-le}
-use Rattle.std.proofs.lemmas.List.Elements.{filter_map-append}
+use Rattle.base_lists.proofs.Common.{◌≡◌, ◌∙◌, sym, ap, refl, ℕ, suc, ◌+◌, ◌<◌, List, [], ◌∷◌, ◌++◌, map, take, length, get_or, append_assoc, append-nil, Bool, true, false, cond, Option, Some, None, Result, Ok, Err, arith, OnOk, cons_option, filter_map, flat_map, flat_map-append, map-append, length-take-le, filter_map-append}
 use Rattle.base_lists.specs.Places.{places}
-use Rattle.wasm_tree.specs.declared.types.BlockType.{BlockType}
-use Rattle.wasm_tree.specs.declared.instr.Instr.{Instr, out-Instr, map-Instr, fold_out-Instr, Block, Loop, If}
-use Rattle.wasm_tree.specs.declared.instr.Instr.TheVariants.{outs-Block, outs-Loop, outs-If}
+use Rattle.wasm_tree_spec.specs.Prelude.{BlockType, Instr, out-Instr, map-Instr, fold_out-Instr, outs-Block, outs-Loop, outs-If, Operand, operands_of, held, listed}
+use Rattle.wasm_tree.specs.declared.instr.Instr.{Block, Loop, If}
 use Rattle.wasm_tree.specs.declared.space.Operands.{Operands}
 use Rattle.wasm_tree.proofs.OperandLaws.{operands_map, held_map}
-use Rattle.wasm_tree.specs.declared.space.Operand.{Operand}
-use Rattle.wasm_tree.specs.Operands.{operands_of, held, listed}
 use Rattle.dce_graph.specs.declared.point.Point.{Point}
 use Rattle.dce_graph.specs.declared.search.Search.{Search}
-use Rattle.dce_graph.specs.Reach.{operand_point, operands_step, all_operands, body_operands, named_points, body_points}
-use Rattle.dce_graph.specs.Marks.{Spread}
+use Rattle.dce_graph.specs.Prelude.{operand_point, body_operands, named_points, body_points, Spread}
+use Rattle.dce_graph.specs.Reach.{operands_step, all_operands}
 use Rattle.dce_graph.proofs.Marking.{spread_then}
 use Rattle.dce_graph.proofs.Steps.{done_more}
 

@@ -1,9 +1,7 @@
 -- What is reached of imports (WebAssembly Core 2.0, section 2.5.11).
 use Rattle.std.specs.Prelude.{◌≡◌, ◌↔◌, ℕ, true, Some, slice_get}
-use Rattle.wasm_tree.specs.declared.space.Space.{Space}
+use Rattle.wasm_tree_spec.specs.Prelude.{Space, Module, space_of_import}
 use Rattle.wasm_tree.specs.declared.module.Import.{Import as ModuleImport}
-use Rattle.wasm_tree.specs.declared.module.Module.{Module}
-use Rattle.wasm_tree.specs.Spaces.{space_of_import}
 use Rattle.dce_graph.specs.declared.graph.Graph.{Graph}
 use Rattle.dce_graph.specs.declared.point.Point.{Point}
 use Rattle.dce_graph.specs.declared.point.Point.TheVariants.{Import}

@@ -4,3 +4,4 @@ pub mod Entries
 pub mod Marks
 pub mod Walks
 pub mod Laws
+pub mod Prelude

@@ -6,7 +6,7 @@ use Rattle.std.specs.Ordering.{nat_cmp, ordering_then}
 use Rattle.std.specs.Cmp.Lexicographic.{slice_cmp}
 use denote.Ref.{Bor}
 use Rattle.base_lists.specs.Places.{places}
-use Rattle.wasm_tree.specs.declared.space.Space.TheVariants.{Functions, Globals}
+use Rattle.wasm_tree_spec.specs.Prelude.{Functions, Globals}
 use Rattle.dce_graph.specs.declared.graph.ImportPair.{ImportPair}
 use Rattle.dce_graph.specs.declared.graph.Node.{Node}
 use Rattle.dce_graph.specs.declared.marks.Reached.{Reached}

@@ -1,43 +1,18 @@
 -- Marks that are exactly on what is reached are closed.
-use Rattle.std.proofs.Common.{◌≡◌, ◌∙◌, ap, ap₂, sym, subst, refl, ℕ, zero, suc, ◌+◌, ◌<◌, List, [], ◌∷◌, map, length, Option, Some, None, Bool, true, false, ◌&&◌, ⊎_elim, nat_lt, arith, slice_get, filter_map, true≢false}
-use Rattle.std.specs.Prelude.{Contains, option_map}
-use Rattle.std.specs.List.{cons_option, flat_map, list_all}
-use Rattle.std.proofs.lemmas.Bool.{ltb-true, lt-ltb}
-use Rattle.std.proofs.lemmas.List.{length-map}
-use Rattle.std.proofs.lemmas.List.Folds.{list_all-append}
-use Rattle.std.proofs.lemmas.List.Elements.{Contains-append_left, Contains-append_right, Contains-append_cases}
-use Rattle.std.proofs.lemmas.Option.{slice_get_within}
+use Rattle.base_lists.proofs.Common.{◌≡◌, ◌∙◌, ap, ap₂, sym, subst, refl, ℕ, zero, suc, ◌+◌, ◌<◌, List, [], ◌∷◌, map, length, Option, Some, None, Bool, true, false, ◌&&◌, ⊎_elim, nat_lt, arith, slice_get, true≢false, Contains, option_map, cons_option, flat_map, list_all, ltb-true, lt-ltb, length-map, list_all-append, Contains-append_left, Contains-append_right, Contains-append_cases, slice_get_within, same_tests, list_all_each, list_all_from, kept_is, place_back, place_there, places_many, length-numbers, map_at, map_from, append_at_left, append_right, append_from}
+use Rattle.std.proofs.Common.{filter_map}
 use Rattle.base_lists.specs.Places.{numbers, places}
-use Rattle.base_lists.proofs.Bools.{same_tests}
-use Rattle.base_lists.proofs.Each.{list_all_each, list_all_from}
-use Rattle.base_lists.proofs.Filtered.{kept_is, place_back, place_there, places_many}
-use Rattle.base_lists.proofs.Numbers.{length-numbers}
-use Rattle.base_lists.proofs.Places.{map_at, map_from, append_at_left, append_right, append_from}
-use Rattle.wasm_tree.specs.declared.space.Space.{Space}
-use Rattle.wasm_tree.specs.declared.space.Space.TheVariants.{Types, Functions, Tables, Memories, Globals, ElementSegments, DataSegments}
-use Rattle.wasm_tree.specs.declared.instr.Instr.{Instr}
-use Rattle.wasm_tree.specs.declared.module.ConstExpr.{ConstExpr}
+use Rattle.wasm_tree_spec.specs.Prelude.{Space, Types, Functions, Tables, Memories, Globals, ElementSegments, DataSegments, Instr, ConstExpr, DataMode, ElemMode, ElemSeg, ExportDesc, GlobalDef, ImportDesc, Module, same_space, all_operands_pass, PassesLayerByLayer, ListLayers, func_of, global_of, space_of_import, imported_funcs, imported_globals, funcs_of, tables_of, memories_of, globals_of}
 use Rattle.wasm_tree.specs.declared.module.ConstExpr.TheVariants as const
-use Rattle.wasm_tree.specs.declared.module.DataMode.{DataMode}
 use Rattle.wasm_tree.specs.declared.module.DataMode.TheVariants as «data»
-use Rattle.wasm_tree.specs.declared.module.ElemMode.{ElemMode}
 use Rattle.wasm_tree.specs.declared.module.ElemMode.TheVariants as elem
-use Rattle.wasm_tree.specs.declared.module.ElemSeg.{ElemSeg}
 use Rattle.wasm_tree.specs.declared.module.Export.{Export as ModuleExport}
-use Rattle.wasm_tree.specs.declared.module.ExportDesc.{ExportDesc}
 use Rattle.wasm_tree.specs.declared.module.ExportDesc.TheVariants as ex
 use Rattle.wasm_tree.specs.declared.module.Func.{Func as Function}
-use Rattle.wasm_tree.specs.declared.module.GlobalDef.{GlobalDef}
 use Rattle.wasm_tree.specs.declared.module.Import.{Import as ModuleImport}
-use Rattle.wasm_tree.specs.declared.module.ImportDesc.{ImportDesc}
 use Rattle.wasm_tree.specs.declared.module.ImportDesc.TheVariants as im
-use Rattle.wasm_tree.specs.declared.module.Module.{Module}
-use Rattle.wasm_tree.specs.Operands.{same_space, all_operands_pass}
-use Rattle.wasm_tree.specs.OperandLaws.{PassesLayerByLayer}
-use Rattle.wasm_tree.specs.Layers.{ListLayers}
-use Rattle.wasm_tree.specs.Spaces.{func_of, global_of, space_of_import, imported_funcs, imported_globals, funcs_of, tables_of, memories_of, globals_of}
 use Rattle.wasm_tree.proofs.OperandLaws.{passes_more}
-use Rattle.wasm_meaning.specs.Linking.{has_kind, imports_of}
+use Rattle.wasm_meaning.specs.Prelude.{has_kind, imports_of}
 use Rattle.index_remap.specs.declared.remap.Remap.{Remap}
 use Rattle.index_remap_proof.specs.Indices.{ConstNamesOnly, DataModeNamesOnly, ElemModeNamesOnly, ExportNamesOnly, ImportNamesOnly, LayerNamesOnly, TreeNamesOnly, with_entry}
 use Rattle.index_remap_proof.specs.Trees.{Covers}
@@ -51,8 +26,8 @@ use Rattle.dce_graph.specs.declared.graph.Node.{Node as GraphNode}
 use Rattle.dce_graph.specs.declared.marks.Reached.{Reached}
 use Rattle.dce_graph.specs.declared.point.Point.{Point}
 use Rattle.dce_graph.specs.declared.point.Point.TheVariants.{Node, Export, Import, Func, Global}
-use Rattle.dce_graph.specs.Marks.{marked}
-use Rattle.dce_graph.specs.Reach.{IsReached, IsThere, root, along, routes, roots, edges, edges_of, place_in_kind, point_count, point_of, body_points, const_point, const_points, imports_into, from_node, from_export, from_import, from_funcs, from_globals, export_of_node, elem_points, data_points, root_nodes, start_points, import_points, module_roots, stays_imported, stands_for, export_place}
+use Rattle.dce_graph.specs.Prelude.{marked, IsReached, root, along, routes, roots, edges, place_in_kind, point_count, body_points, const_point, const_points, imports_into, from_node, from_import, export_of_node, elem_points, data_points, root_nodes, start_points, import_points, stays_imported, stands_for, export_place}
+use Rattle.dce_graph.specs.Reach.{IsThere, edges_of, point_of, from_export, from_funcs, from_globals, module_roots}
 use Rattle.dce_sweep_spec.specs.Reached.{AreExact, marks_of}
 use Rattle.dce_reach_proof.proofs.Points.{has, contains, contains_joined, contains_chosen, none_fails, all_mapped, all_joined, all_chosen, places_apart, point_passes, passes, body_passes}
 

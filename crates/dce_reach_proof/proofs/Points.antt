@@ -1,22 +1,13 @@
 -- What lists of points have in them, and the points that a body names.
-use Rattle.std.proofs.Common.{◌≡◌, ◌∙◌, ap, ap₂, sym, refl, ℕ, zero, suc, List, [], ◌∷◌, Option, Some, None, Bool, true, false, ◌&&◌, cond, arith, slice_get, filter_map, map}
-use Rattle.std.specs.Prelude.{Contains}
-use Rattle.std.specs.List.{cons_option, flat_map, list_all}
-use Rattle.std.proofs.lemmas.List.Folds.{list_all-append}
-use Rattle.std.proofs.lemmas.List.Elements.{Contains-append_left, Contains-append_right, filter_map-append}
-use Rattle.std.proofs.lemmas.Option.{slice_get_within, slice_get-get_or, get_or_from_slice_get}
+use Rattle.base_lists.proofs.Common.{◌≡◌, ◌∙◌, ap, ap₂, sym, refl, ℕ, zero, suc, List, [], ◌∷◌, Option, Some, None, Bool, true, false, ◌&&◌, cond, arith, slice_get, map, Contains, cons_option, flat_map, list_all, list_all-append, Contains-append_left, Contains-append_right, filter_map-append, slice_get_within, slice_get-get_or, get_or_from_slice_get, left_true, list_all_each, place_back, Has}
+use Rattle.std.proofs.Common.{filter_map}
 use Rattle.base_lists.specs.Every.{Every}
 use Rattle.base_lists.specs.Places.{places}
-use Rattle.base_lists.proofs.Bools.{left_true}
-use Rattle.base_lists.proofs.Each.{list_all_each}
-use Rattle.base_lists.proofs.Filtered.{place_back}
-use Rattle.base_lists.proofs.Places.{Has}
-use Rattle.wasm_tree.specs.declared.space.Operand.{Operand}
-use Rattle.wasm_tree.specs.declared.instr.Instr.{Instr, out-Instr}
-use Rattle.wasm_tree.specs.Operands.{operands_of, held, operands_pass, all_operands_pass}
+use Rattle.wasm_tree_spec.specs.Prelude.{Operand, Instr, out-Instr, operands_of, held, operands_pass, all_operands_pass}
 use Rattle.wasm_tree.proofs.OperandLaws.{by_held, passes_inside}
 use Rattle.dce_graph.specs.declared.point.Point.{Point}
-use Rattle.dce_graph.specs.Reach.{operand_point, all_operands, body_operands, named_points, body_points}
+use Rattle.dce_graph.specs.Prelude.{operand_point, body_operands, named_points, body_points}
+use Rattle.dce_graph.specs.Reach.{all_operands}
 use Rattle.dce_graph.proofs.Walking.{named_inside}
 
 -- ---- lists ----

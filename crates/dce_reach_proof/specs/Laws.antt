@@ -1,6 +1,6 @@
 -- The law of marks that are exactly on what is reached.
-use Rattle.wasm_tree.specs.declared.module.Module.{Module}
-use Rattle.wasm_valid.specs.Validity.{IsValid}
+use Rattle.wasm_tree_spec.specs.Prelude.{Module}
+use Rattle.wasm_valid.specs.Prelude.{IsValid}
 use Rattle.dce_graph.specs.declared.graph.Graph.{Graph}
 use Rattle.dce_graph.specs.declared.marks.Reached.{Reached}
 use Rattle.dce_sweep_spec.specs.Closed.{AreClosed}

@@ -1,16 +1,9 @@
 -- What is kept of a module, list by list.
-use Rattle.std.proofs.Common.{◌≡◌, ◌∙◌, ap, ◌-◌, List, length, map, drop, arith, refl}
-use Rattle.std.proofs.lemmas.List.{length-append, length-map}
-use Rattle.wasm_tree.specs.declared.module.ElemSeg.{ElemSeg}
-use Rattle.wasm_tree.specs.declared.module.Export.{Export}
-use Rattle.wasm_tree.specs.declared.module.Func.{Func}
-use Rattle.wasm_tree.specs.declared.module.GlobalDef.{GlobalDef}
-use Rattle.wasm_tree.specs.declared.module.Import.{Import}
-use Rattle.wasm_tree.specs.declared.module.Module.{Module}
-use Rattle.wasm_tree.specs.Spaces.{funcs_of, globals_of, imported_funcs, imported_globals}
+use Rattle.base_lists.proofs.Common.{◌≡◌, ◌∙◌, ap, ◌-◌, List, length, map, drop, arith, refl, length-append, length-map}
+use Rattle.wasm_tree_spec.specs.Prelude.{ElemSeg, Export, Func, GlobalDef, Import, Module, funcs_of, globals_of, imported_funcs, imported_globals}
 use Rattle.base_kept.specs.Kept.{kept}
 use Rattle.dce_sweep_spec.specs.Marks.{Marks}
-use Rattle.index_remap.specs.References.{declared}
+use Rattle.index_remap.specs.Prelude.{declared}
 use Rattle.dce_sweep_spec.specs.Swept.{defined_funcs, defined_globals, kept_elem, kept_tree, renumbered_kept, swept}
 
 module _ (k : Marks) (m : Module) where

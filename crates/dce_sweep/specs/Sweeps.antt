@@ -1,7 +1,6 @@
 -- What a sweep gives: what is left of the module, or why there is nothing.
 use Rattle.std.specs.Prelude.{◌≡◌, Option, Some, None, Result, Ok, Err}
-use Rattle.wasm_tree.specs.declared.which.Which.{Which}
-use Rattle.wasm_tree.specs.declared.module.Module.{Module}
+use Rattle.wasm_tree_spec.specs.Prelude.{Which, Module}
 use Rattle.module_limits.specs.Counts.{over_limit}
 use Rattle.dce_sweep_spec.specs.Marks.{Marks}
 use Rattle.dce_sweep_spec.specs.Swept.{swept}

@@ -1,16 +1,9 @@
 -- A u32 can count what is kept of a module where it can count what the module has.
-use Rattle.std.proofs.Common.{◌≡◌, sym, subst, ℕ, ◌+◌, ◌^◌, ◌<◌, length, map, Some, arith, slice_get}
-use Rattle.std.proofs.lemmas.List.{length-map}
-use Rattle.std.proofs.lemmas.Option.{slice_get_within}
-use Rattle.base_lists.proofs.Numbers.{numbers_index}
-use Rattle.base_lists.proofs.Places.{map_from}
-use Rattle.wasm_tree.specs.declared.module.Func.{Func}
-use Rattle.wasm_tree.specs.declared.module.Module.{Module}
-use Rattle.wasm_tree.specs.Bounds.{IsBounded, local_count, param_count, declared_count}
-use Rattle.wasm_tree.specs.Spaces.{funcs_of, globals_of}
+use Rattle.base_lists.proofs.Common.{◌≡◌, sym, subst, ℕ, ◌+◌, ◌^◌, ◌<◌, length, map, Some, arith, slice_get, length-map, slice_get_within, numbers_index, map_from}
+use Rattle.wasm_tree_spec.specs.Prelude.{Func, Module, IsBounded, local_count, param_count, declared_count, funcs_of, globals_of}
 use Rattle.wasm_valid.specs.declared.kinds.ItemKind.TheVariants as kind
 use Rattle.index_remap.specs.declared.remap.Remap.{Remap}
-use Rattle.index_remap.specs.Renumbered.{new_data, new_elem, new_export, new_func, new_import}
+use Rattle.index_remap.specs.Prelude.{new_data, new_elem, new_export, new_func, new_import}
 use Rattle.base_kept.specs.Kept.{kept}
 use Rattle.dce_sweep_spec.specs.Marks.{Marks}
 use Rattle.dce_sweep_spec.specs.Swept.{defined_funcs, kept_elem, renumbered_kept, sweep_map}

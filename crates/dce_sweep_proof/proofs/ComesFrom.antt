@@ -1,35 +1,15 @@
 -- Each item of what is left of a module comes from one of the module.
-use Rattle.std.proofs.Common.{◌≡◌, ◌∙◌, ap, sym, subst, refl, ℕ, ◌<◌, ◌≤◌, List, map, take, length, Option, Some, None, true, arith, slice_get, slice_index, option_and_then}
-use Rattle.std.specs.Prelude.{Contains}
-use Rattle.std.proofs.lemmas.Bool.{ltb-true}
-use Rattle.std.proofs.lemmas.List.{length-append, length-map, take-map}
-use Rattle.std.proofs.lemmas.Option.{slice_get_within}
+use Rattle.base_lists.proofs.Common.{◌≡◌, ◌∙◌, ap, sym, subst, refl, ℕ, ◌<◌, ◌≤◌, List, map, take, length, Option, Some, None, true, arith, slice_get, slice_index, option_and_then, Contains, ltb-true, length-append, length-map, take-map, slice_get_within, numbers_index, and_then_is, slice_get_there, map_at, map_from, kept_is}
 use Rattle.base_lists.specs.Places.{numbers}
-use Rattle.base_lists.proofs.Numbers.{numbers_index}
-use Rattle.base_lists.proofs.Options.{and_then_is}
-use Rattle.base_lists.proofs.Places.{slice_get_there, map_at, map_from}
-use Rattle.base_lists.proofs.Filtered.{kept_is}
-use Rattle.wasm_tree.specs.declared.types.ValType.{ValType}
-use Rattle.wasm_tree.specs.declared.types.FuncType.{FuncType}
-use Rattle.wasm_tree.specs.declared.types.GlobalType.{GlobalType}
-use Rattle.wasm_tree.specs.declared.module.ConstExpr.{ConstExpr}
+use Rattle.wasm_tree_spec.specs.Prelude.{ValType, FuncType, GlobalType, ConstExpr, DataMode, ElemMode, ElemSeg, Export, ImportDesc, Module, funcs_of, globals_of, tables_of, memories_of, imported_globals, type_of_func}
 use Rattle.wasm_tree.specs.declared.module.ConstExpr.TheVariants as const
-use Rattle.wasm_tree.specs.declared.module.DataMode.{DataMode}
 use Rattle.wasm_tree.specs.declared.module.DataMode.TheVariants as «data»
-use Rattle.wasm_tree.specs.declared.module.ElemMode.{ElemMode}
 use Rattle.wasm_tree.specs.declared.module.ElemMode.TheVariants as elem
-use Rattle.wasm_tree.specs.declared.module.ElemSeg.{ElemSeg}
-use Rattle.wasm_tree.specs.declared.module.Export.{Export}
-use Rattle.wasm_tree.specs.declared.module.ImportDesc.{ImportDesc}
 use Rattle.wasm_tree.specs.declared.module.ImportDesc.TheVariants as im
-use Rattle.wasm_tree.specs.declared.module.Module.{Module}
-use Rattle.wasm_tree.specs.Spaces.{funcs_of, globals_of, tables_of, memories_of, imported_globals, type_of_func}
 use Rattle.wasm_valid.specs.declared.kinds.ItemKind.TheVariants as kind
-use Rattle.wasm_valid.specs.Constants.{const_type}
-use Rattle.wasm_valid.specs.SpaceTypes.{table_types, elem_types}
-use Rattle.wasm_valid.specs.Validity.{start_count}
+use Rattle.wasm_valid.specs.Prelude.{const_type, table_types, elem_types, start_count}
 use Rattle.index_remap.specs.declared.remap.Remap.{Remap}
-use Rattle.index_remap.specs.Renumbered.{new_const, new_data, new_data_mode, new_elem, new_elem_mode, new_export, new_func, new_global, new_import, new_start}
+use Rattle.index_remap.specs.Prelude.{new_const, new_data, new_data_mode, new_elem, new_elem_mode, new_export, new_func, new_global, new_import, new_start}
 use Rattle.index_remap_proof.specs.Indices.{Indices, ConstNamesOnly, DataModeNamesOnly, ElemModeNamesOnly, ImportNamesOnly}
 use Rattle.index_remap_proof.specs.Trees.{ConstComesFrom, DataModeComesFrom, EachItemComesFrom, ElemModeComesFrom, ItemsComeFrom, ReadsImport, TreesAgree, active, passive, declarative}
 use Rattle.index_remap_proof.proofs.Lists.{left_true, only_true}

@@ -1,22 +1,11 @@
 -- The map of a sweep has an entry for each index that is named in what is kept.
-use Rattle.std.proofs.Common.{◌≡◌, subst, List, map, length, Bool, true, IsTrue, arith}
-use Rattle.std.specs.List.{list_all}
-use Rattle.std.proofs.lemmas.List.{length-map}
-use Rattle.base_lists.proofs.Bools.{left_true, right_true}
-use Rattle.base_lists.proofs.Each.{list_all_each, list_all_from}
-use Rattle.base_lists.proofs.Filtered.{kept_is}
+use Rattle.base_lists.proofs.Common.{◌≡◌, subst, List, map, length, Bool, true, IsTrue, arith, list_all, length-map, left_true, right_true, list_all_each, list_all_from, kept_is, length-numbers, map_from}
 use Rattle.base_lists.specs.Places.{numbers}
-use Rattle.base_lists.proofs.Numbers.{length-numbers}
-use Rattle.base_lists.proofs.Places.{map_from}
-use Rattle.wasm_tree.specs.declared.module.ConstExpr.{ConstExpr}
-use Rattle.wasm_tree.specs.declared.module.ElemMode.{ElemMode}
+use Rattle.wasm_tree_spec.specs.Prelude.{ConstExpr, ElemMode, ElemSeg, Module, tables_of, memories_of}
 use Rattle.wasm_tree.specs.declared.module.ElemMode.TheVariants as elem
-use Rattle.wasm_tree.specs.declared.module.ElemSeg.{ElemSeg}
-use Rattle.wasm_tree.specs.declared.module.Module.{Module}
-use Rattle.wasm_tree.specs.Spaces.{tables_of, memories_of}
-use Rattle.wasm_valid.specs.Validity.{IsValid}
+use Rattle.wasm_valid.specs.Prelude.{IsValid}
 use Rattle.index_remap.specs.declared.remap.Remap.{Remap}
-use Rattle.index_remap.specs.Renumbered.{fits_const, fits_elem, fits_elem_mode, fits_export, fits_func, fits_global, fits_import, fits_start, fits_tree}
+use Rattle.index_remap.specs.Prelude.{fits_const, fits_elem, fits_elem_mode, fits_export, fits_func, fits_global, fits_import, fits_start, fits_tree}
 use Rattle.index_remap_proof.specs.Trees.{Covers}
 use Rattle.index_remap_proof.proofs.Lists.{both_true}
 use Rattle.base_kept.specs.Kept.{kept, kept_before}

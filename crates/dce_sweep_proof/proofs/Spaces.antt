@@ -1,22 +1,14 @@
 -- The index spaces of what is left of a module: what is kept of those of the module.
-use Rattle.std.proofs.Common.{◌≡◌, ◌∙◌, ap, ap₂, sym, subst, refl, ℕ, suc, ◌+◌, ◌<◌, List, [], ◌∷◌, ◌++◌, map, length, replicate, Option, Some, is_some, true, arith, filter_map, slice_get, slice_index}
-use Rattle.std.proofs.lemmas.List.{length-append, get_or-replicate, length-replicate}
-use Rattle.std.proofs.lemmas.Option.{slice_get_within}
-use Rattle.base_lists.proofs.Numbers.{numbers_index}
-use Rattle.wasm_tree.specs.declared.space.Space.{Space}
-use Rattle.wasm_tree.specs.declared.space.Space.TheVariants.{Functions, Tables, Memories, Globals}
-use Rattle.wasm_tree.specs.declared.module.Import.{Import}
-use Rattle.wasm_tree.specs.declared.module.ImportDesc.{ImportDesc}
+use Rattle.base_lists.proofs.Common.{◌≡◌, ◌∙◌, ap, ap₂, sym, subst, refl, ℕ, suc, ◌+◌, ◌<◌, List, [], ◌∷◌, ◌++◌, map, length, replicate, Option, Some, is_some, true, arith, slice_get, slice_index, length-append, get_or-replicate, length-replicate, slice_get_within, numbers_index}
+use Rattle.std.proofs.Common.{filter_map}
+use Rattle.wasm_tree_spec.specs.Prelude.{Space, Functions, Tables, Memories, Globals, Import, ImportDesc, Module, func_of, table_of, memory_of, global_of, imported_funcs, imported_tables, imported_memories, imported_globals, funcs_of, tables_of, memories_of, globals_of}
 use Rattle.wasm_tree.specs.declared.module.ImportDesc.TheVariants as im
-use Rattle.wasm_tree.specs.declared.module.Module.{Module}
-use Rattle.wasm_tree.specs.Spaces.{func_of, table_of, memory_of, global_of, imported_funcs, imported_tables, imported_memories, imported_globals, funcs_of, tables_of, memories_of, globals_of}
 use Rattle.wasm_valid.specs.declared.kinds.ItemKind.{ItemKind}
 use Rattle.wasm_valid.specs.declared.kinds.ItemKind.TheVariants as kind
-use Rattle.wasm_valid.specs.SpaceTypes.{elem_types}
-use Rattle.wasm_valid.specs.Validity.{HoldsAt, count_of, ImportHolds}
-use Rattle.wasm_meaning.specs.Linking.{has_kind, imports_of}
+use Rattle.wasm_valid.specs.Prelude.{elem_types, HoldsAt, count_of, ImportHolds}
+use Rattle.wasm_meaning.specs.Prelude.{has_kind, imports_of}
 use Rattle.index_remap.specs.declared.remap.Remap.{Remap}
-use Rattle.index_remap.specs.Renumbered.{new_import_desc, new_import, new_func, new_global, new_elem}
+use Rattle.index_remap.specs.Prelude.{new_import_desc, new_import, new_func, new_global, new_elem}
 use Rattle.world_simulation.proofs.Alone.{func_kind, global_kind, tables_counted, memories_counted}
 use Rattle.base_kept.specs.Kept.{kept}
 use Rattle.dce_sweep_spec.specs.Marks.{Marks, stays}

@@ -1,11 +1,9 @@
 -- What is left of a valid module is valid, a u32 can count what it has, and it has no memory more.
-use Rattle.std.proofs.Common.{◌≡◌, sym, subst, ℕ, ◌+◌, ◌^◌, ◌<◌, ◌≤◌, List, [], ◌∷◌, length, None, ◌↔◌, arith}
-use Rattle.std.proofs.lemmas.List.{length-append}
-use Rattle.wasm_tree.specs.declared.module.Module.{Module}
-use Rattle.wasm_tree.specs.Bounds.{IsBounded}
-use Rattle.wasm_valid.specs.Validity.{IsSingle, IsValid}
+use Rattle.base_lists.proofs.Common.{◌≡◌, sym, subst, ℕ, ◌+◌, ◌^◌, ◌<◌, ◌≤◌, List, [], ◌∷◌, length, None, ◌↔◌, arith, length-append}
+use Rattle.wasm_tree_spec.specs.Prelude.{Module, IsBounded}
+use Rattle.wasm_valid.specs.Prelude.{IsSingle, IsValid}
 use Rattle.index_remap.specs.declared.remap.Remap.{Remap}
-use Rattle.index_remap.specs.References.{declared, declared_refs, declaring, with_declared}
+use Rattle.index_remap.specs.Prelude.{declared, declared_refs, declaring, with_declared}
 use Rattle.index_remap_proof.specs.Indices.{Indices}
 use Rattle.index_remap_proof.specs.Trees.{EachItemComesFrom, TreesAgree}
 use Rattle.index_remap_proof.specs.ButForReferences.{IsValidButForReferences}

@@ -1,9 +1,7 @@
 -- When marks can be swept by: what is kept names only what is kept.
 use Rattle.std.specs.Prelude.{◌≡◌, ℕ, length, Some, slice_get}
-use Rattle.wasm_tree.specs.declared.space.Space.{Space}
-use Rattle.wasm_tree.specs.declared.module.Module.{Module}
-use Rattle.wasm_tree.specs.Spaces.{funcs_of, globals_of}
-use Rattle.wasm_meaning.specs.Linking.{imports_of}
+use Rattle.wasm_tree_spec.specs.Prelude.{Space, Module, funcs_of, globals_of}
+use Rattle.wasm_meaning.specs.Prelude.{imports_of}
 use Rattle.index_remap_proof.specs.Indices.{TreeNamesOnly}
 use Rattle.base_kept.specs.Kept.{is_marked}
 use Rattle.dce_sweep_spec.specs.Marks.{Marks, stays}

@@ -1,11 +1,10 @@
 -- Marks of what is reached, by paths from the roots of a graph and a module.
 use Rattle.std.specs.Prelude.{◌≡◌, ◌↔◌, length, true}
-use Rattle.wasm_tree.specs.declared.module.Module.{Module}
+use Rattle.wasm_tree_spec.specs.Prelude.{Module}
 use Rattle.dce_graph.specs.declared.graph.Graph.{Graph}
 use Rattle.dce_graph.specs.declared.point.Point.{Point}
 use Rattle.dce_graph.specs.declared.marks.Reached.{Reached}
-use Rattle.dce_graph.specs.Marks.{flags, marked}
-use Rattle.dce_graph.specs.Reach.{IsReached, point_count}
+use Rattle.dce_graph.specs.Prelude.{flags, marked, IsReached, point_count}
 use Rattle.dce_sweep_spec.specs.Marks.{Marks}
 
 -- what is reached of a module is kept

@@ -1,16 +1,11 @@
 -- The module that is left of another when only what is marked is kept.
 use Rattle.std.specs.Prelude.{Bool, false, List, drop, filter, length, map}
 use Rattle.base_lists.specs.Places.{numbers}
-use Rattle.wasm_tree.specs.declared.module.ConstExpr.{ConstExpr}
+use Rattle.wasm_tree_spec.specs.Prelude.{ConstExpr, ElemMode, ElemSeg, Module, imported_funcs, imported_globals, tables_of, memories_of}
 use Rattle.wasm_tree.specs.declared.module.ConstExpr.TheVariants as const
-use Rattle.wasm_tree.specs.declared.module.ElemMode.{ElemMode}
 use Rattle.wasm_tree.specs.declared.module.ElemMode.TheVariants as elem
-use Rattle.wasm_tree.specs.declared.module.ElemSeg.{ElemSeg}
-use Rattle.wasm_tree.specs.declared.module.Module.{Module}
-use Rattle.wasm_tree.specs.Spaces.{imported_funcs, imported_globals, tables_of, memories_of}
 use Rattle.index_remap.specs.declared.remap.Remap.{Remap}
-use Rattle.index_remap.specs.References.{declared}
-use Rattle.index_remap.specs.Renumbered.{renumbered_tree}
+use Rattle.index_remap.specs.Prelude.{declared, renumbered_tree}
 use Rattle.base_kept.specs.Kept.{kept, is_marked, new_places}
 use Rattle.dce_sweep_spec.specs.Marks.{Marks}
 

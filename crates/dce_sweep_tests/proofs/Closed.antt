@@ -1,13 +1,8 @@
 -- What is reached names only what is reached, and a u32 can count the functions.
-use Rattle.std.proofs.Common.{◌≡◌, ◌<◌, ◌^◌, ℕ, zero, suc, refl, arith, Some, slice_get, [], ◌∷◌}
+use Rattle.base_lists.proofs.Common.{◌≡◌, ◌<◌, ◌^◌, ℕ, zero, suc, refl, arith, Some, slice_get, [], ◌∷◌}
 use Rattle.wasm_tree.specs.declared.module.ExportDesc.TheVariants as ex
-use Rattle.wasm_tree.specs.Bounds.{IsBounded}
-use Rattle.wasm_tree.specs.declared.space.Space.{Space}
-use Rattle.wasm_tree.specs.declared.space.Space.TheVariants.{Types, Functions, Tables, Memories, Globals, ElementSegments, DataSegments}
-use Rattle.wasm_meaning.specs.Linking.{imports_of}
-use Rattle.wasm_tree.specs.declared.module.Func.{Func}
-use Rattle.wasm_tree.specs.declared.module.Export.{Export}
-use Rattle.wasm_tree.specs.Bounds.{local_count}
+use Rattle.wasm_tree_spec.specs.Prelude.{IsBounded, Space, Types, Functions, Tables, Memories, Globals, ElementSegments, DataSegments, Func, Export, local_count}
+use Rattle.wasm_meaning.specs.Prelude.{imports_of}
 use Rattle.index_remap_proof.specs.Indices.{FuncNamesOnly, ExportNamesOnly}
 use Rattle.dce_sweep_spec.specs.Marks.{stays}
 use Rattle.dce_sweep_spec.specs.Closed.{AreClosed}

@@ -1,8 +1,7 @@
 -- Two functions, of which the second is exported and alone reached.
 use Rattle.std.specs.Prelude.{[], ◌∷◌, None, true, false}
 use Rattle.wasm_tree.specs.declared.module.ExportDesc.TheVariants as ex
-use Rattle.wasm_tree.specs.declared.module.Func.{Func}
-use Rattle.wasm_tree.specs.declared.module.Module.{Module}
+use Rattle.wasm_tree_spec.specs.Prelude.{Func, Module}
 use Rattle.dce_graph.specs.declared.marks.Reached.{Reached}
 
 abbrev pub blank : Func

@@ -1,43 +1,22 @@
 -- What is allocated for the quiet run, and for the module with one function more in an environment, is related but for what is unknown at first.
-use Rattle.std.proofs.Common.{◌≡◌, ◌∙◌, sym, ap, subst, refl, ℕ, zero, suc, ◌+◌, ◌<◌, List, [], ◌∷◌, map, length, Bool, true, false, not, Option, Some, None, arith, slice_get, option_and_then}
-use Rattle.std.specs.Prelude.{get_or, nat_eq, ◌&&◌}
-use Rattle.std.proofs.lemmas.Bool.{and_from, eq-eqb, not-true}
+use Rattle.base_lists.proofs.Common.{◌≡◌, ◌∙◌, sym, ap, subst, refl, ℕ, zero, suc, ◌+◌, ◌<◌, List, [], ◌∷◌, map, length, Bool, true, false, not, Option, Some, None, arith, slice_get, option_and_then, get_or, nat_eq, ◌&&◌, and_from, eq-eqb, not-true, get_or_from_slice_get, same_Some, slice_get_past, slice_get_within, place_there, numbers_is, all_there_at, all_there_length, and_then_is, append_at_left, append_right, map_at, slice_get_none, slice_get_there}
 use Rattle.std.proofs.lemmas.List.Folds.{list_any_at}
-use Rattle.std.proofs.lemmas.Option.{get_or_from_slice_get, same_Some, slice_get_past, slice_get_within}
 use Rattle.base_lists.specs.Places.{places}
-use Rattle.base_lists.proofs.Filtered.{place_there}
-use Rattle.base_lists.proofs.Numbers.{numbers_is}
-use Rattle.base_lists.proofs.Options.{all_there_at, all_there_length, and_then_is}
-use Rattle.base_lists.proofs.Places.{append_at_left, append_right, map_at, slice_get_none, slice_get_there}
-use Rattle.wasm_tree.specs.declared.space.Space.{Space}
-use Rattle.wasm_tree.specs.declared.space.Space.TheVariants.{Tables, Memories, Globals, ElementSegments, DataSegments}
-use Rattle.wasm_tree.specs.declared.module.ConstExpr.{ConstExpr}
-use Rattle.wasm_tree.specs.declared.module.ElemMode.{ElemMode}
+use Rattle.wasm_tree_spec.specs.Prelude.{Space, Tables, Memories, Globals, ElementSegments, DataSegments, ConstExpr, ElemMode, ElemSeg, GlobalDef, Module, imported_globals, imported_memories, imported_tables}
 use Rattle.wasm_tree.specs.declared.module.ElemMode.TheVariants as elem
-use Rattle.wasm_tree.specs.declared.module.ElemSeg.{ElemSeg}
-use Rattle.wasm_tree.specs.declared.module.GlobalDef.{GlobalDef}
 use Rattle.wasm_tree.specs.declared.module.Func as tree
-use Rattle.wasm_tree.specs.declared.module.Module.{Module}
-use Rattle.wasm_tree.specs.Spaces.{imported_globals, imported_memories, imported_tables}
-use Rattle.wasm_meaning.specs.State.{RefVal, Inst, Store, Global, Elem}
-use Rattle.wasm_meaning.specs.Values.{null_of, ref_of}
-use Rattle.wasm_meaning.specs.Linking.{imports_of}
-use Rattle.wasm_meaning.specs.Environment.{Environment, own_globals, own_memories, own_tables}
-use Rattle.wasm_meaning.specs.World.{all_there, defined_count, elem_with, global_with, joined_stores, new_elem, own_count, own_store, space}
-use Rattle.index_remap.specs.References.{is_among}
-use Rattle.index_remap.specs.Related.{Pairing, OptRel, none, some, BothRel, RefRel, is_written}
-use Rattle.index_remap.specs.Unknown.{GlobalOff, RefsOff, StoreRelOff, TableOff, is_place_among}
+use Rattle.wasm_meaning.specs.Prelude.{RefVal, Inst, Store, Global, Elem, null_of, ref_of, imports_of, Environment, own_globals, own_memories, own_tables, all_there, defined_count, elem_with, global_with, joined_stores, new_elem, own_count, own_store, space}
+use Rattle.index_remap.specs.Prelude.{is_among, Pairing, OptRel, none, some, BothRel, RefRel, is_written, GlobalOff, RefsOff, StoreRelOff, TableOff, is_place_among}
 use Rattle.index_remap.proofs.Rel.{copies_rel, get_rel}
 use Rattle.index_remap_proof.specs.Indices.{TreeNamesOnly, with_entry}
-use Rattle.world_simulation.specs.Alone.{one}
-use Rattle.world_simulation.specs.Leaves.{new_memory, new_table}
+use Rattle.world_simulation.specs.Prelude.{one, new_memory, new_table}
 use Rattle.world_simulation.proofs.Alone.{globals_counted, memories_counted, tables_counted}
 use Rattle.world_simulation.proofs.Allocated.{AddsWith, new_data}
 use Rattle.world_simulation.proofs.Instancing.{Entry, IsInst, defines, entry_at, imports, is_space}
 use Rattle.world_simulation.proofs.Owned.{null_rel}
 use Rattle.world_simulation.proofs.Places.{both_at, map_length, opt_at, opt_both}
 use Rattle.world_simulation.proofs.Stored.{own_same, ref_rel, type_same}
-use Rattle.eval_spec.specs.Instantiation.{imported_store, own_inst, reads_global, unknown_at_first, unknown_items, value_in}
+use Rattle.eval_spec.specs.Prelude.{imported_store, own_inst, reads_global, unknown_at_first, unknown_items, value_in}
 use Rattle.eval_behaves_proof.specs.Addresses.{addresses_in}
 use Rattle.eval_behaves_proof.proofs.OneMore.{with_funcs}
 use Rattle.eval_behaves_proof.proofs.InRange.{each_index}

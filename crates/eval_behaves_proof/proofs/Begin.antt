@@ -1,33 +1,18 @@
 -- In an environment that links a module, what the first step makes of its constructors corresponds to what the snapshot is instantiated to.
-use Rattle.std.proofs.Common.{◌≡◌, ◌∙◌, sym, ap, refl, subst, ℕ, List, [], ◌∷◌, ◌++◌, true, false, slice_get, Some, option_and_then}
-use Rattle.std.proofs.lemmas.Option.{same_Some}
-use Rattle.base_lists.proofs.Options.{and_then_is}
-use Rattle.wasm_tree.specs.declared.space.Space.TheVariants.{Functions}
-use Rattle.wasm_tree.specs.declared.module.GlobalDef.{GlobalDef}
-use Rattle.wasm_tree.specs.declared.module.Module.{Module}
-use Rattle.wasm_valid.specs.Validity.{IsValid}
-use Rattle.wasm_meaning.specs.State.{Text, Inst, Val, Store}
-use Rattle.wasm_meaning.specs.Touched.{StepsWriteWhatTheyTouch}
-use Rattle.wasm_meaning.specs.Linking.{sites}
-use Rattle.wasm_meaning.specs.Environment.{Environment, ExternalValue, all_of}
-use Rattle.wasm_meaning.specs.World.{Begun, all_there, alone, begun, inst_of, insts_from, instantiate, is_matched, joined_stores, own_store, part_store, seen_as, segments, start_in, stores_from, value_of}
-use Rattle.index_remap.specs.Related.{Pairing, some, ListRel, nil, cons, opening, StoreRel}
-use Rattle.index_remap.specs.RelatedRuns.{BegunRel, KeyRel}
-use Rattle.index_remap.specs.Laws.{EntryByEntry}
-use Rattle.index_remap.specs.Unknown.{StoreRelOff, StepsAgreeOff, RunsAgreeOff}
+use Rattle.base_lists.proofs.Common.{◌≡◌, ◌∙◌, sym, ap, refl, subst, ℕ, List, [], ◌∷◌, ◌++◌, true, false, slice_get, Some, option_and_then, same_Some, and_then_is}
+use Rattle.wasm_tree_spec.specs.Prelude.{Functions, GlobalDef, Module}
+use Rattle.wasm_valid.specs.Prelude.{IsValid}
+use Rattle.wasm_meaning.specs.Prelude.{Text, Inst, Val, Store, StepsWriteWhatTheyTouch, sites, Environment, ExternalValue, all_of, Begun, all_there, alone, begun, inst_of, insts_from, instantiate, is_matched, joined_stores, own_store, part_store, seen_as, segments, start_in, stores_from, value_of}
+use Rattle.index_remap.specs.Prelude.{Pairing, some, ListRel, nil, cons, opening, StoreRel, BegunRel, KeyRel, EntryByEntry, StoreRelOff, StepsAgreeOff, RunsAgreeOff}
 use Rattle.index_remap_proof.specs.Indices.{TreeNamesOnly, with_entry}
-use Rattle.world_simulation.specs.Alone.{one}
-use Rattle.world_simulation.specs.Leaves.{Leaves}
-use Rattle.world_simulation.specs.Simulation.{IsInstantiated}
+use Rattle.world_simulation.specs.Prelude.{one, Leaves, IsInstantiated}
 use Rattle.world_simulation.proofs.Instancing.{IsInst}
 use Rattle.world_simulation.proofs.Owned.{owned_rel}
 use Rattle.world_simulation.proofs.Places.{all_rel, opt_at, opt_both, right_there}
 use Rattle.world_simulation.proofs.Simulated.{what_is_made}
 use Rattle.eval_spec.specs.declared.limits.TheConstants.{MOST_TURNS}
 use Rattle.eval_numbers_proof.specs.Ranges.{GlobalsAreExpressible}
-use Rattle.eval_spec.specs.State.{State}
-use Rattle.eval_spec.specs.Instantiation.{imported_store, own_inst, value_in}
-use Rattle.eval_spec.specs.Told.{memory_bytes}
+use Rattle.eval_spec.specs.Prelude.{State, imported_store, own_inst, value_in, memory_bytes}
 use Rattle.eval_proof.specs.Known.{QuietCallsAreKnown}
 use Rattle.eval_proof.specs.Laws.{EndsAreReached}
 use Rattle.eval_proof.specs.QuietCalls.{QuietCallsSimulate}

@@ -1,30 +1,17 @@
 -- The instantiation of the quiet run, and of the module with more functions, if any, in an environment: all segments of the one are copied in the other.
-use Rattle.std.proofs.Common.{◌≡◌, ◌∙◌, sym, ap, ap₂, subst, refl, ℕ, suc, ◌+◌, ◌<◌, List, [], ◌∷◌, length, append-nil, Bool, true, false, cond, Option, Some, None, arith, slice_get, option_and_then}
-use Rattle.std.specs.Prelude.{nat_lt}
-use Rattle.std.proofs.lemmas.Option.{same_Some}
+use Rattle.base_lists.proofs.Common.{◌≡◌, ◌∙◌, sym, ap, ap₂, subst, refl, ℕ, suc, ◌+◌, ◌<◌, List, [], ◌∷◌, length, append-nil, Bool, true, false, cond, Option, Some, None, arith, slice_get, option_and_then, nat_lt, same_Some, all_there_at, all_there_length, and_then_is}
 use Rattle.base_lists.specs.Places.{numbers}
-use Rattle.base_lists.proofs.Options.{all_there_at, all_there_length, and_then_is}
-use Rattle.wasm_tree.specs.declared.module.ElemMode.{ElemMode}
+use Rattle.wasm_tree_spec.specs.Prelude.{ElemMode, ElemSeg, DataSeg, Module, memories_of}
 use Rattle.wasm_tree.specs.declared.module.ElemMode.TheVariants as elem
-use Rattle.wasm_tree.specs.declared.module.ElemSeg.{ElemSeg}
-use Rattle.wasm_tree.specs.declared.module.DataSeg.{DataSeg}
 use Rattle.wasm_tree.specs.declared.module.Func as tree
-use Rattle.wasm_tree.specs.declared.module.Module.{Module}
-use Rattle.wasm_tree.specs.Spaces.{memories_of}
-use Rattle.wasm_meaning.specs.State.{RefVal, Inst, Store, Elem}
-use Rattle.wasm_meaning.specs.Values.{ref_of}
-use Rattle.wasm_meaning.specs.Environment.{Environment}
-use Rattle.wasm_meaning.specs.World.{Filled, all_there, and_then, elem_with, joined_stores, new_elem, one_by_one, own_store}
-use Rattle.wasm_meaning.specs.World.{part_store, placed_datas, placed_elems, run_data, run_elem, segments, segments_in, store_with}
-use Rattle.index_remap.specs.Related.{OneToOneWhereWritten}
-use Rattle.index_remap.specs.Unknown.{StoreRelOff}
+use Rattle.wasm_meaning.specs.Prelude.{RefVal, Inst, Store, Elem, ref_of, Environment, Filled, all_there, and_then, elem_with, joined_stores, new_elem, one_by_one, own_store, part_store, placed_datas, placed_elems, run_data, run_elem, segments, segments_in, store_with}
+use Rattle.index_remap.specs.Prelude.{OneToOneWhereWritten, StoreRelOff}
 use Rattle.index_remap_proof.specs.Indices.{TreeNamesOnly, with_entry}
-use Rattle.world_simulation.specs.Alone.{one}
+use Rattle.world_simulation.specs.Prelude.{one}
 use Rattle.world_simulation.proofs.Allocated.{AddsWith, adds_with}
 use Rattle.world_simulation.proofs.Instancing.{IsInst}
 use Rattle.eval_spec.specs.declared.stop.Stop.TheVariants as why
-use Rattle.eval_spec.specs.State.{State, Stage, Going, Stopped, Finished}
-use Rattle.eval_spec.specs.Instantiation.{filled_from, imported_store, in_order, instantiated, none_written, own_inst, state_at_first, unknown_at_first, value_in, with_data, with_elem, with_segments}
+use Rattle.eval_spec.specs.Prelude.{State, Stage, Going, Stopped, Finished, filled_from, imported_store, in_order, instantiated, none_written, own_inst, state_at_first, unknown_at_first, value_in, with_data, with_elem, with_segments}
 use Rattle.eval_proof.specs.Known.{FuncsOf}
 use Rattle.eval_behaves_proof.proofs.OneMore.{with_funcs}
 use Rattle.eval_behaves_proof.proofs.AtFirst.{related_at_first}

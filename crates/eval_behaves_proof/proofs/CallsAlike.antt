@@ -1,29 +1,14 @@
 -- A quiet call leads the same call of the machine over any store that is related to its own: it ends, in no more steps than a call may make.
-use Rattle.std.proofs.Common.{◌≡◌, ◌∙◌, sym, ap, refl, subst, ℕ, suc, ◌+◌, ◌-◌, ◌<◌, ◌≤◌, List, [], ◌∷◌, length, Bool, true, Option, Some, None, arith, slice_get}
-use Rattle.std.proofs.lemmas.Option.{same_Some}
-use Rattle.wasm_tree.specs.declared.space.Space.{Space}
-use Rattle.wasm_tree.specs.declared.space.Space.TheVariants.{Functions}
-use Rattle.wasm_tree.specs.declared.types.ValType.{ValType}
+use Rattle.base_lists.proofs.Common.{◌≡◌, ◌∙◌, sym, ap, refl, subst, ℕ, suc, ◌+◌, ◌-◌, ◌<◌, ◌≤◌, List, [], ◌∷◌, length, Bool, true, Option, Some, None, arith, slice_get, same_Some}
+use Rattle.wasm_tree_spec.specs.Prelude.{Space, Functions, ValType, RefType, Module}
 use Rattle.wasm_tree.specs.declared.types.ValType.TheVariants as valt
-use Rattle.wasm_tree.specs.declared.types.RefType.{RefType}
 use Rattle.wasm_tree.specs.declared.types.RefType.TheVariants as reft
-use Rattle.wasm_tree.specs.declared.module.Module.{Module}
-use Rattle.wasm_meaning.specs.Outcomes.{Outcome, Gives, bind, or_ill_typed}
-use Rattle.wasm_meaning.specs.State.{Val, Func, Code, Store, Entry, Running, Mark, Next, Ran, EndsCall}
-use Rattle.wasm_meaning.specs.Values.{zeros, zero_of, null_of}
-use Rattle.wasm_meaning.specs.Step.{enter, step}
-use Rattle.index_remap.specs.Related.{Pairing, OneToOneWhereWritten, ResRel, done, none, BothRel, both, ListRel, nil, cons, RefRel, func, extern, ValRel, number, reference, end, FuncRel, defined, own, slot, EntryRel, running, mark, returned}
-use Rattle.index_remap.specs.References.{is_among}
-use Rattle.index_remap.specs.Laws.{passed, Above}
-use Rattle.index_remap.specs.Unknown.{Unknowns, StoreRelOff, StepsAgreeOff, RunsAgreeOff, NextOff, left_unknown}
+use Rattle.wasm_meaning.specs.Prelude.{Outcome, Gives, bind, or_ill_typed, Val, Func, Code, Store, Entry, Running, Mark, Next, Ran, EndsCall, zeros, zero_of, null_of, enter, step}
+use Rattle.index_remap.specs.Prelude.{Pairing, OneToOneWhereWritten, ResRel, done, none, BothRel, both, ListRel, nil, cons, RefRel, func, extern, ValRel, number, reference, end, FuncRel, defined, own, slot, EntryRel, running, mark, returned, is_among, passed, Above, Unknowns, StoreRelOff, StepsAgreeOff, RunsAgreeOff, NextOff, left_unknown}
 use Rattle.index_remap.proofs.AboveSteps.{whole}
 use Rattle.index_remap.proofs.SameRuns.{touches}
 use Rattle.eval_spec.specs.declared.limits.TheConstants.{MOST_TURNS}
-use Rattle.eval_spec.specs.State.{State, Stage, Going, Stopped, Finished, Test, first_held, stopped_or}
-use Rattle.eval_spec.specs.Stops.{frame_turns, host_tests}
-use Rattle.eval_spec.specs.Evaluation.{called_in_order}
-use Rattle.eval_spec.specs.Quiet.{ComesTo, call_end, came_to, host_opened_if_there, run_end, weight}
-use Rattle.eval_spec.specs.Instantiation.{own_inst}
+use Rattle.eval_spec.specs.Prelude.{State, Stage, Going, Stopped, Finished, Test, first_held, stopped_or, frame_turns, host_tests, called_in_order, ComesTo, call_end, came_to, host_opened_if_there, run_end, weight, own_inst}
 use Rattle.eval_proof.specs.Known.{RelatesAllButImports, FramesOf, FuncsOf, QuietCallsAreKnown}
 use Rattle.eval_proof.specs.Alone.{LeavesAlone}
 use Rattle.eval_proof.specs.QuietCalls.{QuietCallsSimulate}

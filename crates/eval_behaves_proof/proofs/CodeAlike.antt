@@ -1,18 +1,14 @@
 -- The same code over two instances is related, where each index that it names denotes addresses in the code relation.
-use Rattle.std.proofs.Common.{ℕ, List, [], ◌∷◌, refl, false}
-use Rattle.std.specs.Prelude.{IsTrue}
+use Rattle.base_lists.proofs.Common.{ℕ, List, [], ◌∷◌, refl, false, IsTrue}
 use Rattle.base_lists.specs.Every.{Every}
-use Rattle.wasm_tree.specs.declared.space.Space.{Space}
-use Rattle.wasm_tree.specs.declared.space.Space.TheVariants.{Types, Functions, Tables, Memories, Globals, ElementSegments, DataSegments}
-use Rattle.wasm_tree.specs.declared.types.BlockType.{BlockType}
+use Rattle.wasm_tree_spec.specs.Prelude.{Space, Types, Functions, Tables, Memories, Globals, ElementSegments, DataSegments, BlockType, Instr, Row_of-Instr, end_of-Instr, more_of-Instr, items-the_row-Instr, items_shown-the_row-Instr-0, Layers, RowLayers, ListLayers, block_operands, operands}
 use Rattle.wasm_tree.specs.declared.types.BlockType.TheVariants as bt
-use Rattle.wasm_tree.specs.declared.instr.Instr.{Instr, out-Instr, Row_of-Instr, end_of-Instr, more_of-Instr, items-the_row-Instr, items_shown-the_row-Instr-0, Block', Loop', If'}
+use Rattle.wasm_tree.specs.declared.instr.Instr.{out-Instr, Block', Loop', If'}
 use Rattle.wasm_tree.specs.declared.instr.Instr.TheOpen.{Instr-F}
-use Rattle.wasm_tree.specs.Layers.{Layers, RowLayers, ListLayers}
-use Rattle.wasm_tree.specs.Operands.{block_operands, operands}
-use Rattle.wasm_meaning.specs.State.{Inst}
+use Rattle.wasm_meaning.specs.Prelude.{Inst}
 use Rattle.index_remap.specs.Related
-use Rattle.index_remap.specs.Related.{Pairing, Names, SameType, BlockRel, empty, value, indexed, OpRel, CodeRel, end, then}
+use Rattle.index_remap.specs.Prelude.{Pairing, Names, BlockRel, empty, value, indexed, OpRel, CodeRel, end, then}
+use Rattle.index_remap.specs.Related.{SameType}
 use Rattle.index_remap.proofs.NotOpaque.{operands_follow}
 use Rattle.index_remap_proof.specs.Indices.{Indices, LayerNamesOnly}
 

@@ -1,18 +1,13 @@
 -- Constants of values: in an instance of the snapshot they have these values again.
-use Rattle.std.proofs.Common.{◌≡◌, ◌∙◌, ap, subst, ℕ, ◌<◌, ◌^◌, Option, Some, None, inl, inr, arith}
-use Rattle.std.specs.Prelude.{ℤ}
+use Rattle.base_lists.proofs.Common.{◌≡◌, ◌∙◌, ap, subst, ℕ, ◌<◌, ◌^◌, Option, Some, None, inl, inr, arith, ℤ, cases_lt, lt-ltb, le-ltb}
 use Rattle.std.proofs.Math.Nat.{mod-eq_of_lt}
-use Rattle.std.proofs.lemmas.Bool.{cases_lt, lt-ltb, le-ltb}
-use Rattle.wasm_tree.specs.declared.space.Space.TheVariants.{Functions}
-use Rattle.wasm_tree.specs.declared.types.RefType.{RefType}
+use Rattle.wasm_tree_spec.specs.Prelude.{Functions, RefType, ConstExpr}
 use Rattle.wasm_tree.specs.declared.types.RefType.TheVariants as reft
-use Rattle.wasm_tree.specs.declared.module.ConstExpr.{ConstExpr}
 use Rattle.wasm_tree.specs.declared.module.ConstExpr.TheVariants as const
 use Rattle.wasm_num.specs.Operations.{W32, W64, signed, wrapped}
-use Rattle.wasm_meaning.specs.State.{FuncRef, ExternRef, Val, Num, Ref}
-use Rattle.wasm_meaning.specs.Values.{null_of}
-use Rattle.index_remap.specs.Related.{Pairing, none, some, func, extern, ValRel, number, reference}
-use Rattle.eval_spec.specs.Told.{constant}
+use Rattle.wasm_meaning.specs.Prelude.{FuncRef, ExternRef, Val, Num, Ref, null_of}
+use Rattle.index_remap.specs.Prelude.{Pairing, none, some, func, extern, ValRel, number, reference}
+use Rattle.eval_spec.specs.Prelude.{constant}
 use Rattle.eval_behaves_proof.proofs.ContentsStand.{unsigned_again}
 
 unsigned_again_64 : (n : ℕ) → n < 2 ^ 64 → wrapped 64 (signed 64 n) ≡ n

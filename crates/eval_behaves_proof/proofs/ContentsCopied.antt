@@ -1,13 +1,9 @@
 -- The segments of a memory's contents are copied over zeros: then the bytes stand there.
-use Rattle.std.proofs.Common.{◌≡◌, ◌∙◌, sym, ap, refl, ℕ, zero, suc, ◌+◌, ◌-◌, ◌<◌, ◌≤◌, List, [], ◌∷◌, ◌++◌, length, take, drop, Bool, true, false, cond, not, Option, Some, ◌⊎◌, inl, inr, arith, slice_get}
-use Rattle.std.specs.Prelude.{get_or, nat_eq}
-use Rattle.std.proofs.lemmas.Bool.{cases_lt, eqb-true}
-use Rattle.std.proofs.lemmas.List.{length-drop, length-take-le, length-append, get_or-drop, get_or-take, get_or_append_left, get_or-append-add}
-use Rattle.std.proofs.lemmas.Option.{slice_get-get_or}
+use Rattle.base_lists.proofs.Common.{◌≡◌, ◌∙◌, sym, ap, refl, ℕ, zero, suc, ◌+◌, ◌-◌, ◌<◌, ◌≤◌, List, [], ◌∷◌, ◌++◌, length, take, drop, Bool, true, false, cond, not, Option, Some, ◌⊎◌, inl, inr, arith, slice_get, get_or, nat_eq, cases_lt, eqb-true, length-drop, length-take-le, length-append, get_or-drop, get_or-take, get_or_append_left, slice_get-get_or, place_there}
+use Rattle.std.proofs.lemmas.List.{get_or-append-add}
 use Rattle.base_lists.specs.Places.{places}
-use Rattle.base_lists.proofs.Filtered.{place_there}
 use Rattle.block_pool.specs.Pages.{part}
-use Rattle.wasm_meaning.specs.Outcomes.{split_at, overwrite}
+use Rattle.wasm_meaning.specs.Prelude.{split_at, overwrite}
 use Rattle.eval_snapshot_spec.specs.Contents.{Stretch, is_joined, is_nonzero, nonzero_places, stretches, stretches_from, stretches_over}
 
 -- ---- one part ----

@@ -1,16 +1,12 @@
 -- The memory of a snapshot: its contents' segments, copied over zeros, give the bytes.
-use Rattle.std.proofs.Common.{◌≡◌, ◌∙◌, sym, ap, refl, ℕ, zero, suc, ◌+◌, ◌-◌, ◌<◌, ◌≤◌, ◌^◌, List, [], ◌∷◌, map, length, Option, Some, inl, inr, arith, slice_get}
-use Rattle.std.specs.Prelude.{ℤ, get_or}
+use Rattle.base_lists.proofs.Common.{◌≡◌, ◌∙◌, sym, ap, refl, ℕ, zero, suc, ◌+◌, ◌-◌, ◌<◌, ◌≤◌, ◌^◌, List, [], ◌∷◌, map, length, Option, Some, inl, inr, arith, slice_get, ℤ, get_or, cases_lt, eq-eqb, lt-ltb, le-ltb, ext_get_or}
 use Rattle.std.proofs.Math.Nat.{mod-eq_of_lt}
-use Rattle.std.proofs.lemmas.Bool.{cases_lt, eq-eqb, lt-ltb, le-ltb}
-use Rattle.std.proofs.lemmas.List.{ext_get_or}
 use Rattle.block_pool.specs.Pages.{part}
-use Rattle.wasm_tree.specs.declared.module.ConstExpr.{ConstExpr}
+use Rattle.wasm_tree_spec.specs.Prelude.{ConstExpr}
 use Rattle.wasm_tree.specs.declared.module.ConstExpr.TheVariants as const
 use Rattle.wasm_num.specs.Operations.{W32, signed, wrapped}
-use Rattle.wasm_meaning.specs.Outcomes.{overwrite, copies}
-use Rattle.wasm_meaning.specs.State.{Val, Num, Inst}
-use Rattle.world_simulation.specs.Leaves.{Copy, over, all_over, data_copy, data_copies}
+use Rattle.wasm_meaning.specs.Prelude.{overwrite, copies, Val, Num, Inst}
+use Rattle.world_simulation.specs.Prelude.{Copy, over, all_over, data_copy, data_copies}
 use Rattle.world_simulation.specs.Leaves as leaves
 use Rattle.eval_snapshot_spec.specs.Contents.{Stretch, contents, stretch_segment, stretches}
 use Rattle.eval_behaves_proof.proofs.ContentsCopied.{Covered, InBounds, Written, here, behind, part_written, stretches_fit, zero_or_covered}

@@ -1,30 +1,20 @@
 -- What the element segments of a module and of its snapshot copy into tables, and what is left of them: the same in both, of functions that both have.
-use Rattle.std.proofs.Common.{◌≡◌, ◌∙◌, sym, ap, ap₂, refl, subst, ℕ, suc, List, [], ◌∷◌, ◌++◌, length, Bool, true, false, cond, Option, Some, None, slice_get}
-use Rattle.std.proofs.lemmas.Option.{same_Some}
+use Rattle.base_lists.proofs.Common.{◌≡◌, ◌∙◌, sym, ap, ap₂, refl, subst, ℕ, suc, List, [], ◌∷◌, ◌++◌, length, Bool, true, false, cond, Option, Some, None, slice_get, same_Some, and_then_is}
 use Rattle.base_lists.specs.Options.{◌>>=◌}
-use Rattle.base_lists.proofs.Options.{and_then_is}
-use Rattle.wasm_tree.specs.declared.module.ConstExpr.{ConstExpr}
-use Rattle.wasm_tree.specs.declared.module.ElemMode.{ElemMode}
+use Rattle.wasm_tree_spec.specs.Prelude.{ConstExpr, ElemMode, ElemSeg, Module, tables_of}
 use Rattle.wasm_tree.specs.declared.module.ElemMode.TheVariants as elem
-use Rattle.wasm_tree.specs.declared.module.ElemSeg.{ElemSeg}
-use Rattle.wasm_tree.specs.declared.module.Module.{Module}
-use Rattle.wasm_tree.specs.Spaces.{tables_of}
 use Rattle.wasm_num.specs.Operations.{W32}
-use Rattle.wasm_meaning.specs.Outcomes.{overwrite}
-use Rattle.wasm_meaning.specs.State.{Text, Inst, RefVal, Val, Elem}
-use Rattle.wasm_meaning.specs.Values.{num_of, ref_of}
-use Rattle.wasm_meaning.specs.Environment.{Environment}
-use Rattle.wasm_meaning.specs.World.{all_there, elem_with, new_elem}
-use Rattle.index_remap.specs.Related.{Pairing, ListRel, nil, cons, RefRel, ElemRel}
+use Rattle.wasm_meaning.specs.Prelude.{overwrite, Text, Inst, RefVal, Val, Elem, num_of, ref_of, Environment, all_there, elem_with, new_elem}
+use Rattle.index_remap.specs.Prelude.{Pairing, ListRel, nil, cons, RefRel, ElemRel}
 use Rattle.index_remap.proofs.Rel.{overwrite_rel}
 use Rattle.index_remap_proof.specs.Indices.{ConstNamesOnly, ElemModeNamesOnly, TreeNamesOnly, with_entry}
-use Rattle.world_simulation.specs.Alone.{one}
-use Rattle.world_simulation.specs.Leaves.{contents, is_address, over, all_over, elem_copy, elem_copies, elem_left}
+use Rattle.world_simulation.specs.Prelude.{one, contents, is_address, over, all_over, elem_copy, elem_copies}
+use Rattle.world_simulation.specs.Leaves.{elem_left}
 use Rattle.world_simulation.proofs.Declared.{last_segments}
 use Rattle.world_simulation.proofs.Instancing.{IsInst}
 use Rattle.world_simulation.proofs.Places.{opt_self}
 use Rattle.world_simulation.proofs.Stored.{ref_rel}
-use Rattle.eval_spec.specs.State.{State}
+use Rattle.eval_spec.specs.Prelude.{State}
 use Rattle.eval_snapshot_spec.specs.Snapshot.{snapshot}
 use Rattle.eval_behaves_proof.specs.Worlds.{with_empty_func}
 use Rattle.eval_behaves_proof.proofs.StatesAgree.{R, first_value, second_value, table_shared, value_itself, values_same}

@@ -1,33 +1,18 @@
 -- Which indices of a valid module denote addresses in an environment, and what its code and its constant expressions are in both.
-use Rattle.std.proofs.Common.{◌≡◌, ◌∙◌, sym, ap, subst, refl, ℕ, ◌+◌, ◌<◌, ◌≤◌, List, [], ◌∷◌, length, false, Option, Some, arith, slice_get, option_and_then, IsTrue}
-use Rattle.std.specs.Prelude.{nat_lt}
-use Rattle.std.proofs.lemmas.Bool.{and_from, eq-eqb, lt-ltb}
-use Rattle.std.proofs.lemmas.Option.{same_Some}
+use Rattle.base_lists.proofs.Common.{◌≡◌, ◌∙◌, sym, ap, subst, refl, ℕ, ◌+◌, ◌<◌, ◌≤◌, List, [], ◌∷◌, length, false, Option, Some, arith, slice_get, option_and_then, IsTrue, nat_lt, and_from, eq-eqb, lt-ltb, same_Some, length-numbers, numbers_at, numbers_is, and_then_is, slice_get_there}
 use Rattle.base_lists.specs.Places.{numbers}
-use Rattle.base_lists.proofs.Numbers.{length-numbers, numbers_at, numbers_is}
-use Rattle.base_lists.proofs.Options.{and_then_is}
-use Rattle.base_lists.proofs.Places.{slice_get_there}
-use Rattle.wasm_tree.specs.declared.space.Space.{Space}
-use Rattle.wasm_tree.specs.declared.space.Space.TheVariants.{Types, Functions, Tables, Memories, Globals, ElementSegments, DataSegments}
-use Rattle.wasm_tree.specs.declared.module.ConstExpr.{ConstExpr}
+use Rattle.wasm_tree_spec.specs.Prelude.{Space, Types, Functions, Tables, Memories, Globals, ElementSegments, DataSegments, ConstExpr, Module, funcs_of, tables_of, memories_of, globals_of}
 use Rattle.wasm_tree.specs.declared.module.ConstExpr.TheVariants as const
-use Rattle.wasm_tree.specs.declared.module.Module.{Module}
-use Rattle.wasm_tree.specs.Spaces.{funcs_of, tables_of, memories_of, globals_of}
 use Rattle.wasm_num.specs.Operations.{W32, W64, wrapped}
-use Rattle.wasm_meaning.specs.State.{Val, Num, Ref, FuncRef, Inst}
-use Rattle.wasm_meaning.specs.Values.{null_of, num_of}
-use Rattle.wasm_meaning.specs.Environment.{Environment}
-use Rattle.wasm_meaning.specs.World.{value_of}
-use Rattle.index_remap.specs.Related.{Pairing, OptRel, some, ValRel, number, reference, func, CodeRel}
-use Rattle.index_remap.specs.Laws.{passed}
+use Rattle.wasm_meaning.specs.Prelude.{Val, Num, Ref, FuncRef, Inst, null_of, num_of, Environment, value_of}
+use Rattle.index_remap.specs.Prelude.{Pairing, OptRel, some, ValRel, number, reference, func, CodeRel, passed}
 use Rattle.index_remap_proof.specs.Indices.{FuncNamesOnly, with_entry}
 use Rattle.wasm_tree.specs.declared.module.Func as tree
-use Rattle.world_simulation.specs.Alone.{one}
-use Rattle.world_simulation.specs.Leaves.{is_address}
+use Rattle.world_simulation.specs.Prelude.{one, is_address}
 use Rattle.world_simulation.proofs.Instancing.{IsInst}
 use Rattle.world_simulation.proofs.Owned.{null_rel}
 use Rattle.world_simulation.proofs.Places.{opt_at}
-use Rattle.eval_spec.specs.Instantiation.{own_inst, reads_global, value_in}
+use Rattle.eval_spec.specs.Prelude.{own_inst, reads_global, value_in}
 use Rattle.eval_behaves_proof.specs.Addresses.{addresses_in, names_at, stands_at}
 use Rattle.eval_behaves_proof.proofs.CodeAlike.{IndexAlike, kept_alike}
 use Rattle.eval_behaves_proof.proofs.InRange.{below, each_index}

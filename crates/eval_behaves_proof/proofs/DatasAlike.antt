@@ -1,29 +1,13 @@
 -- What the data segments of a module and of its snapshot copy into memories: nothing into the environment's own, and into the defined one of the snapshot what it is to hold.
-use Rattle.std.proofs.Common.{◌≡◌, ◌∙◌, sym, ap, refl, subst, ℕ, suc, ◌+◌, ◌-◌, ◌*◌, ◌^◌, ◌<◌, ◌≤◌, List, [], ◌∷◌, ◌++◌, map, length, false, cond, Option, Some, None, ◌⊎◌, inl, inr, ⊎_elim, arith, slice_get}
-use Rattle.std.specs.Prelude.{nat_lt}
-use Rattle.std.proofs.lemmas.Bool.{cases_lt, lt-ltb, ne_eqb, true≢false}
-use Rattle.std.proofs.lemmas.List.{length-append}
-use Rattle.std.proofs.lemmas.Option.{slice_get_within}
+use Rattle.base_lists.proofs.Common.{◌≡◌, ◌∙◌, sym, ap, refl, subst, ℕ, suc, ◌+◌, ◌-◌, ◌*◌, ◌^◌, ◌<◌, ◌≤◌, List, [], ◌∷◌, ◌++◌, map, length, false, cond, Option, Some, None, ◌⊎◌, inl, inr, ⊎_elim, arith, slice_get, nat_lt, cases_lt, lt-ltb, ne_eqb, length-append, slice_get_within, every_at, append_from, map_at, map_from}
+use Rattle.std.proofs.lemmas.Bool.{true≢false}
 use Rattle.base_lists.specs.Options.{◌>>=◌}
-use Rattle.base_lists.proofs.Each.{every_at}
-use Rattle.base_lists.proofs.Places.{append_from, map_at, map_from}
-use Rattle.wasm_tree.specs.declared.space.Space.TheVariants.{Memories}
-use Rattle.wasm_tree.specs.declared.types.Limits.{Limits}
-use Rattle.wasm_tree.specs.declared.module.ConstExpr.{ConstExpr}
+use Rattle.wasm_tree_spec.specs.Prelude.{Memories, Limits, ConstExpr, DataMode, DataSeg, Module, imported_memories, memories_of}
 use Rattle.wasm_tree.specs.declared.module.ConstExpr.TheVariants as const
-use Rattle.wasm_tree.specs.declared.module.DataMode.{DataMode}
 use Rattle.wasm_tree.specs.declared.module.DataMode.TheVariants as data'
-use Rattle.wasm_tree.specs.declared.module.DataSeg.{DataSeg}
-use Rattle.wasm_tree.specs.declared.module.Module.{Module}
-use Rattle.wasm_tree.specs.Spaces.{imported_memories, memories_of}
-use Rattle.wasm_meaning.specs.Outcomes.{copies, overwrite}
-use Rattle.wasm_meaning.specs.State.{Text, Inst, Val, Memory, Store}
-use Rattle.wasm_meaning.specs.Linking.{imports_of}
-use Rattle.wasm_meaning.specs.Environment.{Environment, own_memories}
-use Rattle.wasm_meaning.specs.World.{own_count}
+use Rattle.wasm_meaning.specs.Prelude.{copies, overwrite, Text, Inst, Val, Memory, Store, imports_of, Environment, own_memories, own_count}
 use Rattle.index_remap_proof.specs.Indices.{DataModeNamesOnly, TreeNamesOnly, with_entry}
-use Rattle.world_simulation.specs.Alone.{one}
-use Rattle.world_simulation.specs.Leaves.{Copy, nothing, contents, is_address, over, all_over, data_copy, data_copies, new_memory}
+use Rattle.world_simulation.specs.Prelude.{one, Copy, nothing, contents, is_address, over, all_over, data_copy, data_copies, new_memory}
 use Rattle.world_simulation.proofs.Alone.{memories_counted}
 use Rattle.world_simulation.proofs.Allocated.{new_data}
 use Rattle.world_simulation.proofs.Copies.{AreOf, IsOf}
@@ -31,9 +15,7 @@ use Rattle.world_simulation.proofs.Instancing.{IsInst}
 use Rattle.world_simulation.proofs.Leaves.{memories}
 use Rattle.world_simulation.proofs.Loaded.{const_same}
 use Rattle.world_simulation.proofs.Places.{map_length}
-use Rattle.eval_spec.specs.State.{State}
-use Rattle.eval_spec.specs.Stops.{is_imported}
-use Rattle.eval_spec.specs.Told.{memory_bytes}
+use Rattle.eval_spec.specs.Prelude.{State, is_imported, memory_bytes}
 use Rattle.eval_snapshot_spec.specs.Contents as tree
 use Rattle.eval_snapshot_spec.specs.Contents.{Stretch, stretch_segment, stretches}
 use Rattle.eval_snapshot_spec.specs.Snapshot.{old_segments, snapshot}

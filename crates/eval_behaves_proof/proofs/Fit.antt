@@ -1,17 +1,8 @@
 -- Segments that fit, copied one after the other, do not trap.
-use Rattle.std.proofs.Common.{◌≡◌, ◌≢◌, ◌∙◌, sym, ap, refl, subst, ℕ, suc, ◌+◌, ◌<◌, List, [], ◌∷◌, length, Option, Some, true, false, cond, ◌⊎◌, inl, inr, arith, slice_get, slice_set}
-use Rattle.std.specs.Prelude.{nat_eq}
-use Rattle.std.proofs.lemmas.Bool.{eq-eqb}
-use Rattle.std.proofs.lemmas.Bool.Decides.{eqb_tells}
-use Rattle.std.proofs.lemmas.List.{length-set}
-use Rattle.std.proofs.lemmas.Option.{same_Some}
+use Rattle.base_lists.proofs.Common.{◌≡◌, ◌≢◌, ◌∙◌, sym, ap, refl, subst, ℕ, suc, ◌+◌, ◌<◌, List, [], ◌∷◌, length, Option, Some, true, false, cond, ◌⊎◌, inl, inr, arith, slice_get, slice_set, nat_eq, eq-eqb, eqb_tells, length-set, same_Some, and_then_is, set_at, set_other, slice_get_there}
 use Rattle.base_lists.specs.Options.{◌>>=◌}
-use Rattle.base_lists.proofs.Options.{and_then_is}
-use Rattle.base_lists.proofs.Places.{set_at, set_other, slice_get_there}
-use Rattle.wasm_meaning.specs.Outcomes.{overwrite}
-use Rattle.wasm_meaning.specs.State.{Store}
-use Rattle.wasm_meaning.specs.World.{Filled, and_then}
-use Rattle.world_simulation.specs.Leaves.{Copy, nothing, contents, over, all_over}
+use Rattle.wasm_meaning.specs.Prelude.{overwrite, Store, Filled, and_then}
+use Rattle.world_simulation.specs.Prelude.{Copy, nothing, contents, over, all_over}
 use Rattle.world_simulation.proofs.Copies.{Kind, run, runs, IsOf, AreOf}
 
 module _ {C S A : Type 0} (k : Kind C S A) where

@@ -1,39 +1,21 @@
 -- The functions that the quiet run has at first and those at their addresses in an environment are the same: imported ones are the environment's own of equal pair and type,
 -- and defined ones have the same code over both instances.
-use Rattle.std.proofs.Common.{◌≡◌, ◌∙◌, sym, ap, ap₂, subst, refl, ℕ, suc, ◌+◌, ◌<◌, List, [], ◌∷◌, ◌++◌, map, length, true, Option, Some, is_some, inl, inr, arith, slice_get, option_and_then}
+use Rattle.base_lists.proofs.Common.{◌≡◌, ◌∙◌, sym, ap, ap₂, subst, refl, ℕ, suc, ◌+◌, ◌<◌, List, [], ◌∷◌, ◌++◌, map, length, true, Option, Some, is_some, inl, inr, arith, slice_get, option_and_then, cons_option, filter_map, ltb-true, and_parts, length-append, same_Some, chosen_from, place_of, places_many, length-numbers, all_there_at, and_then_is, append_at_left, append_from, append_right, slice_get_there}
 use Rattle.std.specs.Prelude.{unwrap_or}
-use Rattle.std.specs.List.{cons_option, filter_map}
-use Rattle.std.proofs.lemmas.Bool.{ltb-true, and_parts}
-use Rattle.std.proofs.lemmas.List.{length-append}
-use Rattle.std.proofs.lemmas.Option.{same_Some}
-use Rattle.base_lists.proofs.Filtered.{chosen_from, place_of, places_many}
-use Rattle.base_lists.proofs.Numbers.{length-numbers}
-use Rattle.base_lists.proofs.Options.{all_there_at, and_then_is}
-use Rattle.base_lists.proofs.Places.{append_at_left, append_from, append_right, slice_get_there}
-use Rattle.wasm_tree.specs.declared.space.Space.TheVariants.{Functions}
-use Rattle.wasm_tree.specs.Operands.{same_space}
-use Rattle.wasm_tree.specs.declared.types.FuncType.{FuncType}
-use Rattle.wasm_tree.specs.declared.module.Import.{Import}
-use Rattle.wasm_tree.specs.declared.module.ImportDesc.{ImportDesc}
+use Rattle.wasm_tree_spec.specs.Prelude.{Functions, same_space, FuncType, Import, ImportDesc, Module, func_of, funcs_of, imported_funcs, space_of_import}
 use Rattle.wasm_tree.specs.declared.module.ImportDesc.TheVariants as im
 use Rattle.wasm_tree.specs.declared.module.Func as tree
-use Rattle.wasm_tree.specs.declared.module.Module.{Module}
-use Rattle.wasm_tree.specs.Spaces.{func_of, funcs_of, imported_funcs, space_of_import}
-use Rattle.wasm_meaning.specs.State.{Pair, Inst, Func, Own, Store}
-use Rattle.wasm_meaning.specs.Linking.{has_kind, imports_of, pair_of}
-use Rattle.wasm_meaning.specs.Environment.{Environment, FuncKey, owned_at, owned_of, own_funcs}
-use Rattle.wasm_meaning.specs.World.{address_of, imported_external_value, joined_stores, new_func, own_store}
-use Rattle.index_remap.specs.Related.{BothRel, FuncRel, own}
+use Rattle.wasm_meaning.specs.Prelude.{Pair, Inst, Func, Own, Store, has_kind, imports_of, pair_of, Environment, FuncKey, owned_at, owned_of, own_funcs, address_of, imported_external_value, joined_stores, new_func, own_store}
+use Rattle.index_remap.specs.Prelude.{BothRel, FuncRel, own}
 use Rattle.index_remap_proof.specs.Indices.{ImportNamesOnly, TreeNamesOnly, with_entry}
 use Rattle.index_remap_proof.proofs.Lists.{all_there_back}
-use Rattle.world_simulation.specs.Alone.{key_in, one, site, external_value_in}
-use Rattle.world_simulation.specs.Definitions.{FuncsCorrespond}
+use Rattle.world_simulation.specs.Prelude.{key_in, one, site, external_value_in, FuncsCorrespond}
 use Rattle.world_simulation.proofs.Alone.{funcs_counted, thing_is}
 use Rattle.world_simulation.proofs.Allocated.{AddsWith}
 use Rattle.world_simulation.proofs.Instancing.{Entry, IsInst, defines, entry_at, import_address, imports, is_space}
 use Rattle.world_simulation.proofs.Places.{both_at, map_length, opt_both}
 use Rattle.world_simulation.proofs.Stored.{func_rel}
-use Rattle.eval_spec.specs.Instantiation.{imported_func, imported_store, own_inst, value_in}
+use Rattle.eval_spec.specs.Prelude.{imported_func, imported_store, own_inst, value_in}
 use Rattle.eval_proof.specs.Known.{FuncsOf, IsCodeOf}
 use Rattle.eval_behaves_proof.proofs.OneMore.{with_funcs}
 use Rattle.eval_behaves_proof.proofs.InRange.{below, each_index}

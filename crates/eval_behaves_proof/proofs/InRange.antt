@@ -1,14 +1,10 @@
 -- What a valid module names is there: the index is below the number of entries of its space (WebAssembly Core 2.0, section 3.4).
-use Rattle.std.proofs.Common.{ℕ, ◌<◌, ◌≤◌, length, arith}
-use Rattle.std.specs.Prelude.{IsTrue, nat_lt}
-use Rattle.std.proofs.lemmas.Bool.{ltb-true}
+use Rattle.base_lists.proofs.Common.{ℕ, ◌<◌, ◌≤◌, length, arith, IsTrue, nat_lt, ltb-true, length-numbers}
 use Rattle.base_lists.specs.Places.{numbers}
-use Rattle.base_lists.proofs.Numbers.{length-numbers}
-use Rattle.wasm_tree.specs.declared.module.Module.{Module}
-use Rattle.wasm_tree.specs.Spaces.{funcs_of, tables_of, memories_of, globals_of}
-use Rattle.wasm_valid.specs.Validity.{IsValid}
+use Rattle.wasm_tree_spec.specs.Prelude.{Module, funcs_of, tables_of, memories_of, globals_of}
+use Rattle.wasm_valid.specs.Prelude.{IsValid}
 use Rattle.index_remap.specs.declared.remap.Remap.{Remap}
-use Rattle.index_remap.specs.Renumbered.{fits_tree}
+use Rattle.index_remap.specs.Prelude.{fits_tree}
 use Rattle.index_remap_proof.specs.Indices.{TreeNamesOnly, with_entry}
 use Rattle.index_remap_proof.specs.Trees.{Covers}
 

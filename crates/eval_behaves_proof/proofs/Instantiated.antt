@@ -1,32 +1,18 @@
 -- Where an environment links a module whose evaluation is quiet, both are instantiated to what is related, and the functions to be called correspond.
-use Rattle.std.proofs.Common.{◌≡◌, ◌∙◌, ap, subst, refl, ℕ, suc, ◌<◌, List, [], ◌∷◌, ◌++◌, map, length, Bool, true, false, cond, Option, Some, None, is_some, inl, inr, arith, slice_get, IsTrue}
-use Rattle.std.proofs.lemmas.Option.{same_Some}
-use Rattle.base_lists.proofs.Filtered.{chosen_from}
-use Rattle.base_lists.proofs.Options.{and_then_is, is_some_there}
-use Rattle.base_lists.proofs.Places.{append_from, map_from, slice_get_there}
-use Rattle.wasm_tree.specs.declared.space.Space.TheVariants.{Functions}
-use Rattle.wasm_tree.specs.declared.module.Export.{Export}
-use Rattle.wasm_tree.specs.declared.module.ExportDesc.{ExportDesc}
+use Rattle.base_lists.proofs.Common.{◌≡◌, ◌∙◌, ap, subst, refl, ℕ, suc, ◌<◌, List, [], ◌∷◌, ◌++◌, map, length, Bool, true, false, cond, Option, Some, None, is_some, inl, inr, arith, slice_get, IsTrue, same_Some, chosen_from, and_then_is, is_some_there, append_from, map_from, slice_get_there}
+use Rattle.wasm_tree_spec.specs.Prelude.{Functions, Export, ExportDesc, ImportDesc, Module, func_of, funcs_of, imported_funcs}
 use Rattle.wasm_tree.specs.declared.module.ExportDesc.TheVariants as ex
-use Rattle.wasm_tree.specs.declared.module.ImportDesc.{ImportDesc}
 use Rattle.wasm_tree.specs.declared.module.ImportDesc.TheVariants as im
 use Rattle.wasm_tree.specs.declared.module.Func as tree
-use Rattle.wasm_tree.specs.declared.module.Module.{Module}
-use Rattle.wasm_tree.specs.Spaces.{func_of, funcs_of, imported_funcs}
-use Rattle.wasm_valid.specs.Validity.{IsValid}
-use Rattle.wasm_meaning.specs.State.{Text, Inst}
-use Rattle.wasm_meaning.specs.Linking.{export_named, same_text}
-use Rattle.wasm_meaning.specs.Environment.{Environment}
-use Rattle.wasm_meaning.specs.World.{Filled, all_there, alone, begun, joined_stores, links, own_store, segments, start_in}
-use Rattle.index_remap.specs.Related.{ListRel, cons, nil}
+use Rattle.wasm_valid.specs.Prelude.{IsValid}
+use Rattle.wasm_meaning.specs.Prelude.{Text, Inst, export_named, same_text, Environment, Filled, all_there, alone, begun, joined_stores, links, own_store, segments, start_in}
+use Rattle.index_remap.specs.Prelude.{ListRel, cons, nil}
 use Rattle.index_remap.proofs.Rel.{append_rel}
 use Rattle.index_remap_proof.specs.Indices.{ExportNamesOnly, ImportNamesOnly, TreeNamesOnly, with_entry}
-use Rattle.world_simulation.specs.Alone.{one}
+use Rattle.world_simulation.specs.Prelude.{one}
 use Rattle.world_simulation.proofs.Instancing.{IsInst}
 use Rattle.eval_spec.specs.declared.limits.TheConstants.{MOST_TURNS}
-use Rattle.eval_spec.specs.State.{State, Stage, Going, Stopped, Finished}
-use Rattle.eval_spec.specs.Evaluation.{called_in_order, evaluated}
-use Rattle.eval_spec.specs.Instantiation.{after_start, instantiated}
+use Rattle.eval_spec.specs.Prelude.{State, Stage, Going, Stopped, Finished, called_in_order, evaluated, after_start, instantiated}
 use Rattle.eval_snapshot_spec.specs.Evaluated.{first_missing, func_exported, func_named, funcs_named}
 use Rattle.eval_snapshot_spec.specs.Snapshot.{empty_func}
 use Rattle.eval_behaves_proof.specs.Worlds.{evaluated_world, with_empty_func}

@@ -1,31 +1,16 @@
 -- The constants of known globals: in the instance of the snapshot they have the values that the machine's run left.
-use Rattle.std.proofs.Common.{◌≡◌, ◌∙◌, sym, ap, refl, subst, ℕ, ◌<◌, List, [], length, Bool, true, false, cond, Option, Some, None, arith, slice_get, IsTrue, ◌∷◌}
-use Rattle.std.specs.Prelude.{ℤ, nat_lt}
-use Rattle.std.proofs.lemmas.Bool.{and_parts, ltb-true}
-use Rattle.std.proofs.lemmas.Option.{same_Some}
+use Rattle.base_lists.proofs.Common.{◌≡◌, ◌∙◌, sym, ap, refl, subst, ℕ, ◌<◌, List, [], length, Bool, true, false, cond, Option, Some, None, arith, slice_get, IsTrue, ◌∷◌, ℤ, nat_lt, and_parts, ltb-true, same_Some, length-numbers, and_then_is}
 use Rattle.base_lists.specs.Options.{◌>>=◌}
-use Rattle.base_lists.proofs.Numbers.{length-numbers}
-use Rattle.base_lists.proofs.Options.{and_then_is}
-use Rattle.wasm_tree.specs.declared.space.Space.TheVariants.{Functions}
-use Rattle.wasm_tree.specs.declared.types.RefType.{RefType}
-use Rattle.wasm_tree.specs.declared.module.ConstExpr.{ConstExpr}
+use Rattle.wasm_tree_spec.specs.Prelude.{Functions, RefType, ConstExpr, Module, funcs_of}
 use Rattle.wasm_tree.specs.declared.module.ConstExpr.TheVariants as const
-use Rattle.wasm_tree.specs.declared.module.Module.{Module}
-use Rattle.wasm_tree.specs.Spaces.{funcs_of}
 use Rattle.wasm_num.specs.Operations.{W32, W64, wrapped}
-use Rattle.wasm_meaning.specs.State.{FuncRef, ExternRef, RefVal, Val, Num, Ref, Text, Inst, Global}
-use Rattle.wasm_meaning.specs.Values.{null_of}
-use Rattle.wasm_meaning.specs.Environment.{Environment}
-use Rattle.index_remap.specs.Related.{Pairing, none, some, func, extern, RefRel, ValRel, number, reference}
-use Rattle.index_remap.specs.Laws.{passed}
-use Rattle.world_simulation.specs.Alone.{one}
-use Rattle.world_simulation.specs.Leaves.{is_address}
+use Rattle.wasm_meaning.specs.Prelude.{FuncRef, ExternRef, RefVal, Val, Num, Ref, Text, Inst, Global, null_of, Environment}
+use Rattle.index_remap.specs.Prelude.{Pairing, none, some, func, extern, RefRel, ValRel, number, reference, passed}
+use Rattle.world_simulation.specs.Prelude.{one, is_address}
 use Rattle.world_simulation.proofs.Instancing.{IsInst}
 use Rattle.world_simulation.proofs.Loaded.{const_same}
 use Rattle.eval_numbers_proof.specs.Ranges.{GlobalsAreExpressible, IsExpressible}
-use Rattle.eval_spec.specs.State.{State}
-use Rattle.eval_spec.specs.Instantiation.{own_inst}
-use Rattle.eval_spec.specs.Told.{constant, is_unknown_global, value_of_global}
+use Rattle.eval_spec.specs.Prelude.{State, own_inst, constant, is_unknown_global, value_of_global}
 use Rattle.eval_snapshot_spec.specs.Snapshot.{snapshot}
 use Rattle.eval_behaves_proof.proofs.SnapshotHas.{bound}
 use Rattle.eval_behaves_proof.specs.Worlds.{with_empty_func}

@@ -1,20 +1,12 @@
 -- What instantiation leaves: of the quiet run, in its store of one module alone, and of the module in an environment, whatever names may be used.
-use Rattle.std.proofs.Common.{◌≡◌, ◌∙◌, sym, ap, ap₂, refl, subst, List, [], ◌∷◌, Some, false, append-nil}
-use Rattle.std.proofs.lemmas.Option.{same_Some}
-use Rattle.base_lists.proofs.Options.{and_then_is}
-use Rattle.wasm_tree.specs.declared.module.Module.{Module}
-use Rattle.wasm_meaning.specs.State.{Inst, Text}
-use Rattle.wasm_meaning.specs.Linking.{Entity}
-use Rattle.wasm_meaning.specs.Environment.{Environment}
-use Rattle.wasm_meaning.specs.Sequential.{Added}
-use Rattle.wasm_meaning.specs.World.{Begun, Filled, World, and_then, const_value, instantiate, insts_from, joined_stores, one_by_one, own_store, part_store, run_data, run_data_with, run_elem, run_elem_with, segments, segments_in, store_with, stores_from, value_of}
-use Rattle.world_simulation.specs.Alone.{one}
-use Rattle.world_simulation.specs.Leaves.{Leaves}
+use Rattle.base_lists.proofs.Common.{◌≡◌, ◌∙◌, sym, ap, ap₂, refl, subst, List, [], ◌∷◌, Some, false, append-nil, same_Some, and_then_is}
+use Rattle.wasm_tree_spec.specs.Prelude.{Module}
+use Rattle.wasm_meaning.specs.Prelude.{Inst, Text, Entity, Environment, Added, Begun, Filled, World, and_then, const_value, instantiate, insts_from, joined_stores, one_by_one, own_store, part_store, run_data, run_data_with, run_elem, run_elem_with, segments, segments_in, store_with, stores_from, value_of}
+use Rattle.world_simulation.specs.Prelude.{one, Leaves}
 use Rattle.world_simulation.proofs.Leaves.{data_runs, elem_runs, left_in_turn}
 use Rattle.world_simulation.proofs.Simulated.{what_is_made}
 use Rattle.world_simulation.proofs.Single.{one_inst}
-use Rattle.eval_spec.specs.State.{State}
-use Rattle.eval_spec.specs.Instantiation.{imported_store, own_inst, value_in}
+use Rattle.eval_spec.specs.Prelude.{State, imported_store, own_inst, value_in}
 use Rattle.eval_proof.specs.Machines.{InstantiatedAs}
 
 pub quiet_leaves : (m : Module) (s : State) → InstantiatedAs m s → Leaves (value_in m) m (own_inst m) (imported_store m) s.store

@@ -1,10 +1,8 @@
 -- Calls of the machine to their ends: what more steps that are allowed change, and where they end that a quiet call leads.
-use Rattle.std.proofs.Common.{◌≡◌, ◌∙◌, sym, ap, ℕ, zero, suc, ◌<◌, ◌≤◌, List, Some, arith}
-use Rattle.wasm_meaning.specs.Outcomes.{Outcome, Gives, Traps, IllTyped}
-use Rattle.wasm_meaning.specs.State.{Val, Store, Entry, Next, Ran, CallsOwn, WaitsGrowth, CallsPlaceholder, EndsCall}
-use Rattle.wasm_meaning.specs.Step.{step}
-use Rattle.index_remap.specs.Unknown.{GoesOn, here, step_on, KnownSteps, none_left, known_step}
-use Rattle.index_remap.specs.Related.{Pairing}
+use Rattle.base_lists.proofs.Common.{◌≡◌, ◌∙◌, sym, ap, ℕ, zero, suc, ◌<◌, ◌≤◌, List, Some, arith}
+use Rattle.wasm_meaning.specs.Prelude.{Outcome, Gives, Traps, IllTyped, Val, Store, Entry, Next, Ran, CallsOwn, WaitsGrowth, CallsPlaceholder, EndsCall, step}
+use Rattle.index_remap.specs.Prelude.{here, step_on, KnownSteps, none_left, known_step, Pairing}
+use Rattle.index_remap.specs.Unknown.{GoesOn}
 use Rattle.eval_behaves_proof.specs.Worlds.{store_at_end}
 
 -- ---- more steps ----

@@ -1,44 +1,21 @@
 -- Where an environment links a module it instantiates the module with one function more, whatever names of the module may be used.
-use Rattle.std.proofs.Common.{◌≡◌, ◌∙◌, sym, ap, subst, refl, ℕ, zero, suc, ◌+◌, ◌<◌, List, [], ◌∷◌}
-use Rattle.std.proofs.Common.{◌++◌, length, Bool, true, false, cond, Option, Some, None, inl, inr, arith, slice_get, option_and_then}
-use Rattle.std.specs.Prelude.{nat_eq, nat_lt, ◌&&◌, IsTrue, unwrap_or}
-use Rattle.std.proofs.lemmas.Bool.{and_from, and_parts, eq-eqb, eqb-true, lt-ltb, ltb-true}
-use Rattle.std.proofs.lemmas.Option.{same_Some}
+use Rattle.base_lists.proofs.Common.{◌≡◌, ◌∙◌, sym, ap, subst, refl, ℕ, zero, suc, ◌+◌, ◌<◌, List, [], ◌∷◌, ◌++◌, length, Bool, true, false, cond, Option, Some, None, inl, inr, arith, slice_get, option_and_then, nat_eq, nat_lt, ◌&&◌, IsTrue, and_from, and_parts, eq-eqb, eqb-true, lt-ltb, ltb-true, same_Some, chosen_from, all_there_at, all_there_from, and_then_is, append_from, map_from, slice_get_there}
+use Rattle.std.specs.Prelude.{unwrap_or}
 use Rattle.base_lists.specs.Places.{first_place}
-use Rattle.base_lists.proofs.Filtered.{chosen_from}
-use Rattle.base_lists.proofs.Options.{all_there_at, all_there_from, and_then_is}
-use Rattle.base_lists.proofs.Places.{append_from, map_from, slice_get_there}
-use Rattle.wasm_tree.specs.declared.space.Space.{Space}
-use Rattle.wasm_tree.specs.declared.space.Space.TheVariants.{Functions, Tables, Memories, Globals, ElementSegments, DataSegments}
-use Rattle.wasm_tree.specs.declared.types.FuncType.{FuncType}
+use Rattle.wasm_tree_spec.specs.Prelude.{Space, Functions, Tables, Memories, Globals, ElementSegments, DataSegments, FuncType, GlobalDef, ElemSeg, Export, ExportDesc, Module, funcs_of, tables_of, memories_of, globals_of}
 use Rattle.wasm_tree.specs.declared.module.Func as tree
-use Rattle.wasm_tree.specs.declared.module.GlobalDef.{GlobalDef}
-use Rattle.wasm_tree.specs.declared.module.ElemSeg.{ElemSeg}
-use Rattle.wasm_tree.specs.declared.module.Export.{Export}
-use Rattle.wasm_tree.specs.declared.module.ExportDesc.{ExportDesc}
 use Rattle.wasm_tree.specs.declared.module.ExportDesc.TheVariants as ex
-use Rattle.wasm_tree.specs.declared.module.Module.{Module}
-use Rattle.wasm_tree.specs.Spaces.{funcs_of, tables_of, memories_of, globals_of}
-use Rattle.wasm_meaning.specs.State.{Text, Inst, Func, Code, Global, Elem, Store}
-use Rattle.wasm_meaning.specs.Values.{declared, ref_of}
-use Rattle.wasm_meaning.specs.Linking.{Entity, sites}
-use Rattle.wasm_meaning.specs.Environment.{Environment, ExternalValue, FuncAt, TableAt, MemoryAt, GlobalAt, all_of}
-use Rattle.wasm_meaning.specs.World.{Begun, address_in, all_there, alone, begun, elem_of, insts_from, instantiate, is_matched, joined_stores}
-use Rattle.wasm_meaning.specs.World.{links, new_elem, new_func, new_global, own_count, own_store, part_store, seen_as, segments, stores_from, value_of}
-use Rattle.index_remap.specs.Related.{Pairing}
-use Rattle.index_remap.specs.Laws.{passed}
+use Rattle.wasm_meaning.specs.Prelude.{Text, Inst, Func, Code, Global, Elem, Store, declared, ref_of, Entity, sites, Environment, ExternalValue, FuncAt, TableAt, MemoryAt, GlobalAt, all_of, Begun, address_in, all_there, alone, begun, elem_of, insts_from, instantiate, is_matched, joined_stores, links, new_elem, new_func, new_global, own_count, own_store, part_store, seen_as, segments, stores_from, value_of}
+use Rattle.index_remap.specs.Prelude.{Pairing, passed}
 use Rattle.index_remap_proof.specs.Indices.{ExportNamesOnly, TreeNamesOnly, with_entry}
-use Rattle.world_simulation.specs.Alone.{one}
-use Rattle.world_simulation.specs.Owned.{SharesOwn}
-use Rattle.world_simulation.specs.Definitions.{DefinitionsCorrespond, Instantiated}
+use Rattle.world_simulation.specs.Prelude.{one, SharesOwn, DefinitionsCorrespond, Instantiated, IsInstantiated}
 use Rattle.world_simulation.specs.Definitions as partners
-use Rattle.world_simulation.specs.Simulation.{IsInstantiated}
 use Rattle.world_simulation.proofs.Allocated.{Adds, adds, part_there}
 use Rattle.world_simulation.proofs.Instancing.{IsInst, inst_is, inst_there}
 use Rattle.world_simulation.proofs.Simulated.{what_is_made}
 use Rattle.world_simulation.proofs.Single.{all_matched, one_inst, there_is}
 use Rattle.world_simulation.proofs.Stored.{stores_rel}
-use Rattle.eval_spec.specs.Stops.{takes_and_gives_nothing}
+use Rattle.eval_spec.specs.Prelude.{takes_and_gives_nothing}
 use Rattle.eval_snapshot_spec.specs.Snapshot.{empty_func, export_left, is_among_names}
 use Rattle.eval_behaves_proof.specs.Worlds.{evaluated_world, exports_left, with_empty_func}
 use Rattle.eval_behaves_proof.proofs.InRange.{below, each_index}

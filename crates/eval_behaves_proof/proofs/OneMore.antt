@@ -1,23 +1,13 @@
 -- A module and the same with one function more, in an environment: each index of the first has the address in the second that it has in the first, and constant expressions
 -- have the values in the second that they have in the first.
-use Rattle.std.proofs.Common.{◌≡◌, ◌∙◌, sym, ap, ℕ, ◌+◌, ◌≤◌, List, [], ◌∷◌, ◌++◌, map, length, Option, Some, None, inl, inr, arith, slice_get, option_and_then}
-use Rattle.std.proofs.lemmas.List.{length-append}
-use Rattle.std.proofs.lemmas.Option.{same_Some}
+use Rattle.base_lists.proofs.Common.{◌≡◌, ◌∙◌, sym, ap, ℕ, ◌+◌, ◌≤◌, List, [], ◌∷◌, ◌++◌, map, length, Option, Some, None, inl, inr, arith, slice_get, option_and_then, length-append, same_Some, numbers_at, and_then_is, append_at_left, append_from, append_right}
 use Rattle.base_lists.specs.Places.{numbers}
-use Rattle.base_lists.proofs.Numbers.{numbers_at}
-use Rattle.base_lists.proofs.Options.{and_then_is}
-use Rattle.base_lists.proofs.Places.{append_at_left, append_from, append_right}
-use Rattle.wasm_tree.specs.declared.space.Space.{Space}
-use Rattle.wasm_tree.specs.declared.space.Space.TheVariants.{Types, Functions, Tables, Memories, Globals, ElementSegments, DataSegments}
-use Rattle.wasm_tree.specs.declared.module.ConstExpr.{ConstExpr}
+use Rattle.wasm_tree_spec.specs.Prelude.{Space, Types, Functions, Tables, Memories, Globals, ElementSegments, DataSegments, ConstExpr, Module, imported_funcs, imported_tables, imported_memories, imported_globals, funcs_of, tables_of, memories_of, globals_of}
 use Rattle.wasm_tree.specs.declared.module.ConstExpr.TheVariants as const
 use Rattle.wasm_tree.specs.declared.module.Func as tree
-use Rattle.wasm_tree.specs.declared.module.Module.{Module}
-use Rattle.wasm_tree.specs.Spaces.{imported_funcs, imported_tables, imported_memories, imported_globals, funcs_of, tables_of, memories_of, globals_of}
-use Rattle.wasm_meaning.specs.State.{Val, Ref, FuncRef, Inst}
-use Rattle.wasm_meaning.specs.Environment.{Environment, own_globals}
-use Rattle.wasm_meaning.specs.World.{defined_count, own_count, space, value_of, value_of_read}
-use Rattle.world_simulation.specs.Alone.{addresses, one, read_place}
+use Rattle.wasm_meaning.specs.Prelude.{Val, Ref, FuncRef, Inst, Environment, own_globals, defined_count, own_count, space, value_of, value_of_read}
+use Rattle.world_simulation.specs.Prelude.{addresses, one}
+use Rattle.world_simulation.specs.Alone.{read_place}
 use Rattle.world_simulation.proofs.Alone.{funcs_counted, tables_counted, memories_counted, globals_counted, read_is, space_is}
 use Rattle.world_simulation.proofs.Instancing.{IsInst, is_space}
 use Rattle.world_simulation.proofs.Places.{map_length, number_is}

@@ -1,14 +1,7 @@
 -- A list with others written over a part of it, place by place; and so with references that are related but at unknown places.
-use Rattle.std.proofs.Common.{◌≡◌, ◌∙◌, sym, ap, ap₂, refl, ℕ, zero, suc, ◌+◌, ◌-◌, ◌<◌, ◌≤◌, List, [], ◌∷◌, ◌++◌, length, Bool, true, Some, ◌⊎◌, inl, inr, arith, slice_get}
-use Rattle.std.proofs.lemmas.Bool.{cases_lt}
-use Rattle.std.proofs.lemmas.List.{length-append}
-use Rattle.std.proofs.lemmas.Option.{slice_get_past}
-use Rattle.base_lists.proofs.Options.{and_then_is}
-use Rattle.base_lists.proofs.Places.{append_left, append_right}
-use Rattle.wasm_meaning.specs.Outcomes.{overwrite, split_at}
-use Rattle.wasm_meaning.specs.State.{RefVal}
-use Rattle.index_remap.specs.Related.{Pairing, OptRel, none, RefRel}
-use Rattle.index_remap.specs.Unknown.{RefsOff}
+use Rattle.base_lists.proofs.Common.{◌≡◌, ◌∙◌, sym, ap, ap₂, refl, ℕ, zero, suc, ◌+◌, ◌-◌, ◌<◌, ◌≤◌, List, [], ◌∷◌, ◌++◌, length, Bool, true, Some, ◌⊎◌, inl, inr, arith, slice_get, cases_lt, length-append, slice_get_past, and_then_is, append_left, append_right}
+use Rattle.wasm_meaning.specs.Prelude.{overwrite, split_at, RefVal}
+use Rattle.index_remap.specs.Prelude.{Pairing, OptRel, none, RefRel, RefsOff}
 use Rattle.world_simulation.proofs.Copied.{overwrite_fits}
 use Rattle.world_simulation.proofs.Places.{opt_at}
 

@@ -1,19 +1,12 @@
 -- The whole quiet run as the machine's in an environment, from stores that are related once both are instantiated.
-use Rattle.std.proofs.Common.{◌≡◌, ◌∙◌, sym, ap, refl, ℕ, ◌≤◌, List, [], ◌∷◌, ◌++◌, Option, Some, None, false}
-use Rattle.wasm_tree.specs.declared.space.Space.TheVariants.{Functions}
-use Rattle.wasm_tree.specs.declared.module.Module.{Module}
-use Rattle.wasm_meaning.specs.State.{Text, Inst}
-use Rattle.wasm_meaning.specs.Environment.{Environment}
-use Rattle.wasm_meaning.specs.World.{Begun, insts_from, instantiate}
-use Rattle.index_remap.specs.Related.{ListRel}
-use Rattle.index_remap.specs.Laws.{passed}
-use Rattle.index_remap.specs.Unknown.{StoreRelOff, StepsAgreeOff, RunsAgreeOff}
-use Rattle.world_simulation.specs.Alone.{one}
+use Rattle.base_lists.proofs.Common.{◌≡◌, ◌∙◌, sym, ap, refl, ℕ, ◌≤◌, List, [], ◌∷◌, ◌++◌, Option, Some, None, false}
+use Rattle.wasm_tree_spec.specs.Prelude.{Functions, Module}
+use Rattle.wasm_meaning.specs.Prelude.{Text, Inst, Environment, Begun, insts_from, instantiate}
+use Rattle.index_remap.specs.Prelude.{ListRel, passed, StoreRelOff, StepsAgreeOff, RunsAgreeOff}
+use Rattle.world_simulation.specs.Prelude.{one}
 use Rattle.world_simulation.proofs.Instancing.{IsInst}
 use Rattle.eval_spec.specs.declared.limits.TheConstants.{MOST_TURNS}
-use Rattle.eval_spec.specs.State.{State, Stage, Finished}
-use Rattle.eval_spec.specs.Instantiation.{after_start, instantiated, own_inst}
-use Rattle.eval_spec.specs.Evaluation.{called_in_order, evaluated}
+use Rattle.eval_spec.specs.Prelude.{State, Stage, Finished, after_start, instantiated, own_inst, called_in_order, evaluated}
 use Rattle.eval_proof.specs.Known.{FuncsOf, QuietCallsAreKnown}
 use Rattle.eval_proof.specs.Alone.{LeavesAlone}
 use Rattle.eval_proof.specs.QuietCalls.{QuietCallsSimulate}

@@ -1,31 +1,16 @@
 -- What a quiet instantiation says of the module: it has at most one memory, none of its active data segments goes to an imported one, and its own store has as many memories.
-use Rattle.std.proofs.Common.{◌≡◌, ◌∙◌, sym, ap, ap₂, refl, ℕ, zero, suc, ◌+◌, ◌≤◌, List, [], ◌∷◌, length, Bool, true, false, cond, ◌||◌, Option, Some, None, inl, inr, slice_get}
-use Rattle.std.specs.Prelude.{nat_lt}
-use Rattle.std.proofs.lemmas.Bool.{cases_lt, lt-ltb, true≢false}
-use Rattle.std.proofs.lemmas.List.{length-append, length-map, length-set}
-use Rattle.std.proofs.lemmas.Option.{same_Some}
+use Rattle.base_lists.proofs.Common.{◌≡◌, ◌∙◌, sym, ap, ap₂, refl, ℕ, zero, suc, ◌+◌, ◌≤◌, List, [], ◌∷◌, length, Bool, true, false, cond, ◌||◌, Option, Some, None, inl, inr, slice_get, nat_lt, cases_lt, lt-ltb, length-append, length-map, length-set, same_Some, and_then_is}
+use Rattle.std.proofs.lemmas.Bool.{true≢false}
 use Rattle.base_lists.specs.Places.{numbers}
-use Rattle.base_lists.proofs.Options.{and_then_is}
-use Rattle.wasm_tree.specs.declared.space.Space.TheVariants.{Memories}
-use Rattle.wasm_tree.specs.declared.module.ConstExpr.{ConstExpr}
-use Rattle.wasm_tree.specs.declared.module.DataMode.{DataMode}
+use Rattle.wasm_tree_spec.specs.Prelude.{Memories, ConstExpr, DataMode, DataSeg, Module, imported_memories, memories_of}
 use Rattle.wasm_tree.specs.declared.module.DataMode.TheVariants as data'
-use Rattle.wasm_tree.specs.declared.module.DataSeg.{DataSeg}
-use Rattle.wasm_tree.specs.declared.module.Module.{Module}
-use Rattle.wasm_tree.specs.Spaces.{imported_memories, memories_of}
-use Rattle.wasm_meaning.specs.Outcomes.{Outcome, Gives}
-use Rattle.wasm_meaning.specs.State.{Inst, Store}
-use Rattle.wasm_meaning.specs.Touched.{Touched, Bytes}
-use Rattle.wasm_meaning.specs.Sequential.{Added}
-use Rattle.wasm_meaning.specs.World.{Filled, PlacedSegment, and_then, const_value, joined_stores, run_data_with, run_elem_with, segments_in, store_with}
-use Rattle.world_simulation.specs.Leaves.{elem_copies, data_copies}
+use Rattle.wasm_meaning.specs.Prelude.{Outcome, Gives, Inst, Store, Touched, Bytes, Added, Filled, PlacedSegment, and_then, const_value, joined_stores, run_data_with, run_elem_with, segments_in, store_with}
+use Rattle.world_simulation.specs.Prelude.{elem_copies, data_copies}
 use Rattle.world_simulation.proofs.Allocated.{adds_with, new_memory}
 use Rattle.world_simulation.proofs.Copies.{all_stay, runs, then_went}
 use Rattle.world_simulation.proofs.Leaves.{copies_in_turn, data_runs, elem_runs, memories, tables}
 use Rattle.eval_spec.specs.declared.stop.Stop.TheVariants as why
-use Rattle.eval_spec.specs.State.{State, Stage, Going, Stopped, Finished, Test, first_held, stopped_or}
-use Rattle.eval_spec.specs.Stops.{is_imported, test, writes_too_many, written_after}
-use Rattle.eval_spec.specs.Instantiation.{filled_from, imported_store, in_order, instantiated, own_inst, place_in, reads_global, state_at_first, value_in, with_data, with_data_mode, with_elem, with_segments}
+use Rattle.eval_spec.specs.Prelude.{State, Stage, Going, Stopped, Finished, Test, first_held, stopped_or, is_imported, test, writes_too_many, written_after, filled_from, imported_store, in_order, instantiated, own_inst, place_in, reads_global, state_at_first, value_in, with_data, with_data_mode, with_elem, with_segments}
 use Rattle.eval_proof.specs.Machines.{InstantiatedAs}
 
 -- ---- one after the other ----

@@ -1,27 +1,18 @@
 -- A quiet instantiation and start are the machine's, of the module itself, in each environment that links it.
-use Rattle.std.proofs.Common.{◌≡◌, ◌∙◌, sym, ap, ap₂, subst, refl, ◌≤◌, List, [], ◌∷◌, ◌++◌, append-nil, false, Some, arith, IsTrue}
-use Rattle.std.proofs.lemmas.Option.{same_Some}
-use Rattle.base_lists.proofs.Options.{and_then_is}
-use Rattle.wasm_tree.specs.declared.space.Space.TheVariants.{Functions}
+use Rattle.base_lists.proofs.Common.{◌≡◌, ◌∙◌, sym, ap, ap₂, subst, refl, ◌≤◌, List, [], ◌∷◌, ◌++◌, append-nil, false, Some, arith, IsTrue, same_Some, and_then_is}
+use Rattle.wasm_tree_spec.specs.Prelude.{Functions, Module}
 use Rattle.wasm_tree.specs.declared.module.Func as tree
-use Rattle.wasm_tree.specs.declared.module.Module.{Module}
-use Rattle.wasm_valid.specs.Validity.{IsValid}
-use Rattle.wasm_meaning.specs.State.{Inst, Store}
-use Rattle.wasm_meaning.specs.Environment.{Environment}
-use Rattle.wasm_meaning.specs.World.{Begun, alone, begun, insts_from, instantiate, joined_stores, links, own_store, part_store, segments, start_in, stores_from}
-use Rattle.index_remap.specs.Related.{Pairing, ListRel, OneToOneWhereWritten, nil}
-use Rattle.index_remap.specs.Laws.{passed}
-use Rattle.index_remap.specs.Unknown.{StoreRelOff, StepsAgreeOff, RunsAgreeOff}
+use Rattle.wasm_valid.specs.Prelude.{IsValid}
+use Rattle.wasm_meaning.specs.Prelude.{Inst, Store, Environment, Begun, alone, begun, insts_from, instantiate, joined_stores, links, own_store, part_store, segments, start_in, stores_from}
+use Rattle.index_remap.specs.Prelude.{Pairing, ListRel, OneToOneWhereWritten, nil, passed, StoreRelOff, StepsAgreeOff, RunsAgreeOff}
 use Rattle.index_remap.proofs.Rel.{append_rel}
 use Rattle.index_remap_proof.specs.Indices.{TreeNamesOnly, with_entry}
-use Rattle.world_simulation.specs.Alone.{one}
+use Rattle.world_simulation.specs.Prelude.{one}
 use Rattle.world_simulation.proofs.Instancing.{IsInst}
 use Rattle.world_simulation.proofs.Simulated.{what_is_made}
 use Rattle.world_simulation.proofs.Single.{one_inst, there_is}
 use Rattle.eval_spec.specs.declared.limits.TheConstants.{MOST_TURNS}
-use Rattle.eval_spec.specs.State.{State, Stage, Finished}
-use Rattle.eval_spec.specs.Instantiation.{after_start, instantiated, own_inst}
-use Rattle.eval_spec.specs.Evaluation.{called_in_order, evaluated}
+use Rattle.eval_spec.specs.Prelude.{State, Stage, Finished, after_start, instantiated, own_inst, called_in_order, evaluated}
 use Rattle.eval_proof.specs.Known.{FuncsOf, QuietCallsAreKnown}
 use Rattle.eval_proof.specs.QuietCalls.{QuietCallsSimulate}
 use Rattle.eval_proof.specs.Laws.{EndsAreReached}

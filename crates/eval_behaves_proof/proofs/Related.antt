@@ -1,22 +1,12 @@
 -- The relation of indices and the addresses for which they stand is as the laws of quiet calls ask.
-use Rattle.std.proofs.Common.{◌≡◌, ◌∙◌, sym, ap, ℕ, ◌+◌, ◌-◌, ◌≤◌, List, [], ◌++◌, length, true, not, ◌&&◌, Option, Some, None, inl, inr, arith, slice_get, IsTrue}
-use Rattle.std.specs.Prelude.{nat_lt}
-use Rattle.std.proofs.lemmas.Bool.{true≢false, and_from, and_parts, eqb-true, lt-ltb, cases_lt}
-use Rattle.std.proofs.lemmas.Option.{same_Some, slice_get_within}
+use Rattle.base_lists.proofs.Common.{◌≡◌, ◌∙◌, sym, ap, ℕ, ◌+◌, ◌-◌, ◌≤◌, List, [], ◌++◌, length, true, not, ◌&&◌, Option, Some, None, inl, inr, arith, slice_get, IsTrue, nat_lt, and_from, and_parts, eqb-true, lt-ltb, cases_lt, same_Some, slice_get_within, length-numbers, numbers_at, append_right}
+use Rattle.std.proofs.lemmas.Bool.{true≢false}
 use Rattle.base_lists.specs.Places.{numbers}
-use Rattle.base_lists.proofs.Numbers.{length-numbers, numbers_at}
-use Rattle.base_lists.proofs.Places.{append_right}
-use Rattle.wasm_tree.specs.declared.space.Space.{Space}
-use Rattle.wasm_tree.specs.declared.space.Space.TheVariants.{Types, Functions, Tables, Memories, Globals, ElementSegments, DataSegments}
-use Rattle.wasm_tree.specs.declared.module.Module.{Module}
-use Rattle.wasm_tree.specs.Operands.{same_space}
-use Rattle.wasm_meaning.specs.State.{Inst}
-use Rattle.wasm_meaning.specs.Linking.{imports_of}
-use Rattle.index_remap.specs.Related.{OneToOneWhereWritten, is_written}
-use Rattle.index_remap.specs.Laws.{passed}
-use Rattle.world_simulation.specs.Leaves.{is_address}
-use Rattle.eval_spec.specs.Stops.{is_imported}
-use Rattle.eval_spec.specs.Instantiation.{own_inst}
+use Rattle.wasm_tree_spec.specs.Prelude.{Space, Types, Functions, Tables, Memories, Globals, ElementSegments, DataSegments, Module, same_space}
+use Rattle.wasm_meaning.specs.Prelude.{Inst, imports_of}
+use Rattle.index_remap.specs.Prelude.{OneToOneWhereWritten, is_written, passed}
+use Rattle.world_simulation.specs.Prelude.{is_address}
+use Rattle.eval_spec.specs.Prelude.{is_imported, own_inst}
 use Rattle.eval_proof.specs.Known.{RelatesAllButImports}
 use Rattle.eval_behaves_proof.specs.Addresses.{addresses_in, names_at, stands_at}
 

@@ -1,17 +1,11 @@
 -- In the instance of a module with one more function each index space that may be written has what is imported first, and then what is defined in a row.
-use Rattle.std.proofs.Common.{◌≡◌, ◌∙◌, sym, ap, refl, arith, ◌++◌, length, List, [], Some, true, true≢false}
+use Rattle.base_lists.proofs.Common.{◌≡◌, ◌∙◌, sym, ap, refl, arith, ◌++◌, length, List, [], Some, true, true≢false, and_then_is, all_there_length}
 use Rattle.base_lists.specs.Places.{numbers}
-use Rattle.base_lists.proofs.Options.{and_then_is, all_there_length}
-use Rattle.wasm_tree.specs.declared.space.Space.{Space}
-use Rattle.wasm_tree.specs.declared.space.Space.TheVariants.{Types, Functions, Tables, Memories, Globals, ElementSegments, DataSegments}
+use Rattle.wasm_tree_spec.specs.Prelude.{Space, Types, Functions, Tables, Memories, Globals, ElementSegments, DataSegments, Module}
 use Rattle.wasm_tree.specs.declared.module.Func as tree
-use Rattle.wasm_tree.specs.declared.module.Module.{Module}
-use Rattle.wasm_meaning.specs.State.{Inst}
-use Rattle.wasm_meaning.specs.Linking.{imports_of}
-use Rattle.wasm_meaning.specs.Environment.{Environment}
-use Rattle.wasm_meaning.specs.World.{defined_count, own_count, space}
-use Rattle.index_remap.specs.Related.{is_written}
-use Rattle.world_simulation.specs.Alone.{addresses, import_places, one}
+use Rattle.wasm_meaning.specs.Prelude.{Inst, imports_of, Environment, defined_count, own_count, space}
+use Rattle.index_remap.specs.Prelude.{is_written}
+use Rattle.world_simulation.specs.Prelude.{addresses, import_places, one}
 use Rattle.world_simulation.proofs.Alone.{space_is}
 use Rattle.world_simulation.proofs.Instancing.{IsInst}
 use Rattle.eval_behaves_proof.specs.Addresses.{addresses_in}

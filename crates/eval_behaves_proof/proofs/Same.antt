@@ -1,14 +1,9 @@
 -- Where what the first step makes of a module's constructors corresponds to what another module is instantiated to, both have equal traces.
-use Rattle.std.proofs.Common.{◌∙◌, sym, ℕ, List, [], ◌∷◌, Bool, append-nil, IsTrue}
-use Rattle.wasm_tree.specs.declared.space.Space.{Space}
-use Rattle.wasm_tree.specs.declared.module.Module.{Module}
-use Rattle.wasm_meaning.specs.State.{Text}
-use Rattle.wasm_meaning.specs.Environment.{Environment, is_environment}
-use Rattle.wasm_meaning.specs.World.{alone, instantiate, links}
-use Rattle.index_remap.specs.Related.{OneToOne, OptRel}
-use Rattle.index_remap.specs.RelatedRuns.{BegunRel}
-use Rattle.index_remap.specs.Laws.{passed, EntryByEntry}
-use Rattle.world_simulation.specs.Instances.{RelatedBegunHaveEqualTraces}
+use Rattle.base_lists.proofs.Common.{◌∙◌, sym, ℕ, List, [], ◌∷◌, Bool, append-nil, IsTrue}
+use Rattle.wasm_tree_spec.specs.Prelude.{Space, Module}
+use Rattle.wasm_meaning.specs.Prelude.{Text, Environment, is_environment, alone, instantiate, links}
+use Rattle.index_remap.specs.Prelude.{OneToOne, OptRel, BegunRel, passed, EntryByEntry}
+use Rattle.world_simulation.specs.Prelude.{RelatedBegunHaveEqualTraces}
 use Rattle.eval_behaves_proof.specs.Worlds.{evaluated_begun}
 use Rattle.eval_behaves_proof.specs.Laws.{ObservationallyEquivalent}
 

@@ -1,21 +1,11 @@
 -- What it needs for a segment to be copied where its module is instantiated (WebAssembly Core 2.0, section 4.5.4), and what a copy leaves.
-use Rattle.std.proofs.Common.{◌≡◌, ◌∙◌, ap, subst, refl, ℕ, suc, List, [], ◌∷◌, length, Bool, true, false, cond, Option, Some, None, slice_get, option_and_then}
-use Rattle.std.proofs.lemmas.Option.{same_Some}
+use Rattle.base_lists.proofs.Common.{◌≡◌, ◌∙◌, ap, subst, refl, ℕ, suc, List, [], ◌∷◌, length, Bool, true, false, cond, Option, Some, None, slice_get, option_and_then, same_Some}
 use Rattle.base_lists.specs.Every.{Every}
-use Rattle.wasm_tree.specs.declared.space.Space.{Space}
-use Rattle.wasm_tree.specs.declared.space.Space.TheVariants.{Types, Functions, Tables, Memories, Globals, ElementSegments, DataSegments}
-use Rattle.wasm_tree.specs.Operands.{same_space}
-use Rattle.wasm_tree.specs.declared.module.Import.{Import}
-use Rattle.wasm_tree.specs.declared.module.ImportDesc.{ImportDesc}
+use Rattle.wasm_tree_spec.specs.Prelude.{Space, Types, Functions, Tables, Memories, Globals, ElementSegments, DataSegments, same_space, Import, ImportDesc, space_of_import}
 use Rattle.wasm_tree.specs.declared.module.ImportDesc.TheVariants as im
-use Rattle.wasm_tree.specs.Spaces.{space_of_import}
-use Rattle.wasm_meaning.specs.Outcomes.{overwrite}
-use Rattle.wasm_meaning.specs.State.{RefVal, Inst, Store, Table, Memory, Elem, Data, SetTable, SetMemory, DropElem, DropData}
-use Rattle.wasm_meaning.specs.Step.{changed}
-use Rattle.wasm_meaning.specs.Linking.{has_kind, places}
-use Rattle.wasm_meaning.specs.World.{Filled, copy_bytes, copy_data, copy_elem, copy_slots, or_trapped}
-use Rattle.index_remap.specs.Related.{BothRel, both}
-use Rattle.eval_spec.specs.State.{State, Finished, Test, first_held, stopped_or}
+use Rattle.wasm_meaning.specs.Prelude.{overwrite, RefVal, Inst, Store, Table, Memory, Elem, Data, SetTable, SetMemory, DropElem, DropData, changed, has_kind, places, Filled, copy_bytes, copy_data, copy_elem, copy_slots, or_trapped}
+use Rattle.index_remap.specs.Prelude.{BothRel, both}
+use Rattle.eval_spec.specs.Prelude.{State, Finished, Test, first_held, stopped_or}
 
 -- ---- what no test stopped ----
 

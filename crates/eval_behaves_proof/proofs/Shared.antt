@@ -1,22 +1,11 @@
 -- The relation of each address to itself, below a bound for each space, and the index spaces of two modules with the same imports.
-use Rattle.std.proofs.Common.{◌≡◌, ◌∙◌, sym, ap, ap₂, ℕ, ◌+◌, ◌-◌, ◌<◌, ◌≤◌, List, [], ◌++◌, length, Bool, ◌&&◌, Some, inl, inr, arith, slice_get, refl, true, IsTrue}
-use Rattle.std.specs.Prelude.{nat_eq, nat_lt}
-use Rattle.std.proofs.lemmas.Bool.{and_parts, cases_lt, eq-eqb, eqb-true, lt-ltb, ltb-true}
-use Rattle.std.proofs.lemmas.Option.{same_Some}
+use Rattle.base_lists.proofs.Common.{◌≡◌, ◌∙◌, sym, ap, ap₂, ℕ, ◌+◌, ◌-◌, ◌<◌, ◌≤◌, List, [], ◌++◌, length, Bool, ◌&&◌, Some, inl, inr, arith, slice_get, refl, true, IsTrue, nat_eq, nat_lt, and_parts, cases_lt, eq-eqb, eqb-true, lt-ltb, ltb-true, same_Some, numbers_at, append_left, append_right, slice_get_there}
 use Rattle.base_lists.specs.Places.{numbers}
-use Rattle.base_lists.proofs.Numbers.{numbers_at}
-use Rattle.base_lists.proofs.Places.{append_left, append_right, slice_get_there}
-use Rattle.wasm_tree.specs.declared.space.Space.{Space}
-use Rattle.wasm_tree.specs.declared.space.Space.TheVariants.{Functions, Tables, Memories, Globals}
-use Rattle.wasm_tree.specs.declared.module.Module.{Module}
-use Rattle.wasm_meaning.specs.Linking.{imports_of}
-use Rattle.wasm_meaning.specs.Environment.{Environment}
-use Rattle.wasm_meaning.specs.World.{defined_count, own_count, space}
-use Rattle.index_remap.specs.Related.{Pairing, OneToOne, OptRel, some, ListRel}
-use Rattle.index_remap.specs.Laws.{passed}
+use Rattle.wasm_tree_spec.specs.Prelude.{Space, Functions, Tables, Memories, Globals, Module}
+use Rattle.wasm_meaning.specs.Prelude.{imports_of, Environment, defined_count, own_count, space}
+use Rattle.index_remap.specs.Prelude.{Pairing, OneToOne, OptRel, some, ListRel, passed}
 use Rattle.index_remap.proofs.Rel.{get_rel}
-use Rattle.world_simulation.specs.Alone.{one, addresses}
-use Rattle.world_simulation.specs.Owned.{SharesOwn}
+use Rattle.world_simulation.specs.Prelude.{one, addresses, SharesOwn}
 use Rattle.world_simulation.proofs.Places.{opt_at, opt_both}
 use Rattle.world_simulation.proofs.Single.{space_at}
 

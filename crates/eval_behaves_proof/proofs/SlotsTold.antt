@@ -1,17 +1,11 @@
 -- Which slots are unknown after an element segment was copied into a table of the quiet run.
-use Rattle.std.proofs.Common.{◌≡◌, ◌∙◌, sym, ap, refl, ℕ, zero, suc, ◌+◌, ◌-◌, ◌<◌, ◌≤◌, List, [], ◌∷◌, map, length, Bool, true, false, cond, not, Some, ◌⊎◌, inl, inr, arith, slice_get}
-use Rattle.std.specs.Prelude.{nat_eq, nat_le, nat_lt, ◌&&◌}
-use Rattle.std.specs.List.{filter}
-use Rattle.std.proofs.lemmas.Bool.{eq-eqb, le-leb, le-ltb, lt-leb, lt-ltb, ne_eqb, not-true, not_from_false}
+use Rattle.base_lists.proofs.Common.{◌≡◌, ◌∙◌, sym, ap, refl, ℕ, zero, suc, ◌+◌, ◌-◌, ◌<◌, ◌≤◌, List, [], ◌∷◌, map, length, Bool, true, false, cond, not, Some, ◌⊎◌, inl, inr, arith, slice_get, nat_eq, nat_le, nat_lt, ◌&&◌, filter, eq-eqb, le-leb, le-ltb, lt-leb, lt-ltb, ne_eqb, not-true, is_kept, numbers_at, Has, append_at_left, append_right, map_at, same_Some}
+use Rattle.std.proofs.lemmas.Bool.{not_from_false}
 use Rattle.base_lists.specs.Places.{numbers}
-use Rattle.base_lists.proofs.Filtered.{is_kept}
-use Rattle.base_lists.proofs.Numbers.{numbers_at}
-use Rattle.base_lists.proofs.Places.{Has, append_at_left, append_right, map_at}
-use Rattle.std.proofs.lemmas.Option.{same_Some}
-use Rattle.wasm_meaning.specs.State.{Table}
-use Rattle.index_remap.specs.Unknown.{Unknowns, is_place_among}
-use Rattle.eval_spec.specs.State.{State}
-use Rattle.eval_spec.specs.Instantiation.{copied_slots, is_unknown_slot, slots_from}
+use Rattle.wasm_meaning.specs.Prelude.{Table}
+use Rattle.index_remap.specs.Prelude.{Unknowns, is_place_among}
+use Rattle.eval_spec.specs.Prelude.{State, copied_slots, slots_from}
+use Rattle.eval_spec.specs.Instantiation.{is_unknown_slot}
 use Rattle.eval_behaves_proof.proofs.AtFirst.{place_among_at}
 use Rattle.eval_behaves_proof.proofs.Overwritten.{KnownAfter}
 

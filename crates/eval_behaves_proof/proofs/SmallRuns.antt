@@ -1,31 +1,17 @@
 -- Small modules after evaluated constructors, and their snapshots: what is seen of both, computed.
-use Rattle.std.proofs.Common.{◌≡◌, refl, option_map, rules}
-use Rattle.std.specs.Prelude.{ℕ, pos, List, [], ◌∷◌, Some, None, true, false}
-use Rattle.wasm_tree.specs.declared.instr.Instr.{Instr, out-Instr, the_lemmas}
+use Rattle.base_lists.proofs.Common.{◌≡◌, refl, option_map, rules, ℕ, pos, List, [], ◌∷◌, Some, None, true, false}
+use Rattle.wasm_tree_spec.specs.Prelude.{Instr, the_lemmas, I32Store8, FuncType, GlobalType, I32, Ref, ConstExpr, Export, ExportDesc, Func, GlobalDef, Module}
+use Rattle.wasm_tree.specs.declared.instr.Instr.{out-Instr}
 use Rattle.wasm_tree.specs.declared.instr.Instr.TheVariants as i
-use Rattle.wasm_tree.specs.declared.instr.StoreOp.TheVariants.{I32Store8}
-use Rattle.wasm_tree.specs.declared.types.FuncType.{FuncType}
-use Rattle.wasm_tree.specs.declared.types.GlobalType.{GlobalType}
 use Rattle.wasm_tree.specs.declared.types.RefType.TheVariants.{Func as func_ref}
-use Rattle.wasm_tree.specs.declared.types.ValType.TheVariants.{I32, Ref}
-use Rattle.wasm_tree.specs.declared.module.ConstExpr.{ConstExpr}
 use Rattle.wasm_tree.specs.declared.module.ConstExpr.TheVariants as const
 use Rattle.wasm_tree.specs.declared.module.DataMode.TheVariants as data'
-use Rattle.wasm_tree.specs.declared.module.Export.{Export}
-use Rattle.wasm_tree.specs.declared.module.ExportDesc.{ExportDesc}
 use Rattle.wasm_tree.specs.declared.module.ExportDesc.TheVariants as ex
-use Rattle.wasm_tree.specs.declared.module.Func.{Func}
-use Rattle.wasm_tree.specs.declared.module.GlobalDef.{GlobalDef}
 use Rattle.wasm_tree.specs.declared.module.ImportDesc.TheVariants as im
-use Rattle.wasm_tree.specs.declared.module.Module.{Module}
 use Rattle.wasm_num.specs.Operations.{W32, wrapped, signed}
-use Rattle.wasm_meaning.specs.State.{Text, Global, Num}
+use Rattle.wasm_meaning.specs.Prelude.{Text, Global, Num, Environment, Number, OwnFunc, Begun, alone, Event, Linked, LinkFault, Asked, Returned, Got, Done, BadMove, Move, Call, Answer, Get, Set, Named, events}
 use Rattle.wasm_meaning.specs.Access.{store_from, stored, little_bytes}
-use Rattle.wasm_meaning.specs.Environment.{Environment, Number, OwnFunc}
-use Rattle.wasm_meaning.specs.World.{Begun, alone}
-use Rattle.wasm_meaning.specs.Run.{Event, Linked, LinkFault, Asked, Returned, Got, Done, BadMove, Move, Call, Answer, Get, Set, Named, events}
-use Rattle.eval_spec.specs.State.{State}
-use Rattle.eval_spec.specs.Evaluation.{state_at_end}
+use Rattle.eval_spec.specs.Prelude.{State, state_at_end}
 use Rattle.eval_snapshot_spec.specs.Evaluated.{evaluated_tree}
 use Rattle.eval_snapshot_spec.specs.Snapshot.{declared_snapshot}
 use Rattle.eval_behaves_proof.specs.Worlds.{events_evaluated, started_begun}

@@ -1,32 +1,18 @@
 -- The snapshot is instantiated where the module with one more function is, and none of its segments traps.
-use Rattle.std.proofs.Common.{◌≡◌, ◌∙◌, sym, ap, ap₂, refl, subst, ℕ, zero, suc, ◌+◌, List, [], ◌∷◌, ◌++◌, map, length, false, cond, Option, Some, ⊎_elim, arith, append-nil, slice_get}
-use Rattle.std.proofs.lemmas.List.{length-append}
-use Rattle.std.proofs.lemmas.Option.{same_Some}
+use Rattle.base_lists.proofs.Common.{◌≡◌, ◌∙◌, sym, ap, ap₂, refl, subst, ℕ, zero, suc, ◌+◌, List, [], ◌∷◌, ◌++◌, map, length, false, cond, Option, Some, ⊎_elim, arith, append-nil, slice_get, length-append, same_Some, all_there_at, and_then_is, append_from, map_from}
 use Rattle.base_lists.specs.Options.{◌>>=◌}
-use Rattle.base_lists.proofs.Options.{all_there_at, and_then_is}
-use Rattle.base_lists.proofs.Places.{append_from, map_from}
-use Rattle.wasm_tree.specs.declared.space.Space.TheVariants.{Tables}
-use Rattle.wasm_tree.specs.declared.module.ConstExpr.{ConstExpr}
-use Rattle.wasm_tree.specs.declared.module.ElemMode.{ElemMode}
+use Rattle.wasm_tree_spec.specs.Prelude.{Tables, ConstExpr, ElemMode, ElemSeg, DataSeg, Module, tables_of}
 use Rattle.wasm_tree.specs.declared.module.ElemMode.TheVariants as elem
-use Rattle.wasm_tree.specs.declared.module.ElemSeg.{ElemSeg}
-use Rattle.wasm_tree.specs.declared.module.DataSeg.{DataSeg}
-use Rattle.wasm_tree.specs.declared.module.Module.{Module}
-use Rattle.wasm_tree.specs.Spaces.{tables_of}
-use Rattle.wasm_meaning.specs.State.{Text, Inst, RefVal, Val, Table, Elem, Store}
-use Rattle.wasm_meaning.specs.Values.{ref_of}
-use Rattle.wasm_meaning.specs.Environment.{Environment, own_memories, own_tables}
-use Rattle.wasm_meaning.specs.World.{Filled, all_there, and_then, elem_with, joined_stores, new_elem, one_by_one, own_count, own_store, part_store, run_data, run_elem, segments, segments_in}
+use Rattle.wasm_meaning.specs.Prelude.{Text, Inst, RefVal, Val, Table, Elem, Store, ref_of, Environment, own_memories, own_tables, Filled, all_there, and_then, elem_with, joined_stores, new_elem, one_by_one, own_count, own_store, part_store, run_data, run_elem, segments, segments_in}
 use Rattle.index_remap_proof.specs.Indices.{ElemModeNamesOnly, TreeNamesOnly, with_entry}
-use Rattle.world_simulation.specs.Alone.{one}
-use Rattle.world_simulation.specs.Leaves.{Copy, Leaves, all_over, data_copies, elem_copies, elem_copy, new_memory, new_table, table_left}
+use Rattle.world_simulation.specs.Prelude.{one, Copy, Leaves, all_over, data_copies, elem_copies, elem_copy, new_memory, new_table, table_left}
 use Rattle.world_simulation.proofs.Allocated.{Adds, adds, new_data}
 use Rattle.world_simulation.proofs.Copies.{AreOf, IsOf, all_stay, runs}
 use Rattle.world_simulation.proofs.Declared.{last_segments}
 use Rattle.world_simulation.proofs.Instancing.{IsInst}
 use Rattle.world_simulation.proofs.Leaves.{copies_in_turn, data_runs, elem_runs, memories, tables}
 use Rattle.world_simulation.proofs.Places.{map_length}
-use Rattle.eval_spec.specs.State.{State}
+use Rattle.eval_spec.specs.Prelude.{State}
 use Rattle.eval_snapshot_spec.specs.Snapshot.{snapshot}
 use Rattle.eval_behaves_proof.specs.Worlds.{with_empty_func}
 use Rattle.eval_behaves_proof.proofs.StatesAgree.{first_value, second_value, table_shared}

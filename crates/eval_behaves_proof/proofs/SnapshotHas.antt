@@ -1,19 +1,10 @@
 -- What the snapshot of a module has, and how many addresses of each space it shares with the module in an environment.
-use Rattle.std.proofs.Common.{◌≡◌, ◌∙◌, ap, ℕ, ◌+◌, ◌≤◌, List, [], ◌∷◌, length, Bool, true, false, cond, arith}
-use Rattle.std.specs.List.{list_any}
-use Rattle.std.proofs.lemmas.List.{length-append}
-use Rattle.wasm_tree.specs.DataUse.{any_uses_data}
-use Rattle.wasm_tree.specs.declared.space.Space.{Space}
-use Rattle.wasm_tree.specs.declared.space.Space.TheVariants.{Types, Functions, Tables, Memories, Globals, ElementSegments, DataSegments}
-use Rattle.wasm_tree.specs.declared.module.Func.{Func}
-use Rattle.wasm_tree.specs.declared.module.Module.{Module}
-use Rattle.wasm_tree.specs.Spaces.{imported_globals}
-use Rattle.wasm_meaning.specs.State.{Text}
-use Rattle.wasm_meaning.specs.Environment.{Environment}
-use Rattle.wasm_meaning.specs.World.{own_count}
-use Rattle.index_remap.specs.References.{declared_refs}
+use Rattle.base_lists.proofs.Common.{◌≡◌, ◌∙◌, ap, ℕ, ◌+◌, ◌≤◌, List, [], ◌∷◌, length, Bool, true, false, cond, arith, list_any, length-append}
+use Rattle.wasm_tree_spec.specs.Prelude.{any_uses_data, Space, Types, Functions, Tables, Memories, Globals, ElementSegments, DataSegments, Func, Module, imported_globals}
+use Rattle.wasm_meaning.specs.Prelude.{Text, Environment, own_count}
+use Rattle.index_remap.specs.Prelude.{declared_refs}
 use Rattle.world_simulation.proofs.Declared.{Keeps, keeps, last_segments}
-use Rattle.eval_spec.specs.State.{State}
+use Rattle.eval_spec.specs.Prelude.{State}
 use Rattle.eval_snapshot_spec.specs.Snapshot.{added_funcs, declared_snapshot, empty_func, is_kept, memory_segments, old_segments, segments_left, snapshot, snapshot_tree}
 use Rattle.eval_snapshot_proof.proofs.Trees.{globals_many, segments_many}
 

@@ -1,35 +1,16 @@
 -- In an environment where a module with one more function is instantiated, its snapshot is allocated, its imports match and its names denote what the module's names denote.
-use Rattle.std.proofs.Common.{◌≡◌, ◌∙◌, sym, ap, ap₂, refl, subst, ℕ, zero, suc, ◌+◌, List, [], ◌∷◌, ◌++◌, map, length, Bool, true, false, cond, Some, None, ⊎_elim, arith, option_and_then, slice_get}
-use Rattle.std.specs.List.{list_any}
-use Rattle.std.proofs.lemmas.List.{length-append}
-use Rattle.std.proofs.lemmas.Map.Keys.{any_passes_from_place}
-use Rattle.std.proofs.lemmas.Option.{same_Some}
+use Rattle.base_lists.proofs.Common.{◌≡◌, ◌∙◌, sym, ap, ap₂, refl, subst, ℕ, zero, suc, ◌+◌, List, [], ◌∷◌, ◌++◌, map, length, Bool, true, false, cond, Some, None, ⊎_elim, arith, option_and_then, slice_get, list_any, length-append, any_passes_from_place, same_Some, chosen_from, all_there_at, and_then_is, append_at_left, append_from, push_last}
 use Rattle.base_lists.specs.Options.{◌>>=◌}
-use Rattle.base_lists.proofs.Filtered.{chosen_from}
-use Rattle.base_lists.proofs.Options.{all_there_at, and_then_is}
-use Rattle.base_lists.proofs.Places.{append_at_left, append_from, push_last}
-use Rattle.wasm_tree.specs.declared.space.Space.{Space}
-use Rattle.wasm_tree.specs.declared.space.Space.TheVariants.{Functions, Tables, Memories, Globals, ElementSegments, DataSegments}
-use Rattle.wasm_tree.specs.declared.module.ElemSeg.{ElemSeg}
-use Rattle.wasm_tree.specs.declared.module.Export.{Export}
-use Rattle.wasm_tree.specs.declared.module.ExportDesc.{ExportDesc}
+use Rattle.wasm_tree_spec.specs.Prelude.{Space, Functions, Tables, Memories, Globals, ElementSegments, DataSegments, ElemSeg, Export, ExportDesc, GlobalDef, Module, imported_funcs, funcs_of, tables_of, memories_of, globals_of}
 use Rattle.wasm_tree.specs.declared.module.ExportDesc.TheVariants as ex
 use Rattle.wasm_tree.specs.declared.module.Func as tree
-use Rattle.wasm_tree.specs.declared.module.GlobalDef.{GlobalDef}
-use Rattle.wasm_tree.specs.declared.module.Module.{Module}
-use Rattle.wasm_tree.specs.Spaces.{imported_funcs, funcs_of, tables_of, memories_of, globals_of}
-use Rattle.wasm_meaning.specs.State.{Text, Inst, Val, Func, Code, Global, Elem, Store}
+use Rattle.wasm_meaning.specs.Prelude.{Text, Inst, Val, Func, Code, Global, Elem, Store, Entity, sites, Environment, all_of, address_in, alone, defined_count, elem_of, inst_of, is_matched, joined_stores, new_func, new_global, numbers, own_count, own_store, part_store, seen_as, space, stores_from}
 use Rattle.wasm_meaning.specs.Values as values
-use Rattle.wasm_meaning.specs.Linking.{Entity, sites}
-use Rattle.wasm_meaning.specs.Environment.{Environment, all_of}
-use Rattle.wasm_meaning.specs.World.{address_in, alone, defined_count, elem_of, inst_of, is_matched, joined_stores, new_func, new_global, numbers, own_count, own_store, part_store, seen_as, space, stores_from}
-use Rattle.index_remap.specs.Related.{Pairing, OptRel, some, ListRel, nil, cons}
-use Rattle.index_remap.specs.RelatedRuns.{ExternalValueRel, KeyRel, a_func, a_table, a_memory, a_global}
+use Rattle.index_remap.specs.Prelude.{Pairing, OptRel, some, ListRel, nil, cons, ExternalValueRel, KeyRel, a_func, a_table, a_memory, a_global}
 use Rattle.index_remap.proofs.Rel.{then_rel}
 use Rattle.index_remap_proof.specs.Indices.{ExportNamesOnly, TreeNamesOnly, with_entry}
-use Rattle.world_simulation.specs.Alone.{one, addresses}
-use Rattle.world_simulation.specs.Definitions.{DefinitionsCorrespond, Instantiated, own}
-use Rattle.world_simulation.specs.Owned.{SharesOwn}
+use Rattle.world_simulation.specs.Prelude.{one, addresses, DefinitionsCorrespond, Instantiated, SharesOwn}
+use Rattle.world_simulation.specs.Definitions.{own}
 use Rattle.world_simulation.proofs.Alone.{space_is, funcs_counted}
 use Rattle.world_simulation.proofs.Allocated.{Adds, adds, part_there}
 use Rattle.world_simulation.proofs.Declared.{last_elems, last_segments}
@@ -37,7 +18,7 @@ use Rattle.world_simulation.proofs.Instancing.{IsInst, inst_is, inst_there, is_s
 use Rattle.world_simulation.proofs.Places.{map_length}
 use Rattle.world_simulation.proofs.Single.{all_matched, space_at}
 use Rattle.world_simulation.proofs.Stored.{stores_rel}
-use Rattle.eval_spec.specs.State.{State}
+use Rattle.eval_spec.specs.Prelude.{State}
 use Rattle.eval_snapshot_spec.specs.Snapshot.{empty_func, export_left, is_among_names, is_kept, snapshot}
 use Rattle.eval_behaves_proof.specs.Worlds.{evaluated_world, exports_left, with_empty_func}
 use Rattle.eval_behaves_proof.proofs.StatesAgree.{R, enough, func_shared, global_shared, last_shared, memory_shared, second_value, table_shared}

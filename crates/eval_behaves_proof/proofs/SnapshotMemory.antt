@@ -1,21 +1,13 @@
 -- The data segments of a snapshot, copied over zeros, give what the memory holds: the old ones are passive, so that they are not copied.
-use Rattle.std.proofs.Common.{◌≡◌, ◌∙◌, ap, refl, ℕ, suc, ◌≤◌, ◌^◌, List, [], ◌∷◌, ◌++◌, length, Bool, true, false, cond, not, ◌&&◌, Option, Some, option_and_then, slice_get}
-use Rattle.std.specs.Prelude.{ℤ}
-use Rattle.std.proofs.lemmas.Bool.{and_parts}
+use Rattle.base_lists.proofs.Common.{◌≡◌, ◌∙◌, ap, refl, ℕ, suc, ◌≤◌, ◌^◌, List, [], ◌∷◌, ◌++◌, length, Bool, true, false, cond, not, ◌&&◌, Option, Some, option_and_then, slice_get, ℤ, and_parts}
 use Rattle.base_lists.specs.Every.{Every}
-use Rattle.wasm_tree.specs.DataUse.{any_uses_data}
-use Rattle.wasm_tree.specs.declared.module.ConstExpr.{ConstExpr}
+use Rattle.wasm_tree_spec.specs.Prelude.{any_uses_data, ConstExpr, DataMode, DataSeg, Module}
 use Rattle.wasm_tree.specs.declared.module.ConstExpr.TheVariants as const
-use Rattle.wasm_tree.specs.declared.module.DataMode.{DataMode}
 use Rattle.wasm_tree.specs.declared.module.DataMode.TheVariants as data'
-use Rattle.wasm_tree.specs.declared.module.DataSeg.{DataSeg}
-use Rattle.wasm_tree.specs.declared.module.Module.{Module}
 use Rattle.wasm_num.specs.Operations.{W32, wrapped}
-use Rattle.wasm_meaning.specs.Outcomes.{copies}
-use Rattle.wasm_meaning.specs.State.{Val, Num, Inst}
-use Rattle.world_simulation.specs.Leaves.{all_over, data_copies, data_copy, over}
-use Rattle.eval_spec.specs.State.{State}
-use Rattle.eval_spec.specs.Told.{is_dropped}
+use Rattle.wasm_meaning.specs.Prelude.{copies, Val, Num, Inst}
+use Rattle.world_simulation.specs.Prelude.{all_over, data_copies, data_copy, over}
+use Rattle.eval_spec.specs.Prelude.{State, is_dropped}
 use Rattle.eval_snapshot_spec.specs.Contents.{contents}
 use Rattle.eval_snapshot_spec.specs.Snapshot.{emptied, is_passive, old_segments, segment_left, segments_left}
 use Rattle.eval_behaves_proof.proofs.ContentsStand.{contents_stand}

@@ -1,21 +1,11 @@
 -- Indices of what a module defines and their addresses in an environment: which correspond in a quiet run.
-use Rattle.std.proofs.Common.{◌≡◌, ◌∙◌, ap, refl, ℕ, suc, ◌<◌, ◌≤◌, List, [], ◌∷◌, length, true, false, cond, Option, Some, arith, slice_get, IsTrue}
-use Rattle.std.proofs.lemmas.Bool.{eq-eqb, le-ltb, lt-ltb}
+use Rattle.base_lists.proofs.Common.{◌≡◌, ◌∙◌, ap, refl, ℕ, suc, ◌<◌, ◌≤◌, List, [], ◌∷◌, length, true, false, cond, Option, Some, arith, slice_get, IsTrue, eq-eqb, le-ltb, lt-ltb, length-numbers}
 use Rattle.base_lists.specs.Places.{places}
-use Rattle.base_lists.proofs.Numbers.{length-numbers}
-use Rattle.wasm_tree.specs.declared.space.Space.{Space}
-use Rattle.wasm_tree.specs.declared.space.Space.TheVariants.{Memories, Globals, DataSegments}
-use Rattle.wasm_tree.specs.declared.module.Import.{Import}
-use Rattle.wasm_tree.specs.declared.module.ImportDesc.{ImportDesc}
+use Rattle.wasm_tree_spec.specs.Prelude.{Space, Memories, Globals, DataSegments, Import, ImportDesc, Module, same_space, memories_of, globals_of, space_of_import}
 use Rattle.wasm_tree.specs.declared.module.ImportDesc.TheVariants as im
-use Rattle.wasm_tree.specs.declared.module.Module.{Module}
-use Rattle.wasm_tree.specs.Operands.{same_space}
-use Rattle.wasm_tree.specs.Spaces.{memories_of, globals_of, space_of_import}
-use Rattle.wasm_meaning.specs.State.{Inst}
-use Rattle.wasm_meaning.specs.Linking.{has_kind, imports_of}
-use Rattle.world_simulation.specs.Leaves.{is_address}
-use Rattle.eval_spec.specs.Stops.{is_imported}
-use Rattle.eval_spec.specs.Instantiation.{own_inst}
+use Rattle.wasm_meaning.specs.Prelude.{Inst, has_kind, imports_of}
+use Rattle.world_simulation.specs.Prelude.{is_address}
+use Rattle.eval_spec.specs.Prelude.{is_imported, own_inst}
 use Rattle.eval_behaves_proof.specs.Addresses.{addresses_in, names_at, stands_at}
 
 module _ (m : Module) (i : Inst) where

@@ -1,33 +1,20 @@
 -- The instances of a module with one more function and of its snapshot: each index that the module names denotes one address in both, and its code does the same.
-use Rattle.std.proofs.Common.{◌≡◌, ◌∙◌, sym, ap, refl, subst, ℕ, ◌+◌, ◌<◌, ◌≤◌, List, [], ◌∷◌, length, true, cond, not, ◌||◌, Option, Some, None, arith, option_and_then, slice_get}
-use Rattle.std.proofs.lemmas.List.{length-append}
-use Rattle.std.proofs.lemmas.Map.Keys.{any_passes_from_place}
-use Rattle.std.proofs.lemmas.Option.{same_Some}
-use Rattle.base_lists.proofs.Numbers.{numbers_at}
-use Rattle.wasm_tree.specs.declared.space.Space.{Space}
-use Rattle.wasm_tree.specs.declared.space.Space.TheVariants.{Types, Functions, Tables, Memories, Globals, ElementSegments, DataSegments}
-use Rattle.wasm_tree.specs.declared.module.ConstExpr.{ConstExpr}
+use Rattle.base_lists.proofs.Common.{◌≡◌, ◌∙◌, sym, ap, refl, subst, ℕ, ◌+◌, ◌<◌, ◌≤◌, List, [], ◌∷◌, length, true, cond, not, ◌||◌, Option, Some, None, arith, option_and_then, slice_get, length-append, any_passes_from_place, same_Some, numbers_at}
+use Rattle.wasm_tree_spec.specs.Prelude.{Space, Types, Functions, Tables, Memories, Globals, ElementSegments, DataSegments, ConstExpr, Module, any_uses_data, uses_data, operands, same_space, imported_funcs, imported_tables, imported_memories, imported_globals, funcs_of, tables_of, memories_of, globals_of}
 use Rattle.wasm_tree.specs.declared.module.ConstExpr.TheVariants as const
 use Rattle.wasm_tree.specs.declared.module.Func as tree
-use Rattle.wasm_tree.specs.declared.module.Module.{Module}
-use Rattle.wasm_tree.specs.DataUse.{any_uses_data, uses_data}
-use Rattle.wasm_tree.specs.Operands.{operands, same_space}
 use Rattle.wasm_num.specs.Operations.{W32, W64, wrapped}
-use Rattle.wasm_tree.specs.Spaces.{imported_funcs, imported_tables, imported_memories, imported_globals, funcs_of, tables_of, memories_of, globals_of}
-use Rattle.wasm_meaning.specs.State.{FuncRef, Text, Inst, Val, Num, Ref, Global}
-use Rattle.wasm_meaning.specs.Values.{null_of}
-use Rattle.wasm_meaning.specs.Environment.{Environment, own_globals}
-use Rattle.wasm_meaning.specs.World.{const_value, own_count, value_of}
-use Rattle.index_remap.specs.Related.{Pairing, OptRel, some, CodeRel, ValRel, GlobalRel, number, reference, func}
+use Rattle.wasm_meaning.specs.Prelude.{FuncRef, Text, Inst, Val, Num, Ref, Global, null_of, Environment, own_globals, const_value, own_count, value_of}
+use Rattle.index_remap.specs.Prelude.{Pairing, OptRel, some, CodeRel, ValRel, GlobalRel, number, reference, func}
 use Rattle.index_remap.proofs.Rel.{get_rel}
 use Rattle.index_remap_proof.specs.Indices.{ConstNamesOnly, LayerNamesOnly, TreeNamesOnly, with_entry}
-use Rattle.world_simulation.specs.Alone.{one}
+use Rattle.world_simulation.specs.Prelude.{one}
 use Rattle.world_simulation.proofs.Alone.{funcs_counted, tables_counted, memories_counted, globals_counted}
 use Rattle.world_simulation.proofs.Instancing.{IsInst}
 use Rattle.world_simulation.proofs.Loaded.{const_same}
 use Rattle.world_simulation.proofs.Owned.{null_rel, own_globals_rel}
 use Rattle.world_simulation.proofs.Places.{map_length, opt_both, opt_self}
-use Rattle.eval_spec.specs.State.{State}
+use Rattle.eval_spec.specs.Prelude.{State}
 use Rattle.eval_snapshot_spec.specs.Snapshot.{empty_func, snapshot}
 use Rattle.eval_snapshot_proof.proofs.Trees.{CodeLaws}
 use Rattle.eval_snapshot_proof.proofs.Typed.{code_passes, no_data_or}

@@ -1,26 +1,12 @@
 -- What a quiet run leaves as it was in its own store: memories keep their limits and sizes, globals their types, and data segments stay or are dropped.
-use Rattle.std.proofs.Common.{◌≡◌, ◌∙◌, sym, ap, refl, subst, ℕ, zero, suc, List, [], ◌∷◌, length, Option, Some, None, ◌⊎◌, inl, inr, slice_get, slice_set}
-use Rattle.std.proofs.lemmas.Bool.Decides.{eqb_tells}
-use Rattle.std.proofs.lemmas.List.{length-set}
-use Rattle.std.proofs.lemmas.Option.{same_Some, slice_get_within}
-use Rattle.std.specs.Prelude.{true, false, nat_eq}
-use Rattle.base_lists.proofs.Places.{set_at, set_other}
-use Rattle.wasm_tree.specs.declared.module.Module.{Module}
-use Rattle.wasm_meaning.specs.Outcomes.{Outcome, Gives, Traps, IllTyped}
-use Rattle.wasm_meaning.specs.State.{Val, Func, Code, Own, Placeholder, Memory, Global, Data, Store, Level, Frame, Change, Entry, Running, Mark, Opening, Waiting, Ended, Growing, Act, Goes, Calls, AsksGrow, Ends, Next, Ran, CallsOwn, WaitsGrowth, CallsPlaceholder, EndsCall}
-use Rattle.wasm_meaning.specs.Values.{pop_typed}
-use Rattle.wasm_meaning.specs.Control.{type_at}
-use Rattle.wasm_meaning.specs.Step.{act, changed, give, give_levels, enter, no_bytes, perform, step}
-use Rattle.wasm_meaning.specs.Touched.{Touched, Writes, StepsWriteWhatTheyTouch, ActWrites, touched}
+use Rattle.base_lists.proofs.Common.{◌≡◌, ◌∙◌, sym, ap, refl, subst, ℕ, zero, suc, List, [], ◌∷◌, length, Option, Some, None, ◌⊎◌, inl, inr, slice_get, slice_set, eqb_tells, length-set, same_Some, slice_get_within, true, false, nat_eq, set_at, set_other}
+use Rattle.wasm_tree_spec.specs.Prelude.{Module}
+use Rattle.wasm_meaning.specs.Prelude.{Outcome, Gives, Traps, IllTyped, Val, Func, Code, Own, Placeholder, Memory, Global, Data, Store, Level, Frame, Change, Entry, Running, Mark, Opening, Waiting, Ended, Growing, Act, Goes, Calls, AsksGrow, Ends, Next, Ran, CallsOwn, WaitsGrowth, CallsPlaceholder, EndsCall, pop_typed, type_at, act, changed, give, give_levels, enter, no_bytes, perform, step, Touched, Writes, StepsWriteWhatTheyTouch, ActWrites, touched}
 use Rattle.wasm_meaning.specs.Touched as what
 use Rattle.wasm_meaning.proofs.Outcomes.{AllOf, ill_typed, just, with_is, with_found}
 use Rattle.world_simulation.proofs.Copied.{overwritten_length}
 use Rattle.eval_spec.specs.declared.limits.TheConstants.{MOST_TURNS}
-use Rattle.eval_spec.specs.State.{State, Stage, Going, Stopped, Finished, Test, first_held, stopped_or}
-use Rattle.eval_spec.specs.Stops.{host_tests, tests}
-use Rattle.eval_spec.specs.Quiet.{after_steps, call_end, came_to, host_call, host_opened, host_opened_if_there, quiet_step, spent, weight}
-use Rattle.eval_spec.specs.Instantiation.{after_start, instantiated}
-use Rattle.eval_spec.specs.Evaluation.{called_in_order, evaluated}
+use Rattle.eval_spec.specs.Prelude.{State, Stage, Going, Stopped, Finished, Test, first_held, stopped_or, host_tests, tests, after_steps, call_end, came_to, host_call, host_opened, host_opened_if_there, quiet_step, spent, weight, after_start, instantiated, called_in_order, evaluated}
 
 -- ---- stores ----
 

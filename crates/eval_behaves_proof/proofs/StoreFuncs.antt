@@ -1,28 +1,18 @@
 -- Functions, tables and element segments of a module and of its snapshot, each alone in an environment: what stands at one address of both is related.
-use Rattle.std.proofs.Common.{◌≡◌, ◌∙◌, sym, ap, refl, subst, ℕ, ◌+◌, ◌-◌, ◌<◌, List, Some, inl, inr, ⊎_elim, arith, slice_get, ◌∷◌}
-use Rattle.std.proofs.lemmas.Bool.{cases_lt}
-use Rattle.std.proofs.lemmas.Option.{same_Some}
-use Rattle.base_lists.proofs.Options.{and_then_is}
-use Rattle.base_lists.proofs.Places.{append_at_left, append_from, slice_get_there}
-use Rattle.wasm_tree.specs.declared.space.Space.TheVariants.{Functions, Tables, ElementSegments}
+use Rattle.base_lists.proofs.Common.{◌≡◌, ◌∙◌, sym, ap, refl, subst, ℕ, ◌+◌, ◌-◌, ◌<◌, List, Some, inl, inr, ⊎_elim, arith, slice_get, ◌∷◌, cases_lt, same_Some, and_then_is, append_at_left, append_from, slice_get_there}
+use Rattle.wasm_tree_spec.specs.Prelude.{Functions, Tables, ElementSegments, Module}
 use Rattle.wasm_tree.specs.declared.module.Func as tree
-use Rattle.wasm_tree.specs.declared.module.Module.{Module}
-use Rattle.wasm_meaning.specs.State.{Text, Inst, Table, Store}
-use Rattle.wasm_meaning.specs.Values.{null_of}
-use Rattle.wasm_meaning.specs.Environment.{Environment, own_funcs, own_tables}
-use Rattle.wasm_meaning.specs.World.{own_count, own_store}
-use Rattle.index_remap.specs.Related.{Pairing, BothRel, CodeRel, end, ListRel, RefRel, FuncRel, TableRel, ElemRel}
+use Rattle.wasm_meaning.specs.Prelude.{Text, Inst, Table, Store, null_of, Environment, own_funcs, own_tables, own_count, own_store}
+use Rattle.index_remap.specs.Prelude.{Pairing, BothRel, CodeRel, end, ListRel, RefRel, FuncRel, TableRel, ElemRel}
 use Rattle.index_remap.proofs.Rel.{copies_rel, get_rel}
 use Rattle.index_remap_proof.specs.Indices.{TreeNamesOnly, with_entry}
-use Rattle.world_simulation.specs.Alone.{one}
-use Rattle.world_simulation.specs.Definitions.{FuncsCorrespond}
-use Rattle.world_simulation.specs.Leaves.{Leaves, Stands, all_over, elem_copies, new_table, table_left}
+use Rattle.world_simulation.specs.Prelude.{one, FuncsCorrespond, Leaves, Stands, all_over, elem_copies, new_table, table_left}
 use Rattle.world_simulation.proofs.Declared.{last_segments}
 use Rattle.world_simulation.proofs.Instancing.{IsInst}
 use Rattle.world_simulation.proofs.Owned.{null_rel, own_funcs_rel, own_tables_rel}
 use Rattle.world_simulation.proofs.Places.{both_at, opt_both}
 use Rattle.world_simulation.proofs.Stored.{func_rel}
-use Rattle.eval_spec.specs.State.{State}
+use Rattle.eval_spec.specs.Prelude.{State}
 use Rattle.eval_snapshot_proof.proofs.Trees.{CodeLaws}
 use Rattle.eval_snapshot_spec.specs.Snapshot.{snapshot}
 use Rattle.eval_behaves_proof.specs.Worlds.{with_empty_func}

@@ -1,37 +1,19 @@
 -- Globals of the machine's run and of the snapshot: each known one holds its constant's value, and each unknown one what its initialiser gives in both.
-use Rattle.std.proofs.Common.{◌≡◌, ◌∙◌, sym, ap, refl, subst, ℕ, zero, suc, ◌+◌, ◌-◌, ◌<◌, List, [], ◌∷◌, length, Bool, true, false, not, ◌||◌, Option, Some, None, inl, inr, arith, slice_get}
+use Rattle.base_lists.proofs.Common.{◌≡◌, ◌∙◌, sym, ap, refl, subst, ℕ, zero, suc, ◌+◌, ◌-◌, ◌<◌, List, [], ◌∷◌, length, Bool, true, false, not, ◌||◌, Option, Some, None, inl, inr, arith, slice_get, cases_lt, length-append, length-map, same_Some, slice_get_within, and_then_is, slice_get_there}
 use Rattle.std.specs.Prelude.{unwrap_or}
-use Rattle.std.proofs.lemmas.Bool.{cases_lt}
-use Rattle.std.proofs.lemmas.List.{length-append, length-map}
-use Rattle.std.proofs.lemmas.Option.{same_Some, slice_get_within}
 use Rattle.base_lists.specs.Options.{◌>>=◌}
-use Rattle.base_lists.proofs.Options.{and_then_is}
-use Rattle.base_lists.proofs.Places.{slice_get_there}
-use Rattle.wasm_tree.specs.declared.space.Space.TheVariants.{Globals}
-use Rattle.wasm_tree.specs.declared.module.ConstExpr.{ConstExpr}
-use Rattle.wasm_tree.specs.declared.module.GlobalDef.{GlobalDef}
-use Rattle.wasm_tree.specs.declared.module.Module.{Module}
-use Rattle.wasm_tree.specs.Spaces.{imported_globals, globals_of}
-use Rattle.wasm_meaning.specs.State.{Text, Inst, Val, Global, Store}
-use Rattle.wasm_meaning.specs.Linking.{imports_of}
-use Rattle.wasm_meaning.specs.Environment.{Environment, own_globals}
-use Rattle.wasm_meaning.specs.World.{own_count, own_store}
-use Rattle.index_remap.specs.References.{is_among}
-use Rattle.index_remap.specs.Related.{Pairing, BothRel, both, ValRel, GlobalRel}
-use Rattle.index_remap.specs.Unknown.{GlobalOff, StoreRelOff}
+use Rattle.wasm_tree_spec.specs.Prelude.{Globals, ConstExpr, GlobalDef, Module, imported_globals, globals_of}
+use Rattle.wasm_meaning.specs.Prelude.{Text, Inst, Val, Global, Store, imports_of, Environment, own_globals, own_count, own_store}
+use Rattle.index_remap.specs.Prelude.{is_among, Pairing, BothRel, both, ValRel, GlobalRel, GlobalOff, StoreRelOff}
 use Rattle.index_remap.proofs.Rel.{get_rel}
 use Rattle.index_remap_proof.specs.Indices.{TreeNamesOnly, with_entry}
-use Rattle.world_simulation.specs.Alone.{one}
-use Rattle.world_simulation.specs.Leaves.{Leaves}
+use Rattle.world_simulation.specs.Prelude.{one, Leaves}
 use Rattle.world_simulation.proofs.Alone.{globals_counted}
 use Rattle.world_simulation.proofs.Instancing.{IsInst, is_space}
 use Rattle.world_simulation.proofs.Owned.{own_globals_rel}
 use Rattle.world_simulation.proofs.Places.{both_at, map_length, opt_both}
 use Rattle.eval_numbers_proof.specs.Ranges.{GlobalsAreExpressible}
-use Rattle.eval_spec.specs.State.{State}
-use Rattle.eval_spec.specs.Stops.{is_imported}
-use Rattle.eval_spec.specs.Instantiation.{imported_store, own_inst, value_in}
-use Rattle.eval_spec.specs.Told.{value_of_global}
+use Rattle.eval_spec.specs.Prelude.{State, is_imported, imported_store, own_inst, value_in, value_of_global}
 use Rattle.eval_proof.specs.Alone.{LeavesAlone}
 use Rattle.eval_snapshot_spec.specs.After.{TellsTheSame}
 use Rattle.eval_snapshot_spec.specs.Snapshot.{global_left, globals_left, snapshot}

@@ -1,24 +1,14 @@
 -- Memories and data segments of the machine's run and of the snapshot: the defined memory holds what the quiet run left in its own, and a segment is as long as it is there.
-use Rattle.std.proofs.Common.{◌≡◌, ◌∙◌, sym, ap, refl, ℕ, zero, suc, ◌+◌, ◌*◌, ◌^◌, ◌≤◌, List, [], ◌∷◌, length, Bool, true, false, cond, Option, Some, None, inl, inr, arith, slice_get}
+use Rattle.base_lists.proofs.Common.{◌≡◌, ◌∙◌, sym, ap, refl, ℕ, zero, suc, ◌+◌, ◌*◌, ◌^◌, ◌≤◌, List, [], ◌∷◌, length, Bool, true, false, cond, Option, Some, None, inl, inr, arith, slice_get, cases_lt, length-append, length-map, same_Some, slice_get_within, and_then_is}
 use Rattle.std.specs.Prelude.{unwrap_or}
-use Rattle.std.proofs.lemmas.Bool.{cases_lt}
-use Rattle.std.proofs.lemmas.List.{length-append, length-map}
-use Rattle.std.proofs.lemmas.Option.{same_Some, slice_get_within}
 use Rattle.base_lists.specs.Options.{◌>>=◌}
-use Rattle.base_lists.proofs.Options.{and_then_is}
-use Rattle.wasm_tree.specs.declared.types.Limits.{Limits}
-use Rattle.wasm_tree.specs.declared.module.DataSeg.{DataSeg}
-use Rattle.wasm_tree.specs.declared.module.Module.{Module}
-use Rattle.wasm_tree.specs.Spaces.{imported_memories, memories_of}
+use Rattle.wasm_tree_spec.specs.Prelude.{Limits, DataSeg, Module, imported_memories, memories_of}
 use Rattle.wasm_valid.specs.declared.kinds.ItemKind.TheVariants as kind
-use Rattle.wasm_meaning.specs.Outcomes.{overwrite}
-use Rattle.wasm_meaning.specs.State.{Memory}
+use Rattle.wasm_meaning.specs.Prelude.{overwrite, Memory}
 use Rattle.wasm_meaning.proofs.Slices.{copies_length}
-use Rattle.world_simulation.specs.Leaves.{Copy, nothing, contents, Leaves, all_over, data_copies, is_address, new_memory, over}
+use Rattle.world_simulation.specs.Prelude.{Copy, nothing, contents, Leaves, all_over, data_copies, is_address, new_memory, over}
 use Rattle.world_simulation.proofs.Copied.{overwritten_length}
-use Rattle.eval_spec.specs.State.{State}
-use Rattle.eval_spec.specs.Instantiation.{imported_store, own_inst, value_in}
-use Rattle.eval_spec.specs.Told.{memory_bytes}
+use Rattle.eval_spec.specs.Prelude.{State, imported_store, own_inst, value_in, memory_bytes}
 use Rattle.eval_snapshot_spec.specs.After.{TellsTheSame}
 use Rattle.eval_snapshot_spec.specs.Snapshot.{segment_left, segments_left}
 use Rattle.eval_snapshot_proof.proofs.Trees.{ItemsHold}

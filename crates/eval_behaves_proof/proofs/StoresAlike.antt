@@ -1,38 +1,21 @@
 -- The store after the machine's run and that of the snapshot: all that both have stands at the same addresses and is related.
-use Rattle.std.proofs.Common.{◌≡◌, ◌∙◌, sym, ap, refl, subst, ℕ, ◌+◌, ◌-◌, ◌<◌, List, [], length, Bool, true, false, cond, not, ◌&&◌, Option, Some, inl, inr, arith, slice_get, ◌∷◌}
+use Rattle.base_lists.proofs.Common.{◌≡◌, ◌∙◌, sym, ap, refl, subst, ℕ, ◌+◌, ◌-◌, ◌<◌, List, [], length, Bool, true, false, cond, not, ◌&&◌, Option, Some, inl, inr, arith, slice_get, ◌∷◌, cases_lt, length-append, same_Some, slice_get_within, append_at_left, slice_get_there, numbers_at}
 use Rattle.std.specs.Prelude.{unwrap_or}
-use Rattle.std.proofs.lemmas.Bool.{cases_lt}
-use Rattle.std.proofs.lemmas.List.{length-append}
-use Rattle.std.proofs.lemmas.Option.{same_Some, slice_get_within}
 use Rattle.base_lists.specs.Options.{◌>>=◌}
-use Rattle.base_lists.proofs.Places.{append_at_left, slice_get_there}
-use Rattle.base_lists.proofs.Numbers.{numbers_at}
-use Rattle.wasm_tree.specs.DataUse.{any_uses_data}
-use Rattle.wasm_tree.specs.declared.space.Space.TheVariants.{Functions, Tables, Memories, Globals, ElementSegments, DataSegments}
-use Rattle.wasm_tree.specs.declared.module.ConstExpr.{ConstExpr}
-use Rattle.wasm_tree.specs.declared.module.DataMode.{DataMode}
+use Rattle.wasm_tree_spec.specs.Prelude.{any_uses_data, Functions, Tables, Memories, Globals, ElementSegments, DataSegments, ConstExpr, DataMode, DataSeg, Module, imported_memories}
 use Rattle.wasm_tree.specs.declared.module.DataMode.TheVariants as data'
-use Rattle.wasm_tree.specs.declared.module.DataSeg.{DataSeg}
-use Rattle.wasm_tree.specs.declared.module.Module.{Module}
-use Rattle.wasm_tree.specs.Spaces.{imported_memories}
-use Rattle.wasm_meaning.specs.State.{Text, Inst, Val, Data, Store}
-use Rattle.wasm_meaning.specs.Linking.{imports_of}
-use Rattle.wasm_meaning.specs.Environment.{Environment, own_memories}
-use Rattle.wasm_meaning.specs.World.{own_store}
-use Rattle.index_remap.specs.Related.{Pairing, BothRel, both, FuncRel, TableRel, GlobalRel, ElemRel, StoreRel}
-use Rattle.index_remap.specs.Unknown.{StoreRelOff}
+use Rattle.wasm_meaning.specs.Prelude.{Text, Inst, Val, Data, Store, imports_of, Environment, own_memories, own_store}
+use Rattle.index_remap.specs.Prelude.{Pairing, BothRel, both, FuncRel, TableRel, GlobalRel, ElemRel, StoreRel, StoreRelOff}
 use Rattle.index_remap.proofs.Rel.{same_there}
 use Rattle.index_remap_proof.specs.Indices.{TreeNamesOnly, with_entry}
-use Rattle.world_simulation.specs.Alone.{one}
-use Rattle.world_simulation.specs.Leaves.{Leaves, all_over, data_copies, data_left, memory_left, new_memory}
+use Rattle.world_simulation.specs.Prelude.{one, Leaves, all_over, data_copies, memory_left, new_memory}
+use Rattle.world_simulation.specs.Leaves.{data_left}
 use Rattle.world_simulation.proofs.Alone.{memories_counted}
 use Rattle.world_simulation.proofs.Instancing.{IsInst, is_space}
 use Rattle.world_simulation.proofs.Places.{both_at}
 use Rattle.world_simulation.proofs.Stored.{own_same, type_same}
 use Rattle.eval_numbers_proof.specs.Ranges.{GlobalsAreExpressible}
-use Rattle.eval_spec.specs.State.{State}
-use Rattle.eval_spec.specs.Instantiation.{imported_store, own_inst, value_in}
-use Rattle.eval_spec.specs.Told.{is_dropped, memory_bytes}
+use Rattle.eval_spec.specs.Prelude.{State, imported_store, own_inst, value_in, is_dropped, memory_bytes}
 use Rattle.eval_proof.specs.Alone.{LeavesAlone}
 use Rattle.eval_snapshot_spec.specs.After.{TellsTheSame}
 use Rattle.eval_snapshot_spec.specs.Snapshot.{emptied, is_passive, memory_segments, old_segments, segment_left, segments_left, snapshot}

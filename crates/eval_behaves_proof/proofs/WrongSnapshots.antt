@@ -1,19 +1,14 @@
 -- Snapshots that are wrong: a trace of one is no trace of the module after its evaluated constructors, by computation.
-use Rattle.std.proofs.Common.{◌≡◌, refl, ap, ℕ, List, [], ◌∷◌, Bool, false, None, Some, true≢false}
-use Rattle.std.specs.Prelude.{pos, nat_eq, IsTrue}
+use Rattle.base_lists.proofs.Common.{◌≡◌, refl, ap, ℕ, List, [], ◌∷◌, Bool, false, None, Some, true≢false, pos, nat_eq, IsTrue}
 use Rattle.wasm_tree.specs.declared.instr.Instr.{out-Instr}
 use Rattle.wasm_tree.specs.declared.instr.Instr.TheVariants as i
-use Rattle.wasm_tree.specs.declared.instr.LoadOp.TheVariants.{I32Load}
+use Rattle.wasm_tree_spec.specs.Prelude.{I32Load, Module}
 use Rattle.wasm_tree.specs.declared.module.ConstExpr.TheVariants as const
 use Rattle.wasm_tree.specs.declared.module.DataMode.TheVariants as data'
 use Rattle.wasm_tree.specs.declared.module.ExportDesc.TheVariants as ex
-use Rattle.wasm_tree.specs.declared.module.Module.{Module}
 use Rattle.wasm_num.specs.Operations.{signed, wrapped}
-use Rattle.wasm_meaning.specs.State.{Text}
+use Rattle.wasm_meaning.specs.Prelude.{Text, Environment, Number, OwnFunc, is_environment, alone, links, Event, Linked, Asked, Returned, Trapped, Got, Done, BadMove, Move, Get, Named, IsPrefix, events}
 use Rattle.wasm_meaning.specs.Access.{little, little_bytes, load_to, load_width, loaded, store_from, stored}
-use Rattle.wasm_meaning.specs.Environment.{Environment, Number, OwnFunc, is_environment}
-use Rattle.wasm_meaning.specs.World.{alone, links}
-use Rattle.wasm_meaning.specs.Run.{Event, Linked, Asked, Returned, Trapped, Got, Done, BadMove, Move, Get, Named, IsPrefix, events}
 use Rattle.eval_behaves_proof.specs.Worlds.{events_evaluated}
 use Rattle.eval_behaves_proof.specs.Laws.{ObservationallyEquivalent}
 use Rattle.eval_behaves_proof.proofs.SmallRuns.{a, c, own, nothing, empty, does, num, exported, mutable_i32, mutable_ref, global, number, setting, setting_left, setting_kept, seven_is_asked, after_setting, nine_is_set, after_setting_kept, storing, storing_left, offering, bytes_are_read, bytes_are_seen, after_storing, reading, reading_left, offering_four, globals_are_read, after_reading, filling, filling_left, it_is_filled, after_nothing}

@@ -1,10 +1,9 @@
 -- Code of which two things are so layer by layer; and a list of operands of each of which two things are so.
-use Rattle.std.proofs.Common.{List, [], ◌∷◌}
+use Rattle.base_lists.proofs.Common.{List, [], ◌∷◌}
 use Rattle.base_lists.specs.Every.{Every}
-use Rattle.wasm_tree.specs.declared.space.Operand.{Operand}
-use Rattle.wasm_tree.specs.declared.instr.Instr.{Instr, out-Instr, Row_of-Instr, end_of-Instr, more_of-Instr, Block', Loop', If'}
+use Rattle.wasm_tree_spec.specs.Prelude.{Operand, Instr, out-Instr, Row_of-Instr, end_of-Instr, more_of-Instr, Layers, RowLayers, ListLayers}
+use Rattle.wasm_tree.specs.declared.instr.Instr.{Block', Loop', If'}
 use Rattle.wasm_tree.specs.declared.instr.Instr.TheOpen.{Instr-F}
-use Rattle.wasm_tree.specs.Layers.{Layers, RowLayers, ListLayers}
 
 pub every_both : (P Q X : Operand → Type 0) → ((o : Operand) → P o → Q o → X o) → (os : List Operand) → Every P os → Every Q os → Every X os
 every_both P Q X both [] p q = tt

@@ -1,21 +1,11 @@
 -- The quiet run, in whose store each index is an address, as the machine's run in an environment: which address an index denotes there.
 use Rattle.std.specs.Prelude.{◌≡◌, ℕ, List, [], ◌∷◌, length, Bool, false, not, ◌&&◌, Option, None, Some, slice_get, nat_lt, IsTrue}
-use Rattle.wasm_tree.specs.declared.space.Space.{Space}
-use Rattle.wasm_tree.specs.declared.space.Space.TheVariants.{Types, Functions, Tables, Memories, Globals, ElementSegments, DataSegments}
-use Rattle.wasm_tree.specs.declared.module.Module.{Module}
-use Rattle.wasm_tree.specs.Operands.{same_space}
-use Rattle.wasm_valid.specs.Validity.{IsValid}
-use Rattle.wasm_meaning.specs.State.{Text, Inst}
-use Rattle.wasm_meaning.specs.Environment.{Environment, is_environment}
-use Rattle.wasm_meaning.specs.World.{Begun, alone, insts_from, links}
-use Rattle.index_remap.specs.Laws.{passed}
-use Rattle.index_remap.specs.Unknown.{StoreRelOff}
-use Rattle.world_simulation.specs.Alone.{one}
-use Rattle.world_simulation.specs.Leaves.{is_address}
-use Rattle.eval_spec.specs.State.{State, Finished}
-use Rattle.eval_spec.specs.Stops.{is_imported}
-use Rattle.eval_spec.specs.Instantiation.{own_inst}
-use Rattle.eval_spec.specs.Evaluation.{evaluated}
+use Rattle.wasm_tree_spec.specs.Prelude.{Space, Types, Functions, Tables, Memories, Globals, ElementSegments, DataSegments, Module, same_space}
+use Rattle.wasm_valid.specs.Prelude.{IsValid}
+use Rattle.wasm_meaning.specs.Prelude.{Text, Inst, Environment, is_environment, Begun, alone, insts_from, links}
+use Rattle.index_remap.specs.Prelude.{passed, StoreRelOff}
+use Rattle.world_simulation.specs.Prelude.{one, is_address}
+use Rattle.eval_spec.specs.Prelude.{State, Finished, is_imported, own_inst, evaluated}
 use Rattle.eval_snapshot_spec.specs.Evaluated.{first_missing, funcs_named}
 use Rattle.eval_behaves_proof.specs.Worlds.{evaluated_begun, started_begun, with_empty_func}
 

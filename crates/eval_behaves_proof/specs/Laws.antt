@@ -1,12 +1,9 @@
 -- That the snapshot of a module behaves as the module of which constructors are evaluated.
 use Rattle.std.specs.Prelude.{[], ◌≡◌, ℕ, ◌+◌, List, IsTrue}
-use Rattle.wasm_tree.specs.declared.module.Module.{Module}
-use Rattle.wasm_valid.specs.Validity.{IsValid}
-use Rattle.wasm_meaning.specs.State.{Text}
-use Rattle.wasm_meaning.specs.Environment.{Environment}
-use Rattle.wasm_meaning.specs.World.{alone, links}
-use Rattle.wasm_meaning.specs.Run.{Move, IsPrefix, Same, events}
-use Rattle.eval_spec.specs.State.{State}
+use Rattle.wasm_tree_spec.specs.Prelude.{Module}
+use Rattle.wasm_valid.specs.Prelude.{IsValid}
+use Rattle.wasm_meaning.specs.Prelude.{Text, Environment, alone, links, Move, IsPrefix, Same, events}
+use Rattle.eval_spec.specs.Prelude.{State}
 use Rattle.eval_numbers_proof.specs.Ranges.{BeginsInRange}
 use Rattle.eval_snapshot_spec.specs.After.{IsAfter}
 use Rattle.eval_snapshot_spec.specs.Snapshot.{snapshot}

@@ -3,17 +3,9 @@
 use Rattle.std.specs.Prelude.{ℕ, suc, ◌+◌, ◌*◌, List, [], ◌∷◌, ◌++◌, map, length, Option, Some, None, slice_get}
 use Rattle.std.specs.List.{filter_map}
 use Rattle.base_lists.specs.Options.{◌>>=◌, all_there}
-use Rattle.wasm_tree.specs.declared.space.Space.TheVariants.{Functions}
-use Rattle.wasm_tree.specs.declared.module.Export.{Export}
-use Rattle.wasm_tree.specs.declared.module.Module.{Module}
-use Rattle.wasm_tree.specs.Spaces.{funcs_of}
-use Rattle.wasm_meaning.specs.Outcomes.{Outcome, Gives}
-use Rattle.wasm_meaning.specs.State.{Text, Store, Mark, Next, Ran, EndsCall}
-use Rattle.wasm_meaning.specs.Step.{step, enter_at}
-use Rattle.wasm_meaning.specs.Environment.{Environment}
-use Rattle.wasm_meaning.specs.World.{World, Begun, alone, space, instantiate}
-use Rattle.wasm_meaning.specs.Run.{Move, Event, tick, fresh_run, events_of, events}
-use Rattle.world_simulation.specs.Alone.{one}
+use Rattle.wasm_tree_spec.specs.Prelude.{Functions, Export, Module, funcs_of}
+use Rattle.wasm_meaning.specs.Prelude.{Outcome, Gives, Text, Store, Mark, Next, Ran, EndsCall, step, enter_at, Environment, World, Begun, alone, space, instantiate, Move, Event, tick, fresh_run, events_of, events}
+use Rattle.world_simulation.specs.Prelude.{one}
 use Rattle.eval_spec.specs.declared.limits.TheConstants.{MOST_TURNS}
 use Rattle.eval_snapshot_spec.specs.Snapshot.{export_left, empty_func}
 use Rattle.eval_snapshot_spec.specs.Evaluated.{funcs_named}

@@ -1,24 +1,15 @@
 -- A small module of which the law of snapshots speaks: its constructor sets a global to -1. The constant of that value has a sign; without it the number is out of range.
-use Rattle.std.proofs.Common.{◌≡◌, refl, arith}
-use Rattle.std.specs.Prelude.{pos, negsuc, List, [], ◌∷◌, Bool, true, Some, None}
-use Rattle.std.proofs.lemmas.Int.{ints}
+use Rattle.base_lists.proofs.Common.{◌≡◌, refl, arith, pos, negsuc, List, [], ◌∷◌, Bool, true, Some, None, ints}
 use Rattle.wasm_num.specs.Operations.{W32, signed, wrapped}
-use Rattle.wasm_tree.specs.declared.types.ValType.TheVariants.{I32}
-use Rattle.wasm_tree.specs.declared.types.FuncType.{FuncType}
-use Rattle.wasm_tree.specs.declared.types.GlobalType.{GlobalType}
-use Rattle.wasm_tree.specs.declared.instr.Instr.{Instr, fold_out-Instr, out-Instr}
+use Rattle.wasm_tree_spec.specs.Prelude.{I32, FuncType, GlobalType, Instr, fold_out-Instr, Module, all_pass_step}
+use Rattle.wasm_tree.specs.declared.instr.Instr.{out-Instr}
 use Rattle.wasm_tree.specs.declared.instr.Instr.TheVariants as i
 use Rattle.wasm_tree.specs.declared.module.ConstExpr.TheVariants as const
 use Rattle.wasm_tree.specs.declared.module.ExportDesc.TheVariants as ex
-use Rattle.wasm_tree.specs.declared.module.Module.{Module}
-use Rattle.wasm_tree.specs.Operands.{all_pass_step}
-use Rattle.wasm_meaning.specs.State.{Text, Num, Code}
+use Rattle.wasm_meaning.specs.Prelude.{Text, Num, Code}
 use Rattle.wasm_write_proof.specs.Ranges.{all_in_range, number_step, small_operand}
 use Rattle.merge_encode_proof.proofs.Numbers.{ConstNumberInRange}
-use Rattle.eval_spec.specs.State.{State, Finished}
-use Rattle.eval_spec.specs.Evaluation.{evaluated}
-use Rattle.eval_spec.specs.Instantiation.{own_inst}
-use Rattle.eval_spec.specs.Told.{value_of_global}
+use Rattle.eval_spec.specs.Prelude.{State, Finished, evaluated, own_inst, value_of_global}
 use Rattle.eval_numbers_proof.specs.Ranges.{BeginsInRange}
 use Rattle.eval_snapshot_spec.specs.After.{IsAfter}
 use Rattle.eval_snapshot_spec.specs.Evaluated.{funcs_named}

@@ -1,38 +1,21 @@
 -- A snapshot has the numbers of its module and those of the state.
-use Rattle.std.proofs.Common.{◌≡◌, ℕ, suc, ◌+◌, ◌-◌, ◌^◌, ◌<◌, ◌≤◌, arith, sym, subst, refl, List, [], ◌∷◌, length, Bool, true, false, not, ◌&&◌, cond, Option, Some, None, slice_get, unwrap_or, filter_map, inl, inr}
-use Rattle.std.specs.Prelude.{IsUtf8}
-use Rattle.std.specs.List.{list_any, cons_option}
+use Rattle.base_lists.proofs.Common.{◌≡◌, ℕ, suc, ◌+◌, ◌-◌, ◌^◌, ◌<◌, ◌≤◌, arith, sym, subst, refl, List, [], ◌∷◌, length, Bool, true, false, not, ◌&&◌, cond, Option, Some, None, slice_get, unwrap_or, inl, inr, IsUtf8, list_any, cons_option, cases_lt, lt-ltb, le-ltb, ints, slice_get_within, right_true, place_back}
+use Rattle.std.proofs.Common.{filter_map}
 use Rattle.std.specs.Option.{IfSome}
-use Rattle.std.proofs.lemmas.Bool.{cases_lt, lt-ltb, le-ltb}
-use Rattle.std.proofs.lemmas.Int.{ints}
-use Rattle.std.proofs.lemmas.Option.{slice_get_within}
 use Rattle.base_lists.specs.Every.{Every}
 use Rattle.base_lists.specs.Options.{◌>>=◌}
-use Rattle.base_lists.proofs.Bools.{right_true}
-use Rattle.base_lists.proofs.Filtered.{place_back}
-use Rattle.wasm_bytes.specs.Numbers.{IsWithin}
-use Rattle.wasm_tree.specs.declared.module.ConstExpr.{ConstExpr}
-use Rattle.wasm_tree.specs.declared.module.DataMode.{DataMode}
+use Rattle.wasm_bytes.specs.Prelude.{IsWithin}
+use Rattle.wasm_tree_spec.specs.Prelude.{ConstExpr, DataMode, DataSeg, ElemMode, Export, GlobalDef, ImportDesc, Module, any_uses_data, all_operands_pass, funcs_of, imported_globals, imported_memories, IsBounded}
 use Rattle.wasm_tree.specs.declared.module.DataMode.TheVariants as segment
-use Rattle.wasm_tree.specs.declared.module.DataSeg.{DataSeg}
-use Rattle.wasm_tree.specs.declared.module.ElemMode.{ElemMode}
 use Rattle.wasm_tree.specs.declared.module.ElemMode.TheVariants as elem
-use Rattle.wasm_tree.specs.declared.module.Export.{Export}
 use Rattle.wasm_tree.specs.declared.module.ExportDesc.TheVariants as ex
-use Rattle.wasm_tree.specs.declared.module.GlobalDef.{GlobalDef}
-use Rattle.wasm_tree.specs.declared.module.ImportDesc.{ImportDesc}
 use Rattle.wasm_tree.specs.declared.module.ImportDesc.TheVariants as im
-use Rattle.wasm_tree.specs.declared.module.Module.{Module}
-use Rattle.wasm_tree.specs.DataUse.{any_uses_data}
-use Rattle.wasm_tree.specs.Operands.{all_operands_pass}
-use Rattle.wasm_tree.specs.Spaces.{funcs_of, imported_globals, imported_memories}
 use Rattle.wasm_num.specs.Operations.{W32, W64, signed}
-use Rattle.wasm_tree.specs.Bounds.{IsBounded}
-use Rattle.wasm_valid.specs.Validity.{IsSingle, IsValid}
+use Rattle.wasm_valid.specs.Prelude.{IsSingle, IsValid}
 use Rattle.wasm_write_proof.specs.Ranges.{small_operand, all_numbers_in, ConstInRange, DataModeInRange, ElemInRange, ElemModeInRange, ExportInRange, FuncInRange, ImportDescInRange, ImportInRange, InRange}
 use Rattle.wasm_write_proof.proofs.Parts.{every_of, every_with}
-use Rattle.wasm_meaning.specs.State.{Text, RefVal, FuncRef, ExternRef, Val, Num, Ref, Memory, Global}
-use Rattle.index_remap.specs.References.{declared_refs}
+use Rattle.wasm_meaning.specs.Prelude.{Text, RefVal, FuncRef, ExternRef, Val, Num, Ref, Memory, Global}
+use Rattle.index_remap.specs.Prelude.{declared_refs}
 use Rattle.merge_spec.proofs.FaultParts.{every_append}
 use Rattle.merge_encode_proof.proofs.Numbers.{ConstNumberInRange, DataOffsetInRange, ElemNumbersInRange, ElemOffsetInRange, FuncNumbersInRange, ImportLimitsInRange, ImportNumbersInRange, NumbersInRange}
 use Rattle.merge_encode_proof.proofs.Consts.{number_of}
@@ -40,8 +23,8 @@ use Rattle.merge_encode_proof.proofs.ItemRanges.{every_from}
 use Rattle.merge_encode_proof.proofs.Lists.{every_map}
 use Rattle.merge_encode_proof.proofs.Modules.{declared_numbers}
 use Rattle.eval_spec.specs.declared.limits.TheConstants.{MOST_TURNS}
-use Rattle.eval_spec.specs.State.{State}
-use Rattle.eval_spec.specs.Told.{constant, constant_ref, defined_memory, is_dropped, is_unknown_global, memory_bytes, value_of_global}
+use Rattle.eval_spec.specs.Prelude.{State, constant, is_dropped, is_unknown_global, memory_bytes, value_of_global}
+use Rattle.eval_spec.specs.Told.{constant_ref, defined_memory}
 use Rattle.eval_numbers_proof.specs.Ranges.{BeginsInRange, EvaluatedGlobalsAreInRange, EvaluatedMemoriesAreInRange, GlobalsAreInRange, MemoriesAreInRange, ValInRange}
 use Rattle.eval_snapshot_spec.specs.After.{IsAfter}
 use Rattle.eval_snapshot_spec.specs.Contents.{Stretch, contents, is_joined, is_nonzero, nonzero_places, stretch_segment, stretches, stretches_from, stretches_over}

@@ -1,20 +1,13 @@
 -- What is spelled by bytes has bytes in its data segments, and small tables.
-use Rattle.std.proofs.Common.{ℕ, zero, suc, ◌^◌, ◌<◌, List, [], ◌∷◌, Bool, true, false, sym, subst}
-use Rattle.std.specs.Prelude.{◌==◌}
+use Rattle.base_lists.proofs.Common.{ℕ, zero, suc, ◌^◌, ◌<◌, List, [], ◌∷◌, Bool, true, false, sym, subst, ◌==◌}
 use Rattle.base_lists.specs.Every.{Every}
-use Rattle.wasm_bytes.specs.Frames.{Section}
-use Rattle.wasm_bytes.specs.Joins.{Each, Sized, U32, Vector}
-use Rattle.wasm_bytes.specs.Reading.{IsBytes}
-use Rattle.wasm_tree.specs.declared.types.Limits.{Limits}
-use Rattle.wasm_tree.specs.declared.types.TableType.{TableType}
-use Rattle.wasm_tree.specs.declared.module.DataSeg.{DataSeg}
-use Rattle.wasm_tree.specs.declared.module.Module.{Module}
+use Rattle.wasm_bytes.specs.Prelude.{Section, Each, Sized, U32, Vector, IsBytes}
+use Rattle.wasm_tree_spec.specs.Prelude.{Limits, TableType, DataSeg, Module}
 use Rattle.wasm_read_spec.specs.declared.parts.Parts.{Parts}
-use Rattle.wasm_read_spec.specs.SpellingForms.{Both, Made, Never, When}
-use Rattle.wasm_read_spec.specs.Values.{SpellsConst, SpellsFuncType, SpellsLimits, SpellsTable, at_least, between, limits_form}
-use Rattle.wasm_read_spec.specs.Sections.{SpellsData, SpellsElem, SpellsExport, SpellsGlobalDef, SpellsImport, data0, data1, data2, data_form}
-use Rattle.wasm_read_spec.specs.Bodies.{SpellsEntry}
-use Rattle.wasm_read_spec.specs.Files.{Contents, Spells, nothing, section_form, tree_of, with_codes, with_count, with_datas, with_elems, with_exports, with_func_types, with_globals, with_imports, with_mems, with_start, with_tables, with_types}
+use Rattle.wasm_read_spec.specs.Prelude.{Both, Made, Never, When, SpellsConst, SpellsFuncType, SpellsLimits, SpellsTable, at_least, between, SpellsData, SpellsElem, SpellsExport, SpellsGlobalDef, SpellsImport, data0, data1, data2, SpellsEntry, Contents, Spells, nothing, tree_of, with_codes, with_count, with_datas, with_elems, with_exports, with_func_types, with_globals, with_imports, with_mems, with_start, with_tables, with_types}
+use Rattle.wasm_read_spec.specs.Values.{limits_form}
+use Rattle.wasm_read_spec.specs.Sections.{data_form}
+use Rattle.wasm_read_spec.specs.Files.{section_form}
 use Rattle.wasm_read_spec.proofs.FileLaws.{AreBytes, framed_bytes, front_bytes}
 use Rattle.wasm_bytes.proofs.Lists.{bytes_rest}
 use Rattle.wasm_write_proof.proofs.NumberRanges.{says_made, says_never, says_vector, says_when, Says, u32_in}

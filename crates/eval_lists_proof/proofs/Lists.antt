@@ -1,11 +1,8 @@
 -- Calls in order, and one more.
-use Rattle.std.proofs.Common.{◌≡◌, ◌∙◌, ℕ, List, [], ◌∷◌, ◌++◌, refl, sym, ap}
-use Rattle.wasm_tree.specs.declared.module.Module.{Module}
+use Rattle.base_lists.proofs.Common.{◌≡◌, ◌∙◌, ℕ, List, [], ◌∷◌, ◌++◌, refl, sym, ap}
+use Rattle.wasm_tree_spec.specs.Prelude.{Module}
 use Rattle.eval_spec.specs.declared.limits.TheConstants.{MOST_TURNS}
-use Rattle.eval_spec.specs.State.{State, Stage, Going, Stopped, Finished}
-use Rattle.eval_spec.specs.Quiet.{call_end}
-use Rattle.eval_spec.specs.Instantiation.{booted}
-use Rattle.eval_spec.specs.Evaluation.{called_in_order, evaluated}
+use Rattle.eval_spec.specs.Prelude.{State, Stage, Going, Stopped, Finished, call_end, booted, called_in_order, evaluated}
 use Rattle.eval_lists_proof.specs.Lists.{AddedAreEvaluated, EvaluatedAreAdded, NoneIsTheInstantiation}
 
 pub no_calls : (m : Module) (t : Stage) → called_in_order m t [] ≡ t

@@ -1,11 +1,8 @@
 -- The evaluation of a list of constructors, and of the list with one more.
 use Rattle.std.specs.Prelude.{◌≡◌, ℕ, List, [], ◌∷◌, ◌++◌}
-use Rattle.wasm_tree.specs.declared.module.Module.{Module}
+use Rattle.wasm_tree_spec.specs.Prelude.{Module}
 use Rattle.eval_spec.specs.declared.limits.TheConstants.{MOST_TURNS}
-use Rattle.eval_spec.specs.State.{State, Finished}
-use Rattle.eval_spec.specs.Quiet.{call_end}
-use Rattle.eval_spec.specs.Instantiation.{booted}
-use Rattle.eval_spec.specs.Evaluation.{evaluated}
+use Rattle.eval_spec.specs.Prelude.{State, Finished, call_end, booted, evaluated}
 
 -- From the state after the quiet run of a list, a call that comes to its end gives the state after the quiet run of the list with the function added.
 abbrev pub AddedAreEvaluated : Type 0

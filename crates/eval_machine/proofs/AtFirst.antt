@@ -1,27 +1,15 @@
 -- The globals of a machine at first, imported ones and then those that the module defines.
-use Rattle.std.proofs.Common.{◌≡◌, ℕ, suc, ◌+◌, ◌<◌, ◌≤◌, List, [], ◌∷◌, ◌++◌, map, length, Bool, true, false, cond, Option, Some, None, refl, sym, ap, ap₂, ◌∙◌, inl, inr, arith}
-use Rattle.std.specs.Prelude.{nat_lt, slice_get}
-use Rattle.std.proofs.lemmas.Bool.{lt-ltb, le-ltb}
-use Rattle.std.proofs.lemmas.List.{map-append, length-map}
-use Rattle.std.proofs.lemmas.Option.{same_Some, slice_get_within}
+use Rattle.base_lists.proofs.Common.{◌≡◌, ℕ, suc, ◌+◌, ◌<◌, ◌≤◌, List, [], ◌∷◌, ◌++◌, map, length, Bool, true, false, cond, Option, Some, None, refl, sym, ap, ap₂, ◌∙◌, inl, inr, arith, nat_lt, slice_get, lt-ltb, le-ltb, map-append, length-map, same_Some, slice_get_within, append_from, map_at, map_from, map_twice}
 use Rattle.base_lists.specs.Options.{◌>>=◌, all_there}
 use Rattle.base_lists.specs.Places.{places}
-use Rattle.base_lists.proofs.Places.{append_from, map_at, map_from, map_twice}
-use Rattle.wasm_tree.specs.declared.space.Space.TheVariants.{Globals}
-use Rattle.wasm_tree.specs.declared.types.GlobalType.{GlobalType}
-use Rattle.wasm_tree.specs.declared.module.ConstExpr.{ConstExpr}
+use Rattle.wasm_tree_spec.specs.Prelude.{Globals, GlobalType, ConstExpr, GlobalDef, Module, imported_globals}
 use Rattle.wasm_tree.specs.declared.module.ConstExpr.TheVariants as const
-use Rattle.wasm_tree.specs.declared.module.GlobalDef.{GlobalDef}
-use Rattle.wasm_tree.specs.declared.module.Module.{Module}
-use Rattle.wasm_tree.specs.Spaces.{imported_globals}
-use Rattle.wasm_meaning.specs.State.{Val, Global}
-use Rattle.wasm_meaning.specs.World.{global_with}
-use Rattle.eval_spec.specs.Stops.{is_imported}
-use Rattle.eval_spec.specs.Instantiation.{imported_store, reads_global, value_in}
+use Rattle.wasm_meaning.specs.Prelude.{Val, Global, global_with}
+use Rattle.eval_spec.specs.Prelude.{is_imported, imported_store, reads_global, value_in}
 use Rattle.eval_machine.specs.declared.globals.GlobalSlot.{GlobalSlot}
 use Rattle.eval_machine.specs.declared.globals.Standing.TheVariants as standing
 use Rattle.eval_machine.specs.Begun.{AreFirst, standing_of}
-use Rattle.eval_machine.specs.Held.{global_of, is_of_import, is_unset}
+use Rattle.eval_machine.specs.Prelude.{global_of, is_of_import, is_unset}
 use Rattle.eval_machine.proofs.FirstGlobals.{zero_global}
 use Rattle.eval_machine.proofs.Imports.{globals_many}
 

@@ -1,28 +1,15 @@
 -- What a call comes to when it begins.
-use Rattle.std.proofs.Common.{◌≡◌, ℕ, ◌+◌, ◌-◌, ◌/◌, arith, List, length, slice_get, Bool, true, false, Option, Some, None, refl, sym, ap, ◌∙◌, ◌⊎◌, inl, inr}
-use Rattle.std.specs.Prelude.{nat_le, nat_lt}
-use Rattle.std.proofs.lemmas.Bool.{cases_lt}
-use Rattle.std.proofs.lemmas.Option.{same_Some, slice_get_within}
-use Rattle.base_lists.proofs.Numbers.{numbers_is}
-use Rattle.base_lists.proofs.Places.{slice_get_there}
-use Rattle.wasm_tree.specs.declared.types.ValType.{ValType}
-use Rattle.wasm_tree.specs.declared.types.FuncType.{FuncType}
-use Rattle.wasm_tree.specs.declared.instr.Instr.{Instr, out-Instr}
+use Rattle.base_lists.proofs.Common.{◌≡◌, ℕ, ◌+◌, ◌-◌, ◌/◌, arith, List, length, slice_get, Bool, true, false, Option, Some, None, refl, sym, ap, ◌∙◌, ◌⊎◌, inl, inr, nat_le, nat_lt, cases_lt, same_Some, slice_get_within, numbers_is, slice_get_there}
+use Rattle.wasm_tree_spec.specs.Prelude.{ValType, FuncType, Instr, out-Instr, Module, funcs_of, imported_funcs}
 use Rattle.wasm_tree.specs.declared.instr.Instr.TheVariants as i
 use Rattle.wasm_tree.specs.declared.instr.Instr.TheOpen.{Instr-F}
-use Rattle.wasm_tree.specs.declared.module.Module.{Module}
-use Rattle.wasm_tree.specs.Spaces.{funcs_of, imported_funcs}
-use Rattle.wasm_valid.specs.Validity.{IsValid}
-use Rattle.wasm_meaning.specs.Outcomes.{Outcome, Gives, Traps, IllTyped}
-use Rattle.wasm_meaning.specs.State.{Pair, Val, Func, Code, Own, Entry}
-use Rattle.wasm_meaning.specs.Values.{declared, pop_typed}
+use Rattle.wasm_valid.specs.Prelude.{IsValid}
+use Rattle.wasm_meaning.specs.Prelude.{Outcome, Gives, Traps, IllTyped, Pair, Val, Func, Code, Own, Entry, declared, pop_typed}
 use Rattle.eval_spec.specs.declared.limits.TheConstants.{MOST_DEPTH}
-use Rattle.eval_spec.specs.Instantiation.{own_inst}
+use Rattle.eval_spec.specs.Prelude.{own_inst}
 use Rattle.eval_machine.specs.declared.registers.Registers.{Registers}
 use Rattle.eval_machine.specs.declared.registers.Act.TheVariants as act
-use Rattle.eval_machine.specs.Kept.{Fits, store_in}
-use Rattle.eval_machine.specs.Flows.{Place, called, depth}
-use Rattle.eval_machine.specs.Instructions.{ComesToAct, begun_by, done_by}
+use Rattle.eval_machine.specs.Prelude.{Fits, store_in, Place, called, depth, ComesToAct, begun_by, done_by}
 use Rattle.eval_machine.proofs.Funcs.{FuncsAre, funcs_now_are, funcs_size}
 use Rattle.eval_machine.proofs.Imports.{address_of}
 use Rattle.eval_machine.proofs.Instructions.{by_layer}

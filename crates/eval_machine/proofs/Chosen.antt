@@ -1,15 +1,13 @@
 -- What a `select` comes to, and a value that is written to a local or a global.
-use Rattle.std.proofs.Common.{◌≡◌, ℕ, zero, suc, List, [], ◌∷◌, map, true, false, cond, Some, None, Ok, Err, refl, ap, slice_get, slice_set}
-use Rattle.std.specs.Prelude.{nat_eq}
-use Rattle.base_lists.proofs.Places.{map_at}
-use Rattle.wasm_tree.specs.declared.types.ValType.{ValType}
-use Rattle.wasm_tree.specs.SameTypes.{same_type}
+use Rattle.base_lists.proofs.Common.{◌≡◌, ℕ, zero, suc, List, [], ◌∷◌, map, true, false, cond, Some, None, Ok, Err, refl, ap, slice_get, slice_set, nat_eq, map_at}
+use Rattle.wasm_tree_spec.specs.Prelude.{ValType, same_type}
 use Rattle.wasm_num.specs.Operations.{W32}
-use Rattle.wasm_meaning.specs.State.{Val, Num}
-use Rattle.wasm_meaning.specs.Values.{type_of, is_number, select_of, select_any}
+use Rattle.wasm_meaning.specs.Prelude.{Val, Num, type_of, select_of, select_any}
+use Rattle.wasm_meaning.specs.Values.{is_number}
 use Rattle.eval_spec.specs.declared.stop.Stop.TheVariants as why
 use Rattle.eval_machine.specs.declared.value.Value.{Value}
-use Rattle.eval_machine.specs.Held.{ended, local_written, val_of}
+use Rattle.eval_machine.specs.Prelude.{ended, val_of}
+use Rattle.eval_machine.specs.Held.{local_written}
 
 pub select_gives : (t : ValType) (c : ℕ) (b a : Val) (vs rest : List Val) → vs ≡ Num W32 c ∷ b ∷ a ∷ rest → same_type t (type_of b) ≡ true → same_type t (type_of a) ≡ true → ended (select_of t vs) ≡ Ok (cond (nat_eq c 0) b a ∷ rest)
 select_gives t c b a vs rest e f g = rw (e, f, g)

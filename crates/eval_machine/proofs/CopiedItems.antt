@@ -1,12 +1,9 @@
 -- Items that are copied one after the other.
-use Rattle.std.proofs.Common.{◌≡◌, ℕ, ◌+◌, ◌-◌, ◌<◌, List, Bool, true, false, cond, ◌&&◌, Option, Some, refl, sym, ap, ◌∙◌, inl, inr, arith}
-use Rattle.std.specs.Prelude.{nat_eq, nat_le, nat_lt, slice_get}
-use Rattle.std.proofs.lemmas.Bool.{cases_order, lt-ltb, le-ltb, le-leb, eq-eqb, ne_eqb}
+use Rattle.base_lists.proofs.Common.{◌≡◌, ℕ, ◌+◌, ◌-◌, ◌<◌, List, Bool, true, false, cond, ◌&&◌, Option, Some, refl, sym, ap, ◌∙◌, inl, inr, arith, nat_eq, nat_le, nat_lt, slice_get, cases_order, lt-ltb, le-ltb, le-leb, eq-eqb, ne_eqb}
 use Rattle.base_lists.specs.Options.{◌>>=◌}
-use Rattle.wasm_tree.specs.declared.module.ConstExpr.{ConstExpr}
+use Rattle.wasm_tree_spec.specs.Prelude.{ConstExpr}
 use Rattle.eval_machine.specs.declared.slots.Slot.{Slot}
-use Rattle.eval_machine.specs.Begun.{item_slot, is_within}
-use Rattle.eval_machine.specs.Slots.{filled_at}
+use Rattle.eval_machine.specs.Prelude.{item_slot, is_within, filled_at}
 
 abbrev pub held_over : List (ℕ × Slot) → (table place count : ℕ) → List ConstExpr → (t p : ℕ) → Option Slot
 held_over old table place count items t p = cond (is_within table place count t p) (slice_get items (p - place) >>= λ x. Some (item_slot x)) (filled_at old t p)

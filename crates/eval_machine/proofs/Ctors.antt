@@ -1,23 +1,16 @@
 -- A call between a mark and what commits or takes back.
-use Rattle.std.proofs.Common.{◌≡◌, ℕ, List, [], ◌∷◌, map, length, Bool, Option, Some, None, refl, sym, ap, ◌∙◌, arith, slice_get, subst}
-use Rattle.std.specs.Prelude.{min}
-use Rattle.std.proofs.lemmas.Option.{same_Some}
-use Rattle.wasm_tree.specs.declared.types.Limits.{Limits}
-use Rattle.wasm_tree.specs.declared.module.Module.{Module}
-use Rattle.wasm_valid.specs.Validity.{IsValid}
+use Rattle.base_lists.proofs.Common.{◌≡◌, ℕ, List, [], ◌∷◌, map, length, Bool, Option, Some, None, refl, sym, ap, ◌∙◌, arith, slice_get, subst, min, same_Some}
+use Rattle.wasm_tree_spec.specs.Prelude.{Limits, Module}
+use Rattle.wasm_valid.specs.Prelude.{IsValid}
 use Rattle.block_pool.specs.Pages.{Pages}
 use Rattle.eval_spec.specs.declared.limits.TheConstants.{MOST_BLOCKS}
 use Rattle.eval_spec.specs.declared.stop.Stop.{Stop}
-use Rattle.eval_spec.specs.State.{Stopped, Finished, left_behind, stop_of}
-use Rattle.eval_spec.specs.Quiet.{call_end}
+use Rattle.eval_spec.specs.Prelude.{Stopped, Finished, left_behind, stop_of, call_end}
 use Rattle.eval_references_proof.specs.References.{CallsKeepRefs, CallsKeepTypes}
 use Rattle.eval_machine.specs.declared.globals.GlobalSlot.{GlobalSlot}
 use Rattle.eval_machine.specs.declared.kept.Kept.{Kept}
-use Rattle.eval_machine.specs.Calls.{CallEnds, IsLeft, StopsCall}
-use Rattle.eval_machine.specs.Held.{global_of}
+use Rattle.eval_machine.specs.Prelude.{CallEnds, IsLeft, StopsCall, global_of, Fits, IsUnmarked, MemoryFits, Rests, memory_in, state_in, written_in, MemoryStays, Stays}
 use Rattle.eval_machine.specs.Marks.{AreMarked, IsMarked, KeepsMarked, RollsMarked}
-use Rattle.eval_machine.specs.Kept.{Fits, IsUnmarked, MemoryFits, Rests, memory_in, state_in, written_in}
-use Rattle.eval_machine.specs.Stays.{MemoryStays, Stays}
 use Rattle.eval_machine.proofs.References.{still_rests}
 use Rattle.eval_machine.proofs.Stays.{fits_still}
 

@@ -1,29 +1,15 @@
 -- Data segments: their bytes, and data.drop.
-use Rattle.std.proofs.Common.{◌≡◌, ℕ, arith, List, ◌∷◌, length, slice_get, slice_set, Bool, true, false, Option, Some, None, refl, sym, ap, ◌∙◌}
-use Rattle.std.specs.Prelude.{nat_lt}
-use Rattle.std.proofs.lemmas.Bool.{le-ltb}
-use Rattle.std.proofs.lemmas.Option.{slice_get_past, slice_get_within}
-use Rattle.base_lists.proofs.Numbers.{length-numbers}
-use Rattle.base_lists.proofs.Walk.{none_past}
-use Rattle.wasm_tree.specs.declared.space.Space.TheVariants.{DataSegments}
-use Rattle.wasm_tree.specs.declared.module.ImportDesc.{ImportDesc}
+use Rattle.base_lists.proofs.Common.{◌≡◌, ℕ, arith, List, ◌∷◌, length, slice_get, slice_set, Bool, true, false, Option, Some, None, refl, sym, ap, ◌∙◌, nat_lt, le-ltb, slice_get_past, slice_get_within, length-numbers, none_past}
+use Rattle.wasm_tree_spec.specs.Prelude.{DataSegments, ImportDesc, Module, Instr, same_space, space_of_import}
 use Rattle.wasm_tree.specs.declared.module.ImportDesc.TheVariants as im
-use Rattle.wasm_tree.specs.declared.module.Module.{Module}
 use Rattle.wasm_tree.specs.declared.instr.Instr.TheVariants as i
-use Rattle.wasm_tree.specs.declared.instr.Instr.{Instr}
 use Rattle.wasm_tree.specs.declared.instr.Instr.TheOpen.{Instr-F}
-use Rattle.wasm_tree.specs.Operands.{same_space}
-use Rattle.wasm_tree.specs.Spaces.{space_of_import}
-use Rattle.wasm_meaning.specs.Outcomes.{Gives}
-use Rattle.wasm_meaning.specs.State.{Val, Entry, Running, Goes, DropData}
+use Rattle.wasm_meaning.specs.Prelude.{Gives, Val, Entry, Running, Goes, DropData}
 use Rattle.eval_spec.specs.declared.stop.Stop.TheVariants as why
-use Rattle.eval_spec.specs.State.{Going}
-use Rattle.eval_spec.specs.Instantiation.{own_inst}
+use Rattle.eval_spec.specs.Prelude.{Going, own_inst}
 use Rattle.eval_machine.specs.declared.kept.Kept.{Kept}
 use Rattle.eval_machine.specs.declared.registers.Registers.{Registers}
-use Rattle.eval_machine.specs.Flows.{Place, body_at, frame_at}
-use Rattle.eval_machine.specs.Kept.{Fits, state_in, store_in}
-use Rattle.eval_machine.specs.Instructions.{BeginsWith, done_by}
+use Rattle.eval_machine.specs.Prelude.{Place, body_at, frame_at, Fits, state_in, store_in, BeginsWith, done_by}
 use Rattle.eval_machine.proofs.Imports.{address_of}
 use Rattle.eval_machine.proofs.Instructions.{IsStill, by_layer, ends_trap, still}
 use Rattle.eval_machine.proofs.Openings.{none_of}

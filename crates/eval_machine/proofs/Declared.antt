@@ -1,11 +1,7 @@
 -- The locals that groups declare.
-use Rattle.std.proofs.Common.{◌≡◌, ℕ, zero, suc, ◌+◌, ◌<◌, arith, List, [], ◌∷◌, ◌++◌, length, drop, get_or, drop-cons, refl, sym, ap, ◌∙◌, append_assoc}
-use Rattle.std.proofs.lemmas.List.{length-append}
-use Rattle.wasm_tree.specs.declared.types.ValType.{ValType}
-use Rattle.wasm_tree.specs.declared.module.LocalGroup.{LocalGroup}
-use Rattle.wasm_meaning.specs.Outcomes.{copies}
-use Rattle.wasm_meaning.specs.State.{Val}
-use Rattle.wasm_meaning.specs.Values.{declared, zero_of, zeros}
+use Rattle.base_lists.proofs.Common.{◌≡◌, ℕ, zero, suc, ◌+◌, ◌<◌, arith, List, [], ◌∷◌, ◌++◌, length, drop, get_or, drop-cons, refl, sym, ap, ◌∙◌, append_assoc, length-append}
+use Rattle.wasm_tree_spec.specs.Prelude.{ValType, LocalGroup}
+use Rattle.wasm_meaning.specs.Prelude.{copies, Val, declared, zero_of, zeros}
 
 pub zeros_more : (n : ℕ) (t : ValType) → zeros (copies n t) ++ zero_of t ∷ [] ≡ zeros (copies (n + 1) t)
 zeros_more zero t = refl

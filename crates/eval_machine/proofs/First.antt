@@ -1,42 +1,21 @@
 -- The state at first of a valid module, in which nothing was copied yet.
-use Rattle.std.proofs.Common.{◌≡◌, ℕ, zero, suc, ◌+◌, ◌-◌, ◌*◌, ◌<◌, List, [], map, length, Bool, true, false, cond, ◌&&◌, not, Option, Some, None, refl, sym, ap, ◌∙◌, inl, inr, arith, subst}
-use Rattle.std.specs.Prelude.{nat_lt, slice_get}
-use Rattle.std.proofs.lemmas.Bool.{cases_lt, lt-ltb, le-ltb, ltb-true}
-use Rattle.std.proofs.lemmas.List.{length-map}
-use Rattle.std.proofs.lemmas.Option.{same_Some, slice_get_within}
+use Rattle.base_lists.proofs.Common.{◌≡◌, ℕ, zero, suc, ◌+◌, ◌-◌, ◌*◌, ◌<◌, List, [], map, length, Bool, true, false, cond, ◌&&◌, not, Option, Some, None, refl, sym, ap, ◌∙◌, inl, inr, arith, subst, nat_lt, slice_get, cases_lt, lt-ltb, le-ltb, ltb-true, length-map, same_Some, slice_get_within, and_then_is, all_there_at, all_there_from, left_true, numbers_at, append_left, append_right, map_at, slice_get_there}
 use Rattle.base_lists.specs.Options.{◌>>=◌, all_there}
-use Rattle.base_lists.proofs.Options.{and_then_is, all_there_at, all_there_from}
-use Rattle.base_lists.proofs.Bools.{left_true}
-use Rattle.base_lists.proofs.Numbers.{numbers_at}
-use Rattle.base_lists.proofs.Places.{append_left, append_right, map_at, slice_get_there}
-use Rattle.wasm_tree.specs.declared.types.RefType.{RefType}
+use Rattle.wasm_tree_spec.specs.Prelude.{RefType, ValType, TableType, GlobalType, ConstExpr, ElemSeg, Module, funcs_of, globals_of, imported_tables, imported_globals}
 use Rattle.wasm_tree.specs.declared.types.RefType.TheVariants as reft
-use Rattle.wasm_tree.specs.declared.types.ValType.{ValType}
 use Rattle.wasm_tree.specs.declared.types.ValType.TheVariants as valt
-use Rattle.wasm_tree.specs.declared.types.TableType.{TableType}
-use Rattle.wasm_tree.specs.declared.types.GlobalType.{GlobalType}
-use Rattle.wasm_tree.specs.declared.module.ConstExpr.{ConstExpr}
 use Rattle.wasm_tree.specs.declared.module.ConstExpr.TheVariants as const
-use Rattle.wasm_tree.specs.declared.module.ElemSeg.{ElemSeg}
 use Rattle.wasm_tree.specs.declared.module.Func as tree
-use Rattle.wasm_tree.specs.declared.module.Module.{Module}
-use Rattle.wasm_tree.specs.Spaces.{funcs_of, globals_of, imported_tables, imported_globals}
 use Rattle.wasm_num.specs.Operations.{W32, W64, wrapped}
 use Rattle.wasm_valid_bodies.specs.Typing.{only}
-use Rattle.wasm_valid.specs.Constants.{const_type}
+use Rattle.wasm_valid.specs.Prelude.{const_type, HoldsAt, count_of}
 use Rattle.wasm_valid.specs.declared.kinds.ItemKind.{ItemKind}
 use Rattle.wasm_valid.specs.declared.kinds.ItemKind.TheVariants as kind
-use Rattle.wasm_valid.specs.Validity.{HoldsAt, count_of}
-use Rattle.wasm_meaning.specs.Outcomes.{copies}
-use Rattle.wasm_meaning.specs.State.{RefVal, FuncRef, ExternRef, Val, Num, Ref, Func, Code, Global, Elem, Table, Store}
-use Rattle.wasm_meaning.specs.Values.{type_of, zero_of, ref_of, null_of, declared}
-use Rattle.wasm_meaning.specs.World.{elem_with, global_with, joined_stores, new_elem, new_func}
+use Rattle.wasm_meaning.specs.Prelude.{copies, RefVal, FuncRef, ExternRef, Val, Num, Ref, Func, Code, Global, Elem, Table, Store, type_of, zero_of, ref_of, null_of, declared, elem_with, global_with, joined_stores, new_elem, new_func}
 use Rattle.wasm_meaning.proofs.Slices.{copies_length}
-use Rattle.eval_spec.specs.State.{State}
-use Rattle.eval_spec.specs.Instantiation.{own_inst, imported_store, none_written, state_at_first, unknown_at_first, value_in}
-use Rattle.eval_machine.specs.Begun.{StartsAs, refs_in}
-use Rattle.eval_machine.specs.Slots.{IsSlot, StandsAs, defined_table, null_in, slot_count, slots_declared}
-use Rattle.eval_machine.specs.Held.{val_of}
+use Rattle.eval_spec.specs.Prelude.{State, own_inst, imported_store, none_written, state_at_first, unknown_at_first, value_in}
+use Rattle.eval_machine.specs.Prelude.{StartsAs, refs_in, IsSlot, defined_table, slot_count, val_of}
+use Rattle.eval_machine.specs.Slots.{StandsAs, null_in, slots_declared}
 use Rattle.eval_machine.proofs.Chosen.{none_mapped}
 use Rattle.eval_machine.specs.Slots as own
 use Rattle.eval_machine.specs.declared.slots.Slot.TheVariants as slot

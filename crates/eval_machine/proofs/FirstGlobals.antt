@@ -1,30 +1,18 @@
 -- The globals, pages and segments that an instantiation begins with.
-use Rattle.std.proofs.Common.{◌≡◌, ℕ, zero, suc, ◌+◌, ◌*◌, ◌<◌, ◌≤◌, List, [], ◌∷◌, ◌++◌, map, length, take, replicate, false, Option, Some, None, refl, sym, ap, ap₂, ◌∙◌, arith}
-use Rattle.std.specs.Prelude.{get_or, min, slice_get}
-use Rattle.std.proofs.lemmas.List.{append-nil, map-append, length-replicate, replicate-append-replicate}
-use Rattle.std.proofs.lemmas.List.Elements.{filter_map-append}
-use Rattle.std.proofs.lemmas.Option.{same_Some, slice_get-get_or}
+use Rattle.base_lists.proofs.Common.{◌≡◌, ℕ, zero, suc, ◌+◌, ◌*◌, ◌<◌, ◌≤◌, List, [], ◌∷◌, ◌++◌, map, length, take, replicate, false, Option, Some, None, refl, sym, ap, ap₂, ◌∙◌, arith, get_or, min, slice_get, map-append, length-replicate, filter_map-append, same_Some, slice_get-get_or}
+use Rattle.std.proofs.lemmas.List.{append-nil, replicate-append-replicate}
 use Rattle.base_lists.specs.Options.{◌>>=◌, all_there}
-use Rattle.wasm_tree.specs.declared.types.GlobalType.{GlobalType}
-use Rattle.wasm_tree.specs.declared.types.Limits.{Limits}
-use Rattle.wasm_tree.specs.declared.module.DataSeg.{DataSeg}
-use Rattle.wasm_tree.specs.declared.module.GlobalDef.{GlobalDef}
-use Rattle.wasm_tree.specs.declared.module.Import.{Import}
-use Rattle.wasm_tree.specs.declared.module.Module.{Module}
-use Rattle.wasm_tree.specs.Spaces.{global_of as global_imported, imported_globals}
-use Rattle.wasm_valid.specs.Constants.{const_type}
-use Rattle.wasm_meaning.specs.Outcomes.{copies}
-use Rattle.wasm_meaning.specs.State.{Global}
-use Rattle.wasm_meaning.specs.Values.{zero_of}
-use Rattle.wasm_meaning.specs.World.{global_with}
-use Rattle.eval_spec.specs.Instantiation.{value_in}
+use Rattle.wasm_tree_spec.specs.Prelude.{GlobalType, Limits, DataSeg, GlobalDef, Import, Module, imported_globals}
+use Rattle.wasm_tree.specs.Spaces.{global_of as global_imported}
+use Rattle.wasm_valid.specs.Prelude.{const_type}
+use Rattle.wasm_meaning.specs.Prelude.{copies, Global, zero_of, global_with}
+use Rattle.eval_spec.specs.Prelude.{value_in}
 use Rattle.eval_machine.specs.declared.globals.GlobalSlot.{GlobalSlot}
 use Rattle.eval_machine.specs.declared.globals.Standing.TheVariants as standing
 use Rattle.block_pool.specs.Pages.{Pages, blank, blocks_of}
 use Rattle.eval_spec.specs.declared.limits.TheConstants.{MOST_BLOCKS}
 use Rattle.eval_machine.specs.Begun.{IsBlank, LimitsFew, standing_of}
-use Rattle.eval_machine.specs.Held.{global_of, val_of}
-use Rattle.eval_machine.specs.Kept.{datas_in}
+use Rattle.eval_machine.specs.Prelude.{global_of, val_of, datas_in}
 
 -- ---- one after the other ----
 

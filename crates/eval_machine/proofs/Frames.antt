@@ -1,27 +1,16 @@
 -- Quiet steps of levels that are opened, of frames and of calls, as the machine makes them.
-use Rattle.std.proofs.Common.{◌≡◌, ℕ, zero, suc, ◌+◌, ◌-◌, ◌/◌, ◌<◌, ◌≤◌, arith, List, [], ◌∷◌, ◌++◌, length, drop, get_or, slice_get, Bool, true, false, Option, Some, None, refl, sym, ap, ◌∙◌, subst}
-use Rattle.std.specs.Prelude.{nat_le, nat_lt}
-use Rattle.std.proofs.lemmas.Bool.{lt-leb, lt-ltb, le-ltb}
-use Rattle.wasm_tree.specs.declared.types.ValType.{ValType}
-use Rattle.wasm_tree.specs.declared.types.FuncType.{FuncType}
-use Rattle.wasm_tree.specs.declared.instr.Instr.{Instr}
-use Rattle.wasm_tree.specs.declared.module.Module.{Module}
-use Rattle.wasm_meaning.specs.Outcomes.{Outcome, Gives, Traps, IllTyped, bind, onto, or_ill_typed, split_at}
-use Rattle.wasm_meaning.specs.State.{Pair, Val, Code, Own, Entry, Running, Act, Ends, Next}
-use Rattle.wasm_meaning.specs.Values.{pop_typed, zeros}
-use Rattle.wasm_meaning.specs.Step.{give, perform}
+use Rattle.base_lists.proofs.Common.{◌≡◌, ℕ, zero, suc, ◌+◌, ◌-◌, ◌/◌, ◌<◌, ◌≤◌, arith, List, [], ◌∷◌, ◌++◌, length, drop, get_or, slice_get, Bool, true, false, Option, Some, None, refl, sym, ap, ◌∙◌, subst, nat_le, nat_lt, lt-leb, lt-ltb, le-ltb}
+use Rattle.wasm_tree_spec.specs.Prelude.{ValType, FuncType, Instr, Module}
+use Rattle.wasm_meaning.specs.Prelude.{Outcome, Gives, Traps, IllTyped, bind, onto, or_ill_typed, split_at, Pair, Val, Code, Own, Entry, Running, Act, Ends, Next, pop_typed, zeros, give, perform}
 use Rattle.eval_spec.specs.declared.limits.TheConstants.{MOST_DEPTH}
 use Rattle.eval_spec.specs.declared.stop.Stop.TheVariants as why
-use Rattle.eval_spec.specs.State.{State, Stage, Stopped, tried}
-use Rattle.eval_spec.specs.Stops.{gives_nothing, stack_depth, test}
-use Rattle.eval_spec.specs.Quiet.{ComesTo, here, on, came_to}
-use Rattle.eval_spec.specs.Instantiation.{own_inst}
+use Rattle.eval_spec.specs.Prelude.{State, Stage, Stopped, tried, gives_nothing, stack_depth, test, ComesTo, here, on, came_to, own_inst}
 use Rattle.eval_machine.specs.declared.registers.Registers.{Registers}
 use Rattle.eval_machine.specs.declared.registers.Opening.{Opening}
 use Rattle.eval_machine.specs.declared.registers.Flow.{Flow}
 use Rattle.eval_machine.specs.declared.registers.Flow.TheVariants as flow
-use Rattle.eval_machine.specs.Kept.{state_in, store_in}
-use Rattle.eval_machine.specs.Flows.{Place, RunsCode, back_of, called, depth, entered, frame_at, given, level_at, opened_by, outcome, running}
+use Rattle.eval_machine.specs.Prelude.{state_in, store_in, Place, called, depth, frame_at, running}
+use Rattle.eval_machine.specs.Flows.{RunsCode, back_of, entered, given, level_at, opened_by, outcome}
 use Rattle.eval_machine.proofs.Levels.{and_then, inner, inner_depth}
 use Rattle.eval_machine.proofs.Typed.{results_cut}
 

@@ -1,41 +1,21 @@
 -- The functions of a module that is instantiated: those that are imported, and then the code of those that it defines.
-use Rattle.std.proofs.Common.{◌≡◌, ℕ, zero, suc, ◌+◌, ◌-◌, ◌<◌, ◌≤◌, arith, List, [], ◌∷◌, ◌++◌, length, map, slice_get, Bool, true, false, cond, Option, Some, None, refl, sym, ap, ◌∙◌, subst}
-use Rattle.std.specs.Prelude.{nat_lt, unwrap_or}
-use Rattle.std.specs.List.{filter_map}
-use Rattle.std.proofs.lemmas.List.{length-append, length-map}
-use Rattle.std.proofs.lemmas.Option.{none-some, same_Some, slice_get_past}
+use Rattle.base_lists.proofs.Common.{◌≡◌, ℕ, zero, suc, ◌+◌, ◌-◌, ◌<◌, ◌≤◌, arith, List, [], ◌∷◌, ◌++◌, length, map, slice_get, Bool, true, false, cond, Option, Some, None, refl, sym, ap, ◌∙◌, subst, nat_lt, filter_map, length-append, length-map, none-some, same_Some, slice_get_past, all_there_at, all_there_length, append_left, append_right, slice_get_there, none_past}
+use Rattle.std.specs.Prelude.{unwrap_or}
 use Rattle.base_lists.specs.Options.{◌>>=◌, all_there}
-use Rattle.base_lists.proofs.Options.{all_there_at, all_there_length}
-use Rattle.wasm_tree.specs.declared.types.FuncType.{FuncType}
+use Rattle.wasm_tree_spec.specs.Prelude.{FuncType, Import, ElemSeg, ElemMode, DataSeg, DataMode, Module, func_of, funcs_of, imported_funcs, memories_of}
 use Rattle.wasm_tree.specs.declared.module.Func.{Func as FuncDef}
-use Rattle.wasm_tree.specs.declared.module.Import.{Import}
-use Rattle.wasm_valid.specs.Validity.{IsValid}
-use Rattle.wasm_tree.specs.declared.module.ElemSeg.{ElemSeg}
-use Rattle.wasm_tree.specs.declared.module.ElemMode.{ElemMode}
+use Rattle.wasm_valid.specs.Prelude.{IsValid}
 use Rattle.wasm_tree.specs.declared.module.ElemMode.TheVariants as elem
-use Rattle.wasm_tree.specs.declared.module.DataSeg.{DataSeg}
-use Rattle.wasm_tree.specs.declared.module.DataMode.{DataMode}
 use Rattle.wasm_tree.specs.declared.module.DataMode.TheVariants as data'
-use Rattle.wasm_tree.specs.declared.module.Module.{Module}
-use Rattle.wasm_tree.specs.Spaces.{func_of, funcs_of, imported_funcs, memories_of}
-use Rattle.base_lists.proofs.Places.{append_left, append_right, slice_get_there}
-use Rattle.base_lists.proofs.Walk.{none_past}
 use Rattle.wasm_num.specs.Operations.{W32}
-use Rattle.wasm_meaning.specs.Outcomes.{overwrite}
-use Rattle.wasm_meaning.specs.State.{Pair, RefVal, Func, Code, Own, Table, Memory, Global, Elem, Data, Store}
-use Rattle.wasm_meaning.specs.Values.{declared, num_of}
-use Rattle.wasm_meaning.specs.Linking.{pair_of}
-use Rattle.wasm_meaning.specs.World.{Filled, PlacedSegment, copy_slots, copy_bytes, elem_with, global_with, new_func, or_trapped, run_elem_with, run_data_with, segments_in}
+use Rattle.wasm_meaning.specs.Prelude.{overwrite, Pair, RefVal, Func, Code, Own, Table, Memory, Global, Elem, Data, Store, declared, num_of, pair_of, Filled, PlacedSegment, copy_slots, copy_bytes, elem_with, global_with, new_func, or_trapped, run_elem_with, run_data_with, segments_in, Gives, Bytes}
 use Rattle.eval_spec.specs.declared.limits.TheConstants.{MOST_TURNS}
 use Rattle.eval_spec.specs.declared.stop.Stop.TheVariants as why
-use Rattle.eval_spec.specs.State.{State, Stage, Going, Stopped, Finished, Test, first_held, is_finished, state_of, stopped_or}
-use Rattle.wasm_meaning.specs.Outcomes.{Gives}
-use Rattle.wasm_meaning.specs.Touched.{Bytes}
-use Rattle.eval_spec.specs.Stops.{written_after}
-use Rattle.eval_spec.specs.Instantiation.{copied_slots, data_tests, elem_tests, imported_func, place_in, in_order, instantiated, filled_from, own_inst, state_at_first, value_in, with_data, with_data_mode, with_elem, with_elem_mode, with_segments}
+use Rattle.eval_spec.specs.Prelude.{State, Stage, Going, Stopped, Finished, Test, first_held, is_finished, state_of, stopped_or, written_after, copied_slots, data_tests, elem_tests, imported_func, place_in, in_order, instantiated, filled_from, own_inst, state_at_first, value_in, with_data, with_data_mode, with_elem, with_elem_mode, with_segments}
 use Rattle.eval_references_proof.proofs.Imports.{ImportsTyped, imports_many, imports_typed}
 use Rattle.eval_machine.specs.declared.kept.Kept.{Kept}
-use Rattle.eval_machine.specs.Kept.{Fits, base_of, no_state, store_in}
+use Rattle.eval_machine.specs.Prelude.{Fits, store_in}
+use Rattle.eval_machine.specs.Kept.{base_of, no_state}
 
 -- ---- segments leave functions as they are ----
 

@@ -1,41 +1,23 @@
 -- Instructions on globals and references to functions, and which globals are unknown.
-use Rattle.std.proofs.Common.{◌≡◌, ℕ, zero, suc, ◌+◌, ◌<◌, ◌≤◌, arith, List, [], ◌∷◌, length, map, slice_get, slice_set, Bool, true, false, cond, not, ◌&&◌, Option, Some, None, Ok, Err, refl, sym, ap, ap₂, ◌∙◌}
-use Rattle.std.specs.Prelude.{IsSome, MatchOption, nat_eq}
-use Rattle.std.specs.List.{filter}
-use Rattle.std.proofs.lemmas.Bool.{le-ltb, ne_eqb, eq-eqb}
-use Rattle.std.proofs.lemmas.List.{length-append, length-map}
-use Rattle.std.proofs.lemmas.Option.{slice_get_past, slice_get_within}
+use Rattle.base_lists.proofs.Common.{◌≡◌, ℕ, zero, suc, ◌+◌, ◌<◌, ◌≤◌, arith, List, [], ◌∷◌, length, map, slice_get, slice_set, Bool, true, false, cond, not, ◌&&◌, Option, Some, None, Ok, Err, refl, sym, ap, ap₂, ◌∙◌, IsSome, nat_eq, filter, le-ltb, ne_eqb, eq-eqb, length-append, length-map, slice_get_past, slice_get_within, length-numbers, map_at, none_past}
+use Rattle.std.specs.Prelude.{MatchOption}
 use Rattle.base_lists.specs.Places.{places}
-use Rattle.base_lists.proofs.Numbers.{length-numbers}
-use Rattle.base_lists.proofs.Places.{map_at}
-use Rattle.base_lists.proofs.Walk.{none_past}
-use Rattle.wasm_tree.specs.declared.space.Space.TheVariants.{Globals}
+use Rattle.wasm_tree_spec.specs.Prelude.{Globals, Instr, Module, globals_of, imported_globals, same_type}
 use Rattle.wasm_tree.specs.declared.instr.Instr.TheVariants as i
-use Rattle.wasm_tree.specs.declared.instr.Instr.{Instr}
 use Rattle.wasm_tree.specs.declared.instr.Instr.TheOpen.{Instr-F}
-use Rattle.wasm_tree.specs.declared.module.Module.{Module}
-use Rattle.wasm_tree.specs.Spaces.{globals_of, imported_globals}
-use Rattle.wasm_meaning.specs.Outcomes.{Outcome, Gives}
-use Rattle.wasm_meaning.specs.State.{Val, Entry, Running, Act, Goes, SetGlobal}
-use Rattle.index_remap.specs.References.{is_among}
+use Rattle.wasm_meaning.specs.Prelude.{Outcome, Gives, Val, Entry, Running, Act, Goes, SetGlobal, global_put, type_of}
+use Rattle.index_remap.specs.Prelude.{is_among}
 use Rattle.eval_spec.specs.declared.stop.Stop.{Stop}
 use Rattle.eval_spec.specs.declared.stop.Stop.TheVariants as why
-use Rattle.wasm_tree.specs.SameTypes.{same_type}
-use Rattle.wasm_meaning.specs.Values.{global_put, type_of}
-use Rattle.eval_spec.specs.State.{Going, Stopped}
-use Rattle.eval_spec.specs.Stops.{is_imported}
-use Rattle.eval_spec.specs.Instantiation.{own_inst}
+use Rattle.eval_spec.specs.Prelude.{Going, Stopped, is_imported, own_inst}
 use Rattle.eval_machine.specs.declared.globals.GlobalSlot.{GlobalSlot}
 use Rattle.eval_machine.specs.declared.globals.Standing.{Standing}
 use Rattle.eval_machine.specs.declared.globals.Standing.TheVariants as standing
 use Rattle.eval_machine.specs.declared.kept.Kept.{Kept}
 use Rattle.eval_machine.specs.declared.registers.Registers.{Registers}
 use Rattle.eval_machine.specs.declared.value.Value.{Value}
-use Rattle.eval_machine.specs.Held.{Meets, ended, global_of, global_written, slot_written, is_of_import, is_unset, read_of, val_of}
-use Rattle.eval_machine.specs.Kept.{Fits, base_of, state_in, store_in}
-use Rattle.eval_machine.specs.Stays.{Stays}
-use Rattle.eval_machine.specs.Flows.{Place, body_at, frame_at, running}
-use Rattle.eval_machine.specs.Instructions.{BeginsWith, begun, done_by}
+use Rattle.eval_machine.specs.Prelude.{ended, global_of, is_of_import, is_unset, val_of, Fits, base_of, state_in, store_in, Stays, Place, body_at, frame_at, running, BeginsWith, begun, done_by}
+use Rattle.eval_machine.specs.Held.{Meets, global_written, slot_written, read_of}
 use Rattle.eval_machine.proofs.Chosen.{set_mapped}
 use Rattle.eval_machine.proofs.Stays.{memory_stays, stays_same}
 use Rattle.eval_machine.proofs.Imports.{address_of, globals_many}

@@ -1,45 +1,25 @@
 -- A call that the host makes, as the machine makes it.
-use Rattle.std.proofs.Common.{◌≡◌, ℕ, zero, suc, ◌+◌, ◌-◌, ◌/◌, ◌<◌, ◌≤◌, List, [], ◌∷◌, map, length, Bool, true, false, Option, Some, None, refl, sym, ap, ◌∙◌, inl, inr, arith, slice_get, length-append}
-use Rattle.std.specs.Prelude.{nat_lt, IsSome}
-use Rattle.std.specs.List.{filter_map}
-use Rattle.std.proofs.lemmas.Bool.{cases_lt}
-use Rattle.std.proofs.lemmas.Option.{same_Some, slice_get_within}
-use Rattle.std.proofs.lemmas.List.{length-map}
-use Rattle.base_lists.proofs.Options.{and_then_is}
-use Rattle.base_lists.proofs.Filtered.{chosen_from}
-use Rattle.base_lists.proofs.Places.{append_at_left, append_left, append_right, map_at, slice_get_none, slice_get_there}
-use Rattle.wasm_tree.specs.declared.types.FuncType.{FuncType}
-use Rattle.wasm_tree.specs.declared.types.ValType.{ValType}
-use Rattle.wasm_tree.specs.declared.instr.Instr.{Instr}
+use Rattle.base_lists.proofs.Common.{◌≡◌, ℕ, zero, suc, ◌+◌, ◌-◌, ◌/◌, ◌<◌, ◌≤◌, List, [], ◌∷◌, map, length, Bool, true, false, Option, Some, None, refl, sym, ap, ◌∙◌, inl, inr, arith, slice_get, nat_lt, IsSome, filter_map, cases_lt, same_Some, slice_get_within, length-map, and_then_is, chosen_from, append_at_left, append_left, append_right, map_at, slice_get_none, slice_get_there}
+use Rattle.std.proofs.Common.{length-append}
+use Rattle.wasm_tree_spec.specs.Prelude.{FuncType, ValType, Instr, Import, ImportDesc, Module, func_of, funcs_of, imported_funcs, type_of_func}
 use Rattle.wasm_tree.specs.declared.module.Func.{Func as FuncDef}
-use Rattle.wasm_tree.specs.declared.module.Import.{Import}
-use Rattle.wasm_tree.specs.declared.module.ImportDesc.{ImportDesc}
 use Rattle.wasm_tree.specs.declared.module.ImportDesc.TheVariants as im
-use Rattle.wasm_tree.specs.declared.module.Module.{Module}
-use Rattle.wasm_tree.specs.Spaces.{func_of, funcs_of, imported_funcs, type_of_func}
 use Rattle.wasm_valid.specs.declared.kinds.ItemKind.TheVariants as kind
-use Rattle.wasm_valid.specs.Validity.{ImportHolds, IsValid}
-use Rattle.wasm_meaning.specs.Linking.{pair_of}
-use Rattle.wasm_meaning.specs.State.{Pair, Func, Code, Own, Mark}
-use Rattle.wasm_meaning.specs.Values.{declared}
+use Rattle.wasm_valid.specs.Prelude.{ImportHolds, IsValid}
+use Rattle.wasm_meaning.specs.Prelude.{pair_of, Pair, Func, Code, Own, Mark, declared}
 use Rattle.wasm_meaning.specs.Control.{type_of_func as type_of}
 use Rattle.eval_spec.specs.declared.limits.TheConstants.{MOST_TURNS}
 use Rattle.eval_spec.specs.declared.stop.Stop.{Stop}
 use Rattle.eval_spec.specs.declared.stop.Stop.TheVariants as why
-use Rattle.eval_spec.specs.State.{State, Stage, Going, Stopped, Finished, is_going, stop_of}
-use Rattle.eval_spec.specs.Stops.{takes_and_gives_nothing}
-use Rattle.eval_spec.specs.Quiet.{ComesTo, here, call_end, host_call, host_opened}
-use Rattle.eval_spec.specs.Instantiation.{after_start, booted, imported_func, instantiated, own_inst}
+use Rattle.eval_spec.specs.Prelude.{State, Stage, Going, Stopped, Finished, is_going, stop_of, takes_and_gives_nothing, ComesTo, here, call_end, host_call, host_opened, after_start, booted, imported_func, instantiated, own_inst}
 use Rattle.eval_proof.specs.Laws.{QuietEndsAreUnique}
 use Rattle.eval_machine.specs.declared.kept.Kept.{Kept}
 use Rattle.eval_machine.specs.declared.registers.Registers.{Registers}
-use Rattle.eval_machine.specs.Begun.{IsInstantiated}
-use Rattle.eval_machine.specs.Calls.{CallEnds, IsReady, StopsBoot}
+use Rattle.eval_machine.specs.Prelude.{IsInstantiated, CallEnds, IsReady, MemoryStays, Stays, Fits, IsUnmarked, base_of, state_in}
+use Rattle.eval_machine.specs.Calls.{StopsBoot}
 use Rattle.eval_machine.specs.Flows.{RunsFrame, entered}
 use Rattle.block_pool.specs.Pages.{Pages}
-use Rattle.eval_machine.specs.Stays.{MemoryStays, Stays}
 use Rattle.eval_machine.proofs.Stays.{fits_still}
-use Rattle.eval_machine.specs.Kept.{Fits, IsUnmarked, base_of, state_in}
 use Rattle.eval_machine.proofs.First.{ItemsHold}
 use Rattle.eval_machine.proofs.References.{is_ready}
 use Rattle.eval_references_proof.specs.References.{EvaluatedGlobalsAreTyped, EvaluatedRefsAreThere}

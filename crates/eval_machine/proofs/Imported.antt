@@ -1,21 +1,15 @@
 -- What stops an active element segment.
-use Rattle.std.proofs.Common.{◌≡◌, ℕ, ℤ, ◌+◌, ◌<◌, ◌≤◌, List, length, true, false, Some, None, refl, ap, ◌∙◌}
-use Rattle.std.specs.Prelude.{nat_lt}
-use Rattle.std.proofs.lemmas.Bool.{lt-ltb, le-ltb, le-leb, or_right}
-use Rattle.wasm_tree.specs.declared.space.Space.TheVariants.{Tables}
-use Rattle.wasm_tree.specs.declared.types.TableType.{TableType}
-use Rattle.wasm_tree.specs.declared.module.ConstExpr.{ConstExpr}
+use Rattle.base_lists.proofs.Common.{◌≡◌, ℕ, ℤ, ◌+◌, ◌<◌, ◌≤◌, List, length, true, false, Some, None, refl, ap, ◌∙◌, nat_lt, lt-ltb, le-ltb, le-leb}
+use Rattle.std.proofs.lemmas.Bool.{or_right}
+use Rattle.wasm_tree_spec.specs.Prelude.{Tables, TableType, ConstExpr, Module, imported_tables}
 use Rattle.wasm_tree.specs.declared.module.ConstExpr.TheVariants as const
-use Rattle.wasm_tree.specs.declared.module.Module.{Module}
-use Rattle.wasm_tree.specs.Spaces.{imported_tables}
 use Rattle.wasm_num.specs.Operations.{wrapped}
 use Rattle.eval_spec.specs.declared.stop.Stop.TheVariants as why
-use Rattle.eval_spec.specs.Stops.{is_imported}
-use Rattle.eval_spec.specs.Instantiation.{reads_global}
-use Rattle.eval_machine.specs.Begun.{CopiesItems, FillsSlots, elem_stop, has_slots}
+use Rattle.eval_spec.specs.Prelude.{is_imported, reads_global}
+use Rattle.eval_machine.specs.Prelude.{CopiesItems, defined_table}
+use Rattle.eval_machine.specs.Begun.{FillsSlots, elem_stop, has_slots}
 use Rattle.eval_machine.specs.declared.slots.Slot.{Slot}
 use Rattle.eval_machine.proofs.Imports.{tables_many}
-use Rattle.eval_machine.specs.Slots.{defined_table}
 
 -- ---- what stops an element segment ----
 

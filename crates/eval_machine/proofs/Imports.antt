@@ -1,16 +1,9 @@
 -- How many of an index space are imported, and addresses that are indices.
-use Rattle.std.proofs.Common.{◌≡◌, ℕ, ◌+◌, ◌<◌, arith, length, slice_get, Some, refl, ap, ◌∙◌}
-use Rattle.std.specs.Prelude.{is_some}
+use Rattle.base_lists.proofs.Common.{◌≡◌, ℕ, ◌+◌, ◌<◌, arith, length, slice_get, Some, refl, ap, ◌∙◌, is_some, numbers_at, places_many}
 use Rattle.base_lists.specs.Places.{numbers}
-use Rattle.base_lists.proofs.Numbers.{numbers_at}
-use Rattle.base_lists.proofs.Filtered.{places_many}
-use Rattle.wasm_tree.specs.declared.space.Space.TheVariants.{Tables, Memories, Globals}
-use Rattle.wasm_tree.specs.declared.module.ImportDesc.{ImportDesc}
+use Rattle.wasm_tree_spec.specs.Prelude.{Tables, Memories, Globals, ImportDesc, Module, space_of_import, table_of, memory_of, global_of, imported_tables, imported_memories, imported_globals, same_space}
 use Rattle.wasm_tree.specs.declared.module.ImportDesc.TheVariants as im
-use Rattle.wasm_tree.specs.declared.module.Module.{Module}
-use Rattle.wasm_tree.specs.Spaces.{space_of_import, table_of, memory_of, global_of, imported_tables, imported_memories, imported_globals}
-use Rattle.wasm_tree.specs.Operands.{same_space}
-use Rattle.wasm_meaning.specs.Linking.{has_kind, imports_of}
+use Rattle.wasm_meaning.specs.Prelude.{has_kind, imports_of}
 
 -- each index is its own address
 pub address_of : (count n : ℕ) → n < count → slice_get (numbers 0 count) n ≡ Some n

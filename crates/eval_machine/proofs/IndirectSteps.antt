@@ -1,38 +1,25 @@
 -- Calls through a table.
-use Rattle.std.proofs.Common.{◌≡◌, ℕ, ◌/◌, ◌<◌, ◌≤◌, List, [], ◌∷◌, length, slice_get, Bool, true, false, Option, Some, None, Err, refl, ap, ◌∙◌, inl, inr}
-use Rattle.std.specs.Prelude.{nat_le, nat_lt}
-use Rattle.std.proofs.lemmas.Option.{same_Some}
+use Rattle.base_lists.proofs.Common.{◌≡◌, ℕ, ◌/◌, ◌<◌, ◌≤◌, List, [], ◌∷◌, length, slice_get, Bool, true, false, Option, Some, None, Err, refl, ap, ◌∙◌, inl, inr, nat_le, nat_lt, same_Some}
 use Rattle.base_lists.specs.Options.{◌>>=◌}
-use Rattle.wasm_tree.specs.declared.space.Space.TheVariants.{Types}
-use Rattle.wasm_tree.specs.declared.types.FuncType.{FuncType}
-use Rattle.wasm_tree.specs.declared.types.ValType.{ValType}
+use Rattle.wasm_tree_spec.specs.Prelude.{Types, FuncType, ValType, Instr, Module, same_func_type}
 use Rattle.wasm_tree.specs.declared.instr.Instr.TheVariants as i
-use Rattle.wasm_tree.specs.declared.instr.Instr.{Instr}
 use Rattle.wasm_tree.specs.declared.instr.Instr.TheOpen.{Instr-F}
-use Rattle.wasm_tree.specs.declared.module.Module.{Module}
-use Rattle.wasm_tree.specs.SameTypes.{same_func_type}
 use Rattle.wasm_num.specs.Operations.{W32, W64}
-use Rattle.wasm_valid.specs.Validity.{IsValid}
-use Rattle.wasm_meaning.specs.Control.{own_at, type_at}
-use Rattle.wasm_meaning.specs.World.{is_there}
-use Rattle.wasm_meaning.specs.Outcomes.{Outcome, Gives, Traps, IllTyped}
-use Rattle.wasm_meaning.specs.State.{RefVal, FuncRef, ExternRef, Val, Num, Ref, Table, Func, Code, Entry, Act, Calls}
-use Rattle.wasm_meaning.specs.Values.{pop_num, pop_typed}
+use Rattle.wasm_valid.specs.Prelude.{IsValid}
+use Rattle.wasm_meaning.specs.Prelude.{own_at, type_at, is_there, Outcome, Gives, Traps, IllTyped, RefVal, FuncRef, ExternRef, Val, Num, Ref, Table, Func, Code, Entry, Act, Calls, pop_num, pop_typed}
 use Rattle.eval_spec.specs.declared.limits.TheConstants.{MOST_DEPTH}
 use Rattle.eval_spec.specs.declared.stop.Stop.TheVariants as why
-use Rattle.eval_spec.specs.Stops.{calls_import, func_in_slot, referred_func, uses_unknown}
-use Rattle.eval_spec.specs.Instantiation.{own_inst}
+use Rattle.eval_spec.specs.Prelude.{calls_import, uses_unknown, own_inst}
+use Rattle.eval_spec.specs.Stops.{func_in_slot, referred_func}
 use Rattle.eval_machine.specs.declared.registers.Registers.{Registers}
 use Rattle.eval_machine.specs.declared.registers.Act.{Act as MachineAct}
 use Rattle.eval_machine.specs.declared.registers.Act.TheVariants as act
 use Rattle.eval_machine.specs.declared.registers.Flow.TheVariants as flow
 use Rattle.eval_machine.specs.declared.value.Value.{Value}
 use Rattle.eval_machine.specs.declared.slots.Slot.TheVariants as slot
-use Rattle.eval_machine.specs.Held.{ended, func_of, val_of}
-use Rattle.eval_machine.specs.Flows.{Place, body_at, called, depth}
-use Rattle.eval_machine.specs.Kept.{Fits, base_of, state_in, store_in}
-use Rattle.eval_machine.specs.Slots.{IsSlot, is_unknown_in, ref_in, slot_count}
-use Rattle.eval_machine.specs.Instructions.{ComesToAct, Reaches, begun_by, done_by, env_in, type_matches}
+use Rattle.eval_machine.specs.Prelude.{ended, val_of, Place, body_at, called, depth, Fits, base_of, state_in, store_in, IsSlot, is_unknown_in, ref_in, slot_count, ComesToAct, begun_by, done_by, env_in}
+use Rattle.eval_machine.specs.Held.{func_of}
+use Rattle.eval_machine.specs.Instructions.{Reaches, type_matches}
 use Rattle.eval_machine.proofs.Callings.{either}
 use Rattle.eval_machine.proofs.DataSteps.{none_before}
 use Rattle.eval_machine.proofs.Funcs.{funcs_now_are}

@@ -1,31 +1,18 @@
 -- memory.init, and where a data segment is found.
-use Rattle.std.proofs.Common.{◌≡◌, ℕ, zero, suc, ◌+◌, ◌-◌, ◌/◌, ◌<◌, ◌≤◌, arith, List, [], ◌∷◌, length, slice_get, Bool, true, false, Option, Some, None, Err, refl, sym}
-use Rattle.std.proofs.lemmas.Option.{same_Some, slice_get_within}
+use Rattle.base_lists.proofs.Common.{◌≡◌, ℕ, zero, suc, ◌+◌, ◌-◌, ◌/◌, ◌<◌, ◌≤◌, arith, List, [], ◌∷◌, length, slice_get, Bool, true, false, Option, Some, None, Err, refl, sym, same_Some, slice_get_within, numbers_is}
 use Rattle.base_lists.specs.Options.{◌>>=◌}
-use Rattle.base_lists.proofs.Numbers.{numbers_is}
 use Rattle.block_pool.specs.Pages.{Pages, part}
 use Rattle.block_pool.proofs.Reading.{part_size}
-use Rattle.wasm_tree.specs.declared.space.Space.TheVariants.{DataSegments, Memories}
-use Rattle.wasm_tree.specs.declared.module.DataSeg.{DataSeg}
-use Rattle.wasm_tree.specs.declared.module.Module.{Module}
+use Rattle.wasm_tree_spec.specs.Prelude.{DataSegments, Memories, DataSeg, Module, Instr}
 use Rattle.wasm_tree.specs.declared.instr.Instr.TheVariants as i
-use Rattle.wasm_tree.specs.declared.instr.Instr.{Instr}
 use Rattle.wasm_tree.specs.declared.instr.Instr.TheOpen.{Instr-F}
-use Rattle.wasm_meaning.specs.Outcomes.{Outcome, Gives, IllTyped, bind, or_ill_typed, overwrite}
-use Rattle.wasm_meaning.specs.State.{Val, Data, Entry}
-use Rattle.wasm_meaning.specs.Memory.{pop_three}
+use Rattle.wasm_meaning.specs.Prelude.{Outcome, Gives, IllTyped, bind, or_ill_typed, overwrite, Val, Data, Entry, pop_three}
 use Rattle.eval_spec.specs.declared.stop.Stop.{Stop}
 use Rattle.eval_spec.specs.declared.stop.Stop.TheVariants as why
-use Rattle.eval_spec.specs.State.{first_held}
-use Rattle.eval_spec.specs.Stops.{is_imported}
-use Rattle.eval_spec.specs.Instantiation.{own_inst}
+use Rattle.eval_spec.specs.Prelude.{first_held, is_imported, own_inst}
 use Rattle.eval_machine.specs.declared.kept.Kept.{Kept}
 use Rattle.eval_machine.specs.Accesses.{bytes_in}
-use Rattle.eval_machine.specs.Held.{ended}
-use Rattle.eval_machine.specs.Flows.{Place, body_at}
-use Rattle.eval_machine.specs.Kept.{Fits, datas_in, store_in}
-use Rattle.eval_machine.specs.Written.{Wrote, told_of, write_tests}
-use Rattle.eval_machine.specs.Instructions.{BeginsWith, done_by}
+use Rattle.eval_machine.specs.Prelude.{ended, Place, body_at, Fits, datas_in, store_in, Wrote, told_of, write_tests, BeginsWith, done_by}
 use Rattle.eval_machine.proofs.DataSteps.{data_kind, none_before}
 use Rattle.eval_machine.proofs.Imports.{address_of}
 use Rattle.eval_machine.proofs.Instructions.{ends_trap_first, ends_unknown}

@@ -1,29 +1,22 @@
 -- The instantiation of a valid module, from its state at first to the last data segment.
-use Rattle.std.proofs.Common.{◌≡◌, ℕ, suc, ◌+◌, ◌*◌, ◌<◌, ◌≤◌, List, [], ◌∷◌, ◌++◌, map, length, replicate, Bool, true, false, Option, Some, None, refl, sym, ap, ◌∙◌, arith, length-append}
-use Rattle.std.specs.Prelude.{nat_lt, slice_get}
-use Rattle.std.proofs.lemmas.Bool.{le-ltb, lt-ltb}
-use Rattle.std.proofs.lemmas.Option.{same_Some, slice_get_within}
-use Rattle.std.proofs.lemmas.List.{length-replicate}
+use Rattle.base_lists.proofs.Common.{◌≡◌, ℕ, suc, ◌+◌, ◌*◌, ◌<◌, ◌≤◌, List, [], ◌∷◌, ◌++◌, map, length, replicate, Bool, true, false, Option, Some, None, refl, sym, ap, ◌∙◌, arith, nat_lt, slice_get, le-ltb, lt-ltb, same_Some, slice_get_within, length-replicate}
+use Rattle.std.proofs.Common.{length-append}
 use Rattle.base_lists.specs.Places.{places}
-use Rattle.wasm_tree.specs.declared.types.Limits.{Limits}
-use Rattle.wasm_tree.specs.declared.module.GlobalDef.{GlobalDef}
-use Rattle.wasm_tree.specs.declared.module.Module.{Module}
-use Rattle.wasm_tree.specs.Spaces.{imported_memories, memories_of}
-use Rattle.wasm_valid.specs.Constants.{const_type}
+use Rattle.wasm_tree_spec.specs.Prelude.{Limits, GlobalDef, Module, imported_memories, memories_of}
+use Rattle.wasm_valid.specs.Prelude.{const_type}
 use Rattle.wasm_valid.specs.declared.kinds.ItemKind.TheVariants as kind
-use Rattle.wasm_meaning.specs.Outcomes.{copies}
+use Rattle.wasm_meaning.specs.Prelude.{copies}
 use Rattle.block_pool.specs.Pages.{Pages}
 use Rattle.eval_spec.specs.declared.limits.TheConstants.{MOST_TURNS}
 use Rattle.eval_spec.specs.declared.stop.Stop.{Stop}
 use Rattle.eval_spec.specs.declared.stop.Stop.TheVariants as why
-use Rattle.eval_spec.specs.State.{State, Stage, Finished, Stopped, Going, stop_of}
-use Rattle.eval_spec.specs.Instantiation.{imported_store, instantiated, in_order, none_written, state_at_first, with_data}
+use Rattle.eval_spec.specs.Prelude.{State, Stage, Finished, Stopped, Going, stop_of, imported_store, instantiated, in_order, none_written, state_at_first, with_data}
 use Rattle.eval_machine.specs.declared.globals.GlobalSlot.{GlobalSlot}
 use Rattle.eval_machine.specs.declared.slots.Slot.{Slot}
 use Rattle.eval_machine.specs.declared.kept.Kept.{Kept}
-use Rattle.eval_machine.specs.Begun.{AreFirst, FillsTables, IsBlank, IsFilled, IsInstantiated, LimitsFew, PoursDatas, StartsAs, data_state, datas_end, datas_from, elems_end}
-use Rattle.eval_machine.specs.Held.{global_of, is_unset}
-use Rattle.eval_machine.specs.Kept.{IsUnmarked, MemoryFits, base_of, counts_of, datas_in, memory_in, state_in, written_in}
+use Rattle.eval_machine.specs.Prelude.{FillsTables, IsFilled, IsInstantiated, PoursDatas, StartsAs, elems_end, global_of, is_unset, IsUnmarked, MemoryFits, datas_in, memory_in, state_in, written_in}
+use Rattle.eval_machine.specs.Begun.{AreFirst, IsBlank, LimitsFew, data_state, datas_end, datas_from}
+use Rattle.eval_machine.specs.Kept.{base_of, counts_of}
 use Rattle.eval_machine.proofs.First.{ItemsHold, elems_there, first_state, funcs_there, is_at_first, starts_as}
 use Rattle.eval_machine.proofs.FirstGlobals.{copies_are, none_dropped}
 

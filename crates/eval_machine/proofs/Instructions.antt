@@ -1,27 +1,16 @@
 -- What the step that begins an instruction comes to, by its kind.
-use Rattle.std.proofs.Common.{◌≡◌, ℕ, zero, suc, ◌-◌, ◌<◌, arith, List, [], ◌∷◌, drop, slice_get, Bool, true, false, Option, Some, None, Err, refl, ap, ◌∙◌}
-use Rattle.std.specs.Prelude.{nat_eq, nat_le, nat_lt}
-use Rattle.std.proofs.lemmas.Bool.{le-ltb, ne_eqb}
-use Rattle.wasm_tree.specs.declared.types.ValType.{ValType}
-use Rattle.wasm_tree.specs.declared.instr.Instr.{Instr, out-Instr}
+use Rattle.base_lists.proofs.Common.{◌≡◌, ℕ, zero, suc, ◌-◌, ◌<◌, arith, List, [], ◌∷◌, drop, slice_get, Bool, true, false, Option, Some, None, Err, refl, ap, ◌∙◌, nat_eq, nat_le, nat_lt, le-ltb, ne_eqb}
+use Rattle.wasm_tree_spec.specs.Prelude.{ValType, Instr, out-Instr, Module}
 use Rattle.wasm_tree.specs.declared.instr.Instr.TheOpen.{Instr-F}
-use Rattle.wasm_tree.specs.declared.module.Module.{Module}
-use Rattle.wasm_meaning.specs.Outcomes.{Outcome, Gives, Traps, IllTyped, bind, or_ill_typed, split_at}
-use Rattle.wasm_meaning.specs.State.{Val, Level, Entry, Body, Act, Next}
-use Rattle.wasm_meaning.specs.Values.{go, pop_typed}
-use Rattle.wasm_meaning.specs.Touched.{Nothing, touched_by}
-use Rattle.wasm_meaning.specs.Control.{branch, resume, open_level}
-use Rattle.index_remap.specs.Unknown.{left_after}
+use Rattle.wasm_meaning.specs.Prelude.{Outcome, Gives, Traps, IllTyped, bind, or_ill_typed, split_at, Val, Level, Entry, Body, Act, Next, go, pop_typed, Nothing, touched_by, branch, resume, open_level}
+use Rattle.index_remap.specs.Prelude.{left_after}
 use Rattle.eval_spec.specs.declared.limits.TheConstants.{MOST_DEPTH}
 use Rattle.eval_spec.specs.declared.stop.Stop.TheVariants as why
-use Rattle.eval_spec.specs.State.{State, Stage, Stopped, first_held, stopped_or, tried}
-use Rattle.eval_spec.specs.Stops.{calls_import, changes_table, further_turns, gives_nothing, grows, opens, test, uses_unknown, writes_too_many, written_after}
-use Rattle.eval_spec.specs.Quiet.{ComesTo, on, came_to}
+use Rattle.eval_spec.specs.Prelude.{State, Stage, Stopped, first_held, stopped_or, tried, calls_import, changes_table, further_turns, gives_nothing, grows, opens, test, uses_unknown, writes_too_many, written_after, ComesTo, on, came_to}
 use Rattle.eval_machine.specs.declared.registers.Registers.{Registers}
-use Rattle.eval_machine.specs.Held.{ended}
-use Rattle.eval_machine.specs.Kept.{state_in}
-use Rattle.eval_machine.specs.Flows.{Place, acted, body_at, depth, opened, running}
-use Rattle.eval_machine.specs.Instructions.{begun, begun_by, done_by, env_in, next_by}
+use Rattle.eval_machine.specs.Prelude.{ended, state_in, Place, body_at, depth, running, begun, begun_by, done_by, env_in}
+use Rattle.eval_machine.specs.Flows.{acted, opened}
+use Rattle.eval_machine.specs.Instructions.{next_by}
 use Rattle.eval_machine.proofs.Levels.{resume_same}
 
 not_zero : (n : ℕ) → 0 < n → nat_eq n 0 ≡ false

@@ -1,15 +1,12 @@
 -- Quiet steps of a level in its frame, as the machine makes them.
-use Rattle.std.proofs.Common.{◌≡◌, ℕ, zero, suc, ◌+◌, ◌-◌, ◌<◌, arith, List, [], ◌∷◌, ◌++◌, drop, slice_get, Option, Some, None, refl}
-use Rattle.wasm_tree.specs.declared.instr.Instr.{Instr}
-use Rattle.wasm_tree.specs.declared.module.Module.{Module}
-use Rattle.wasm_meaning.specs.Outcomes.{Outcome, Gives, Traps, IllTyped, bind, or_ill_typed, split_at}
-use Rattle.wasm_meaning.specs.State.{Val, Level, Entry, Body, Act, Goes, Calls, AsksGrow, Ends}
-use Rattle.wasm_meaning.specs.Control.{branch, resume}
+use Rattle.base_lists.proofs.Common.{◌≡◌, ℕ, zero, suc, ◌+◌, ◌-◌, ◌<◌, arith, List, [], ◌∷◌, ◌++◌, drop, slice_get, Option, Some, None, refl}
+use Rattle.wasm_tree_spec.specs.Prelude.{Instr, Module}
+use Rattle.wasm_meaning.specs.Prelude.{Outcome, Gives, Traps, IllTyped, bind, or_ill_typed, split_at, Val, Level, Entry, Body, Act, Goes, Calls, AsksGrow, Ends, branch, resume}
 use Rattle.eval_spec.specs.declared.stop.Stop.TheVariants as why
-use Rattle.eval_spec.specs.State.{Stage, Stopped}
-use Rattle.eval_spec.specs.Quiet.{ComesTo, here, on}
+use Rattle.eval_spec.specs.Prelude.{Stage, Stopped, ComesTo, here, on}
 use Rattle.eval_machine.specs.declared.registers.Registers.{Registers}
-use Rattle.eval_machine.specs.Flows.{Place, acted, body_at, depth, level_at, running}
+use Rattle.eval_machine.specs.Prelude.{Place, body_at, depth, running}
+use Rattle.eval_machine.specs.Flows.{acted, level_at}
 
 pub and_then : {m : Module} {a b c : Stage} → ComesTo m a b → ComesTo m b c → ComesTo m a c
 and_then here q = q

@@ -1,26 +1,14 @@
 -- The memory that a module defines, as an instruction finds it, and parts of its bytes.
-use Rattle.std.proofs.Common.{◌≡◌, ℕ, ◌+◌, ◌-◌, ◌*◌, ◌<◌, ◌≤◌, arith, List, [], ◌∷◌, length, drop, slice_get, Bool, true, false, cond, Some, None, refl, sym, ap, ◌∙◌, inl, inr, subst}
-use Rattle.std.specs.Prelude.{nat_lt}
-use Rattle.std.proofs.lemmas.Bool.{cases_lt, lt-ltb, le-ltb, ltb-false}
-use Rattle.std.proofs.lemmas.List.{length-append, length-drop}
-use Rattle.std.proofs.lemmas.Option.{same_Some, slice_get_past, slice_get_within}
-use Rattle.base_lists.proofs.Walk.{none_past}
-use Rattle.base_lists.proofs.Numbers.{length-numbers}
+use Rattle.base_lists.proofs.Common.{◌≡◌, ℕ, ◌+◌, ◌-◌, ◌*◌, ◌<◌, ◌≤◌, arith, List, [], ◌∷◌, length, drop, slice_get, Bool, true, false, cond, Some, None, refl, sym, ap, ◌∙◌, inl, inr, subst, nat_lt, cases_lt, lt-ltb, le-ltb, ltb-false, length-append, length-drop, same_Some, slice_get_past, slice_get_within, none_past, length-numbers}
 use Rattle.block_pool.specs.Pages.{Pages, part}
 use Rattle.block_pool.specs.Pages.{size as pages_size}
-use Rattle.wasm_tree.specs.declared.space.Space.TheVariants.{Memories}
-use Rattle.wasm_tree.specs.declared.types.Limits.{Limits}
-use Rattle.wasm_tree.specs.declared.module.Module.{Module}
-use Rattle.wasm_tree.specs.Spaces.{imported_memories, memories_of}
-use Rattle.wasm_meaning.specs.Outcomes.{slice}
+use Rattle.wasm_tree_spec.specs.Prelude.{Memories, Limits, Module, imported_memories, memories_of}
+use Rattle.wasm_meaning.specs.Prelude.{slice}
 use Rattle.eval_spec.specs.declared.limits.TheConstants.{MOST_TURNS}
 use Rattle.eval_spec.specs.declared.stop.Stop.TheVariants as why
-use Rattle.eval_spec.specs.State.{Stage, Stopped, is_finished}
-use Rattle.eval_spec.specs.Stops.{is_imported}
-use Rattle.eval_spec.specs.Instantiation.{filled_from, own_inst, state_at_first}
+use Rattle.eval_spec.specs.Prelude.{Stage, Stopped, is_finished, is_imported, filled_from, own_inst, state_at_first}
 use Rattle.eval_machine.specs.declared.kept.Kept.{Kept}
-use Rattle.eval_machine.specs.Kept.{Fits, MemoryFits, store_in}
-use Rattle.eval_machine.specs.Written.{HoldsMost}
+use Rattle.eval_machine.specs.Prelude.{Fits, MemoryFits, store_in, HoldsMost}
 use Rattle.eval_machine.proofs.Imports.{address_of, memories_many}
 use Rattle.eval_machine.proofs.Overwritten.{split_take}
 use Rattle.eval_machine.proofs.Stacks.{split_short}

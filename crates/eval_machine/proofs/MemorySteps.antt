@@ -1,32 +1,18 @@
 -- Loads and the size of the memory.
-use Rattle.std.proofs.Common.{◌≡◌, ℕ, ◌+◌, ◌-◌, ◌<◌, ◌≤◌, arith, List, [], ◌∷◌, slice_get, false, Option, Some, None, Err, refl, sym, ◌∙◌}
-use Rattle.std.proofs.lemmas.Option.{none-some}
+use Rattle.base_lists.proofs.Common.{◌≡◌, ℕ, ◌+◌, ◌-◌, ◌<◌, ◌≤◌, arith, List, [], ◌∷◌, slice_get, false, Option, Some, None, Err, refl, sym, ◌∙◌, none-some}
 use Rattle.block_pool.specs.Pages.{Pages, part, little as spelled, size}
-use Rattle.wasm_tree.specs.declared.space.Space.TheVariants.{Memories}
-use Rattle.wasm_tree.specs.declared.types.Limits.{Limits}
-use Rattle.wasm_tree.specs.declared.instr.LoadOp.{LoadOp}
+use Rattle.wasm_tree_spec.specs.Prelude.{Memories, Limits, LoadOp, MemArg, Instr, Module}
 use Rattle.wasm_tree.specs.declared.instr.LoadOp.TheVariants as load
-use Rattle.wasm_tree.specs.declared.instr.MemArg.{MemArg}
 use Rattle.wasm_tree.specs.declared.instr.Instr.TheVariants as i
-use Rattle.wasm_tree.specs.declared.instr.Instr.{Instr}
 use Rattle.wasm_tree.specs.declared.instr.Instr.TheOpen.{Instr-F}
-use Rattle.wasm_tree.specs.declared.module.Module.{Module}
 use Rattle.wasm_num.specs.Operations.{W32}
-use Rattle.wasm_meaning.specs.Outcomes.{Gives, IllTyped}
-use Rattle.wasm_meaning.specs.Access.{little, load_to, load_width, loaded}
-use Rattle.wasm_meaning.specs.State.{Val, Num, Memory, Entry}
-use Rattle.wasm_meaning.specs.Values.{pop_num}
-use Rattle.wasm_meaning.specs.Memory.{pop_three}
-use Rattle.wasm_meaning.specs.Touched.{touched_by}
+use Rattle.wasm_meaning.specs.Prelude.{Gives, IllTyped, load_to, load_width, Val, Num, Memory, Entry, pop_num, pop_three, touched_by}
+use Rattle.wasm_meaning.specs.Access.{little, loaded}
 use Rattle.eval_spec.specs.declared.stop.Stop.TheVariants as why
-use Rattle.eval_spec.specs.Stops.{is_imported}
-use Rattle.eval_spec.specs.Instantiation.{own_inst}
-use Rattle.eval_machine.specs.Held.{ended}
+use Rattle.eval_spec.specs.Prelude.{is_imported, own_inst}
+use Rattle.eval_machine.specs.Prelude.{ended, Place, Fits, store_in, BeginsWith, done_by, env_in}
 use Rattle.eval_machine.specs.Accesses.{loaded_from}
 use Rattle.eval_machine.specs.declared.kept.Kept.{Kept}
-use Rattle.eval_machine.specs.Flows.{Place}
-use Rattle.eval_machine.specs.Kept.{Fits, store_in}
-use Rattle.eval_machine.specs.Instructions.{BeginsWith, done_by, env_in}
 use Rattle.eval_machine.proofs.Instructions.{IsStill, ends_on, ends_trap, ends_trap_first, ends_unknown}
 use Rattle.eval_machine.proofs.MemoryAt.{IsThere, at_first, found, imported_memory, none_is, none_there, only_limits, own_memory, slice_in, slice_out}
 

@@ -1,15 +1,14 @@
 -- What operations of numbers come to.
-use Rattle.std.proofs.Common.{◌≡◌, ℕ, List, ◌∷◌, Option, Some, None, Ok, Err, refl}
+use Rattle.base_lists.proofs.Common.{◌≡◌, ℕ, List, ◌∷◌, Option, Some, None, Ok, Err, refl}
 use Rattle.wasm_num.specs.declared.UnOp.{UnOp}
 use Rattle.wasm_num.specs.declared.BinOp.{BinOp}
 use Rattle.wasm_num.specs.declared.Num.{Num as Number}
 use Rattle.wasm_num.specs.declared.Trap.{Trap}
 use Rattle.wasm_num.specs.Operations.{Width, W32, W64, number, or_trap, un_from, un_to, un_value, bin_from, bin_to, bin_value}
-use Rattle.wasm_meaning.specs.Outcomes.{Gives, IllTyped}
-use Rattle.wasm_meaning.specs.State.{Val, Num}
-use Rattle.wasm_meaning.specs.Values.{pop_num, unary, binary}
+use Rattle.wasm_meaning.specs.Prelude.{Gives, IllTyped, Val, Num, pop_num, unary, binary}
 use Rattle.eval_spec.specs.declared.stop.Stop.TheVariants as why
-use Rattle.eval_machine.specs.Held.{ended, number_of}
+use Rattle.eval_machine.specs.Prelude.{ended}
+use Rattle.eval_machine.specs.Held.{number_of}
 
 pub number_val : (w : Width) (n : ℕ) → number_of (number w n) ≡ Num w n
 number_val W32 n = refl

@@ -1,37 +1,20 @@
 -- What a block, loop or if comes to when it begins.
-use Rattle.std.proofs.Common.{◌≡◌, ℕ, arith, List, [], ◌∷◌, length, Bool, true, false, cond, Some, refl, ap, ap₂, ◌∙◌, slice_get}
-use Rattle.std.specs.Prelude.{nat_eq, nat_lt}
-use Rattle.std.specs.List.{list_any}
-use Rattle.std.proofs.lemmas.Bool.{le-ltb, ne_eqb}
+use Rattle.base_lists.proofs.Common.{◌≡◌, ℕ, arith, List, [], ◌∷◌, length, Bool, true, false, cond, Some, refl, ap, ap₂, ◌∙◌, slice_get, nat_eq, nat_lt, list_any, le-ltb, ne_eqb}
 use Rattle.base_lists.specs.Places.{places}
-use Rattle.wasm_tree.specs.declared.space.Space.{Space}
-use Rattle.wasm_tree.specs.declared.space.Space.TheVariants.{Types}
-use Rattle.wasm_tree.specs.declared.types.BlockType.{BlockType}
+use Rattle.wasm_tree_spec.specs.Prelude.{Space, Types, BlockType, FuncType, ValType, Instr, out-Instr, Block, Loop, If, outs-Block, outs-Loop, outs-If, Import, ImportDesc, Module, block_operands, same_space, space_of_import}
 use Rattle.wasm_tree.specs.declared.types.BlockType.TheVariants as bt
-use Rattle.wasm_tree.specs.declared.types.FuncType.{FuncType}
-use Rattle.wasm_tree.specs.declared.types.ValType.{ValType}
-use Rattle.wasm_tree.specs.declared.instr.Instr.{Instr, out-Instr}
-use Rattle.wasm_tree.specs.declared.instr.Instr.TheVariants.{Block, Loop, If, outs-Block, outs-Loop, outs-If}
 use Rattle.wasm_tree.specs.declared.instr.Instr.TheOpen.{Instr-F}
-use Rattle.wasm_tree.specs.declared.module.Import.{Import}
-use Rattle.wasm_tree.specs.declared.module.ImportDesc.{ImportDesc}
 use Rattle.wasm_tree.specs.declared.module.ImportDesc.TheVariants as im
-use Rattle.wasm_tree.specs.declared.module.Module.{Module}
-use Rattle.wasm_tree.specs.Operands.{block_operands, same_space}
-use Rattle.wasm_tree.specs.Spaces.{space_of_import}
 use Rattle.wasm_num.specs.Operations.{W32}
-use Rattle.wasm_meaning.specs.Linking.{has_kind}
-use Rattle.wasm_meaning.specs.Outcomes.{Gives, IllTyped}
-use Rattle.wasm_meaning.specs.State.{Entry}
-use Rattle.wasm_meaning.specs.Values.{pop_num}
+use Rattle.wasm_meaning.specs.Prelude.{has_kind, Gives, IllTyped, Entry, pop_num}
 use Rattle.eval_spec.specs.declared.stop.Stop.TheVariants as why
-use Rattle.eval_spec.specs.Stops.{is_unknown_import}
+use Rattle.eval_spec.specs.Prelude.{is_unknown_import}
 use Rattle.eval_machine.specs.declared.registers.Registers.{Registers}
 use Rattle.eval_machine.specs.declared.registers.Act.{Act as MachineAct}
 use Rattle.eval_machine.specs.declared.registers.Act.TheVariants as act
 use Rattle.eval_machine.specs.declared.registers.Flow.TheVariants as flow
-use Rattle.eval_machine.specs.Flows.{Place}
-use Rattle.eval_machine.specs.Instructions.{ComesToAct, Opens, OpensWith}
+use Rattle.eval_machine.specs.Prelude.{Place, ComesToAct}
+use Rattle.eval_machine.specs.Instructions.{Opens, OpensWith}
 use Rattle.eval_machine.proofs.Instructions.{OpensStill, opens_still, opens_not}
 
 pub out_block : (o : Instr) (ty : BlockType) (body : List Instr) → o ≡ Block ty body → out-Instr o ≡ Instr-F.Block ty body

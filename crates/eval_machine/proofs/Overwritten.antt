@@ -1,10 +1,6 @@
 -- Lists that are written over a part of others: where they fit, and what stands there then.
-use Rattle.std.proofs.Common.{◌≡◌, ℕ, zero, suc, ◌+◌, ◌-◌, ◌<◌, ◌≤◌, List, [], ◌∷◌, ◌++◌, length, take, drop, true, false, cond, ◌&&◌, Some, None, refl, sym, ap, ◌∙◌, inl, inr, arith}
-use Rattle.std.specs.Prelude.{nat_le, nat_lt, slice_get}
-use Rattle.std.proofs.lemmas.Bool.{cases_lt, lt-ltb, le-ltb, le-leb, lt-leb}
-use Rattle.std.proofs.lemmas.List.{drop-drop, length-drop, length-take-le, length-append}
-use Rattle.base_lists.proofs.Places.{append_left, append_right, drop_at}
-use Rattle.wasm_meaning.specs.Outcomes.{split_at, overwrite}
+use Rattle.base_lists.proofs.Common.{◌≡◌, ℕ, zero, suc, ◌+◌, ◌-◌, ◌<◌, ◌≤◌, List, [], ◌∷◌, ◌++◌, length, take, drop, true, false, cond, ◌&&◌, Some, None, refl, sym, ap, ◌∙◌, inl, inr, arith, nat_le, nat_lt, slice_get, cases_lt, lt-ltb, le-ltb, le-leb, lt-leb, drop-drop, length-drop, length-take-le, length-append, append_left, append_right, drop_at}
+use Rattle.wasm_meaning.specs.Prelude.{split_at, overwrite}
 use Rattle.eval_machine.proofs.Stacks.{split_short}
 
 abbrev pub put_over : {A : Type 0} → List A → (at : ℕ) → List A → List A

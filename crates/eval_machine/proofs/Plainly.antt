@@ -1,18 +1,15 @@
 -- What an instruction on operands and locals alone comes to.
-use Rattle.std.proofs.Common.{◌≡◌, List, true, Option, Some, None, Ok, Err, refl, ap, ◌∙◌, subst, sym}
-use Rattle.wasm_tree.specs.declared.instr.Instr.{Instr, out-Instr}
+use Rattle.base_lists.proofs.Common.{◌≡◌, List, true, Option, Some, None, Ok, Err, refl, ap, ◌∙◌, subst, sym}
+use Rattle.wasm_tree_spec.specs.Prelude.{Instr, out-Instr, Module}
 use Rattle.wasm_tree.specs.declared.instr.Instr.TheOpen.{Instr-F}
-use Rattle.wasm_tree.specs.declared.module.Module.{Module}
-use Rattle.wasm_meaning.specs.Outcomes.{Outcome, Gives, Traps, IllTyped}
-use Rattle.wasm_meaning.specs.State.{Val, Entry}
+use Rattle.wasm_meaning.specs.Prelude.{Outcome, Gives, Traps, IllTyped, Val, Entry}
 use Rattle.eval_spec.specs.declared.stop.Stop.{Stop}
 use Rattle.eval_spec.specs.declared.stop.Stop.TheVariants as why
-use Rattle.eval_spec.specs.State.{Stopped}
+use Rattle.eval_spec.specs.Prelude.{Stopped}
 use Rattle.eval_machine.specs.declared.kept.Kept.{Kept}
 use Rattle.eval_machine.specs.declared.registers.Registers.{Registers}
-use Rattle.eval_machine.specs.Held.{ended}
-use Rattle.eval_machine.specs.Flows.{Place, body_at}
-use Rattle.eval_machine.specs.Instructions.{Begins, BeginsWith, DoesPlainly, done_by, env_in, is_plain}
+use Rattle.eval_machine.specs.Prelude.{ended, Place, body_at, BeginsWith, done_by, env_in}
+use Rattle.eval_machine.specs.Instructions.{Begins, DoesPlainly, is_plain}
 use Rattle.eval_machine.proofs.Instructions.{IsStill, still, still_goes, still_stops}
 
 pub ended_gives : {A : Type 0} (o : Outcome A) (a : A) → ended o ≡ Ok a → o ≡ Gives a

@@ -1,23 +1,16 @@
 -- What an active data segment does to the memory of a state (WebAssembly Core 2.0, section 4.5.4).
-use Rattle.std.proofs.Common.{◌≡◌, ℕ, ℤ, ◌+◌, ◌<◌, ◌≤◌, List, [], ◌∷◌, length, Bool, true, false, ◌&&◌, ◌||◌, Option, Some, None, refl, sym, ap, ◌∙◌, inl, inr, arith}
-use Rattle.std.specs.Prelude.{count_by, min, nat_eq, nat_le, nat_lt}
-use Rattle.std.proofs.lemmas.Bool.{cases_lt, lt-ltb, le-ltb, le-leb, lt-leb, eq-eqb, ne_eqb, or_right}
-use Rattle.wasm_tree.specs.declared.space.Space.TheVariants.{Memories}
-use Rattle.wasm_tree.specs.declared.types.Limits.{Limits}
-use Rattle.wasm_tree.specs.declared.module.ConstExpr.{ConstExpr}
+use Rattle.base_lists.proofs.Common.{◌≡◌, ℕ, ℤ, ◌+◌, ◌<◌, ◌≤◌, List, [], ◌∷◌, length, Bool, true, false, ◌&&◌, ◌||◌, Option, Some, None, refl, sym, ap, ◌∙◌, inl, inr, arith, count_by, min, nat_eq, nat_le, nat_lt, cases_lt, lt-ltb, le-ltb, le-leb, lt-leb, eq-eqb, ne_eqb}
+use Rattle.std.proofs.lemmas.Bool.{or_right}
+use Rattle.wasm_tree_spec.specs.Prelude.{Memories, Limits, ConstExpr, Module, imported_memories}
 use Rattle.wasm_tree.specs.declared.module.ConstExpr.TheVariants as const
-use Rattle.wasm_tree.specs.declared.module.Module.{Module}
-use Rattle.wasm_tree.specs.Spaces.{imported_memories}
 use Rattle.wasm_num.specs.Operations.{wrapped}
 use Rattle.block_pool.specs.Pages.{Pages, Passes, Writes, size, with_reached}
 use Rattle.block_pool.proofs.Reached.{reached_length}
 use Rattle.eval_spec.specs.declared.limits.TheConstants.{MOST_BLOCKS}
 use Rattle.eval_spec.specs.declared.stop.Stop.TheVariants as why
-use Rattle.eval_spec.specs.Stops.{is_imported, too_many_blocks}
-use Rattle.eval_spec.specs.Instantiation.{reads_global}
+use Rattle.eval_spec.specs.Prelude.{is_imported, too_many_blocks, reads_global}
 use Rattle.eval_machine.specs.Begun.{data_stop, has_bytes}
-use Rattle.eval_machine.specs.Kept.{MemoryFits}
-use Rattle.eval_machine.specs.Written.{HoldsMost}
+use Rattle.eval_machine.specs.Prelude.{MemoryFits, HoldsMost}
 use Rattle.eval_machine.proofs.Imports.{memories_many}
 use Rattle.eval_machine.proofs.Writes.{passes_too_many}
 

@@ -1,38 +1,21 @@
 -- The active data segments of an instantiation, one after the other.
-use Rattle.std.proofs.Common.{◌≡◌, ℕ, ℤ, zero, suc, ◌+◌, ◌<◌, ◌≤◌, List, [], ◌∷◌, ◌++◌, length, drop, replicate, Bool, true, false, cond, ◌||◌, Option, Some, None, refl, sym, ap, ◌∙◌, inl, inr, arith, slice_set, subst, length-append}
+use Rattle.base_lists.proofs.Common.{◌≡◌, ℕ, ℤ, zero, suc, ◌+◌, ◌<◌, ◌≤◌, List, [], ◌∷◌, ◌++◌, length, drop, replicate, Bool, true, false, cond, ◌||◌, Option, Some, None, refl, sym, ap, ◌∙◌, inl, inr, arith, slice_set, subst, length-map, length-replicate, length-set, nat_eq, nat_le, slice_get, cases_lt, cases_eq, cases_order, eq-eqb, eqb-true, leb-true, get_or_from_slice_get, same_Some, slice_get_past, slice_get_within, left_true, right_true, numbers_at, length-numbers, push_last, set_other, replicate_at}
+use Rattle.std.proofs.Common.{length-append}
 use Rattle.std.proofs.Math.Seq.{drop-cons, drop-length}
-use Rattle.std.proofs.lemmas.List.{length-map, length-replicate, length-set}
-use Rattle.std.specs.Prelude.{nat_eq, nat_le, slice_get}
-use Rattle.std.proofs.lemmas.Bool.{cases_lt, cases_eq, cases_order, eq-eqb, eqb-true, leb-true, leb-false}
-use Rattle.std.proofs.lemmas.Option.{get_or_from_slice_get, same_Some, slice_get_past, slice_get_within}
+use Rattle.std.proofs.lemmas.Bool.{leb-false}
 use Rattle.base_lists.specs.Options.{◌>>=◌}
-use Rattle.base_lists.proofs.Bools.{left_true, right_true}
-use Rattle.base_lists.proofs.Numbers.{numbers_at, length-numbers}
-use Rattle.base_lists.proofs.Places.{push_last, set_other, replicate_at}
-use Rattle.wasm_tree.specs.declared.space.Space.TheVariants.{Memories}
-use Rattle.wasm_tree.specs.declared.types.Limits.{Limits}
-use Rattle.wasm_tree.specs.declared.module.ConstExpr.{ConstExpr}
+use Rattle.wasm_tree_spec.specs.Prelude.{Memories, Limits, ConstExpr, DataSeg, DataMode, Module, imported_memories, memories_of}
 use Rattle.wasm_tree.specs.declared.module.ConstExpr.TheVariants as const
-use Rattle.wasm_tree.specs.declared.module.DataSeg.{DataSeg}
-use Rattle.wasm_tree.specs.declared.module.DataMode.{DataMode}
 use Rattle.wasm_tree.specs.declared.module.DataMode.TheVariants as data'
-use Rattle.wasm_tree.specs.declared.module.Module.{Module}
-use Rattle.wasm_tree.specs.Spaces.{imported_memories, memories_of}
 use Rattle.wasm_num.specs.Operations.{W32, wrapped}
-use Rattle.wasm_meaning.specs.Outcomes.{Outcome, Gives}
-use Rattle.wasm_meaning.specs.State.{FuncRef, Ref, Memory, SetMemory, DropData}
-use Rattle.wasm_meaning.specs.Values.{num_of}
-use Rattle.wasm_meaning.specs.Step.{changed, no_bytes}
-use Rattle.wasm_meaning.specs.Touched.{Touched, Bytes}
-use Rattle.wasm_meaning.specs.World.{Filled, PlacedSegment, run_data_with}
+use Rattle.wasm_meaning.specs.Prelude.{Outcome, Gives, FuncRef, Ref, Memory, SetMemory, DropData, num_of, changed, no_bytes, Touched, Bytes, Filled, PlacedSegment, run_data_with}
 use Rattle.block_pool.specs.Pages.{Pages, Writes, size, with_reached}
 use Rattle.eval_spec.specs.declared.stop.Stop.{Stop}
 use Rattle.eval_spec.specs.declared.stop.Stop.TheVariants as why
-use Rattle.eval_spec.specs.State.{State, Stage, Finished, Stopped, stop_of}
-use Rattle.eval_spec.specs.Stops.{is_imported, too_many_blocks}
-use Rattle.eval_spec.specs.Instantiation.{own_inst, imported_store, reads_global, value_in, place_in, with_data, with_data_mode, in_order, data_filled}
-use Rattle.eval_machine.specs.Begun.{PoursByMode, PoursData, PoursDatas, WritesIn, data_state, data_stop, datas_end, datas_from, has_bytes, place_at}
-use Rattle.eval_machine.specs.Kept.{MemoryFits, datas_in, written_in}
+use Rattle.eval_spec.specs.Prelude.{State, Stage, Finished, Stopped, stop_of, is_imported, too_many_blocks, own_inst, imported_store, reads_global, value_in, place_in, with_data, with_data_mode, in_order}
+use Rattle.eval_spec.specs.Instantiation.{data_filled}
+use Rattle.eval_machine.specs.Prelude.{PoursDatas, MemoryFits, datas_in, written_in}
+use Rattle.eval_machine.specs.Begun.{PoursByMode, PoursData, WritesIn, data_state, data_stop, datas_end, datas_from, has_bytes, place_at}
 use Rattle.eval_machine.proofs.Overwritten.{put_over, overwrite_in, overwrite_out}
 use Rattle.eval_machine.proofs.Poured.{is_imported_memory}
 

@@ -1,18 +1,16 @@
 -- What a call through a table reaches.
-use Rattle.std.proofs.Common.{◌≡◌, ℕ, ◌-◌, ◌<◌, ◌≤◌, slice_get, true, false, Option, Some, None, refl, sym, ap}
+use Rattle.base_lists.proofs.Common.{◌≡◌, ℕ, ◌-◌, ◌<◌, ◌≤◌, slice_get, true, false, Option, Some, None, refl, sym, ap}
 use Rattle.base_lists.specs.Options.{◌>>=◌}
 use Rattle.index_remap.proofs.SlotCalls.{func_type_self}
-use Rattle.wasm_tree.specs.declared.types.FuncType.{FuncType}
+use Rattle.wasm_tree_spec.specs.Prelude.{FuncType, Module, same_func_type}
 use Rattle.wasm_tree.specs.declared.module.Func.{Func as FuncDef}
-use Rattle.wasm_tree.specs.declared.module.Module.{Module}
-use Rattle.wasm_tree.specs.SameTypes.{same_func_type}
-use Rattle.wasm_valid.specs.Validity.{IsValid}
-use Rattle.wasm_meaning.specs.Control.{own_at, type_at}
+use Rattle.wasm_valid.specs.Prelude.{IsValid}
+use Rattle.wasm_meaning.specs.Prelude.{own_at, type_at}
 use Rattle.eval_spec.specs.declared.stop.Stop.TheVariants as why
 use Rattle.eval_machine.specs.declared.kept.Kept.{Kept}
 use Rattle.eval_machine.specs.declared.registers.Act.TheVariants as act
 use Rattle.eval_machine.specs.declared.registers.Flow.TheVariants as flow
-use Rattle.eval_machine.specs.Kept.{Fits, base_of}
+use Rattle.eval_machine.specs.Prelude.{Fits, base_of}
 use Rattle.eval_machine.specs.Instructions.{Reaches, type_matches}
 use Rattle.eval_machine.proofs.Funcs.{own_call, code_call, no_call}
 

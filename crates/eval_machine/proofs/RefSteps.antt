@@ -1,19 +1,13 @@
 -- References to functions, and slots and sizes of tables.
-use Rattle.std.proofs.Common.{◌≡◌, ℕ, ◌<◌, ◌≤◌, arith, List, ◌∷◌, length, slice_get, Bool, false, Some, None, refl, inl, inr, IsTrue}
-use Rattle.std.proofs.lemmas.Bool.{cases_lt}
-use Rattle.std.proofs.lemmas.Option.{slice_get_past}
-use Rattle.base_lists.proofs.Numbers.{length-numbers}
+use Rattle.base_lists.proofs.Common.{◌≡◌, ℕ, ◌<◌, ◌≤◌, arith, List, ◌∷◌, length, slice_get, Bool, false, Some, None, refl, inl, inr, IsTrue, cases_lt, slice_get_past, length-numbers}
 use Rattle.wasm_tree.specs.declared.instr.Instr.TheVariants as i
-use Rattle.wasm_tree.specs.declared.instr.Instr.{Instr}
+use Rattle.wasm_tree_spec.specs.Prelude.{Instr, Module, funcs_of}
 use Rattle.wasm_tree.specs.declared.instr.Instr.TheOpen.{Instr-F}
-use Rattle.wasm_tree.specs.declared.module.Module.{Module}
-use Rattle.wasm_tree.specs.Spaces.{funcs_of}
-use Rattle.wasm_meaning.specs.State.{FuncRef, Val, Ref, Entry}
+use Rattle.wasm_meaning.specs.Prelude.{FuncRef, Val, Ref, Entry}
 use Rattle.eval_spec.specs.declared.stop.Stop.TheVariants as why
-use Rattle.eval_spec.specs.Instantiation.{own_inst}
+use Rattle.eval_spec.specs.Prelude.{own_inst}
 use Rattle.eval_machine.specs.declared.kept.Kept.{Kept}
-use Rattle.eval_machine.specs.Flows.{Place}
-use Rattle.eval_machine.specs.Instructions.{BeginsWith}
+use Rattle.eval_machine.specs.Prelude.{Place, BeginsWith}
 use Rattle.eval_machine.proofs.Imports.{address_of}
 use Rattle.eval_machine.proofs.Instructions.{IsStill, ends_on, ends_trap}
 

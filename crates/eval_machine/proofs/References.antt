@@ -1,23 +1,16 @@
 -- The values of globals of a machine that fits its module, after its instantiation with the start and after a call.
-use Rattle.std.proofs.Common.{◌≡◌, ◌∙◌, ℕ, ◌≤◌, arith, List, [], ◌∷◌, length, Bool, true, Option, Some, None, refl, sym, ap}
+use Rattle.base_lists.proofs.Common.{◌≡◌, ◌∙◌, ℕ, ◌≤◌, arith, List, [], ◌∷◌, length, Bool, true, Option, Some, None, refl, sym, ap, length-append, length-map}
 use Rattle.std.specs.Prelude.{unwrap_or}
-use Rattle.std.proofs.lemmas.List.{length-append, length-map}
 use Rattle.block_pool.specs.Pages.{Pages}
-use Rattle.wasm_tree.specs.declared.types.Limits.{Limits}
-use Rattle.wasm_tree.specs.declared.module.DataSeg.{DataSeg}
-use Rattle.wasm_tree.specs.declared.module.Module.{Module}
-use Rattle.wasm_tree.specs.Spaces.{imported_memories}
-use Rattle.wasm_valid.specs.Validity.{IsValid}
-use Rattle.wasm_meaning.specs.State.{Memory}
+use Rattle.wasm_tree_spec.specs.Prelude.{Limits, DataSeg, Module, imported_memories}
+use Rattle.wasm_valid.specs.Prelude.{IsValid}
+use Rattle.wasm_meaning.specs.Prelude.{Memory}
 use Rattle.eval_spec.specs.declared.limits.TheConstants.{MOST_TURNS}
-use Rattle.eval_spec.specs.State.{Stage, Going, Stopped, Finished, is_finished, state_of}
-use Rattle.eval_spec.specs.Instantiation.{booted, imported_store, instantiated}
-use Rattle.eval_spec.specs.Evaluation.{called_in_order}
+use Rattle.eval_spec.specs.Prelude.{Stage, Going, Stopped, Finished, is_finished, state_of, booted, imported_store, instantiated, called_in_order}
 use Rattle.eval_references_proof.specs.References.{CallsKeepRefs, CallsKeepTypes, EvaluatedGlobalsAreTyped, EvaluatedRefsAreThere, HasPartsOf}
 use Rattle.eval_machine.specs.declared.kept.Kept.{Kept}
-use Rattle.eval_machine.specs.Calls.{CallEnds, IsReady}
-use Rattle.eval_machine.specs.Held.{global_of}
-use Rattle.eval_machine.specs.Kept.{Fits, IsUnmarked, MemoryFits, Rests, base_of, datas_in, memory_in, no_state, state_in, store_in}
+use Rattle.eval_machine.specs.Prelude.{CallEnds, IsReady, global_of, Fits, IsUnmarked, MemoryFits, Rests, datas_in, memory_in, state_in, store_in}
+use Rattle.eval_machine.specs.Kept.{base_of, no_state}
 
 memories_many : (ls : List Limits) (p : Option Pages) → MemoryFits ls p → length ls ≤ length (memory_in ls p)
 memories_many [] p h = omega arith

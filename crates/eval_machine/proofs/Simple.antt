@@ -1,10 +1,6 @@
 -- Which instructions are simple or plain, by the variants that they are not.
-use Rattle.std.proofs.Common.{◌≡◌, ℕ, List, true, refl, sym, ap, ◌∙◌}
-use Rattle.wasm_tree.specs.declared.types.BlockType.{BlockType}
-use Rattle.wasm_tree.specs.declared.instr.LoadOp.{LoadOp}
-use Rattle.wasm_tree.specs.declared.instr.StoreOp.{StoreOp}
-use Rattle.wasm_tree.specs.declared.instr.MemArg.{MemArg}
-use Rattle.wasm_tree.specs.declared.instr.Instr.{Instr, out-Instr, roll-out-Instr}
+use Rattle.base_lists.proofs.Common.{◌≡◌, ℕ, List, true, refl, sym, ap, ◌∙◌}
+use Rattle.wasm_tree_spec.specs.Prelude.{BlockType, LoadOp, StoreOp, MemArg, Instr, out-Instr, roll-out-Instr}
 use Rattle.wasm_tree.specs.declared.instr.Instr.TheVariants as i
 use Rattle.wasm_tree.specs.declared.instr.Instr.TheViews.{roll-Instr}
 use Rattle.wasm_tree.specs.declared.instr.Instr.TheOpen.{Instr-F}

@@ -1,18 +1,13 @@
 -- Which places stand in the lists of unknown slots and items.
-use Rattle.std.proofs.Common.{◌≡◌, ℕ, zero, suc, ◌+◌, ◌<◌, ◌≤◌, List, [], ◌∷◌, map, length, Bool, true, false, cond, ◌&&◌, ◌||◌, Some, refl, sym, ap, ap₂, ◌∙◌, inl, inr, arith}
-use Rattle.std.specs.Prelude.{nat_eq, nat_le, nat_lt, slice_get, is_some, unwrap_or}
-use Rattle.std.specs.List.{filter, list_any}
-use Rattle.std.proofs.lemmas.Bool.{cases_eq, cases_lt, cases_order, lt-ltb, le-ltb, le-leb, lt-leb, eq-eqb, ne_eqb, eqb-true, and_parts}
-use Rattle.std.proofs.lemmas.List.Folds.{list_any-append}
+use Rattle.base_lists.proofs.Common.{◌≡◌, ℕ, zero, suc, ◌+◌, ◌<◌, ◌≤◌, List, [], ◌∷◌, map, length, Bool, true, false, cond, ◌&&◌, ◌||◌, Some, refl, sym, ap, ap₂, ◌∙◌, inl, inr, arith, nat_eq, nat_le, nat_lt, slice_get, is_some, filter, list_any, cases_eq, cases_lt, cases_order, lt-ltb, le-ltb, le-leb, lt-leb, eq-eqb, ne_eqb, eqb-true, and_parts, list_any-append}
+use Rattle.std.specs.Prelude.{unwrap_or}
 use Rattle.std.proofs.lemmas.Map.Views.{any-filter_same}
 use Rattle.base_lists.specs.Options.{◌>>=◌}
 use Rattle.base_lists.specs.Places.{numbers, places}
-use Rattle.wasm_tree.specs.declared.module.ElemSeg.{ElemSeg}
-use Rattle.wasm_tree.specs.declared.module.ConstExpr.{ConstExpr}
-use Rattle.wasm_meaning.specs.State.{RefVal, Table}
-use Rattle.index_remap.specs.Unknown.{is_place_among}
-use Rattle.eval_spec.specs.Stops.{any_in_row}
-use Rattle.eval_spec.specs.Instantiation.{reads_global, slots_from, unknown_items}
+use Rattle.wasm_tree_spec.specs.Prelude.{ElemSeg, ConstExpr}
+use Rattle.wasm_meaning.specs.Prelude.{RefVal, Table}
+use Rattle.index_remap.specs.Prelude.{is_place_among}
+use Rattle.eval_spec.specs.Prelude.{any_in_row, reads_global, slots_from, unknown_items}
 
 abbrev pub is_at : (a p : ℕ) → ℕ × ℕ → Bool
 is_at a p x = nat_eq x.0 a && nat_eq x.1 p

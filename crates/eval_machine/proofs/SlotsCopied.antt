@@ -1,35 +1,20 @@
 -- What an active element segment does to the slots of a state (WebAssembly Core 2.0, section 4.5.4).
-use Rattle.std.proofs.Common.{◌≡◌, ℕ, ℤ, suc, ◌+◌, ◌-◌, ◌<◌, ◌≤◌, List, length, Bool, true, false, cond, ◌&&◌, Option, Some, None, refl, sym, ap, ◌∙◌, inl, inr, ◌⊎◌, arith, length-append, subst}
-use Rattle.std.specs.Prelude.{nat_eq, nat_le, nat_lt, slice_get, is_some, unwrap_or}
-use Rattle.std.specs.List.{filter}
-use Rattle.std.proofs.lemmas.Bool.{cases_eq, cases_lt, lt-ltb, le-ltb, le-leb, lt-leb, eq-eqb, ne_eqb}
-use Rattle.std.proofs.lemmas.Option.{same_Some, slice_get_within, slice_get_past}
+use Rattle.base_lists.proofs.Common.{◌≡◌, ℕ, ℤ, suc, ◌+◌, ◌-◌, ◌<◌, ◌≤◌, List, length, Bool, true, false, cond, ◌&&◌, Option, Some, None, refl, sym, ap, ◌∙◌, inl, inr, ◌⊎◌, arith, subst, nat_eq, nat_le, nat_lt, slice_get, is_some, filter, cases_eq, cases_lt, lt-ltb, le-ltb, le-leb, lt-leb, eq-eqb, ne_eqb, same_Some, slice_get_within, slice_get_past, all_there_length, all_there_at, is_some_there, and_false, right_true, set_at, set_other, slice_get_none, slice_get_there, numbers_at, numbers_is, length-numbers}
+use Rattle.std.proofs.Common.{length-append}
+use Rattle.std.specs.Prelude.{unwrap_or}
 use Rattle.base_lists.specs.Options.{◌>>=◌}
-use Rattle.base_lists.proofs.Options.{all_there_length, all_there_at, is_some_there}
-use Rattle.base_lists.proofs.Bools.{and_false, right_true}
-use Rattle.base_lists.proofs.Places.{set_at, set_other, slice_get_none, slice_get_there}
-use Rattle.base_lists.proofs.Numbers.{numbers_at, numbers_is, length-numbers}
-use Rattle.wasm_tree.specs.declared.space.Space.TheVariants.{Tables}
+use Rattle.wasm_tree_spec.specs.Prelude.{Tables, TableType, ConstExpr, ElemSeg, Module, imported_tables, funcs_of, tables_of}
 use Rattle.wasm_tree.specs.declared.types.RefType.TheVariants as reft
-use Rattle.wasm_tree.specs.declared.types.TableType.{TableType}
-use Rattle.wasm_tree.specs.declared.module.ConstExpr.{ConstExpr}
 use Rattle.wasm_tree.specs.declared.module.ConstExpr.TheVariants as const
-use Rattle.wasm_tree.specs.declared.module.ElemSeg.{ElemSeg}
 use Rattle.wasm_tree.specs.declared.module.ElemMode.TheVariants as elem
-use Rattle.wasm_tree.specs.declared.module.Module.{Module}
-use Rattle.wasm_tree.specs.Spaces.{imported_tables, funcs_of, tables_of}
 use Rattle.wasm_num.specs.Operations.{wrapped}
-use Rattle.wasm_meaning.specs.State.{RefVal, FuncRef, Ref, Table, Store, SetTable, DropElem}
-use Rattle.wasm_meaning.specs.Values.{ref_of}
-use Rattle.wasm_meaning.specs.Step.{changed, no_items}
-use Rattle.wasm_meaning.specs.World.{PlacedSegment, new_elem, run_elem_with}
-use Rattle.index_remap.specs.Unknown.{is_place_among}
-use Rattle.eval_spec.specs.State.{State}
-use Rattle.eval_spec.specs.Stops.{is_imported}
-use Rattle.eval_spec.specs.Instantiation.{own_inst, reads_global, value_in, unknown_items, slots_from, is_unknown_slot, copied_slots}
+use Rattle.wasm_meaning.specs.Prelude.{RefVal, FuncRef, Ref, Table, Store, SetTable, DropElem, ref_of, changed, no_items, PlacedSegment, new_elem, run_elem_with}
+use Rattle.index_remap.specs.Prelude.{is_place_among}
+use Rattle.eval_spec.specs.Prelude.{State, is_imported, own_inst, reads_global, value_in, unknown_items, slots_from, copied_slots}
+use Rattle.eval_spec.specs.Instantiation.{is_unknown_slot}
 use Rattle.eval_machine.specs.declared.slots.Slot.{Slot}
-use Rattle.eval_machine.specs.Begun.{CopiesItems, IsFilled, StartsAs, is_within, item_slot, refs_in}
-use Rattle.eval_machine.specs.Slots.{IsSlot, StandsAs, defined_table, filled_at, is_unknown_in, null_in, ref_in, slot_at, slot_count, slots_declared}
+use Rattle.eval_machine.specs.Prelude.{CopiesItems, IsFilled, StartsAs, is_within, item_slot, refs_in, IsSlot, defined_table, filled_at, is_unknown_in, ref_in, slot_count}
+use Rattle.eval_machine.specs.Slots.{StandsAs, null_in, slot_at, slots_declared}
 use Rattle.eval_machine.proofs.Imported.{is_imported_table}
 use Rattle.eval_machine.proofs.Overwritten.{put_over, overwrite_in, overwrite_out, over_length, over_at}
 use Rattle.eval_machine.proofs.SlotPlaces.{row_of_one, among_filtered, slot_among, item_among}

@@ -1,31 +1,20 @@
 -- The active element segments of an instantiation, one after the other.
-use Rattle.std.proofs.Common.{◌≡◌, ℕ, ℤ, suc, ◌+◌, ◌≤◌, List, [], ◌∷◌, length, drop, Bool, true, false, cond, ◌||◌, Option, Some, None, refl, sym, ap, ◌∙◌, inl, inr, ◌⊎◌, arith, subst}
-use Rattle.std.specs.Prelude.{slice_get}
+use Rattle.base_lists.proofs.Common.{◌≡◌, ℕ, ℤ, suc, ◌+◌, ◌≤◌, List, [], ◌∷◌, length, drop, Bool, true, false, cond, ◌||◌, Option, Some, None, refl, sym, ap, ◌∙◌, inl, inr, ◌⊎◌, arith, subst, slice_get, leb-true, get_or_from_slice_get, same_Some, slice_get_within, and_then_is}
 use Rattle.std.proofs.Math.Seq.{drop-cons, drop-length}
-use Rattle.std.proofs.lemmas.Bool.{leb-true, leb-false, or_parts}
-use Rattle.std.proofs.lemmas.Option.{get_or_from_slice_get, same_Some, slice_get_within}
+use Rattle.std.proofs.lemmas.Bool.{leb-false, or_parts}
 use Rattle.base_lists.specs.Options.{◌>>=◌}
-use Rattle.base_lists.proofs.Options.{and_then_is}
-use Rattle.wasm_tree.specs.declared.space.Space.TheVariants.{Tables}
-use Rattle.wasm_tree.specs.declared.types.TableType.{TableType}
-use Rattle.wasm_tree.specs.declared.module.ConstExpr.{ConstExpr}
+use Rattle.wasm_tree_spec.specs.Prelude.{Tables, TableType, ConstExpr, ElemSeg, ElemMode, Module}
 use Rattle.wasm_tree.specs.declared.module.ConstExpr.TheVariants as const
-use Rattle.wasm_tree.specs.declared.module.ElemSeg.{ElemSeg}
-use Rattle.wasm_tree.specs.declared.module.ElemMode.{ElemMode}
 use Rattle.wasm_tree.specs.declared.module.ElemMode.TheVariants as elem
-use Rattle.wasm_tree.specs.declared.module.Module.{Module}
 use Rattle.wasm_num.specs.Operations.{W32, wrapped}
-use Rattle.wasm_meaning.specs.State.{RefVal, FuncRef, Ref, Table}
-use Rattle.wasm_meaning.specs.Values.{num_of}
-use Rattle.wasm_meaning.specs.World.{Filled, PlacedSegment, run_elem_with, new_elem}
+use Rattle.wasm_meaning.specs.Prelude.{RefVal, FuncRef, Ref, Table, num_of, Filled, PlacedSegment, run_elem_with, new_elem}
 use Rattle.eval_spec.specs.declared.stop.Stop.{Stop}
 use Rattle.eval_spec.specs.declared.stop.Stop.TheVariants as why
-use Rattle.eval_spec.specs.State.{State, Stage, Finished, Stopped, stop_of}
-use Rattle.eval_spec.specs.Stops.{is_imported}
-use Rattle.eval_spec.specs.Instantiation.{own_inst, reads_global, value_in, with_elem, with_elem_mode, in_order, elem_filled}
+use Rattle.eval_spec.specs.Prelude.{State, Stage, Finished, Stopped, stop_of, is_imported, own_inst, reads_global, value_in, with_elem, with_elem_mode, in_order}
+use Rattle.eval_spec.specs.Instantiation.{elem_filled}
 use Rattle.eval_machine.specs.declared.slots.Slot.{Slot}
-use Rattle.eval_machine.specs.Begun.{CopiesItems, FillsByMode, FillsSlots, FillsTables, IsFilled, StartsAs, elem_stop, elems_from, elems_end, has_slots, place_at, refs_in}
-use Rattle.eval_machine.specs.Slots.{defined_table, filled_at}
+use Rattle.eval_machine.specs.Prelude.{CopiesItems, FillsTables, IsFilled, StartsAs, elems_end, refs_in, defined_table, filled_at}
+use Rattle.eval_machine.specs.Begun.{FillsByMode, FillsSlots, elem_stop, elems_from, has_slots, place_at}
 use Rattle.eval_machine.proofs.SlotsCopied.{task, goes, passes, sized, next, filled_next, table_nowhere}
 
 -- which of the stops it is

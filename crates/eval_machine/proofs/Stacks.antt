@@ -1,12 +1,8 @@
 -- Operands that are taken off together, and put back.
-use Rattle.std.proofs.Common.{◌≡◌, ℕ, zero, suc, ◌-◌, ◌<◌, ◌≤◌, arith, List, [], ◌∷◌, ◌++◌, length, take, drop, map, reverse, Bool, true, false, ◌&&◌, Some, None, refl, sym, ap, ◌∙◌}
-use Rattle.std.proofs.lemmas.List.{length-drop, length-map, length-reverse, map-append, reverse-append, take-append-drop}
-use Rattle.wasm_tree.specs.declared.types.ValType.{ValType}
-use Rattle.wasm_tree.specs.SameTypes.{same_type}
-use Rattle.wasm_meaning.specs.Outcomes.{Gives, IllTyped, onto, split_at}
-use Rattle.wasm_meaning.specs.State.{Val}
-use Rattle.wasm_meaning.specs.Values.{type_of, pop_typed}
-use Rattle.eval_machine.specs.Held.{are_typed}
+use Rattle.base_lists.proofs.Common.{◌≡◌, ℕ, zero, suc, ◌-◌, ◌<◌, ◌≤◌, arith, List, [], ◌∷◌, ◌++◌, length, take, drop, map, reverse, Bool, true, false, ◌&&◌, Some, None, refl, sym, ap, ◌∙◌, length-drop, length-map, length-reverse, map-append, reverse-append, take-append-drop}
+use Rattle.wasm_tree_spec.specs.Prelude.{ValType, same_type}
+use Rattle.wasm_meaning.specs.Prelude.{Gives, IllTyped, onto, split_at, Val, type_of, pop_typed}
+use Rattle.eval_machine.specs.Prelude.{are_typed}
 use Rattle.eval_machine.proofs.Typed.{onto_is}
 
 -- what was pushed last comes first

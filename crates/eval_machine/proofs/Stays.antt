@@ -1,17 +1,13 @@
 -- What stays, step by step, and a machine of which it stays fits as before.
-use Rattle.std.proofs.Common.{◌≡◌, ℕ, zero, suc, ◌≤◌, arith, List, [], ◌∷◌, length, map, Option, Some, None, refl, sym, ap, ◌∙◌, slice_get}
-use Rattle.std.specs.Prelude.{min}
+use Rattle.base_lists.proofs.Common.{◌≡◌, ℕ, zero, suc, ◌≤◌, arith, List, [], ◌∷◌, length, map, Option, Some, None, refl, sym, ap, ◌∙◌, slice_get, min}
 use Rattle.block_pool.specs.Pages.{Pages, Writes}
 use Rattle.block_pool.proofs.Reached.{reached_length}
-use Rattle.wasm_tree.specs.declared.types.Limits.{Limits}
-use Rattle.wasm_tree.specs.declared.module.Module.{Module}
+use Rattle.wasm_tree_spec.specs.Prelude.{Limits, Module}
 use Rattle.eval_spec.specs.declared.limits.TheConstants.{MOST_BLOCKS}
 use Rattle.eval_machine.specs.declared.globals.GlobalSlot.{GlobalSlot}
 use Rattle.eval_machine.specs.declared.kept.Kept.{Kept}
-use Rattle.eval_machine.specs.Held.{is_of_import}
-use Rattle.eval_machine.specs.Kept.{Fits, MemoryFits}
-use Rattle.eval_machine.specs.Stays.{PagesStay, MemoryStays, Stays}
-use Rattle.eval_machine.specs.Written.{HoldsMost}
+use Rattle.eval_machine.specs.Prelude.{is_of_import, Fits, MemoryFits, MemoryStays, Stays, HoldsMost}
+use Rattle.eval_machine.specs.Stays.{PagesStay}
 
 pub pages_stay : (p : Pages) → PagesStay p p
 pages_stay p = record { size = refl; blocks = refl; most = refl; mark = refl }

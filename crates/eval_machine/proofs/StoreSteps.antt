@@ -1,33 +1,21 @@
 -- Stores.
-use Rattle.std.proofs.Common.{◌≡◌, ℕ, zero, suc, ◌+◌, ◌-◌, ◌/◌, ◌%◌, ◌<◌, ◌≤◌, arith, List, [], ◌∷◌, slice_get, false, Option, Some, None, Err, refl, ap}
+use Rattle.base_lists.proofs.Common.{◌≡◌, ℕ, zero, suc, ◌+◌, ◌-◌, ◌/◌, ◌%◌, ◌<◌, ◌≤◌, arith, List, [], ◌∷◌, slice_get, false, Option, Some, None, Err, refl, ap}
 use Rattle.block_pool.specs.Pages.{Pages}
 use Rattle.block_pool.specs.Pages.{little_bytes as lowest_bytes}
 use Rattle.block_pool.proofs.Stored.{little_bytes_size}
-use Rattle.wasm_tree.specs.declared.space.Space.TheVariants.{Memories}
-use Rattle.wasm_tree.specs.declared.instr.StoreOp.{StoreOp}
+use Rattle.wasm_tree_spec.specs.Prelude.{Memories, StoreOp, MemArg, Instr, Module}
 use Rattle.wasm_tree.specs.declared.instr.StoreOp.TheVariants as op
-use Rattle.wasm_tree.specs.declared.instr.MemArg.{MemArg}
 use Rattle.wasm_tree.specs.declared.instr.Instr.TheVariants as i
-use Rattle.wasm_tree.specs.declared.instr.Instr.{Instr}
 use Rattle.wasm_tree.specs.declared.instr.Instr.TheOpen.{Instr-F}
-use Rattle.wasm_tree.specs.declared.module.Module.{Module}
 use Rattle.wasm_num.specs.Operations.{W32}
-use Rattle.wasm_meaning.specs.Outcomes.{Gives, IllTyped, overwrite}
-use Rattle.wasm_meaning.specs.Access.{little_bytes, store_from, stored}
-use Rattle.wasm_meaning.specs.State.{Val, Entry}
+use Rattle.wasm_meaning.specs.Prelude.{Gives, IllTyped, overwrite, store_from, Val, Entry, num_of, pop_num}
+use Rattle.wasm_meaning.specs.Access.{little_bytes, stored}
 use Rattle.wasm_meaning.specs.Touched.{store_width}
-use Rattle.wasm_meaning.specs.Values.{num_of, pop_num}
 use Rattle.eval_spec.specs.declared.stop.Stop.{Stop}
 use Rattle.eval_spec.specs.declared.stop.Stop.TheVariants as why
-use Rattle.eval_spec.specs.State.{first_held}
-use Rattle.eval_spec.specs.Stops.{is_imported}
-use Rattle.eval_spec.specs.Instantiation.{own_inst}
+use Rattle.eval_spec.specs.Prelude.{first_held, is_imported, own_inst}
 use Rattle.eval_machine.specs.declared.kept.Kept.{Kept}
-use Rattle.eval_machine.specs.Held.{ended}
-use Rattle.eval_machine.specs.Flows.{Place, body_at}
-use Rattle.eval_machine.specs.Kept.{Fits}
-use Rattle.eval_machine.specs.Written.{Wrote, told_of, write_tests}
-use Rattle.eval_machine.specs.Instructions.{BeginsWith, done_by}
+use Rattle.eval_machine.specs.Prelude.{ended, Place, body_at, Fits, Wrote, told_of, write_tests, BeginsWith, done_by}
 use Rattle.eval_machine.proofs.Instructions.{ends_trap_first, ends_unknown}
 use Rattle.eval_machine.proofs.MemoryAt.{IsThere, imported_memory, own_memory}
 use Rattle.eval_machine.proofs.WriteSteps.{IsWrite, begins_from, write_begins, wrote_form}

@@ -1,34 +1,17 @@
 -- Slots and sizes of tables.
-use Rattle.std.proofs.Common.{◌≡◌, ℕ, ◌+◌, ◌-◌, ◌<◌, ◌≤◌, arith, List, ◌∷◌, length, slice_get, true, false, Option, Some, None, refl, sym, ap, ◌∙◌}
-use Rattle.std.specs.Prelude.{nat_lt}
-use Rattle.std.proofs.lemmas.Bool.{lt-ltb, le-ltb}
-use Rattle.std.proofs.lemmas.List.{length-append}
-use Rattle.std.proofs.lemmas.Option.{same_Some, slice_get_past, slice_get_within}
+use Rattle.base_lists.proofs.Common.{◌≡◌, ℕ, ◌+◌, ◌-◌, ◌<◌, ◌≤◌, arith, List, ◌∷◌, length, slice_get, true, false, Option, Some, None, refl, sym, ap, ◌∙◌, nat_lt, lt-ltb, le-ltb, length-append, same_Some, slice_get_past, slice_get_within, length-numbers, none_past}
 use Rattle.base_lists.specs.Options.{◌>>=◌}
-use Rattle.base_lists.proofs.Numbers.{length-numbers}
-use Rattle.base_lists.proofs.Walk.{none_past}
-use Rattle.wasm_tree.specs.declared.space.Space.TheVariants.{Tables}
-use Rattle.wasm_tree.specs.declared.types.TableType.{TableType}
+use Rattle.wasm_tree_spec.specs.Prelude.{Tables, TableType, Instr, Module, imported_tables, tables_of}
 use Rattle.wasm_tree.specs.declared.instr.Instr.TheVariants as i
-use Rattle.wasm_tree.specs.declared.instr.Instr.{Instr}
 use Rattle.wasm_tree.specs.declared.instr.Instr.TheOpen.{Instr-F}
-use Rattle.wasm_tree.specs.declared.module.Module.{Module}
-use Rattle.wasm_tree.specs.Spaces.{imported_tables, tables_of}
 use Rattle.wasm_num.specs.Operations.{W32}
-use Rattle.wasm_meaning.specs.Outcomes.{Gives, IllTyped}
-use Rattle.wasm_meaning.specs.State.{RefVal, Val, Num, Ref, Table, Entry}
-use Rattle.wasm_meaning.specs.Values.{pop_num}
+use Rattle.wasm_meaning.specs.Prelude.{Gives, IllTyped, RefVal, Val, Num, Ref, Table, Entry, pop_num}
 use Rattle.eval_spec.specs.declared.stop.Stop.TheVariants as why
-use Rattle.eval_spec.specs.Stops.{is_imported}
-use Rattle.eval_spec.specs.Instantiation.{own_inst}
+use Rattle.eval_spec.specs.Prelude.{is_imported, own_inst}
 use Rattle.eval_machine.specs.declared.kept.Kept.{Kept}
 use Rattle.eval_machine.specs.declared.value.Value.{Value}
 use Rattle.eval_machine.specs.declared.slots.Slot.TheVariants as slot
-use Rattle.eval_machine.specs.Held.{val_of}
-use Rattle.eval_machine.specs.Slots.{IsSlot, is_unknown_in, ref_in, slot_count}
-use Rattle.eval_machine.specs.Kept.{Fits, base_of}
-use Rattle.eval_machine.specs.Flows.{Place}
-use Rattle.eval_machine.specs.Instructions.{BeginsWith}
+use Rattle.eval_machine.specs.Prelude.{val_of, IsSlot, is_unknown_in, ref_in, slot_count, Fits, base_of, Place, BeginsWith}
 use Rattle.eval_machine.proofs.Imports.{address_of, tables_many}
 use Rattle.eval_machine.proofs.Instructions.{IsStill, ends_on, ends_trap, ends_unknown}
 

@@ -1,27 +1,18 @@
 -- What is told of a machine is told of its state.
-use Rattle.std.proofs.Common.{◌≡◌, ℕ, zero, suc, ◌+◌, ◌*◌, ◌<◌, List, [], ◌∷◌, map, length, Bool, true, false, cond, ◌||◌, Option, Some, None, refl, sym, ap, ◌∙◌, arith}
-use Rattle.std.specs.Prelude.{slice_get, unwrap_or}
-use Rattle.std.proofs.lemmas.Option.{same_Some}
-use Rattle.std.proofs.lemmas.List.{length-map}
+use Rattle.base_lists.proofs.Common.{◌≡◌, ℕ, zero, suc, ◌+◌, ◌*◌, ◌<◌, List, [], ◌∷◌, map, length, Bool, true, false, cond, ◌||◌, Option, Some, None, refl, sym, ap, ◌∙◌, arith, slice_get, same_Some, length-map, map_at, push_last}
+use Rattle.std.specs.Prelude.{unwrap_or}
 use Rattle.base_lists.specs.Options.{◌>>=◌}
 use Rattle.base_lists.specs.Places.{places}
-use Rattle.base_lists.proofs.Places.{map_at, push_last}
-use Rattle.wasm_tree.specs.declared.space.Space.TheVariants.{Globals}
-use Rattle.wasm_tree.specs.declared.types.Limits.{Limits}
-use Rattle.wasm_tree.specs.declared.module.DataSeg.{DataSeg}
-use Rattle.wasm_tree.specs.declared.module.Module.{Module}
-use Rattle.wasm_tree.specs.Spaces.{imported_memories}
+use Rattle.wasm_tree_spec.specs.Prelude.{Globals, Limits, DataSeg, Module, imported_memories}
 use Rattle.block_pool.specs.Pages.{Pages, little, part}
-use Rattle.index_remap.specs.References.{is_among}
-use Rattle.eval_spec.specs.Stops.{is_imported}
-use Rattle.eval_spec.specs.Told.{constant, value_of_global, is_dropped, memory_bytes}
-use Rattle.eval_spec.specs.Instantiation.{imported_store}
+use Rattle.index_remap.specs.Prelude.{is_among}
+use Rattle.eval_spec.specs.Prelude.{is_imported, constant, value_of_global, is_dropped, memory_bytes, imported_store}
 use Rattle.eval_machine.specs.declared.globals.GlobalSlot.{GlobalSlot}
 use Rattle.eval_machine.specs.declared.globals.Standing.{Standing}
 use Rattle.eval_machine.specs.declared.globals.Standing.TheVariants as standing
 use Rattle.eval_machine.specs.declared.kept.Kept.{Kept}
-use Rattle.eval_machine.specs.Held.{constant_of, global_of, is_known, is_of_import, is_unset, val_of}
-use Rattle.eval_machine.specs.Kept.{Fits, datas_in, state_in}
+use Rattle.eval_machine.specs.Prelude.{global_of, is_of_import, is_unset, val_of, Fits, datas_in, state_in}
+use Rattle.eval_machine.specs.Held.{constant_of, is_known}
 use Rattle.eval_machine.proofs.Chosen.{none_mapped}
 use Rattle.eval_machine.proofs.GlobalSteps.{among_places}
 use Rattle.eval_machine.proofs.PouredState.{one_limit}

@@ -1,13 +1,10 @@
 -- Values of types that are taken off, where only as many as there are types are looked at.
-use Rattle.std.proofs.Common.{◌≡◌, ℕ, zero, suc, ◌+◌, ◌<◌, ◌≤◌, arith, List, [], ◌∷◌, ◌++◌, length, reverse, Bool, true, false, Option, Some, None, refl, sym, ap, ◌∙◌, append_assoc}
+use Rattle.base_lists.proofs.Common.{◌≡◌, ℕ, zero, suc, ◌+◌, ◌<◌, ◌≤◌, arith, List, [], ◌∷◌, ◌++◌, length, reverse, Bool, true, false, Option, Some, None, refl, sym, ap, ◌∙◌, append_assoc}
 use Rattle.std.proofs.lemmas.Grind.{reverse_onto}
 use Rattle.std.proofs.lemmas.List.{append-nil}
 use Rattle.base_lists.specs.Options.{◌>>=◌}
-use Rattle.wasm_tree.specs.declared.types.ValType.{ValType}
-use Rattle.wasm_tree.specs.SameTypes.{same_type}
-use Rattle.wasm_meaning.specs.Outcomes.{Outcome, Gives, Traps, IllTyped, bind, onto, or_ill_typed, split_at}
-use Rattle.wasm_meaning.specs.State.{Val}
-use Rattle.wasm_meaning.specs.Values.{pop, pop_typed, type_of, typed}
+use Rattle.wasm_tree_spec.specs.Prelude.{ValType, same_type}
+use Rattle.wasm_meaning.specs.Prelude.{Outcome, Gives, Traps, IllTyped, bind, onto, or_ill_typed, split_at, Val, pop, pop_typed, type_of, typed}
 
 pub onto_is : {A : Type 0} (xs ys : List A) → onto xs ys ≡ reverse xs ++ ys
 onto_is [] ys = refl

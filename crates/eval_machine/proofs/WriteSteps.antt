@@ -1,30 +1,17 @@
 -- An instruction that writes the memory, with the tests in their order and what it leaves.
-use Rattle.std.proofs.Common.{◌≡◌, ℕ, ◌+◌, ◌-◌, ◌/◌, ◌%◌, ◌≤◌, List, [], ◌∷◌, length, replicate, Bool, true, false, Option, Some, None, refl, ap}
-use Rattle.std.specs.Prelude.{nat_lt}
-use Rattle.std.proofs.lemmas.Bool.{ltb-true, ltb-false}
-use Rattle.std.proofs.lemmas.List.{length-replicate}
+use Rattle.base_lists.proofs.Common.{◌≡◌, ℕ, ◌+◌, ◌-◌, ◌/◌, ◌%◌, ◌≤◌, List, [], ◌∷◌, length, replicate, Bool, true, false, Option, Some, None, refl, ap, nat_lt, ltb-true, ltb-false, length-replicate}
 use Rattle.block_pool.specs.Pages.{Pages, part, size, with_reached}
 use Rattle.block_pool.proofs.Reading.{part_size}
-use Rattle.wasm_tree.specs.declared.space.Space.TheVariants.{Memories}
+use Rattle.wasm_tree_spec.specs.Prelude.{Memories, Instr, out-Instr, Module}
 use Rattle.wasm_tree.specs.declared.instr.Instr.TheVariants as i
-use Rattle.wasm_meaning.specs.Memory.{pop_three}
-use Rattle.eval_spec.specs.Stops.{is_imported}
-use Rattle.wasm_tree.specs.declared.instr.Instr.{Instr, out-Instr}
+use Rattle.wasm_meaning.specs.Prelude.{pop_three, Gives, bind, or_trap, overwrite, Val, Memory, Entry, Body, Goes, SetMemory, Bytes, touched_by}
+use Rattle.eval_spec.specs.Prelude.{is_imported, Stopped, first_held, calls_import, changes_table, further_turns, grows, opens, test, too_many_blocks, uses_unknown}
 use Rattle.wasm_tree.specs.declared.instr.Instr.TheOpen.{Instr-F}
-use Rattle.wasm_tree.specs.declared.module.Module.{Module}
-use Rattle.wasm_meaning.specs.Outcomes.{Gives, bind, or_trap, overwrite}
-use Rattle.wasm_meaning.specs.State.{Val, Memory, Entry, Body, Goes, SetMemory}
-use Rattle.wasm_meaning.specs.Touched.{Bytes, touched_by}
 use Rattle.eval_spec.specs.declared.stop.Stop.{Stop}
 use Rattle.eval_spec.specs.declared.stop.Stop.TheVariants as why
-use Rattle.eval_spec.specs.State.{Stopped, first_held}
-use Rattle.eval_spec.specs.Stops.{calls_import, changes_table, further_turns, grows, opens, test, too_many_blocks, uses_unknown}
 use Rattle.eval_machine.specs.declared.kept.Kept.{Kept}
 use Rattle.eval_machine.specs.declared.registers.Registers.{Registers}
-use Rattle.eval_machine.specs.Flows.{Place, body_at, running}
-use Rattle.eval_machine.specs.Kept.{Fits, state_in}
-use Rattle.eval_machine.specs.Written.{Wrote, told_of, write_tests}
-use Rattle.eval_machine.specs.Instructions.{BeginsWith, begun, done_by, env_in}
+use Rattle.eval_machine.specs.Prelude.{Place, body_at, running, Fits, state_in, Wrote, told_of, write_tests, BeginsWith, begun, done_by, env_in}
 use Rattle.eval_machine.proofs.FirstGlobals.{copies_are}
 use Rattle.eval_machine.proofs.Instructions.{by_layer}
 use Rattle.eval_machine.proofs.MemoryAt.{IsThere, slice_in}

@@ -1,15 +1,13 @@
 -- Which blocks a write reaches, and the stops that it is tested for.
-use Rattle.std.proofs.Common.{◌≡◌, ℕ, ◌+◌, ◌-◌, ◌/◌, ◌≤◌, arith, [], ◌∷◌, length, Bool, true, false, Some, None, ap, inl, inr}
-use Rattle.std.specs.Prelude.{count_by, nat_lt}
-use Rattle.std.proofs.lemmas.Bool.{le-ltb, lt-ltb}
+use Rattle.base_lists.proofs.Common.{◌≡◌, ℕ, ◌+◌, ◌-◌, ◌/◌, ◌≤◌, arith, [], ◌∷◌, length, Bool, true, false, Some, None, ap, inl, inr, count_by, nat_lt, le-ltb, lt-ltb}
 use Rattle.std.proofs.lemmas.List.Sums.{count_by-le-length}
 use Rattle.block_pool.specs.Pages.{IsWidth, Pages, Passes, size, with_reached}
 use Rattle.block_pool.proofs.Reached.{reached_length}
 use Rattle.eval_spec.specs.declared.limits.TheConstants.{MOST_BLOCKS}
 use Rattle.eval_spec.specs.declared.stop.Stop.TheVariants as why
-use Rattle.eval_spec.specs.State.{first_held}
-use Rattle.eval_spec.specs.Stops.{test, too_many_blocks}
-use Rattle.eval_machine.specs.Written.{HoldsMost, bounds_tests, told_of, write_tests}
+use Rattle.eval_spec.specs.Prelude.{first_held, test, too_many_blocks}
+use Rattle.eval_machine.specs.Prelude.{HoldsMost, told_of, write_tests}
+use Rattle.eval_machine.specs.Written.{bounds_tests}
 
 -- more blocks than the pages may write are more than an evaluation may
 pub passes_too_many : (p : Pages) (place count : ℕ) → HoldsMost p → Passes p place count → too_many_blocks (with_reached place count 0 p.now.written) ≡ true

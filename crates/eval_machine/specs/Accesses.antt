@@ -1,11 +1,10 @@
 -- What loads make of numbers, and the bytes of data segments.
 use Rattle.std.specs.Prelude.{ℕ, List, Option, Some, slice_get}
 use Rattle.wasm_num.specs.Operations.{Width, extended}
-use Rattle.wasm_tree.specs.declared.instr.LoadOp.{LoadOp}
+use Rattle.wasm_tree_spec.specs.Prelude.{LoadOp}
 use Rattle.wasm_tree.specs.declared.instr.LoadOp.TheVariants as load
 use Rattle.base_lists.specs.Options.{◌>>=◌}
-use Rattle.wasm_meaning.specs.State.{Val, Num, Data}
-use Rattle.wasm_meaning.specs.Access.{load_to}
+use Rattle.wasm_meaning.specs.Prelude.{Val, Num, Data, load_to}
 
 -- with the sign, where the load has one
 abbrev pub extended_by : LoadOp → ℕ → ℕ

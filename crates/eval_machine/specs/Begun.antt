@@ -2,28 +2,15 @@
 use Rattle.std.specs.Prelude.{◌≡◌, ℕ, ◌+◌, ◌-◌, ◌*◌, ◌<◌, ◌≤◌, List, [], ◌∷◌, ◌++◌, map, length, is_some, Bool, true, false, cond, ◌&&◌, ◌||◌, Option, Some, None, Result, Ok, Err, slice_get, slice_set, nat_eq, nat_le, nat_lt}
 use Rattle.base_lists.specs.Options.{◌>>=◌, all_there}
 use Rattle.base_lists.specs.Places.{numbers, places}
-use Rattle.wasm_tree.specs.declared.space.Space.TheVariants.{Tables, Memories, Globals}
-use Rattle.wasm_tree.specs.declared.types.Limits.{Limits}
-use Rattle.wasm_tree.specs.declared.types.TableType.{TableType}
-use Rattle.wasm_tree.specs.declared.module.ConstExpr.{ConstExpr}
+use Rattle.wasm_tree_spec.specs.Prelude.{Tables, Memories, Globals, Limits, TableType, ConstExpr, ElemSeg, ElemMode, DataSeg, DataMode, Module, globals_of, imported_memories}
 use Rattle.wasm_tree.specs.declared.module.ConstExpr.TheVariants as const
-use Rattle.wasm_tree.specs.declared.module.ElemSeg.{ElemSeg}
-use Rattle.wasm_tree.specs.declared.module.ElemMode.{ElemMode}
 use Rattle.wasm_tree.specs.declared.module.ElemMode.TheVariants as elem
-use Rattle.wasm_tree.specs.declared.module.DataSeg.{DataSeg}
-use Rattle.wasm_tree.specs.declared.module.DataMode.{DataMode}
 use Rattle.wasm_tree.specs.declared.module.DataMode.TheVariants as data'
-use Rattle.wasm_tree.specs.declared.module.Module.{Module}
-use Rattle.wasm_tree.specs.Spaces.{globals_of, imported_memories}
 use Rattle.wasm_num.specs.Operations.{wrapped}
-use Rattle.wasm_meaning.specs.State.{RefVal, Global}
-use Rattle.wasm_meaning.specs.Values.{ref_of}
-use Rattle.wasm_meaning.specs.World.{PlacedSegment, global_with, new_elem, segments_in}
+use Rattle.wasm_meaning.specs.Prelude.{RefVal, Global, ref_of, PlacedSegment, global_with, new_elem, segments_in}
 use Rattle.eval_spec.specs.declared.stop.Stop.{Stop}
 use Rattle.eval_spec.specs.declared.stop.Stop.TheVariants as why
-use Rattle.eval_spec.specs.State.{State, Stage, Finished, stop_of}
-use Rattle.eval_spec.specs.Stops.{is_imported, too_many_blocks}
-use Rattle.eval_spec.specs.Instantiation.{imported_store, in_order, instantiated, own_inst, reads_global, unknown_at_first, unknown_items, value_in, with_data, with_elem}
+use Rattle.eval_spec.specs.Prelude.{State, Stage, Finished, stop_of, is_imported, too_many_blocks, imported_store, in_order, instantiated, own_inst, reads_global, unknown_at_first, unknown_items, value_in, with_data, with_elem}
 use Rattle.eval_machine.specs.declared.value.Value.TheVariants as v
 use Rattle.eval_machine.specs.declared.slots.Slot.{Slot}
 use Rattle.eval_machine.specs.declared.slots.Slot.TheVariants as slot

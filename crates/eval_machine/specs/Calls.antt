@@ -1,11 +1,9 @@
 -- What the instantiation with the start, and the call of a constructor, leave in a machine.
 use Rattle.std.specs.Prelude.{◌≡◌, ℕ, ◌≤◌, Option, Some, None, Result, Ok}
-use Rattle.wasm_tree.specs.declared.module.Module.{Module}
+use Rattle.wasm_tree_spec.specs.Prelude.{Module}
 use Rattle.eval_spec.specs.declared.limits.TheConstants.{MOST_TURNS}
 use Rattle.eval_spec.specs.declared.stop.Stop.{Stop}
-use Rattle.eval_spec.specs.State.{Stopped, Finished, stop_of, left_behind}
-use Rattle.eval_spec.specs.Quiet.{call_end}
-use Rattle.eval_spec.specs.Instantiation.{booted}
+use Rattle.eval_spec.specs.Prelude.{Stopped, Finished, stop_of, left_behind, call_end, booted}
 use Rattle.eval_machine.specs.declared.kept.Kept.{Kept}
 use Rattle.eval_machine.specs.declared.machine.Booted.{Booted}
 use Rattle.eval_machine.specs.declared.machine.Booted.TheVariants as booted

@@ -1,21 +1,12 @@
 -- What the code of a level comes to, by quiet steps, whatever levels and frames it is in.
 use Rattle.std.specs.Prelude.{◌≡◌, ℕ, suc, ◌+◌, ◌-◌, ◌/◌, List, [], ◌∷◌, length, Bool, cond, Option, Some, None, slice_get, nat_lt, nat_le}
-use Rattle.wasm_tree.specs.declared.types.ValType.{ValType}
-use Rattle.wasm_tree.specs.declared.types.FuncType.{FuncType}
-use Rattle.wasm_tree.specs.declared.instr.Instr.{Instr}
-use Rattle.wasm_tree.specs.declared.module.Module.{Module}
-use Rattle.wasm_meaning.specs.Outcomes.{Outcome, Gives, bind, onto}
-use Rattle.wasm_meaning.specs.State.{Val, Func, Code, Own, Placeholder, Level, Frame, Entry, Running, Body, Act}
-use Rattle.wasm_meaning.specs.Values.{pop_typed}
-use Rattle.wasm_meaning.specs.Control.{branch, finish, open_level}
-use Rattle.wasm_meaning.specs.Step.{give, enter, perform}
+use Rattle.wasm_tree_spec.specs.Prelude.{ValType, FuncType, Instr, Module}
+use Rattle.wasm_meaning.specs.Prelude.{Outcome, Gives, bind, onto, Val, Func, Code, Own, Placeholder, Level, Frame, Entry, Running, Body, Act, pop_typed, branch, open_level, give, enter, perform}
+use Rattle.wasm_meaning.specs.Control.{finish}
 use Rattle.eval_spec.specs.declared.limits.TheConstants.{MOST_DEPTH}
 use Rattle.eval_spec.specs.declared.stop.Stop.{Stop}
 use Rattle.eval_spec.specs.declared.stop.Stop.TheVariants as why
-use Rattle.eval_spec.specs.State.{Stage, Going, Stopped, tried}
-use Rattle.eval_spec.specs.Stops.{gives_nothing, stack_depth, test}
-use Rattle.eval_spec.specs.Quiet.{ComesTo, came_to}
-use Rattle.eval_spec.specs.Instantiation.{own_inst}
+use Rattle.eval_spec.specs.Prelude.{Stage, Going, Stopped, tried, gives_nothing, stack_depth, test, ComesTo, came_to, own_inst}
 use Rattle.eval_machine.specs.declared.registers.Registers.{Registers}
 use Rattle.eval_machine.specs.declared.registers.Opening.{Opening}
 use Rattle.eval_machine.specs.declared.registers.Flow.{Flow}

@@ -1,14 +1,10 @@
 -- What a value of the machine denotes, and how a part of the machine tells what an instruction comes to.
 use Rattle.std.specs.Prelude.{◌≡◌, ℕ, Bool, true, false, cond, ◌&&◌, Option, Some, None, Result, Ok, Err, List, [], ◌∷◌, map, slice_set}
-use Rattle.wasm_tree.specs.declared.types.ValType.{ValType}
-use Rattle.wasm_tree.specs.SameTypes.{same_type}
+use Rattle.wasm_tree_spec.specs.Prelude.{ValType, same_type, ConstExpr}
 use Rattle.wasm_num.specs.Operations.{Width, W32, W64, type_of as width_of_number, value_of}
 use Rattle.wasm_num.specs.declared.Num.{Num as Number}
-use Rattle.wasm_meaning.specs.Outcomes.{Outcome, Gives, IllTyped, bind, onto, split_at, with_entry}
-use Rattle.wasm_meaning.specs.State.{FuncRef, ExternRef, Val, Num, Ref, Global}
-use Rattle.wasm_meaning.specs.Values.{type_of, typed, pop, pop_typed}
-use Rattle.wasm_tree.specs.declared.module.ConstExpr.{ConstExpr}
-use Rattle.eval_spec.specs.Told.{constant}
+use Rattle.wasm_meaning.specs.Prelude.{Outcome, Gives, IllTyped, bind, onto, split_at, with_entry, FuncRef, ExternRef, Val, Num, Ref, Global, type_of, typed, pop, pop_typed}
+use Rattle.eval_spec.specs.Prelude.{constant}
 use Rattle.eval_spec.specs.declared.stop.Stop.{Stop}
 use Rattle.eval_spec.specs.declared.stop.Stop.TheVariants as why
 use Rattle.eval_machine.specs.declared.value.Value.{Value}

@@ -1,28 +1,14 @@
 -- The step that begins an instruction whose one turn is spent, and what the parts of the machine make of it.
 use Rattle.std.specs.Prelude.{◌≡◌, ℕ, ◌-◌, List, [], ◌∷◌, Bool, true, false, ◌&&◌, cond, length, Option, Some, None, nat_lt, nat_le, slice_get}
-use Rattle.wasm_tree.specs.declared.instr.Instr.{Instr, out-Instr}
+use Rattle.wasm_tree_spec.specs.Prelude.{Instr, out-Instr, Module, BlockType, ValType, FuncType, same_func_type}
 use Rattle.wasm_tree.specs.declared.instr.Instr.TheOpen.{Instr-F}
-use Rattle.wasm_tree.specs.declared.module.Module.{Module}
-use Rattle.wasm_tree.specs.declared.types.BlockType.{BlockType}
-use Rattle.wasm_tree.specs.declared.types.ValType.{ValType}
-use Rattle.wasm_tree.specs.declared.types.FuncType.{FuncType}
 use Rattle.base_lists.specs.Options.{◌>>=◌}
-use Rattle.wasm_tree.specs.SameTypes.{same_func_type}
-use Rattle.wasm_meaning.specs.Control.{own_at, shape_of, type_at}
-use Rattle.wasm_meaning.specs.World.{is_there}
-use Rattle.wasm_meaning.specs.Outcomes.{Outcome, bind}
-use Rattle.wasm_meaning.specs.State.{Val, Entry, Env, Body, Act, Next}
-use Rattle.wasm_meaning.specs.Values.{go}
-use Rattle.wasm_meaning.specs.Step.{exec, perform}
-use Rattle.wasm_meaning.specs.Touched.{touched_by}
-use Rattle.index_remap.specs.Unknown.{left_after}
+use Rattle.wasm_meaning.specs.Prelude.{own_at, shape_of, type_at, is_there, Outcome, bind, Val, Entry, Env, Body, Act, Next, go, exec, perform, touched_by}
+use Rattle.index_remap.specs.Prelude.{left_after}
 use Rattle.eval_spec.specs.declared.limits.TheConstants.{MOST_DEPTH}
 use Rattle.eval_spec.specs.declared.stop.Stop.{Stop}
 use Rattle.eval_spec.specs.declared.stop.Stop.TheVariants as why
-use Rattle.eval_spec.specs.State.{State, Stage, Stopped, Test, tried}
-use Rattle.eval_spec.specs.Stops.{calls_import, changes_table, further_turns, gives_nothing, grows, opens, test, uses_unknown, writes_too_many, written_after}
-use Rattle.eval_spec.specs.Quiet.{came_to}
-use Rattle.eval_spec.specs.Instantiation.{own_inst}
+use Rattle.eval_spec.specs.Prelude.{State, Stage, Stopped, Test, tried, calls_import, changes_table, further_turns, gives_nothing, grows, opens, test, uses_unknown, writes_too_many, written_after, came_to, own_inst}
 use Rattle.eval_machine.specs.declared.kept.Kept.{Kept}
 use Rattle.eval_machine.specs.declared.registers.Registers.{Registers}
 use Rattle.eval_machine.specs.declared.registers.Flow.TheVariants as flow

@@ -2,18 +2,11 @@
 use Rattle.std.specs.Prelude.{◌≡◌, ℕ, ◌*◌, ◌<◌, List, [], ◌∷◌, ◌++◌, map, length, Bool, true, false, cond, Option, Some, None, slice_get, unwrap_or}
 use Rattle.base_lists.specs.Places.{places}
 use Rattle.block_pool.specs.Pages.{Pages, size}
-use Rattle.wasm_tree.specs.declared.space.Space.TheVariants.{Globals}
-use Rattle.wasm_tree.specs.declared.types.Limits.{Limits}
-use Rattle.wasm_tree.specs.declared.module.DataSeg.{DataSeg}
-use Rattle.wasm_tree.specs.declared.module.Module.{Module}
-use Rattle.wasm_tree.specs.Spaces.{imported_funcs, imported_tables, imported_memories, globals_of}
-use Rattle.wasm_meaning.specs.State.{Memory, Data, Store}
-use Rattle.wasm_meaning.specs.Step.{no_bytes}
-use Rattle.index_remap.specs.Unknown.{none_unknown}
+use Rattle.wasm_tree_spec.specs.Prelude.{Globals, Limits, DataSeg, Module, imported_funcs, imported_tables, imported_memories, globals_of}
+use Rattle.wasm_meaning.specs.Prelude.{Memory, Data, Store, no_bytes}
+use Rattle.index_remap.specs.Prelude.{none_unknown}
 use Rattle.eval_spec.specs.declared.limits.TheConstants.{MOST_TURNS}
-use Rattle.eval_spec.specs.State.{State, is_finished, state_of}
-use Rattle.eval_spec.specs.Stops.{is_imported}
-use Rattle.eval_spec.specs.Instantiation.{imported_store, instantiated}
+use Rattle.eval_spec.specs.Prelude.{State, is_finished, state_of, is_imported, imported_store, instantiated}
 use Rattle.eval_references_proof.specs.References.{GlobalsAreTyped, RefsAreThere}
 use Rattle.eval_machine.specs.declared.globals.GlobalSlot.{GlobalSlot}
 use Rattle.eval_machine.specs.declared.kept.ImportCounts.{ImportCounts}

@@ -10,3 +10,4 @@ pub mod Read
 pub mod Slots
 pub mod Stays
 pub mod Written
+pub mod Prelude

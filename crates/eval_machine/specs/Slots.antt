@@ -2,14 +2,10 @@
 use Rattle.std.specs.Prelude.{◌≡◌, ℕ, ◌+◌, ◌-◌, ◌*◌, List, length, Bool, true, false, cond, Option, Some, None, slice_get, unwrap_or, nat_eq, nat_lt}
 use Rattle.std.specs.Map.{lookup}
 use Rattle.base_lists.specs.Options.{◌>>=◌}
-use Rattle.wasm_tree.specs.declared.types.RefType.{RefType}
+use Rattle.wasm_tree_spec.specs.Prelude.{RefType, TableType, Module, imported_tables}
 use Rattle.wasm_tree.specs.declared.types.RefType.TheVariants as reft
-use Rattle.wasm_tree.specs.declared.types.TableType.{TableType}
-use Rattle.wasm_tree.specs.declared.module.Module.{Module}
-use Rattle.wasm_tree.specs.Spaces.{imported_tables}
-use Rattle.wasm_meaning.specs.State.{RefVal, Ref}
-use Rattle.eval_spec.specs.State.{State}
-use Rattle.eval_spec.specs.Stops.{any_in_row}
+use Rattle.wasm_meaning.specs.Prelude.{RefVal, Ref}
+use Rattle.eval_spec.specs.Prelude.{State, any_in_row}
 use Rattle.eval_machine.specs.declared.value.Value.{Value}
 use Rattle.eval_machine.specs.declared.value.Value.TheVariants as v
 use Rattle.eval_machine.specs.declared.slots.Slot.{Slot}

@@ -4,8 +4,7 @@ use Rattle.block_pool.specs.Pages.{Pages, Writes, size, with_reached}
 use Rattle.eval_spec.specs.declared.limits.TheConstants.{MOST_BLOCKS}
 use Rattle.eval_spec.specs.declared.stop.Stop.{Stop}
 use Rattle.eval_spec.specs.declared.stop.Stop.TheVariants as why
-use Rattle.eval_spec.specs.State.{Test}
-use Rattle.eval_spec.specs.Stops.{test, too_many_blocks}
+use Rattle.eval_spec.specs.Prelude.{Test, test, too_many_blocks}
 
 -- As many blocks may be written as an evaluation may write, or all of a smaller memory. So the pages are full exactly where the evaluation stops.
 abbrev pub HoldsMost : Pages → Type 0

@@ -1,40 +1,20 @@
 -- Numbers are in range in the store after the instantiation of a valid module, and no reference in it is the embedder's.
-use Rattle.std.proofs.Common.{◌≡◌, ◌∙◌, ℕ, suc, ◌*◌, ◌^◌, ◌<◌, ◌≤◌, arith, List, [], ◌∷◌, length, map, Bool, true, false, cond, Option, Some, None, slice_get, refl, sym, subst}
-use Rattle.std.specs.Prelude.{nat_lt}
+use Rattle.base_lists.proofs.Common.{◌≡◌, ◌∙◌, ℕ, suc, ◌*◌, ◌^◌, ◌<◌, ◌≤◌, arith, List, [], ◌∷◌, length, map, Bool, true, false, cond, Option, Some, None, slice_get, refl, sym, subst, nat_lt, same_Some, slice_get_within, every_at}
 use Rattle.std.specs.Option.{IfSome}
-use Rattle.std.proofs.lemmas.Option.{same_Some, slice_get_within}
 use Rattle.base_lists.specs.Every.{Every}
 use Rattle.base_lists.specs.Options.{◌>>=◌, all_there}
-use Rattle.base_lists.proofs.Each.{every_at}
-use Rattle.wasm_tree.specs.declared.types.GlobalType.{GlobalType}
-use Rattle.wasm_tree.specs.declared.types.Limits.{Limits}
-use Rattle.wasm_tree.specs.declared.types.TableType.{TableType}
-use Rattle.wasm_tree.specs.declared.module.ConstExpr.{ConstExpr}
+use Rattle.wasm_tree_spec.specs.Prelude.{GlobalType, Limits, TableType, ConstExpr, DataMode, DataSeg, ElemMode, ElemSeg, GlobalDef, Module, imported_tables, imported_memories, imported_globals, memories_of}
 use Rattle.wasm_tree.specs.declared.module.ConstExpr.TheVariants as const
-use Rattle.wasm_tree.specs.declared.module.DataMode.{DataMode}
 use Rattle.wasm_tree.specs.declared.module.DataMode.TheVariants as data'
-use Rattle.wasm_tree.specs.declared.module.DataSeg.{DataSeg}
-use Rattle.wasm_tree.specs.declared.module.ElemMode.{ElemMode}
 use Rattle.wasm_tree.specs.declared.module.ElemMode.TheVariants as elem
-use Rattle.wasm_tree.specs.declared.module.ElemSeg.{ElemSeg}
-use Rattle.wasm_tree.specs.declared.module.GlobalDef.{GlobalDef}
-use Rattle.wasm_tree.specs.declared.module.Module.{Module}
-use Rattle.wasm_tree.specs.Spaces.{imported_tables, imported_memories, imported_globals, memories_of}
 use Rattle.wasm_num.specs.Operations.{W32}
 use Rattle.wasm_valid.specs.declared.kinds.ItemKind.{ItemKind}
 use Rattle.wasm_valid.specs.declared.kinds.ItemKind.TheVariants as kind
-use Rattle.wasm_valid.specs.Validity.{HoldsAt, count_of}
-use Rattle.wasm_meaning.specs.Outcomes.{Gives, copies, overwrite}
-use Rattle.wasm_meaning.specs.State.{RefVal, Table, Memory, Store}
-use Rattle.wasm_meaning.specs.Values.{num_of, ref_of, null_of, zero_of}
-use Rattle.wasm_meaning.specs.Step.{no_bytes, no_items}
-use Rattle.wasm_meaning.specs.Touched.{Bytes}
-use Rattle.wasm_meaning.specs.World.{Filled, PlacedSegment, copy_slots, copy_bytes, elem_with, global_with, joined_stores, new_elem, new_func, or_trapped, run_elem_with, run_data_with, segments_in, store_with}
+use Rattle.wasm_valid.specs.Prelude.{HoldsAt, count_of}
+use Rattle.wasm_meaning.specs.Prelude.{Gives, copies, overwrite, RefVal, Table, Memory, Store, num_of, ref_of, null_of, zero_of, no_bytes, no_items, Bytes, Filled, PlacedSegment, copy_slots, copy_bytes, elem_with, global_with, joined_stores, new_elem, new_func, or_trapped, run_elem_with, run_data_with, segments_in, store_with}
 use Rattle.wasm_meaning.proofs.Slices.{copies_length}
 use Rattle.eval_spec.specs.declared.stop.Stop.TheVariants as why
-use Rattle.eval_spec.specs.State.{State, Stage, Going, Stopped, Finished, Test, first_held, stopped_or}
-use Rattle.eval_spec.specs.Stops.{written_after}
-use Rattle.eval_spec.specs.Instantiation.{copied_slots, data_tests, elem_tests, filled_from, imported_store, in_order, instantiated, own_inst, place_in, state_at_first, value_in, with_data, with_data_mode, with_elem, with_elem_mode, with_segments}
+use Rattle.eval_spec.specs.Prelude.{State, Stage, Going, Stopped, Finished, Test, first_held, stopped_or, written_after, copied_slots, data_tests, elem_tests, filled_from, imported_store, in_order, instantiated, own_inst, place_in, state_at_first, value_in, with_data, with_data_mode, with_elem, with_elem_mode, with_segments}
 use Rattle.eval_numbers_proof.specs.Ranges.{BeginsInRange, IsByte, IsNullOrFunction, IsExpressible}
 use Rattle.eval_numbers_proof.proofs.Lists.{there_then, each_of_both, each_copy, each_set, each_overwritten}
 use Rattle.eval_numbers_proof.proofs.Operations.{wrapped_in}

@@ -1,18 +1,11 @@
 -- Numbers stay in range in each state to which an evaluation comes, and no global holds a reference of the embedder's.
-use Rattle.std.proofs.Common.{◌≡◌, ℕ, zero, suc, ◌-◌, List, [], ◌∷◌, Option, Some, None, slice_get, subst}
+use Rattle.base_lists.proofs.Common.{◌≡◌, ℕ, zero, suc, ◌-◌, List, [], ◌∷◌, Option, Some, None, slice_get, subst, every_at}
 use Rattle.base_lists.specs.Every.{Every}
-use Rattle.base_lists.proofs.Each.{every_at}
-use Rattle.wasm_tree.specs.declared.module.Module.{Module}
-use Rattle.wasm_valid.specs.Validity.{IsValid}
-use Rattle.wasm_meaning.specs.Outcomes.{Outcome, Gives, Traps, IllTyped}
-use Rattle.wasm_meaning.specs.State.{Val, Num, Ref, Func, Entry, Mark, Next, Ran, CallsOwn, WaitsGrowth, CallsPlaceholder, EndsCall}
-use Rattle.wasm_meaning.specs.Step.{enter, step}
+use Rattle.wasm_tree_spec.specs.Prelude.{Module}
+use Rattle.wasm_valid.specs.Prelude.{IsValid}
+use Rattle.wasm_meaning.specs.Prelude.{Outcome, Gives, Traps, IllTyped, Val, Num, Ref, Func, Entry, Mark, Next, Ran, CallsOwn, WaitsGrowth, CallsPlaceholder, EndsCall, enter, step}
 use Rattle.wasm_meaning.proofs.Outcomes.{AllOf, just}
-use Rattle.eval_spec.specs.State.{State, Stage, Going, Stopped, Finished, first_held}
-use Rattle.eval_spec.specs.Stops.{frame_turns, host_tests, tests}
-use Rattle.eval_spec.specs.Quiet.{after_steps, call_end, came_to, host_call, host_opened_if_there, quiet_step, spent, weight}
-use Rattle.eval_spec.specs.Evaluation.{called_in_order, evaluated_within}
-use Rattle.eval_spec.specs.Instantiation.{after_start, instantiated}
+use Rattle.eval_spec.specs.Prelude.{State, Stage, Going, Stopped, Finished, first_held, frame_turns, host_tests, tests, after_steps, call_end, came_to, host_call, host_opened_if_there, quiet_step, spent, weight, called_in_order, evaluated_within, after_start, instantiated}
 use Rattle.eval_numbers_proof.specs.Ranges.{BeginsInRange, EvaluatedGlobalsAreInRange, EvaluatedGlobalsAreExpressible, EvaluatedMemoriesAreInRange, IsExpressible, ValInRange}
 use Rattle.eval_numbers_proof.proofs.Steps.{EntryIn, GlobalIn, MemoryIn, NextIn, StoreIn, enter_in, step_in}
 use Rattle.eval_numbers_proof.proofs.Beginning.{HeldIn, Items, instantiated_in, tried_in}

@@ -1,29 +1,22 @@
 -- A small module of bytes, and one that holds more than a byte: what it loads is no i32. And a small module of references, of which the law speaks.
-use Rattle.std.proofs.Common.{◌≡◌, refl, subst, ℕ, arith}
-use Rattle.std.specs.Prelude.{zero, suc, pos, List, [], ◌∷◌, map, Option, Some, None, true, slice_get}
+use Rattle.base_lists.proofs.Common.{◌≡◌, refl, subst, ℕ, arith, zero, suc, pos, List, [], ◌∷◌, map, Option, Some, None, true, slice_get}
 use Rattle.base_lists.specs.Every.{Every}
 use Rattle.base_lists.specs.Options.{◌>>=◌}
 use Rattle.wasm_num.specs.Operations.{W32, wrapped}
 use Rattle.wasm_tree.specs.declared.types.RefType.TheVariants as reft
-use Rattle.wasm_tree.specs.declared.types.ValType.TheVariants.{I32, Ref as RefT}
-use Rattle.wasm_tree.specs.declared.types.FuncType.{FuncType}
+use Rattle.wasm_tree_spec.specs.Prelude.{I32, FuncType, ElemSeg, Func, GlobalDef, Module}
+use Rattle.wasm_tree.specs.declared.types.ValType.TheVariants.{Ref as RefT}
 use Rattle.wasm_tree.specs.declared.instr.Instr.{out-Instr}
 use Rattle.wasm_tree.specs.declared.instr.Instr.TheVariants as i
 use Rattle.wasm_tree.specs.declared.instr.LoadOp.TheVariants.{I32Load8U}
 use Rattle.wasm_tree.specs.declared.module.ConstExpr.TheVariants as const
 use Rattle.wasm_tree.specs.declared.module.DataMode.TheVariants as data'
 use Rattle.wasm_tree.specs.declared.module.ElemMode.TheVariants as elem
-use Rattle.wasm_tree.specs.declared.module.ElemSeg.{ElemSeg}
-use Rattle.wasm_tree.specs.declared.module.Func.{Func}
-use Rattle.wasm_tree.specs.declared.module.GlobalDef.{GlobalDef}
-use Rattle.wasm_tree.specs.declared.module.Module.{Module}
 use Rattle.wasm_valid_bodies.specs.Typing.{Gives, WellTyped}
-use Rattle.wasm_valid.specs.Constants.{const_type}
-use Rattle.wasm_valid.specs.Validity.{IsValid, body_context}
+use Rattle.wasm_valid.specs.Prelude.{const_type, IsValid, body_context}
 use Rattle.wasm_meaning.specs.Access.{little, load_to, load_width, loaded}
-use Rattle.wasm_meaning.specs.State.{FuncRef, ExternRef, Val, Num, Ref}
-use Rattle.eval_spec.specs.State.{state_of}
-use Rattle.eval_spec.specs.Evaluation.{evaluated}
+use Rattle.wasm_meaning.specs.Prelude.{FuncRef, ExternRef, Val, Num, Ref}
+use Rattle.eval_spec.specs.Prelude.{state_of, evaluated}
 use Rattle.eval_numbers_proof.specs.Ranges.{BeginsInRange, IsExpressible, ValInRange}
 
 -- function 0 loads byte 0 of the memory into global 0

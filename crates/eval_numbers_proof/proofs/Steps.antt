@@ -1,26 +1,15 @@
 -- A step keeps the numbers of the store and of the configuration in the ranges of their types, and brings no reference of the embedder's among them.
-use Rattle.std.proofs.Common.{◌≡◌, ℕ, ◌+◌, ◌%◌, ◌^◌, ◌<◌, ◌≤◌, arith, List, [], ◌∷◌, length, drop, slice_get, unwrap_or}
-use Rattle.std.specs.Prelude.{nat_eq}
-use Rattle.std.proofs.Math.Nat.{mod-lt}
+use Rattle.base_lists.proofs.Common.{◌≡◌, ℕ, ◌+◌, ◌%◌, ◌^◌, ◌<◌, ◌≤◌, arith, List, [], ◌∷◌, length, drop, slice_get, unwrap_or, nat_eq, mod-lt, every_at}
 use Rattle.base_lists.specs.Every.{Every}
-use Rattle.base_lists.proofs.Each.{every_at}
-use Rattle.wasm_tree.specs.declared.types.ValType.{ValType}
-use Rattle.wasm_tree.specs.declared.types.BlockType.{BlockType}
-use Rattle.wasm_tree.specs.declared.instr.Instr.{Instr, out-Instr}
+use Rattle.wasm_tree_spec.specs.Prelude.{ValType, BlockType, Instr, out-Instr, LoadOp, StoreOp, same_func_type, same_ref}
 use Rattle.wasm_tree.specs.declared.instr.Instr.TheOpen.{Instr-F}
 use Rattle.wasm_tree.specs.declared.instr.Instr.TheVariants as i
-use Rattle.wasm_tree.specs.declared.instr.LoadOp.{LoadOp}
-use Rattle.wasm_tree.specs.declared.instr.StoreOp.{StoreOp}
 use Rattle.wasm_num.specs.Operations.{W32}
-use Rattle.wasm_meaning.specs.Outcomes.{Outcome, copies, overwrite, slice, split_at}
-use Rattle.wasm_meaning.specs.Access.{load_width, store_from, stored}
-use Rattle.wasm_meaning.specs.State.{RefVal, Val, Func, Code, Own, Placeholder, Table, Memory, Global, Elem, Data, Store, Level, Frame, Entry, Running, Mark, Opening, Waiting, Ended, Growing, Env, Body, Change, Keep, SetGlobal, SetMemory, SetTable, DropElem, DropData, Act, Goes, Calls, AsksGrow, Ends, Next, Ran, EndsCall}
-use Rattle.wasm_meaning.specs.Values.{typed, type_of, zeros, pop, pop_num, pop_ref, pop_typed, type_of_ref, unary, binary, ref_is_null, select_any, select_typed, with_values, on_values, local_get, local_put, global_get, global_set}
-use Rattle.wasm_meaning.specs.Memory.{written, load_from, with_memory, writes, store_into, memory_may_grow, grow_memory, pop_three, init_memory, memory_init, fill_memory}
-use Rattle.wasm_meaning.specs.Tables.{with_table, fits, writes_table, get_slot, set_slot, table_may_grow, grow_table, fill_table, init_table, table_init}
-use Rattle.wasm_meaning.specs.Control.{type_at, func_ref, call_slot, resume, end_level, level_here, branch, branch_if, branch_table, shape_of, open_level, open_block}
-use Rattle.wasm_meaning.specs.Step.{act, changed, enter, exec, frame_of, give, give_levels, no_bytes, no_items, perform, step, step_code, step_levels}
-use Rattle.wasm_tree.specs.SameTypes.{same_func_type, same_ref}
+use Rattle.wasm_meaning.specs.Prelude.{Outcome, copies, overwrite, slice, split_at, load_width, store_from, stored, RefVal, Val, Func, Code, Own, Placeholder, Table, Memory, Global, Elem, Data, Store, Level, Frame, Entry, Running, Mark, Opening, Waiting, Ended, Growing, Env, Body, Change, Keep, SetGlobal, SetMemory, SetTable, DropElem, DropData, Act, Goes, Calls, AsksGrow, Ends, Next, Ran, EndsCall, typed, type_of, zeros, pop, pop_num, pop_ref, pop_typed, type_of_ref, unary, binary, ref_is_null, select_any, select_typed, with_values, on_values, local_put, global_set, written, load_from, with_memory, writes, store_into, memory_may_grow, grow_memory, pop_three, init_memory, fill_memory, with_table, fits, writes_table, get_slot, set_slot, table_may_grow, grow_table, fill_table, init_table, type_at, func_ref, call_slot, resume, end_level, level_here, branch, shape_of, open_level, open_block, act, changed, enter, exec, frame_of, give, give_levels, no_bytes, no_items, perform, step, step_code, step_levels}
+use Rattle.wasm_meaning.specs.Values.{local_get, global_get}
+use Rattle.wasm_meaning.specs.Memory.{memory_init}
+use Rattle.wasm_meaning.specs.Tables.{table_init}
+use Rattle.wasm_meaning.specs.Control.{branch_if, branch_table}
 use Rattle.wasm_meaning.proofs.Outcomes.{AllOf, ill_typed, stopped, just, cond_all, with_found, with_is, with_within}
 use Rattle.eval_numbers_proof.specs.Ranges.{IsByte, IsNullOrFunction, IsExpressible}
 use Rattle.eval_numbers_proof.proofs.Lists.{each_of_both, each_dropped, each_set, each_copy, each_onto, SplitIn, each_split, each_slice, each_overwritten}

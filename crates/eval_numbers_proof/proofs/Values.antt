@@ -1,26 +1,19 @@
 -- What is taken from a stack of values of the module's own (numbers in range, nulls, functions) is one, and so is what an instruction on values puts there.
-use Rattle.std.proofs.Common.{◌≡◌, ℕ, zero, suc, ◌+◌, ◌*◌, ◌^◌, ◌<◌, ◌/◌, arith, Bool, true, false, cond, List, [], ◌∷◌, length, Option, Some, None, subst, sym}
-use Rattle.std.specs.Prelude.{nat_eq}
+use Rattle.base_lists.proofs.Common.{◌≡◌, ℕ, zero, suc, ◌+◌, ◌*◌, ◌^◌, ◌<◌, ◌/◌, arith, Bool, true, false, cond, List, [], ◌∷◌, length, Option, Some, None, subst, sym, nat_eq, mod-lt}
 use Rattle.std.specs.Option.{IfSome}
-use Rattle.std.proofs.Math.Nat.{mod-lt, pow-succ'}
+use Rattle.std.proofs.Math.Nat.{pow-succ'}
 use Rattle.base_lists.specs.Every.{Every}
-use Rattle.wasm_tree.specs.declared.types.RefType.{RefType}
+use Rattle.wasm_tree_spec.specs.Prelude.{RefType, ValType, LoadOp, StoreOp, same_type}
 use Rattle.wasm_tree.specs.declared.types.RefType.TheVariants as reft
-use Rattle.wasm_tree.specs.declared.types.ValType.{ValType}
 use Rattle.wasm_tree.specs.declared.types.ValType.TheVariants as valt
-use Rattle.wasm_tree.specs.declared.instr.LoadOp.{LoadOp}
 use Rattle.wasm_tree.specs.declared.instr.LoadOp.TheVariants as load
-use Rattle.wasm_tree.specs.declared.instr.StoreOp.{StoreOp}
 use Rattle.wasm_tree.specs.declared.instr.StoreOp.TheVariants as store
 use Rattle.wasm_num.specs.declared.UnOp.{UnOp}
 use Rattle.wasm_num.specs.declared.BinOp.{BinOp}
-use Rattle.wasm_tree.specs.SameTypes.{same_type}
 use Rattle.wasm_num.specs.Operations.{Width, W32, W64, bits_of, un_from, bin_from, bin_to, bin_value}
-use Rattle.wasm_meaning.specs.Outcomes.{Outcome, Gives, Traps, IllTyped, bind, or_trap, or_ill_typed}
+use Rattle.wasm_meaning.specs.Prelude.{Outcome, Gives, Traps, IllTyped, bind, or_trap, or_ill_typed, RefVal, FuncRef, ExternRef, Val, Num, Ref, typed, type_of, null_of, zero_of, zeros, pop, num_of, ref_of, pop_num, pop_ref, pop_typed, unary, binary, ref_is_null, select_of, select_any, select_typed, pop_three}
 use Rattle.wasm_meaning.specs.Access.{little, little_bytes, load_to, load_width, loaded, stored}
-use Rattle.wasm_meaning.specs.State.{RefVal, FuncRef, ExternRef, Val, Num, Ref}
-use Rattle.wasm_meaning.specs.Values.{typed, type_of, null_of, zero_of, zeros, pop, num_of, ref_of, pop_num, pop_ref, pop_typed, unary, binary, is_null, ref_is_null, select_of, second_type, select_any, select_typed}
-use Rattle.wasm_meaning.specs.Memory.{pop_three}
+use Rattle.wasm_meaning.specs.Values.{is_null, second_type}
 use Rattle.wasm_meaning.proofs.Outcomes.{AllOf, ill_typed, stopped, just, cond_all, with_is}
 use Rattle.eval_numbers_proof.specs.Ranges.{IsByte, IsNullOrFunction, IsExpressible}
 use Rattle.eval_numbers_proof.proofs.Operations.{unary_in, binary_in, extended_in}

@@ -1,14 +1,11 @@
 -- Numbers in the ranges of their types, in the states of an evaluation, and no references of the embedder's (WebAssembly Core 2.0, sections 2.2.1, 2.2.2 and 4.2.1).
 use Rattle.std.specs.Prelude.{◌≡◌, ℕ, ◌^◌, ◌<◌, ◌≤◌, List, length, Some, None, slice_get}
 use Rattle.base_lists.specs.Every.{Every}
-use Rattle.wasm_tree.specs.declared.types.TableType.{TableType}
-use Rattle.wasm_tree.specs.declared.module.DataSeg.{DataSeg}
-use Rattle.wasm_tree.specs.declared.module.Module.{Module}
-use Rattle.wasm_valid.specs.Validity.{IsValid}
+use Rattle.wasm_tree_spec.specs.Prelude.{TableType, DataSeg, Module}
+use Rattle.wasm_valid.specs.Prelude.{IsValid}
 use Rattle.wasm_num.specs.Operations.{bits_of}
-use Rattle.wasm_meaning.specs.State.{RefVal, FuncRef, ExternRef, Val, Num, Ref, Memory, Global, Store}
-use Rattle.eval_spec.specs.State.{State, Finished}
-use Rattle.eval_spec.specs.Evaluation.{evaluated_within}
+use Rattle.wasm_meaning.specs.Prelude.{RefVal, FuncRef, ExternRef, Val, Num, Ref, Memory, Global, Store}
+use Rattle.eval_spec.specs.Prelude.{State, Finished, evaluated_within}
 
 -- an i32 is below 2 ^ 32, and an i64 below 2 ^ 64
 abbrev pub ValInRange : Val → Type 0

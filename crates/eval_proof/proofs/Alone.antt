@@ -1,34 +1,19 @@
 -- A step over another store writes at addresses that are related to those at which the quiet step writes.
-use Rattle.std.proofs.Common.{◌≡◌, ◌∙◌, ℕ, List, [], ◌∷◌, Option, Some, None, Bool, true, false, cond, not, refl, sym, subst, slice_get}
-use Rattle.std.specs.Prelude.{nat_eq}
-use Rattle.std.specs.List.{filter}
-use Rattle.std.proofs.lemmas.Bool.{true≢false, eqb-false, ne_eqb}
+use Rattle.base_lists.proofs.Common.{◌≡◌, ◌∙◌, ℕ, List, [], ◌∷◌, Option, Some, None, Bool, true, false, cond, not, refl, sym, subst, slice_get, nat_eq, filter, eqb-false, ne_eqb, set_other}
+use Rattle.std.proofs.lemmas.Bool.{true≢false}
 use Rattle.base_lists.specs.Every.{Every}
-use Rattle.base_lists.proofs.Places.{set_other}
-use Rattle.wasm_tree.specs.declared.space.Space.{Space}
-use Rattle.wasm_tree.specs.declared.space.Space.TheVariants.{Memories, Globals, DataSegments}
-use Rattle.wasm_tree.specs.declared.instr.Instr.{Instr, out-Instr}
+use Rattle.wasm_tree_spec.specs.Prelude.{Space, Memories, Globals, DataSegments, Instr, out-Instr, Module, operands}
 use Rattle.wasm_tree.specs.declared.instr.Instr.TheOpen.{Instr-F}
-use Rattle.wasm_tree.specs.declared.module.Module.{Module}
-use Rattle.wasm_tree.specs.Operands.{operands}
 use Rattle.wasm_num.specs.Operations.{W32}
-use Rattle.wasm_meaning.specs.Outcomes.{Outcome, Gives, Traps, IllTyped, bind}
-use Rattle.wasm_meaning.specs.State.{Val, Inst, Func, Code, Own, Placeholder, Level, Store, Change, Frame, Entry, Running, Mark, Opening, Waiting, Ended, Growing, Act, Goes, Calls, AsksGrow, Ends, Next, Ran, EndsCall}
-use Rattle.wasm_meaning.specs.Values.{pop_num, pop_typed}
-use Rattle.wasm_meaning.specs.Memory.{pop_three}
-use Rattle.wasm_meaning.specs.Control.{type_at}
-use Rattle.wasm_meaning.specs.Step.{act, changed, give, give_levels, enter, perform, step}
+use Rattle.wasm_meaning.specs.Prelude.{Outcome, Gives, Traps, IllTyped, bind, Val, Inst, Func, Code, Own, Placeholder, Level, Store, Change, Frame, Entry, Running, Mark, Opening, Waiting, Ended, Growing, Act, Goes, Calls, AsksGrow, Ends, Next, Ran, EndsCall, pop_num, pop_typed, pop_three, type_at, act, changed, give, give_levels, enter, perform, step, Touched, Nothing, Bytes, Slots, OneGlobal, touched_by, touched_next, touched_levels, touched, Writes, ActWrites, StepsWriteWhatTheyTouch}
 use Rattle.wasm_meaning.specs.Touched
-use Rattle.wasm_meaning.specs.Touched.{Touched, Nothing, Bytes, Slots, OneGlobal, OneElem, OneData, touched_by, touched_next, touched_levels, touched, Writes, WritesTold, ActWrites, StepsWriteWhatTheyTouch}
+use Rattle.wasm_meaning.specs.Touched.{OneElem, OneData, WritesTold}
 use Rattle.wasm_meaning.proofs.Outcomes.{AllOf, ill_typed, just, with_is, with_found, all_at, then_found}
 use Rattle.index_remap.specs.Related
-use Rattle.index_remap.specs.Related.{Pairing, OptRel, none, some, ListRel, nil, cons, OpRel, CodeRel, end, then, instead, LevelRel, FrameRel, EntryRel, running}
-use Rattle.index_remap.specs.References.{is_among}
-use Rattle.index_remap.specs.Unknown.{Unknowns, learnt, left_by, left_after, left_unknown}
-use Rattle.eval_spec.specs.State.{State, Going, first_held}
-use Rattle.eval_spec.specs.Stops.{changes_table, is_unknown_import, beginning_in, beginning_of, instruction_tests, tests_at, tests}
-use Rattle.eval_spec.specs.Quiet.{quiet_step}
-use Rattle.eval_spec.specs.Instantiation.{own_inst}
+use Rattle.index_remap.specs.Prelude.{Pairing, OptRel, none, some, ListRel, nil, cons, OpRel, CodeRel, end, then, instead, LevelRel, FrameRel, EntryRel, running, is_among, Unknowns, left_by, left_after, left_unknown}
+use Rattle.index_remap.specs.Unknown.{learnt}
+use Rattle.eval_spec.specs.Prelude.{State, Going, first_held, changes_table, is_unknown_import, instruction_tests, tests_at, tests, quiet_step, own_inst}
+use Rattle.eval_spec.specs.Stops.{beginning_in, beginning_of}
 use Rattle.eval_proof.specs.Known.{RelatesAllButImports, FramesOf}
 use Rattle.eval_proof.specs.Alone.{LeavesAlone, QuietStepsPreserveUnrelated}
 use Rattle.eval_proof.proofs.Operands.{Known, op_known}

@@ -1,26 +1,13 @@
 -- An instantiation with more turns does the same: its segments cost none, and its start is a call.
-use Rattle.std.proofs.Common.{◌≡◌, ◌∙◌, ℕ, ◌+◌, List, [], ◌∷◌, length, Option, Some, None, Bool, true, false, cond, ◌||◌, refl, ap}
-use Rattle.std.specs.Prelude.{nat_lt}
+use Rattle.base_lists.proofs.Common.{◌≡◌, ◌∙◌, ℕ, ◌+◌, List, [], ◌∷◌, length, Option, Some, None, Bool, true, false, cond, ◌||◌, refl, ap, nat_lt}
 use Rattle.base_lists.specs.Options.{◌>>=◌}
-use Rattle.wasm_tree.specs.declared.module.ElemSeg.{ElemSeg}
-use Rattle.wasm_tree.specs.declared.module.ElemMode.{ElemMode}
+use Rattle.wasm_tree_spec.specs.Prelude.{ElemSeg, ElemMode, DataSeg, DataMode, Module, memories_of, Tables, Memories}
 use Rattle.wasm_tree.specs.declared.module.ElemMode.TheVariants as elem
-use Rattle.wasm_tree.specs.declared.module.DataSeg.{DataSeg}
-use Rattle.wasm_tree.specs.declared.module.DataMode.{DataMode}
 use Rattle.wasm_tree.specs.declared.module.DataMode.TheVariants as data'
-use Rattle.wasm_tree.specs.declared.module.Module.{Module}
-use Rattle.wasm_tree.specs.Spaces.{memories_of}
-use Rattle.wasm_meaning.specs.Outcomes.{Outcome, Gives}
-use Rattle.wasm_meaning.specs.State.{Store}
-use Rattle.wasm_meaning.specs.Touched.{Touched, Bytes}
-use Rattle.wasm_tree.specs.declared.space.Space.TheVariants.{Tables, Memories}
-use Rattle.wasm_meaning.specs.World.{Filled, PlacedSegment, segments_in, store_with, joined_stores, run_elem_with, run_data_with}
+use Rattle.wasm_meaning.specs.Prelude.{Outcome, Gives, Store, Touched, Bytes, Filled, PlacedSegment, segments_in, store_with, joined_stores, run_elem_with, run_data_with}
 use Rattle.eval_spec.specs.declared.stop.Stop.{Stop}
 use Rattle.eval_spec.specs.declared.stop.Stop.TheVariants as why
-use Rattle.eval_spec.specs.State.{State, Stage, Going, Stopped, Finished, tried}
-use Rattle.eval_spec.specs.Stops.{is_imported, written_after, writes_too_many, test}
-use Rattle.eval_spec.specs.Instantiation.{reads_global, place_in, copied_slots, own_inst, imported_store, value_in, unknown_at_first, none_written, with_elem_mode, with_elem, with_data_mode, with_data, in_order, with_segments, filled_from, instantiated, after_start, booted}
-use Rattle.eval_spec.specs.Evaluation.{called_in_order}
+use Rattle.eval_spec.specs.Prelude.{State, Stage, Going, Stopped, Finished, tried, is_imported, written_after, writes_too_many, test, reads_global, place_in, copied_slots, own_inst, imported_store, value_in, unknown_at_first, none_written, with_elem_mode, with_elem, with_data_mode, with_data, in_order, with_segments, filled_from, instantiated, after_start, booted, called_in_order}
 use Rattle.eval_proof.specs.Budgets.{more_turns, with_turns, HasTurns, EvaluationIsMonotoneInTheBudget}
 use Rattle.eval_proof.proofs.Budgets.{call_same, kept_turns, calls_same}
 

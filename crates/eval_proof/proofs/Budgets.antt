@@ -1,21 +1,12 @@
 -- An evaluation with more turns does the same, unless it stops for want of turns.
-use Rattle.std.proofs.Common.{◌≡◌, ◌∙◌, ℕ, ◌+◌, ◌-◌, ◌<◌, List, [], ◌∷◌, Option, Some, None, Bool, true, false, refl, sym, ap, subst, slice_get, arith}
-use Rattle.std.specs.Prelude.{nat_eq, nat_lt}
-use Rattle.std.proofs.lemmas.Bool.{eqb-false, ltb-false, ne_eqb, le-ltb}
-use Rattle.wasm_tree.specs.declared.instr.Instr.{Instr}
+use Rattle.base_lists.proofs.Common.{◌≡◌, ◌∙◌, ℕ, ◌+◌, ◌-◌, ◌<◌, List, [], ◌∷◌, Option, Some, None, Bool, true, false, refl, sym, ap, subst, slice_get, arith, nat_eq, nat_lt, eqb-false, ltb-false, ne_eqb, le-ltb}
+use Rattle.wasm_tree_spec.specs.Prelude.{Instr, Module}
 use Rattle.wasm_tree.specs.declared.instr.Instr.TheOpen.{Instr-F}
-use Rattle.wasm_tree.specs.declared.module.Module.{Module}
-use Rattle.wasm_meaning.specs.Outcomes.{Outcome, Gives, Traps, IllTyped}
-use Rattle.wasm_meaning.specs.State.{Val, Func, Entry, Mark, Env, Next, Ran, CallsOwn, WaitsGrowth, CallsPlaceholder, EndsCall}
-use Rattle.wasm_meaning.specs.Step.{step, enter}
-use Rattle.wasm_meaning.specs.Touched.{touched_by}
-use Rattle.index_remap.specs.Unknown.{left_unknown}
+use Rattle.wasm_meaning.specs.Prelude.{Outcome, Gives, Traps, IllTyped, Val, Func, Entry, Mark, Env, Next, Ran, CallsOwn, WaitsGrowth, CallsPlaceholder, EndsCall, step, enter, touched_by}
+use Rattle.index_remap.specs.Prelude.{left_unknown}
 use Rattle.eval_spec.specs.declared.stop.Stop.{Stop}
 use Rattle.eval_spec.specs.declared.stop.Stop.TheVariants as why
-use Rattle.eval_spec.specs.State.{State, Stage, Going, Stopped, Finished, Test, first_held, stopped_or, is_going}
-use Rattle.eval_spec.specs.Stops.{Beginning, beginning, further_turns, frame_turns, written_after, test, tests_at, tests, instruction_tests, host_tests}
-use Rattle.eval_spec.specs.Quiet.{spent_at, spent, came_to, quiet_step, ComesTo, here, on, host_opened, host_opened_if_there, host_call, run_end, call_end}
-use Rattle.eval_spec.specs.Evaluation.{called_in_order}
+use Rattle.eval_spec.specs.Prelude.{State, Stage, Going, Stopped, Finished, Test, first_held, stopped_or, is_going, Beginning, beginning, further_turns, frame_turns, written_after, test, tests_at, tests, instruction_tests, host_tests, spent_at, spent, came_to, quiet_step, ComesTo, here, on, host_opened, host_opened_if_there, host_call, run_end, call_end, called_in_order}
 use Rattle.eval_proof.specs.Budgets.{more_turns, with_turns, HasTurns}
 use Rattle.eval_proof.proofs.Ends.{runs_end, ends_are_reached, quiet_ends_are_unique}
 use Rattle.eval_proof.proofs.Quiet.{none_held}

@@ -1,12 +1,9 @@
 -- The count of evaluated constructors is the greatest length of a quiet prefix.
-use Rattle.std.proofs.Common.{◌≡◌, ℕ, zero, suc, ◌≤◌, List, [], ◌∷◌, length, take, Bool, true, false, cond, refl, sym, ap, arith}
+use Rattle.base_lists.proofs.Common.{◌≡◌, ℕ, zero, suc, ◌≤◌, List, [], ◌∷◌, length, take, Bool, true, false, cond, refl, sym, ap, arith}
 use Rattle.std.proofs.lemmas.Bool.{true≢false}
-use Rattle.wasm_tree.specs.declared.module.Module.{Module}
+use Rattle.wasm_tree_spec.specs.Prelude.{Module}
 use Rattle.eval_spec.specs.declared.limits.TheConstants.{MOST_TURNS}
-use Rattle.eval_spec.specs.State.{State, Stage, Going, Stopped, Finished, is_finished}
-use Rattle.eval_spec.specs.Quiet.{call_end}
-use Rattle.eval_spec.specs.Instantiation.{booted}
-use Rattle.eval_spec.specs.Evaluation.{called_in_order, calls_finished}
+use Rattle.eval_spec.specs.Prelude.{State, Stage, Going, Stopped, Finished, is_finished, call_end, booted, called_in_order, calls_finished}
 use Rattle.eval_proof.specs.Laws.{CountedAreQuiet, QuietAreCounted}
 
 over_state : (t : Stage) → is_finished t ≡ true → (s : State) × (t ≡ Finished s)

@@ -1,9 +1,8 @@
 -- A run of enough steps ends, with what its steps lead to and nothing else.
-use Rattle.std.proofs.Common.{◌≡◌, ℕ, zero, suc, ◌<◌, false, refl, arith}
+use Rattle.base_lists.proofs.Common.{◌≡◌, ℕ, zero, suc, ◌<◌, false, refl, arith}
 use Rattle.std.proofs.lemmas.Bool.{true≢false}
-use Rattle.wasm_tree.specs.declared.module.Module.{Module}
-use Rattle.eval_spec.specs.State.{Stage, Going, Stopped, Finished, is_going}
-use Rattle.eval_spec.specs.Quiet.{quiet_step, ComesTo, here, on, after_steps, weight}
+use Rattle.wasm_tree_spec.specs.Prelude.{Module}
+use Rattle.eval_spec.specs.Prelude.{Stage, Going, Stopped, Finished, is_going, quiet_step, ComesTo, here, on, after_steps, weight}
 use Rattle.eval_proof.specs.Laws.{RunsEnd, EndsAreReached, QuietEndsAreUnique}
 use Rattle.eval_proof.proofs.Falls.{Less, falls}
 

@@ -1,18 +1,11 @@
 -- A quiet step that goes on leaves less weight: an instruction spends a turn and opens at most one frame or label, and where none begins one ends.
-use Rattle.std.proofs.Common.{◌≡◌, ℕ, suc, ◌+◌, ◌-◌, ◌*◌, ◌<◌, length, List, [], ◌∷◌, Option, Some, None, Bool, true, false, cond, drop, refl, ap, arith}
-use Rattle.std.specs.Prelude.{nat_eq}
-use Rattle.std.proofs.lemmas.Bool.{eqb-false}
-use Rattle.wasm_tree.specs.declared.instr.Instr.{Instr, out-Instr}
-use Rattle.wasm_tree.specs.declared.module.Module.{Module}
-use Rattle.wasm_meaning.specs.Outcomes.{Outcome, Gives, Traps, IllTyped}
-use Rattle.wasm_meaning.specs.State.{Level, Frame, Entry, Running, Mark, Opening, Waiting, Ended, Growing, Next, Ran, CallsOwn, WaitsGrowth, CallsPlaceholder, EndsCall}
-use Rattle.wasm_meaning.specs.Step.{step}
+use Rattle.base_lists.proofs.Common.{◌≡◌, ℕ, suc, ◌+◌, ◌-◌, ◌*◌, ◌<◌, length, List, [], ◌∷◌, Option, Some, None, Bool, true, false, cond, drop, refl, ap, arith, nat_eq, eqb-false}
+use Rattle.wasm_tree_spec.specs.Prelude.{Instr, out-Instr, Module}
+use Rattle.wasm_meaning.specs.Prelude.{Outcome, Gives, Traps, IllTyped, Level, Frame, Entry, Running, Mark, Opening, Waiting, Ended, Growing, Next, Ran, CallsOwn, WaitsGrowth, CallsPlaceholder, EndsCall, step}
 use Rattle.wasm_meaning.proofs.Outcomes.{AllOf, just}
 use Rattle.eval_spec.specs.declared.stop.Stop.TheVariants as why
-use Rattle.eval_spec.specs.State.{State, Stage, Going, Stopped, Finished, Test, first_held, stopped_or, tried}
-use Rattle.eval_spec.specs.Stops.{Beginning, beginning, stack_depth, test, tests_at, tests}
-use Rattle.index_remap.specs.Unknown.{left_unknown}
-use Rattle.eval_spec.specs.Quiet.{spent_at, spent, came_to, quiet_step, weight}
+use Rattle.eval_spec.specs.Prelude.{State, Stage, Going, Stopped, Finished, Test, first_held, stopped_or, tried, Beginning, beginning, stack_depth, test, tests_at, tests, spent_at, spent, came_to, quiet_step, weight}
+use Rattle.index_remap.specs.Prelude.{left_unknown}
 use Rattle.eval_proof.proofs.Depth.{DepthAtMost, end_depth, instr_depth}
 
 -- it has ended, or its weight is less

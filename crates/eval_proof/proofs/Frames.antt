@@ -1,10 +1,6 @@
 -- A step keeps to the code of one instance.
-use Rattle.std.proofs.Common.{◌≡◌, List, [], ◌∷◌, slice_get, refl}
-use Rattle.wasm_meaning.specs.Outcomes.{Gives}
-use Rattle.wasm_meaning.specs.State.{Val, Inst, Func, Code, Own, Placeholder, Level, Store, Change, Keep, SetGlobal, SetMemory, SetTable, DropElem, DropData, Frame, Entry, Running, Mark, Opening, Waiting, Ended, Growing, Act, Goes, Calls, AsksGrow, Ends, Next, Ran}
-use Rattle.wasm_meaning.specs.Values.{pop_typed}
-use Rattle.wasm_meaning.specs.Control.{type_at}
-use Rattle.wasm_meaning.specs.Step.{act, changed, give, give_levels, enter, perform, step}
+use Rattle.base_lists.proofs.Common.{◌≡◌, List, [], ◌∷◌, slice_get, refl}
+use Rattle.wasm_meaning.specs.Prelude.{Gives, Val, Inst, Func, Code, Own, Placeholder, Level, Store, Change, Keep, SetGlobal, SetMemory, SetTable, DropElem, DropData, Frame, Entry, Running, Mark, Opening, Waiting, Ended, Growing, Act, Goes, Calls, AsksGrow, Ends, Next, Ran, pop_typed, type_at, act, changed, give, give_levels, enter, perform, step}
 use Rattle.wasm_meaning.proofs.Outcomes.{AllOf, ill_typed, just, with_is, with_found, all_at}
 use Rattle.eval_proof.specs.Known.{FramesOf, IsCodeOf, FuncsOf}
 

@@ -1,12 +1,9 @@
 -- Quiet calls are known steps, up to the one that ends the call.
-use Rattle.std.proofs.Common.{◌≡◌, ℕ, suc, List, Bool, ◌∙◌, refl, sym, subst}
-use Rattle.wasm_tree.specs.declared.space.Space.{Space}
-use Rattle.wasm_tree.specs.declared.module.Module.{Module}
-use Rattle.wasm_meaning.specs.State.{Entry}
-use Rattle.index_remap.specs.Unknown.{KnownSteps, none_left, known_step}
-use Rattle.eval_spec.specs.State.{State, Stage, Going, Stopped, Finished}
-use Rattle.eval_spec.specs.Quiet.{ComesTo, here, on, quiet_step}
-use Rattle.eval_spec.specs.Instantiation.{own_inst}
+use Rattle.base_lists.proofs.Common.{◌≡◌, ℕ, suc, List, Bool, ◌∙◌, refl, sym, subst}
+use Rattle.wasm_tree_spec.specs.Prelude.{Space, Module}
+use Rattle.wasm_meaning.specs.Prelude.{Entry}
+use Rattle.index_remap.specs.Prelude.{KnownSteps, none_left, known_step}
+use Rattle.eval_spec.specs.Prelude.{State, Stage, Going, Stopped, Finished, ComesTo, here, on, quiet_step, own_inst}
 use Rattle.eval_proof.specs.Known.{RelatesAllButImports, FramesOf, FuncsOf, EndsAsTheMachine, QuietCallsAreKnown}
 use Rattle.eval_proof.proofs.Frames.{step_keeps}
 use Rattle.eval_proof.proofs.Quiet.{goes_on_quietly, finishes_quietly}

@@ -1,22 +1,11 @@
 -- Quiet steps that go on read no unknown place and name related addresses.
-use Rattle.std.proofs.Common.{◌≡◌, ℕ, suc, List, [], ◌∷◌, Some, Bool, false, not, ◌&&◌, refl, sym, subst, None}
+use Rattle.base_lists.proofs.Common.{◌≡◌, ℕ, suc, List, [], ◌∷◌, Some, Bool, false, not, ◌&&◌, refl, sym, subst, None, numbers_is}
 use Rattle.std.proofs.lemmas.Bool.{true≢false}
-use Rattle.base_lists.proofs.Numbers.{numbers_is}
-use Rattle.wasm_tree.specs.declared.space.Space.{Space}
-use Rattle.wasm_tree.specs.declared.space.Space.TheVariants.{Types, Functions, Tables, Memories, Globals, ElementSegments, DataSegments}
-use Rattle.wasm_tree.specs.declared.space.Operand.{Operand}
-use Rattle.wasm_tree.specs.declared.instr.Instr.{Instr, out-Instr}
-use Rattle.wasm_tree.specs.declared.module.Module.{Module}
-use Rattle.wasm_tree.specs.Operands.{same_space, operands}
-use Rattle.wasm_meaning.specs.State.{Inst, Val, Level, Store, Entry, Running, Mark, Opening, Waiting, Ended, Growing}
-use Rattle.index_remap.specs.Related.{Pairing, NextKnown, TopKnown, TopSkips}
-use Rattle.index_remap.specs.Laws.{passed, EntriesKnown}
-use Rattle.index_remap.specs.Unknown.{StepReadsKnown, KnownSteps, none_left, known_step}
+use Rattle.wasm_tree_spec.specs.Prelude.{Space, Types, Functions, Tables, Memories, Globals, ElementSegments, DataSegments, Operand, Instr, out-Instr, Module, same_space, operands}
+use Rattle.wasm_meaning.specs.Prelude.{Inst, Val, Level, Store, Entry, Running, Mark, Opening, Waiting, Ended, Growing}
+use Rattle.index_remap.specs.Prelude.{Pairing, NextKnown, TopKnown, TopSkips, passed, EntriesKnown, StepReadsKnown, KnownSteps, none_left, known_step}
 use Rattle.index_remap.proofs.StepsAgree.{none_called}
-use Rattle.eval_spec.specs.State.{State, Stage, Going, Stopped, Finished, first_held}
-use Rattle.eval_spec.specs.Stops.{is_imported, is_unknown_import, tests}
-use Rattle.eval_spec.specs.Quiet.{ComesTo, here, on, quiet_step}
-use Rattle.eval_spec.specs.Instantiation.{own_inst}
+use Rattle.eval_spec.specs.Prelude.{State, Stage, Going, Stopped, Finished, first_held, is_imported, is_unknown_import, tests, ComesTo, here, on, quiet_step, own_inst}
 use Rattle.eval_proof.specs.Known.{RelatesAllButImports, FramesOf, FuncsOf, QuietStepsAreKnown}
 use Rattle.eval_proof.proofs.Operands.{address_at, Known, op_known}
 use Rattle.eval_proof.proofs.Frames.{step_keeps}

@@ -1,25 +1,13 @@
 -- A quiet instantiation copies the segments that the machine copies.
-use Rattle.std.proofs.Common.{◌≡◌, ◌∙◌, ℕ, List, [], ◌∷◌, length, Option, Some, None, Bool, true, false, cond, refl, sym, ap}
-use Rattle.std.specs.Prelude.{nat_lt}
+use Rattle.base_lists.proofs.Common.{◌≡◌, ◌∙◌, ℕ, List, [], ◌∷◌, length, Option, Some, None, Bool, true, false, cond, refl, sym, ap, nat_lt}
 use Rattle.base_lists.specs.Options.{◌>>=◌}
 use Rattle.base_lists.specs.Every.{Every}
-use Rattle.wasm_tree.specs.declared.module.ElemSeg.{ElemSeg}
-use Rattle.wasm_tree.specs.declared.module.ElemMode.{ElemMode}
+use Rattle.wasm_tree_spec.specs.Prelude.{ElemSeg, ElemMode, DataSeg, DataMode, Module, memories_of}
 use Rattle.wasm_tree.specs.declared.module.ElemMode.TheVariants as elem
-use Rattle.wasm_tree.specs.declared.module.DataSeg.{DataSeg}
-use Rattle.wasm_tree.specs.declared.module.DataMode.{DataMode}
 use Rattle.wasm_tree.specs.declared.module.DataMode.TheVariants as data'
-use Rattle.wasm_tree.specs.declared.module.Module.{Module}
-use Rattle.wasm_tree.specs.Spaces.{memories_of}
-use Rattle.wasm_meaning.specs.Outcomes.{Outcome, Gives}
-use Rattle.wasm_meaning.specs.State.{Store}
-use Rattle.wasm_meaning.specs.Touched.{Touched, Bytes}
-use Rattle.wasm_meaning.specs.World.{Filled, PlacedSegment, segments_in, store_with, joined_stores, run_elem_with, run_data_with, and_then, one_by_one}
-use Rattle.wasm_meaning.specs.Sequential.{own_segments}
+use Rattle.wasm_meaning.specs.Prelude.{Outcome, Gives, Store, Touched, Bytes, Filled, PlacedSegment, segments_in, store_with, joined_stores, run_elem_with, run_data_with, and_then, one_by_one, own_segments}
 use Rattle.eval_spec.specs.declared.stop.Stop.TheVariants as why
-use Rattle.eval_spec.specs.State.{State, Stage, Going, Stopped, Finished, Test, first_held, stopped_or}
-use Rattle.eval_spec.specs.Stops.{written_after}
-use Rattle.eval_spec.specs.Instantiation.{place_in, own_inst, imported_store, value_in, unknown_at_first, none_written, elem_tests, data_tests, with_elem_mode, with_elem, with_data_mode, with_data, in_order, with_segments, filled_from}
+use Rattle.eval_spec.specs.Prelude.{State, Stage, Going, Stopped, Finished, Test, first_held, stopped_or, written_after, place_in, own_inst, imported_store, value_in, unknown_at_first, none_written, elem_tests, data_tests, with_elem_mode, with_elem, with_data_mode, with_data, in_order, with_segments, filled_from}
 use Rattle.eval_proof.specs.Machines.{InstantiatedAs, InstantiationsAreTheMachines}
 use Rattle.eval_proof.proofs.Quiet.{none_held}
 

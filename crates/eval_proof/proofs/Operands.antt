@@ -1,16 +1,11 @@
 -- Where the operands of an instruction name related addresses, it names related addresses.
-use Rattle.std.proofs.Common.{◌≡◌, ℕ, Option, Some, None, refl, true, false}
+use Rattle.base_lists.proofs.Common.{◌≡◌, ℕ, Option, Some, None, refl, true, false, slice_get}
 use Rattle.base_lists.specs.Every.{Every}
-use Rattle.wasm_tree.specs.declared.space.Space.{Space}
-use Rattle.wasm_tree.specs.declared.space.Space.TheVariants.{Types, Functions, Tables, Memories, Globals, ElementSegments, DataSegments}
-use Rattle.wasm_tree.specs.declared.space.Operand.{Operand}
-use Rattle.wasm_tree.specs.declared.instr.Instr.{Instr}
+use Rattle.wasm_tree_spec.specs.Prelude.{Space, Types, Functions, Tables, Memories, Globals, ElementSegments, DataSegments, Operand, Instr, operands}
 use Rattle.wasm_tree.specs.declared.instr.Instr.TheOpen.{Instr-F}
-use Rattle.wasm_tree.specs.Operands.{operands}
-use Rattle.std.specs.Prelude.{slice_get}
-use Rattle.wasm_meaning.specs.State.{Inst}
+use Rattle.wasm_meaning.specs.Prelude.{Inst}
 use Rattle.index_remap.specs.Related
-use Rattle.index_remap.specs.Related.{Pairing, OptRel, none, some, ArgRel, OpRel}
+use Rattle.index_remap.specs.Prelude.{Pairing, OptRel, none, some, ArgRel, OpRel}
 
 -- the address of an index
 abbrev pub address_at : Inst → Space → ℕ → Option ℕ

@@ -1,18 +1,13 @@
 -- What is so where a quiet step goes on: no test held, and the machine made its step.
-use Rattle.std.proofs.Common.{◌≡◌, ℕ, ◌+◌, ◌<◌, ◌≤◌, List, [], ◌∷◌, Option, Some, None, Bool, true, false, cond, ◌&&◌, ◌||◌, refl, sym, ap, subst, arith, ◌∙◌}
-use Rattle.std.specs.Prelude.{nat_eq, nat_le, nat_lt}
-use Rattle.std.specs.List.{list_any}
-use Rattle.std.proofs.lemmas.Bool.{true≢false, eqb-true, le-leb, lt-ltb}
+use Rattle.base_lists.proofs.Common.{◌≡◌, ℕ, ◌+◌, ◌<◌, ◌≤◌, List, [], ◌∷◌, Option, Some, None, Bool, true, false, cond, ◌&&◌, ◌||◌, refl, sym, ap, subst, arith, ◌∙◌, nat_eq, nat_le, nat_lt, list_any, eqb-true, le-leb, lt-ltb}
+use Rattle.std.proofs.lemmas.Bool.{true≢false}
 use Rattle.base_lists.specs.Every.{Every}
-use Rattle.wasm_tree.specs.declared.instr.Instr.{Instr, out-Instr}
-use Rattle.wasm_tree.specs.declared.module.Module.{Module}
-use Rattle.wasm_meaning.specs.Outcomes.{Outcome, Gives, Traps, IllTyped}
-use Rattle.wasm_meaning.specs.State.{Val, Inst, Level, Entry, Next, Ran, CallsOwn, WaitsGrowth, CallsPlaceholder, EndsCall}
-use Rattle.wasm_meaning.specs.Step.{step}
-use Rattle.index_remap.specs.Unknown.{Unknowns, none_unknown, is_place_among, ReadPlace, ReadsNothing, ReadsGlobal, ReadsSlots, ReadsItems, read_next, read_levels, IsKnown, ReadsKnown, left_unknown}
-use Rattle.eval_spec.specs.State.{State, Stage, Going, Test, first_held, stopped_or, Finished}
-use Rattle.eval_spec.specs.Stops.{any_in_row, is_unknown, reads_unknown, uses_unknown, beginning_in, beginning_of, instruction_tests, tests_at, tests}
-use Rattle.eval_spec.specs.Quiet.{spent, came_to, quiet_step}
+use Rattle.wasm_tree_spec.specs.Prelude.{Instr, out-Instr, Module}
+use Rattle.wasm_meaning.specs.Prelude.{Outcome, Gives, Traps, IllTyped, Val, Inst, Level, Entry, Next, Ran, CallsOwn, WaitsGrowth, CallsPlaceholder, EndsCall, step}
+use Rattle.index_remap.specs.Prelude.{Unknowns, none_unknown, is_place_among, ReadPlace, ReadsNothing, ReadsGlobal, ReadsSlots, ReadsItems, IsKnown, ReadsKnown, left_unknown}
+use Rattle.index_remap.specs.Unknown.{read_next, read_levels}
+use Rattle.eval_spec.specs.Prelude.{State, Stage, Going, Test, first_held, stopped_or, Finished, any_in_row, uses_unknown, instruction_tests, tests_at, tests, spent, came_to, quiet_step}
+use Rattle.eval_spec.specs.Stops.{is_unknown, reads_unknown, beginning_in, beginning_of}
 
 -- ---- truth values ----
 

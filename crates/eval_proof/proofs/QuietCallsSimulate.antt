@@ -1,24 +1,12 @@
 -- A quiet call leads the same call over a related store, and leaves the rest of it alone.
-use Rattle.std.proofs.Common.{None, ◌≡◌, ◌∙◌, ℕ, suc, List, [], ◌∷◌, Bool, true, false, cond, not, ◌||◌, refl, sym, subst}
-use Rattle.std.specs.Prelude.{nat_eq}
-use Rattle.std.specs.List.{filter}
-use Rattle.wasm_tree.specs.declared.space.Space.{Space}
-use Rattle.wasm_tree.specs.declared.module.Module.{Module}
-use Rattle.wasm_meaning.specs.Outcomes.{Outcome, Gives, Traps, IllTyped}
-use Rattle.wasm_meaning.specs.State.{Val, Store, Change, Keep, SetGlobal, SetMemory, SetTable, DropElem, DropData, Entry, Running, Mark, Opening, Waiting, Ended, Growing, Act, Goes, Calls, AsksGrow, Ends, Next, Ran, EndsCall}
-use Rattle.wasm_meaning.specs.Step.{act, step}
-use Rattle.wasm_meaning.specs.Touched.{StepsWriteWhatTheyTouch}
-use Rattle.index_remap.specs.Related.{Pairing, OneToOneWhereWritten, ResRel, done, ListRel, EntryRel, ran, returned}
-use Rattle.index_remap.specs.References.{is_among}
-use Rattle.index_remap.specs.Laws.{passed, Above}
-use Rattle.index_remap.specs.Unknown.{Unknowns, StoreRelOff, left_by, left_after, left_unknown, NextOff, here, step_on, StepsAgreeOff}
+use Rattle.base_lists.proofs.Common.{None, ◌≡◌, ◌∙◌, ℕ, suc, List, [], ◌∷◌, Bool, true, false, cond, not, ◌||◌, refl, sym, subst, nat_eq, filter}
+use Rattle.wasm_tree_spec.specs.Prelude.{Space, Module}
+use Rattle.wasm_meaning.specs.Prelude.{Outcome, Gives, Traps, IllTyped, Val, Store, Change, Keep, SetGlobal, SetMemory, SetTable, DropElem, DropData, Entry, Running, Mark, Opening, Waiting, Ended, Growing, Act, Goes, Calls, AsksGrow, Ends, Next, Ran, EndsCall, act, step, StepsWriteWhatTheyTouch}
+use Rattle.index_remap.specs.Prelude.{Pairing, OneToOneWhereWritten, ResRel, done, ListRel, EntryRel, ran, returned, is_among, passed, Above, Unknowns, StoreRelOff, left_by, left_after, left_unknown, NextOff, here, step_on, StepsAgreeOff}
 use Rattle.index_remap.proofs.AboveSteps.{whole, entries_of}
 use Rattle.index_remap.proofs.SameRuns.{touches}
-use Rattle.eval_spec.specs.State.{State, Stage, Going, Stopped, Finished, first_held}
-use Rattle.eval_spec.specs.Stops.{tests}
-use Rattle.eval_spec.specs.Quiet.{ComesTo, on, quiet_step}
+use Rattle.eval_spec.specs.Prelude.{State, Stage, Going, Stopped, Finished, first_held, tests, ComesTo, on, quiet_step, own_inst}
 use Rattle.eval_spec.specs.Quiet as quiet
-use Rattle.eval_spec.specs.Instantiation.{own_inst}
 use Rattle.eval_proof.specs.Known.{RelatesAllButImports, FramesOf, FuncsOf}
 use Rattle.eval_proof.specs.Alone.{LeavesAlone}
 use Rattle.eval_proof.specs.QuietCalls.{IsLed, QuietCallsSimulate}

@@ -1,15 +1,9 @@
 -- For each module there is a relation of addresses as the laws ask for: each with itself, but for imported tables, memories and globals.
-use Rattle.std.proofs.Common.{◌≡◌, ◌∙◌, ℕ, [], Bool, true, false, not, ◌&&◌, refl, sym}
-use Rattle.std.specs.Prelude.{nat_eq, IsTrue}
-use Rattle.std.proofs.lemmas.Bool.{true≢false, eqb-true}
-use Rattle.base_lists.proofs.Bools.{left_true}
-use Rattle.wasm_tree.specs.declared.space.Space.{Space}
-use Rattle.wasm_tree.specs.declared.space.Space.TheVariants.{Functions}
-use Rattle.wasm_tree.specs.declared.module.Module.{Module}
-use Rattle.wasm_tree.specs.Operands.{same_space}
-use Rattle.index_remap.specs.Related.{OneToOneWhereWritten}
-use Rattle.index_remap.specs.Laws.{passed}
-use Rattle.eval_spec.specs.Stops.{is_imported}
+use Rattle.base_lists.proofs.Common.{◌≡◌, ◌∙◌, ℕ, [], Bool, true, false, not, ◌&&◌, refl, sym, nat_eq, IsTrue, eqb-true, left_true}
+use Rattle.std.proofs.lemmas.Bool.{true≢false}
+use Rattle.wasm_tree_spec.specs.Prelude.{Space, Functions, Module, same_space}
+use Rattle.index_remap.specs.Prelude.{OneToOneWhereWritten, passed}
+use Rattle.eval_spec.specs.Prelude.{is_imported}
 use Rattle.eval_proof.specs.Known.{RelatesAllButImports}
 
 abbrev itself : Space → ℕ → ℕ → Bool

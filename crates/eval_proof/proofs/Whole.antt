@@ -1,21 +1,12 @@
 -- An evaluation ends: it is quiet, or something stops it.
-use Rattle.std.proofs.Common.{◌≡◌, ℕ, List, [], ◌∷◌, length, Option, Some, None, Bool, true, false, cond, refl, ap}
-use Rattle.std.specs.Prelude.{nat_lt}
+use Rattle.base_lists.proofs.Common.{◌≡◌, ℕ, List, [], ◌∷◌, length, Option, Some, None, Bool, true, false, cond, refl, ap, nat_lt}
 use Rattle.std.proofs.lemmas.Bool.{true≢false}
-use Rattle.wasm_tree.specs.declared.module.ElemSeg.{ElemSeg}
-use Rattle.wasm_tree.specs.declared.module.ElemMode.{ElemMode}
+use Rattle.wasm_tree_spec.specs.Prelude.{ElemSeg, ElemMode, DataSeg, DataMode, Module, memories_of}
 use Rattle.wasm_tree.specs.declared.module.ElemMode.TheVariants as elem
-use Rattle.wasm_tree.specs.declared.module.DataSeg.{DataSeg}
-use Rattle.wasm_tree.specs.declared.module.DataMode.{DataMode}
 use Rattle.wasm_tree.specs.declared.module.DataMode.TheVariants as data'
-use Rattle.wasm_tree.specs.declared.module.Module.{Module}
-use Rattle.wasm_tree.specs.Spaces.{memories_of}
-use Rattle.wasm_meaning.specs.World.{PlacedSegment, segments_in}
+use Rattle.wasm_meaning.specs.Prelude.{PlacedSegment, segments_in}
 use Rattle.eval_spec.specs.declared.limits.TheConstants.{MOST_TURNS}
-use Rattle.eval_spec.specs.State.{State, Stage, Going, Stopped, Finished, Test, stopped_or, is_going, stop_of}
-use Rattle.eval_spec.specs.Quiet.{host_call, call_end}
-use Rattle.eval_spec.specs.Instantiation.{own_inst, state_at_first, with_elem_mode, with_elem, with_data_mode, with_data, in_order, with_segments, filled_from, instantiated, after_start, booted}
-use Rattle.eval_spec.specs.Evaluation.{called_in_order, evaluated_within, calls_finished}
+use Rattle.eval_spec.specs.Prelude.{State, Stage, Going, Stopped, Finished, Test, stopped_or, is_going, stop_of, host_call, call_end, own_inst, state_at_first, with_elem_mode, with_elem, with_data_mode, with_data, in_order, with_segments, filled_from, instantiated, after_start, booted, called_in_order, evaluated_within, calls_finished}
 use Rattle.eval_proof.specs.Laws.{EvaluationsEnd, QuietWhereNothingStops, NothingStopsQuiet, NoneCountedBefore}
 use Rattle.eval_proof.proofs.Ends.{runs_end}
 

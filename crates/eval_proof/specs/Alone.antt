@@ -1,18 +1,9 @@
 -- What a quiet step leaves as it is in another store, over which the machine makes it too.
 use Rattle.std.specs.Prelude.{◌≡◌, ℕ, true, List, [], slice_get, Bool}
-use Rattle.wasm_tree.specs.declared.space.Space.{Space}
-use Rattle.wasm_tree.specs.declared.space.Space.TheVariants.{Memories, Globals, DataSegments}
-use Rattle.wasm_tree.specs.declared.module.Module.{Module}
-use Rattle.wasm_meaning.specs.Outcomes.{Gives}
-use Rattle.wasm_meaning.specs.State.{Store, Entry, Ran}
-use Rattle.wasm_meaning.specs.Step.{step}
-use Rattle.index_remap.specs.Related.{Pairing, ListRel, EntryRel}
-use Rattle.index_remap.specs.References.{is_among}
-use Rattle.index_remap.specs.Laws.{passed}
-use Rattle.index_remap.specs.Unknown.{Unknowns}
-use Rattle.eval_spec.specs.State.{State, Going}
-use Rattle.eval_spec.specs.Quiet.{quiet_step}
-use Rattle.eval_spec.specs.Instantiation.{own_inst}
+use Rattle.wasm_tree_spec.specs.Prelude.{Space, Memories, Globals, DataSegments, Module}
+use Rattle.wasm_meaning.specs.Prelude.{Gives, Store, Entry, Ran, step}
+use Rattle.index_remap.specs.Prelude.{Pairing, ListRel, EntryRel, is_among, passed, Unknowns}
+use Rattle.eval_spec.specs.Prelude.{State, Going, quiet_step, own_inst}
 use Rattle.eval_proof.specs.Known.{RelatesAllButImports, FramesOf}
 
 -- functions, tables and element segments; memories and data segments to which nothing is related; and globals to which only what is unknown is related

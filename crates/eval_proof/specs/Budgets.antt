@@ -1,9 +1,8 @@
 -- What a greater budget of turns changes.
 use Rattle.std.specs.Prelude.{◌≡◌, ℕ, ◌+◌, List, Some}
-use Rattle.wasm_tree.specs.declared.module.Module.{Module}
+use Rattle.wasm_tree_spec.specs.Prelude.{Module}
 use Rattle.eval_spec.specs.declared.stop.Stop.TheVariants as why
-use Rattle.eval_spec.specs.State.{State, Stage, Going, Stopped, Finished, stop_of}
-use Rattle.eval_spec.specs.Evaluation.{evaluated_within}
+use Rattle.eval_spec.specs.Prelude.{State, Stage, Going, Stopped, Finished, stop_of, evaluated_within}
 
 -- so many turns more are left
 abbrev pub more_turns : ℕ → State → State

@@ -1,19 +1,9 @@
 -- Quiet steps as steps of the machine that read no unknown place and name nothing that is imported but functions, whatever stands outside.
 use Rattle.std.specs.Prelude.{◌≡◌, ℕ, Bool, false, not, ◌&&◌, List, [], ◌∷◌, Some, slice_get, IsTrue}
-use Rattle.wasm_tree.specs.declared.space.Space.{Space}
-use Rattle.wasm_tree.specs.declared.space.Space.TheVariants.{Functions}
-use Rattle.wasm_tree.specs.declared.module.Module.{Module}
-use Rattle.wasm_tree.specs.Operands.{same_space}
-use Rattle.wasm_meaning.specs.Outcomes.{Gives}
-use Rattle.wasm_meaning.specs.State.{Val, Inst, Func, Code, Entry, Running, EndsCall}
-use Rattle.wasm_meaning.specs.Step.{step}
-use Rattle.index_remap.specs.Related.{Pairing, TopSkips}
-use Rattle.index_remap.specs.Laws.{passed, EntriesKnown}
-use Rattle.index_remap.specs.Unknown.{StepReadsKnown, left_unknown, KnownSteps}
-use Rattle.eval_spec.specs.State.{State, Going, Finished}
-use Rattle.eval_spec.specs.Stops.{is_imported}
-use Rattle.eval_spec.specs.Quiet.{ComesTo}
-use Rattle.eval_spec.specs.Instantiation.{own_inst}
+use Rattle.wasm_tree_spec.specs.Prelude.{Space, Functions, Module, same_space}
+use Rattle.wasm_meaning.specs.Prelude.{Gives, Val, Inst, Func, Code, Entry, Running, EndsCall, step}
+use Rattle.index_remap.specs.Prelude.{Pairing, TopSkips, passed, EntriesKnown, StepReadsKnown, left_unknown, KnownSteps}
+use Rattle.eval_spec.specs.Prelude.{State, Going, Finished, is_imported, ComesTo, own_inst}
 
 -- whatever is in the code relation is related, but for imported tables, memories and globals
 abbrev pub RelatesAllButImports : Module → (of named : Space → ℕ → ℕ → Bool) → Type 0

@@ -1,9 +1,8 @@
 -- The laws of quiet runs.
 use Rattle.std.specs.Prelude.{◌≡◌, ℕ, ◌≤◌, false, List, [], length, take, None}
-use Rattle.wasm_tree.specs.declared.module.Module.{Module}
-use Rattle.eval_spec.specs.State.{Stage, is_going}
-use Rattle.eval_spec.specs.Quiet.{ComesTo, run_end}
-use Rattle.eval_spec.specs.Evaluation.{evaluated_within, IsQuiet, done_count, stopped_by}
+use Rattle.wasm_tree_spec.specs.Prelude.{Module}
+use Rattle.eval_spec.specs.Prelude.{Stage, is_going, ComesTo, run_end, evaluated_within, done_count, stopped_by}
+use Rattle.eval_spec.specs.Evaluation.{IsQuiet}
 
 -- What a run comes to in as many steps as its weight, and one more, is over or stopped.
 abbrev pub RunsEnd : Type 0

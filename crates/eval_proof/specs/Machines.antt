@@ -1,9 +1,8 @@
 -- A quiet instantiation as the machine's, over a store in which imports hold nothing.
 use Rattle.std.specs.Prelude.{◌≡◌, ℕ, Some, false}
-use Rattle.wasm_tree.specs.declared.module.Module.{Module}
-use Rattle.wasm_meaning.specs.Sequential.{Added, added_as}
-use Rattle.eval_spec.specs.State.{State, Finished}
-use Rattle.eval_spec.specs.Instantiation.{own_inst, imported_store, instantiated}
+use Rattle.wasm_tree_spec.specs.Prelude.{Module}
+use Rattle.wasm_meaning.specs.Prelude.{Added, added_as}
+use Rattle.eval_spec.specs.Prelude.{State, Finished, own_inst, imported_store, instantiated}
 
 -- An instantiation that nothing stops leaves the store that the module's own instantiation leaves behind what denotes its imports (section 4.5.4), and no segment traps.
 pub record InstantiatedAs (m : Module) (s : State) : Type 0 where

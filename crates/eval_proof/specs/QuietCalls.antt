@@ -1,16 +1,10 @@
 -- What a quiet call is over another store.
 use Rattle.std.specs.Prelude.{◌≡◌, ℕ, Bool, List, []}
-use Rattle.wasm_tree.specs.declared.space.Space.{Space}
-use Rattle.wasm_tree.specs.declared.module.Module.{Module}
-use Rattle.wasm_meaning.specs.Outcomes.{Gives}
-use Rattle.wasm_meaning.specs.State.{Val, Store, Entry, EndsCall}
-use Rattle.wasm_meaning.specs.Step.{step}
-use Rattle.index_remap.specs.Related.{Pairing, OneToOneWhereWritten, ListRel, EntryRel}
-use Rattle.index_remap.specs.Laws.{passed}
-use Rattle.index_remap.specs.Unknown.{StoreRelOff, GoesOn}
-use Rattle.eval_spec.specs.State.{State, Going, Finished}
-use Rattle.eval_spec.specs.Quiet.{ComesTo}
-use Rattle.eval_spec.specs.Instantiation.{own_inst}
+use Rattle.wasm_tree_spec.specs.Prelude.{Space, Module}
+use Rattle.wasm_meaning.specs.Prelude.{Gives, Val, Store, Entry, EndsCall, step}
+use Rattle.index_remap.specs.Prelude.{Pairing, OneToOneWhereWritten, ListRel, EntryRel, passed, StoreRelOff}
+use Rattle.index_remap.specs.Unknown.{GoesOn}
+use Rattle.eval_spec.specs.Prelude.{State, Going, Finished, ComesTo, own_inst}
 use Rattle.eval_proof.specs.Known.{RelatesAllButImports, FramesOf, FuncsOf}
 use Rattle.eval_proof.specs.Alone.{LeavesAlone}
 

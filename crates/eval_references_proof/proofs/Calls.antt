@@ -1,26 +1,14 @@
 -- Calls leave the store related to itself.
-use Rattle.std.proofs.Common.{◌≡◌, ◌∙◌, ℕ, zero, suc, ◌-◌, ◌<◌, ◌≤◌, arith, List, [], ◌∷◌, length, Option, Some, None, slice_get, refl, sym, ap, subst}
-use Rattle.std.proofs.lemmas.Option.{same_Some, slice_get_within}
-use Rattle.wasm_tree.specs.declared.space.Space.TheVariants.{Functions}
-use Rattle.wasm_tree.specs.declared.types.ValType.{ValType}
-use Rattle.wasm_tree.specs.declared.module.Module.{Module}
-use Rattle.wasm_tree.specs.Spaces.{funcs_of, tables_of, globals_of}
-use Rattle.wasm_meaning.specs.Outcomes.{Outcome, Gives, Traps, IllTyped}
-use Rattle.wasm_meaning.specs.State.{Func, Global, Store, Entry, Running, Mark, Opening, Waiting, Ended, Growing, Next, Ran, CallsOwn, WaitsGrowth, CallsPlaceholder, EndsCall}
-use Rattle.wasm_meaning.specs.Values.{zeros}
-use Rattle.wasm_meaning.specs.Step.{enter, step}
-use Rattle.wasm_meaning.specs.Touched.{StepsWriteWhatTheyTouch}
-use Rattle.index_remap.specs.Related.{BothRel, both, ResRel, done, ListRel, nil, cons, ValRel, end, FuncRel, defined, own, slot, TableRel, GlobalRel, ElemRel, StoreRel, EntryRel, running, mark, waiting, NextRel, ran, asked, loads, returned, TopSkips}
-use Rattle.index_remap.specs.Laws.{Above, CodeIsRelatedToItself, NamedAreKnown, StepsAgree}
+use Rattle.base_lists.proofs.Common.{◌≡◌, ◌∙◌, ℕ, zero, suc, ◌-◌, ◌<◌, ◌≤◌, arith, List, [], ◌∷◌, length, Option, Some, None, slice_get, refl, sym, ap, subst, same_Some, slice_get_within}
+use Rattle.wasm_tree_spec.specs.Prelude.{Functions, ValType, Module, funcs_of, tables_of, globals_of}
+use Rattle.wasm_meaning.specs.Prelude.{Outcome, Gives, Traps, IllTyped, Func, Global, Store, Entry, Running, Mark, Opening, Waiting, Ended, Growing, Next, Ran, CallsOwn, WaitsGrowth, CallsPlaceholder, EndsCall, zeros, enter, step, StepsWriteWhatTheyTouch}
+use Rattle.index_remap.specs.Prelude.{BothRel, both, ResRel, done, ListRel, nil, cons, ValRel, end, FuncRel, defined, own, slot, TableRel, GlobalRel, ElemRel, StoreRel, EntryRel, running, mark, waiting, NextRel, ran, asked, loads, returned, TopSkips, Above, CodeIsRelatedToItself}
+use Rattle.index_remap.specs.Laws.{NamedAreKnown, StepsAgree}
 use Rattle.index_remap.proofs.AboveSteps.{entries_of, whole}
 use Rattle.index_remap.proofs.SameRuns.{touches}
 use Rattle.index_remap.proofs.StepsAgree.{none_called}
 use Rattle.world_simulation.proofs.Places.{self_rel}
-use Rattle.eval_spec.specs.State.{State, Stage, Going, Stopped, Finished, Test, first_held, stopped_or}
-use Rattle.eval_spec.specs.Stops.{frame_turns, host_tests, tests}
-use Rattle.eval_spec.specs.Quiet.{after_steps, call_end, came_to, host_call, host_opened_if_there, quiet_step, spent, weight}
-use Rattle.eval_spec.specs.Instantiation.{after_start, instantiated}
-use Rattle.eval_spec.specs.Evaluation.{called_in_order}
+use Rattle.eval_spec.specs.Prelude.{State, Stage, Going, Stopped, Finished, Test, first_held, stopped_or, frame_turns, host_tests, tests, after_steps, call_end, came_to, host_call, host_opened_if_there, quiet_step, spent, weight, after_start, instantiated, called_in_order}
 use Rattle.eval_references_proof.specs.References.{CallsKeepRefs, EvaluatedRefsAreThere, GlobalsAreTyped, HasPartsOf, IsThere, RefsAreThere}
 use Rattle.eval_references_proof.proofs.Itself.{IsStored, R, apart, count_in, global_there, itself, stored_related, to_itself, value_itself, zero_itself}
 use Rattle.eval_references_proof.proofs.Stored.{Stored, instantiated_stored}

@@ -1,30 +1,13 @@
 -- The values of globals have their types, whatever is called.
-use Rattle.std.proofs.Common.{◌≡◌, ◌∙◌, ℕ, zero, suc, ◌-◌, List, [], ◌∷◌, Bool, true, false, cond, Option, Some, None, slice_get, slice_set, refl, sym, ap, subst, inl, inr}
-use Rattle.std.proofs.lemmas.Bool.{cases_eq}
-use Rattle.std.proofs.lemmas.Option.{same_Some, slice_get_within}
-use Rattle.base_lists.proofs.Places.{set_at, set_other}
-use Rattle.wasm_tree.specs.SameTypes.{same_type}
-use Rattle.wasm_tree.specs.declared.types.ValType.{ValType}
-use Rattle.wasm_tree.specs.declared.instr.Instr.{Instr, out-Instr}
+use Rattle.base_lists.proofs.Common.{◌≡◌, ◌∙◌, ℕ, zero, suc, ◌-◌, List, [], ◌∷◌, Bool, true, false, cond, Option, Some, None, slice_get, slice_set, refl, sym, ap, subst, inl, inr, cases_eq, same_Some, slice_get_within, set_at, set_other}
+use Rattle.wasm_tree_spec.specs.Prelude.{same_type, ValType, Instr, out-Instr, Module, globals_of}
 use Rattle.wasm_tree.specs.declared.instr.Instr.TheOpen.{Instr-F}
-use Rattle.wasm_tree.specs.declared.module.Module.{Module}
-use Rattle.wasm_tree.specs.Spaces.{globals_of}
 use Rattle.wasm_num.specs.Operations.{W32}
-use Rattle.wasm_meaning.specs.Outcomes.{Outcome, Gives, Traps, IllTyped}
-use Rattle.wasm_meaning.specs.Access.{store_from}
-use Rattle.wasm_meaning.specs.State.{Val, Func, Code, Own, Placeholder, Global, Store, Level, Frame, Entry, Running, Mark, Opening, Waiting, Ended, Growing, Env, Body, Change, Keep, SetGlobal, SetMemory, SetTable, DropElem, DropData, Act, Goes, Calls, AsksGrow, Ends, Next, Ran, CallsOwn, WaitsGrowth, CallsPlaceholder, EndsCall}
-use Rattle.wasm_meaning.specs.Values.{global_set, pop, pop_num, pop_ref, pop_typed, type_of, typed}
-use Rattle.wasm_meaning.specs.Memory.{pop_three}
-use Rattle.wasm_meaning.specs.Control.{type_at}
-use Rattle.wasm_meaning.specs.Step.{act, changed, enter, exec, give, give_levels, perform, step, step_code, step_levels}
-use Rattle.wasm_meaning.specs.Touched.{Touched, Bytes, Slots, OneGlobal, StepsWriteWhatTheyTouch, Writes, a_global, range_touches, touched_by, touched_levels, touched_next}
+use Rattle.wasm_meaning.specs.Prelude.{Outcome, Gives, Traps, IllTyped, store_from, Val, Func, Code, Own, Placeholder, Global, Store, Level, Frame, Entry, Running, Mark, Opening, Waiting, Ended, Growing, Env, Body, Change, Keep, SetGlobal, SetMemory, SetTable, DropElem, DropData, Act, Goes, Calls, AsksGrow, Ends, Next, Ran, CallsOwn, WaitsGrowth, CallsPlaceholder, EndsCall, global_set, pop, pop_num, pop_ref, pop_typed, type_of, typed, pop_three, type_at, act, changed, enter, exec, give, give_levels, perform, step, step_code, step_levels, Touched, Bytes, Slots, OneGlobal, StepsWriteWhatTheyTouch, Writes, a_global, touched_by, touched_levels, touched_next}
+use Rattle.wasm_meaning.specs.Touched.{range_touches}
 use Rattle.wasm_meaning.proofs.Outcomes.{AllOf, ill_typed, just, all_at, cond_all, with_found, with_is}
-use Rattle.eval_spec.specs.State.{State, Stage, Going, Stopped, Finished, Test, first_held, stopped_or}
-use Rattle.eval_spec.specs.Stops.{frame_turns, host_tests, tests}
-use Rattle.eval_spec.specs.Quiet.{after_steps, call_end, came_to, host_call, host_opened_if_there, quiet_step, spent, weight}
-use Rattle.eval_spec.specs.Evaluation.{called_in_order}
-use Rattle.eval_spec.specs.Instantiation.{after_start, instantiated}
-use Rattle.index_remap.specs.Laws.{CodeIsRelatedToItself}
+use Rattle.eval_spec.specs.Prelude.{State, Stage, Going, Stopped, Finished, Test, first_held, stopped_or, frame_turns, host_tests, tests, after_steps, call_end, came_to, host_call, host_opened_if_there, quiet_step, spent, weight, called_in_order, after_start, instantiated}
+use Rattle.index_remap.specs.Prelude.{CodeIsRelatedToItself}
 use Rattle.eval_references_proof.proofs.Stored.{Stored, instantiated_stored}
 use Rattle.eval_references_proof.specs.References.{CallsKeepTypes, EvaluatedGlobalsAreTyped, GlobalsAreTyped}
 

@@ -1,18 +1,11 @@
 -- The functions that a valid module imports.
-use Rattle.std.proofs.Common.{◌≡◌, ◌∙◌, ℕ, suc, ◌<◌, arith, List, [], ◌∷◌, length, slice_get, Option, Some, None, refl, sym, ap, subst}
-use Rattle.std.specs.List.{filter_map}
-use Rattle.std.proofs.lemmas.Option.{same_Some, slice_get_within}
-use Rattle.base_lists.proofs.Walk.{none_past}
-use Rattle.wasm_tree.specs.declared.types.FuncType.{FuncType}
-use Rattle.wasm_tree.specs.declared.module.Import.{Import}
-use Rattle.wasm_tree.specs.declared.module.ImportDesc.{ImportDesc}
+use Rattle.base_lists.proofs.Common.{◌≡◌, ◌∙◌, ℕ, suc, ◌<◌, arith, List, [], ◌∷◌, length, slice_get, Option, Some, None, refl, sym, ap, subst, filter_map, same_Some, slice_get_within, none_past}
+use Rattle.wasm_tree_spec.specs.Prelude.{FuncType, Import, ImportDesc, Module, func_of, imported_funcs}
 use Rattle.wasm_tree.specs.declared.module.ImportDesc.TheVariants as imported
-use Rattle.wasm_tree.specs.declared.module.Module.{Module}
-use Rattle.wasm_tree.specs.Spaces.{func_of, imported_funcs}
 use Rattle.wasm_valid.specs.declared.kinds.ItemKind.TheVariants as kind
-use Rattle.wasm_valid.specs.Validity.{ImportHolds, IsValid}
+use Rattle.wasm_valid.specs.Prelude.{ImportHolds, IsValid}
 use Rattle.wasm_valid.proofs.Order.{each_item}
-use Rattle.eval_spec.specs.Instantiation.{imported_func}
+use Rattle.eval_spec.specs.Prelude.{imported_func}
 
 -- the types of imported functions are there
 abbrev pub ImportsTyped : Module → List Import → Type 0

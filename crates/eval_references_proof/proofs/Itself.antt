@@ -1,26 +1,12 @@
 -- A store that is related to itself where each address is that of an index of the module.
-use Rattle.std.proofs.Common.{◌≡◌, ◌∙◌, ℕ, ◌<◌, ◌≤◌, arith, List, [], length, Bool, true, ◌&&◌, Option, Some, None, slice_get, refl, sym, ap, subst, IsTrue}
-use Rattle.std.specs.Prelude.{nat_eq, nat_lt}
-use Rattle.std.proofs.lemmas.Bool.{and_parts, eq-eqb, eqb-true, lt-ltb, ltb-true}
-use Rattle.std.proofs.lemmas.Option.{same_Some}
-use Rattle.base_lists.proofs.Numbers.{numbers_is}
-use Rattle.base_lists.proofs.Places.{slice_get_there}
-use Rattle.wasm_tree.specs.declared.space.Space.{Space}
-use Rattle.wasm_tree.specs.declared.space.Space.TheVariants.{Types, Functions, Tables, Memories, Globals, ElementSegments, DataSegments}
-use Rattle.wasm_tree.specs.declared.types.RefType.{RefType}
+use Rattle.base_lists.proofs.Common.{◌≡◌, ◌∙◌, ℕ, ◌<◌, ◌≤◌, arith, List, [], length, Bool, true, ◌&&◌, Option, Some, None, slice_get, refl, sym, ap, subst, IsTrue, nat_eq, nat_lt, and_parts, eq-eqb, eqb-true, lt-ltb, ltb-true, same_Some, numbers_is, slice_get_there}
+use Rattle.wasm_tree_spec.specs.Prelude.{Space, Types, Functions, Tables, Memories, Globals, ElementSegments, DataSegments, RefType, ValType, FuncType, Module, funcs_of, tables_of, memories_of, globals_of}
 use Rattle.wasm_tree.specs.declared.types.RefType.TheVariants as reft
-use Rattle.wasm_tree.specs.declared.types.ValType.{ValType}
 use Rattle.wasm_tree.specs.declared.types.ValType.TheVariants as valt
-use Rattle.wasm_tree.specs.declared.types.FuncType.{FuncType}
-use Rattle.wasm_tree.specs.declared.module.Module.{Module}
-use Rattle.wasm_tree.specs.Spaces.{funcs_of, tables_of, memories_of, globals_of}
-use Rattle.wasm_meaning.specs.State.{RefVal, FuncRef, ExternRef, Val, Num, Ref, Global, Store}
-use Rattle.wasm_meaning.specs.Control.{own_at, type_at}
-use Rattle.wasm_meaning.specs.Values.{null_of, zero_of}
-use Rattle.index_remap.specs.Related.{Pairing, OneToOneWhereWritten, none, some, BothRel, both, ListRel, func, extern, RefRel, ValRel, number, reference, FuncRel, TableRel, GlobalRel, ElemRel, StoreRel}
-use Rattle.index_remap.specs.Laws.{NamesItself, passed}
+use Rattle.wasm_meaning.specs.Prelude.{RefVal, FuncRef, ExternRef, Val, Num, Ref, Global, Store, own_at, type_at, null_of, zero_of}
+use Rattle.index_remap.specs.Prelude.{Pairing, OneToOneWhereWritten, none, some, BothRel, both, ListRel, func, extern, RefRel, ValRel, number, reference, FuncRel, TableRel, GlobalRel, ElemRel, StoreRel, NamesItself, passed}
 use Rattle.world_simulation.proofs.Places.{both_in}
-use Rattle.eval_spec.specs.Instantiation.{own_inst}
+use Rattle.eval_spec.specs.Prelude.{own_inst}
 use Rattle.eval_references_proof.specs.References.{IsThere}
 
 -- how many indices a space has

@@ -1,44 +1,18 @@
 -- The store after the instantiation of a valid module is related to itself.
-use Rattle.std.proofs.Common.{◌≡◌, ℕ, ◌*◌, ◌<◌, arith, List, [], ◌∷◌, length, map, Bool, true, false, Option, Some, None, slice_get, slice_set, refl, subst}
-use Rattle.std.specs.Prelude.{nat_lt}
-use Rattle.std.specs.List.{cons_option, filter_map}
-use Rattle.std.proofs.lemmas.List.{length-append, length-map, length-set}
-use Rattle.std.proofs.lemmas.Option.{same_Some}
+use Rattle.base_lists.proofs.Common.{◌≡◌, ℕ, ◌*◌, ◌<◌, arith, List, [], ◌∷◌, length, map, Bool, true, false, Option, Some, None, slice_get, slice_set, refl, subst, nat_lt, cons_option, filter_map, length-append, length-map, length-set, same_Some, all_there_length, numbers_is}
 use Rattle.base_lists.specs.Options.{◌>>=◌, all_there}
-use Rattle.base_lists.proofs.Options.{all_there_length}
-use Rattle.base_lists.proofs.Numbers.{numbers_is}
-use Rattle.wasm_tree.specs.declared.space.Space.TheVariants.{Functions}
-use Rattle.wasm_tree.specs.declared.types.GlobalType.{GlobalType}
-use Rattle.wasm_tree.specs.declared.types.Limits.{Limits}
-use Rattle.wasm_tree.specs.declared.types.TableType.{TableType}
-use Rattle.wasm_tree.specs.declared.module.ConstExpr.{ConstExpr}
+use Rattle.wasm_tree_spec.specs.Prelude.{Functions, GlobalType, Limits, TableType, ConstExpr, DataMode, DataSeg, ElemMode, ElemSeg, GlobalDef, Import, Module, func_of, imported_funcs, imported_tables, imported_memories, imported_globals, memories_of}
 use Rattle.wasm_tree.specs.declared.module.ConstExpr.TheVariants as const
-use Rattle.wasm_tree.specs.declared.module.DataMode.{DataMode}
 use Rattle.wasm_tree.specs.declared.module.DataMode.TheVariants as data'
-use Rattle.wasm_tree.specs.declared.module.DataSeg.{DataSeg}
-use Rattle.wasm_tree.specs.declared.module.ElemMode.{ElemMode}
 use Rattle.wasm_tree.specs.declared.module.ElemMode.TheVariants as elem
-use Rattle.wasm_tree.specs.declared.module.ElemSeg.{ElemSeg}
 use Rattle.wasm_tree.specs.declared.module.Func.{Func as FuncDef}
-use Rattle.wasm_tree.specs.declared.module.GlobalDef.{GlobalDef}
-use Rattle.wasm_tree.specs.declared.module.Import.{Import}
-use Rattle.wasm_tree.specs.declared.module.Module.{Module}
-use Rattle.wasm_tree.specs.Spaces.{func_of, imported_funcs, imported_tables, imported_memories, imported_globals, memories_of}
 use Rattle.wasm_num.specs.Operations.{W32}
-use Rattle.wasm_valid.specs.Validity.{IsValid}
-use Rattle.wasm_meaning.specs.Outcomes.{Gives, copies, overwrite}
-use Rattle.wasm_meaning.specs.State.{RefVal, Val, Num, Ref, Func, Table, Memory, Global, Elem, Data, Store}
-use Rattle.wasm_meaning.specs.Values.{num_of, ref_of, null_of, zero_of}
-use Rattle.wasm_meaning.specs.Step.{no_bytes, no_items}
-use Rattle.wasm_meaning.specs.World.{Filled, PlacedSegment, copy_slots, copy_bytes, elem_with, global_with, joined_stores, new_elem, new_func, or_trapped, run_elem_with, run_data_with, segments_in}
-use Rattle.index_remap.specs.Related.{ListRel, nil, cons, OptRel, none, some, RefRel, ValRel, number, reference, FuncRel, own, defined, TableRel, GlobalRel, ElemRel, func}
-use Rattle.index_remap.specs.Laws.{CodeIsRelatedToItself}
+use Rattle.wasm_valid.specs.Prelude.{IsValid}
+use Rattle.wasm_meaning.specs.Prelude.{Gives, copies, overwrite, RefVal, Val, Num, Ref, Func, Table, Memory, Global, Elem, Data, Store, num_of, ref_of, null_of, zero_of, no_bytes, no_items, Filled, PlacedSegment, copy_slots, copy_bytes, elem_with, global_with, joined_stores, new_elem, new_func, or_trapped, run_elem_with, run_data_with, segments_in, Bytes}
+use Rattle.index_remap.specs.Prelude.{ListRel, nil, cons, OptRel, none, some, RefRel, ValRel, number, reference, FuncRel, own, defined, TableRel, GlobalRel, ElemRel, func, CodeIsRelatedToItself}
 use Rattle.index_remap.proofs.Rel.{append_rel, copies_rel, get_rel, overwrite_rel, put_rel}
 use Rattle.world_simulation.proofs.Places.{all_rel, maps_rel, opt_self, self_rel}
-use Rattle.eval_spec.specs.State.{State, Stage, Going, Stopped, Finished, Test, first_held, stopped_or}
-use Rattle.eval_spec.specs.Stops.{written_after}
-use Rattle.wasm_meaning.specs.Touched.{Bytes}
-use Rattle.eval_spec.specs.Instantiation.{copied_slots, data_tests, elem_tests, place_in, filled_from, imported_func, imported_store, in_order, instantiated, own_inst, state_at_first, value_in, with_data, with_data_mode, with_elem, with_elem_mode, with_segments}
+use Rattle.eval_spec.specs.Prelude.{State, Stage, Going, Stopped, Finished, Test, first_held, stopped_or, written_after, copied_slots, data_tests, elem_tests, place_in, filled_from, imported_func, imported_store, in_order, instantiated, own_inst, state_at_first, value_in, with_data, with_data_mode, with_elem, with_elem_mode, with_segments}
 use Rattle.eval_references_proof.specs.References.{GlobalsAreTyped}
 use Rattle.eval_references_proof.proofs.Imports.{imports_many, imports_typed}
 use Rattle.eval_references_proof.proofs.Typed.{first_typed}

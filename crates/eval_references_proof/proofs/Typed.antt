@@ -1,32 +1,16 @@
 -- The globals of a valid module have values of their types at first.
-use Rattle.std.proofs.Common.{◌≡◌, ◌∙◌, ℕ, ◌+◌, ◌-◌, ◌<◌, arith, List, ◌++◌, length, map, Bool, true, false, not, ◌&&◌, Option, Some, None, slice_get, refl, sym, ap, subst, inl, inr}
-use Rattle.std.specs.Prelude.{nat_lt}
-use Rattle.std.proofs.lemmas.Bool.{cases_lt, and_parts, ltb-true}
-use Rattle.std.proofs.lemmas.List.{length-map}
-use Rattle.std.proofs.lemmas.Option.{same_Some, slice_get_within}
+use Rattle.base_lists.proofs.Common.{◌≡◌, ◌∙◌, ℕ, ◌+◌, ◌-◌, ◌<◌, arith, List, ◌++◌, length, map, Bool, true, false, not, ◌&&◌, Option, Some, None, slice_get, refl, sym, ap, subst, inl, inr, nat_lt, cases_lt, and_parts, ltb-true, length-map, same_Some, slice_get_within, all_there_at, all_there_length, numbers_is, append_left, append_right, map_at, map_from, slice_get_there}
 use Rattle.base_lists.specs.Options.{◌>>=◌, all_there}
-use Rattle.base_lists.proofs.Options.{all_there_at, all_there_length}
-use Rattle.base_lists.proofs.Numbers.{numbers_is}
-use Rattle.base_lists.proofs.Places.{append_left, append_right, map_at, map_from, slice_get_there}
-use Rattle.wasm_tree.specs.SameTypes.{same_type}
-use Rattle.wasm_tree.specs.declared.types.GlobalType.{GlobalType}
+use Rattle.wasm_tree_spec.specs.Prelude.{same_type, GlobalType, ValType, ConstExpr, GlobalDef, Module, funcs_of, globals_of, imported_globals}
 use Rattle.wasm_tree.specs.declared.types.RefType.TheVariants as reft
-use Rattle.wasm_tree.specs.declared.types.ValType.{ValType}
 use Rattle.wasm_tree.specs.declared.types.ValType.TheVariants as valt
-use Rattle.wasm_tree.specs.declared.module.ConstExpr.{ConstExpr}
 use Rattle.wasm_tree.specs.declared.module.ConstExpr.TheVariants as const
-use Rattle.wasm_tree.specs.declared.module.GlobalDef.{GlobalDef}
-use Rattle.wasm_tree.specs.declared.module.Module.{Module}
-use Rattle.wasm_tree.specs.Spaces.{funcs_of, globals_of, imported_globals}
 use Rattle.wasm_valid_bodies.specs.Typing.{only}
 use Rattle.wasm_valid.specs.declared.kinds.ItemKind.TheVariants as kind
-use Rattle.wasm_valid.specs.Constants.{const_type}
-use Rattle.wasm_valid.specs.Validity.{IsValid}
+use Rattle.wasm_valid.specs.Prelude.{const_type, IsValid}
 use Rattle.wasm_valid.proofs.Order.{each_item}
-use Rattle.wasm_meaning.specs.State.{FuncRef, Val, Ref, Global}
-use Rattle.wasm_meaning.specs.Values.{type_of, zero_of}
-use Rattle.wasm_meaning.specs.World.{global_with}
-use Rattle.eval_spec.specs.Instantiation.{imported_store, own_inst, value_in}
+use Rattle.wasm_meaning.specs.Prelude.{FuncRef, Val, Ref, Global, type_of, zero_of, global_with}
+use Rattle.eval_spec.specs.Prelude.{imported_store, own_inst, value_in}
 
 abbrev Fits : ValType → Val → Type 0
 Fits t v = same_type t (type_of v) ≡ true

@@ -1,15 +1,9 @@
 -- References to functions in the states of an evaluation, and the types of the values of globals.
 use Rattle.std.specs.Prelude.{◌≡◌, ℕ, ◌<◌, ◌≤◌, List, length, true, Some, slice_get}
-use Rattle.wasm_tree.specs.declared.module.Module.{Module}
-use Rattle.wasm_tree.specs.Spaces.{funcs_of, memories_of, globals_of}
-use Rattle.wasm_valid.specs.Validity.{IsValid}
-use Rattle.wasm_meaning.specs.State.{FuncRef, Val, Ref, Global, Store}
-use Rattle.wasm_meaning.specs.Values.{type_of}
-use Rattle.wasm_tree.specs.SameTypes.{same_type}
-use Rattle.eval_spec.specs.State.{State, Finished}
-use Rattle.eval_spec.specs.Quiet.{call_end}
-use Rattle.eval_spec.specs.Instantiation.{instantiated}
-use Rattle.eval_spec.specs.Evaluation.{evaluated_within}
+use Rattle.wasm_tree_spec.specs.Prelude.{Module, funcs_of, memories_of, globals_of, same_type}
+use Rattle.wasm_valid.specs.Prelude.{IsValid}
+use Rattle.wasm_meaning.specs.Prelude.{FuncRef, Val, Ref, Global, Store, type_of}
+use Rattle.eval_spec.specs.Prelude.{State, Finished, call_end, instantiated, evaluated_within}
 
 -- a function to which a value refers is one of the module, imported or defined
 abbrev pub IsThere : Module → Val → Type 0

@@ -1,17 +1,11 @@
 -- The first counts of a module tell those of the module with its references declared, or that a u32 can count its functions.
-use Rattle.std.proofs.Common.{◌≡◌, ◌∙◌, ap, sym, refl, ℕ, ◌<◌, ◌≤◌, Bool, true, false, cond, List, [], ◌∷◌, map, length, Option, Some, None, arith}
-use Rattle.std.specs.Prelude.{nat_lt}
-use Rattle.std.proofs.lemmas.List.{length-append, length-map}
-use Rattle.base_lists.proofs.Filtered.{filter_map_most}
-use Rattle.wasm_tree.specs.declared.which.Which.{Which}
+use Rattle.base_lists.proofs.Common.{◌≡◌, ◌∙◌, ap, sym, refl, ℕ, ◌<◌, ◌≤◌, Bool, true, false, cond, List, [], ◌∷◌, map, length, Option, Some, None, arith, nat_lt, length-append, length-map, filter_map_most}
+use Rattle.wasm_tree_spec.specs.Prelude.{Which, Module, limit, func_of, funcs_of, imported_funcs}
 use Rattle.wasm_tree.specs.declared.which.Which.TheVariants as which
-use Rattle.wasm_tree.specs.declared.module.Module.{Module}
-use Rattle.wasm_tree.specs.Limits.{limit}
-use Rattle.wasm_tree.specs.Spaces.{func_of, funcs_of, imported_funcs}
 use Rattle.module_limits.specs.Counts.{over_limit}
-use Rattle.wasm_meaning.specs.State.{Text}
-use Rattle.index_remap.specs.References.{declared, declared_refs, with_declared}
-use Rattle.eval_spec.specs.State.{State}
+use Rattle.wasm_meaning.specs.Prelude.{Text}
+use Rattle.index_remap.specs.Prelude.{declared, declared_refs, with_declared}
+use Rattle.eval_spec.specs.Prelude.{State}
 use Rattle.eval_snapshot_spec.specs.Snapshot.{declared_snapshot, snapshot_tree}
 use Rattle.eval_snapshot.specs.Outcome.{first_counts}
 

@@ -1,11 +1,10 @@
 -- What is found of an export's name tells what becomes of it.
-use Rattle.std.proofs.Common.{◌≡◌, ◌∙◌, ap, sym, refl, ℕ, ◌+◌, ◌<◌, List, [], ◌∷◌, map, filter_map, length, drop, get_or, is_some, Result, Ok, Err, IfOk, Bool, true, false, not, ◌&&◌, ◌||◌, cond, Some, None}
-use Rattle.std.specs.List.{cons_option, list_any}
-use Rattle.std.proofs.lemmas.List.{drop_more}
+use Rattle.base_lists.proofs.Common.{◌≡◌, ◌∙◌, ap, sym, refl, ℕ, ◌+◌, ◌<◌, List, [], ◌∷◌, map, length, drop, get_or, is_some, Result, Ok, Err, IfOk, Bool, true, false, not, ◌&&◌, ◌||◌, cond, Some, None, cons_option, list_any, drop_more}
+use Rattle.std.proofs.Common.{filter_map}
 use Rattle.base_kept.specs.Kept.{kept as keeping}
-use Rattle.wasm_tree.specs.declared.module.Export.{Export}
+use Rattle.wasm_tree_spec.specs.Prelude.{Export}
 use Rattle.wasm_tree.specs.declared.module.ExportDesc.TheVariants as ex
-use Rattle.wasm_meaning.specs.State.{Text}
+use Rattle.wasm_meaning.specs.Prelude.{Text}
 use Rattle.eval_snapshot_spec.specs.Snapshot.{export_left, is_among_names}
 use Rattle.eval_snapshot.specs.Names.{redirected, stays}
 

@@ -1,21 +1,16 @@
 -- The bytes of the memory that a module defines, in the state that a machine makes with it.
-use Rattle.std.proofs.Common.{◌≡◌, ◌∙◌, ap, sym, refl, subst, ℕ, ◌+◌, ◌<◌, ◌≤◌, true, List, [], ◌∷◌, ◌++◌, length, Option, Some, None, slice_get, arith}
+use Rattle.base_lists.proofs.Common.{◌≡◌, ◌∙◌, ap, sym, refl, subst, ℕ, ◌+◌, ◌<◌, ◌≤◌, true, List, [], ◌∷◌, ◌++◌, length, Option, Some, None, slice_get, arith, length-map, append_right}
 use Rattle.std.specs.Prelude.{unwrap_or}
-use Rattle.std.proofs.lemmas.List.{length-map}
 use Rattle.base_lists.specs.Options.{◌>>=◌}
-use Rattle.base_lists.proofs.Places.{append_right}
 use Rattle.block_pool.specs.Pages.{Pages}
-use Rattle.wasm_tree.specs.declared.types.Limits.{Limits}
-use Rattle.wasm_tree.specs.declared.module.Module.{Module}
-use Rattle.wasm_tree.specs.Spaces.{imported_memories}
+use Rattle.wasm_tree_spec.specs.Prelude.{Limits, Module, imported_memories}
 use Rattle.wasm_valid.specs.declared.kinds.ItemKind.{ItemKind}
 use Rattle.wasm_valid.specs.declared.kinds.ItemKind.TheVariants as kind
-use Rattle.wasm_valid.specs.Validity.{HoldsAt, count_of}
-use Rattle.wasm_meaning.specs.State.{Memory}
-use Rattle.eval_spec.specs.Instantiation.{imported_store}
-use Rattle.eval_spec.specs.Told.{memory_bytes}
+use Rattle.wasm_valid.specs.Prelude.{HoldsAt, count_of}
+use Rattle.wasm_meaning.specs.Prelude.{Memory}
+use Rattle.eval_spec.specs.Prelude.{imported_store, memory_bytes}
 use Rattle.eval_machine.specs.declared.kept.Kept.{Kept}
-use Rattle.eval_machine.specs.Kept.{Fits, MemoryFits, memory_in, state_in}
+use Rattle.eval_machine.specs.Prelude.{Fits, MemoryFits, memory_in, state_in}
 use Rattle.eval_snapshot_spec.specs.Snapshot.{memory_segments}
 use Rattle.eval_snapshot_spec.specs.Contents.{contents}
 

@@ -1,13 +1,6 @@
 -- Names that are looked up: one name more.
-use Rattle.std.proofs.Common.{◌≡◌, ◌∙◌, ap, sym, refl, ℕ, ◌+◌, ◌<◌, List, [], ◌∷◌, ◌++◌, take, length, get_or, Bool, true, false, ◌||◌, cond, Option, Some, None}
-use Rattle.std.specs.List.{list_any}
-use Rattle.std.specs.Str.{bytes_eq}
-use Rattle.std.proofs.lemmas.List.{take_more}
-use Rattle.std.proofs.lemmas.List.Folds.{list_any-append}
-use Rattle.std.proofs.lemmas.Slice.Eq.{bytes_eq-Decides}
-use Rattle.base_lists.proofs.Bools.{same_tests}
-use Rattle.wasm_meaning.specs.State.{Text}
-use Rattle.wasm_meaning.specs.Linking.{same_text}
+use Rattle.base_lists.proofs.Common.{◌≡◌, ◌∙◌, ap, sym, refl, ℕ, ◌+◌, ◌<◌, List, [], ◌∷◌, ◌++◌, take, length, get_or, Bool, true, false, ◌||◌, cond, Option, Some, None, list_any, bytes_eq, take_more, list_any-append, bytes_eq-Decides, same_tests}
+use Rattle.wasm_meaning.specs.Prelude.{Text, same_text}
 use Rattle.index_remap_proof.proofs.Lists.{text_is, text_self}
 use Rattle.eval_snapshot_spec.specs.Snapshot.{is_among_names}
 

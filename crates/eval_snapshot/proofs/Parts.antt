@@ -1,13 +1,11 @@
 -- A snapshot, list by list.
-use Rattle.std.proofs.Common.{◌≡◌, ◌∙◌, ap, ap₂, refl, ℕ, ◌<◌, List, [], ◌∷◌, ◌++◌, filter_map, length, None, arith}
-use Rattle.wasm_tree.specs.declared.module.Export.{Export}
-use Rattle.wasm_tree.specs.declared.module.GlobalDef.{GlobalDef}
-use Rattle.wasm_tree.specs.declared.module.Module.{Module}
-use Rattle.wasm_tree.specs.Spaces.{funcs_of, imported_globals}
-use Rattle.wasm_meaning.specs.State.{Text}
-use Rattle.eval_spec.specs.State.{State}
+use Rattle.base_lists.proofs.Common.{◌≡◌, ◌∙◌, ap, ap₂, refl, ℕ, ◌<◌, List, [], ◌∷◌, ◌++◌, length, None, arith}
+use Rattle.std.proofs.Common.{filter_map}
+use Rattle.wasm_tree_spec.specs.Prelude.{Export, GlobalDef, Module, funcs_of, imported_globals}
+use Rattle.wasm_meaning.specs.Prelude.{Text}
+use Rattle.eval_spec.specs.Prelude.{State}
 use Rattle.eval_machine.specs.declared.kept.Kept.{Kept}
-use Rattle.eval_machine.specs.Kept.{state_in}
+use Rattle.eval_machine.specs.Prelude.{state_in}
 use Rattle.eval_snapshot_spec.specs.Snapshot.{added_funcs, declared_snapshot, export_left, globals_left, memory_segments, old_segments, snapshot, snapshot_tree}
 
 -- the segments, then the globals, the functions and the exports

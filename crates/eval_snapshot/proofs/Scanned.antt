@@ -1,10 +1,9 @@
 -- Scanning a memory gives the places of its bytes that are not zero, one after another.
-use Rattle.std.proofs.Common.{◌≡◌, ◌≢◌, ◌∙◌, ap, ap₂, sym, refl, append_assoc, ℕ, zero, suc, ◌+◌, ◌-◌, ◌*◌, ◌<◌, ◌≤◌, Bool, true, false, cond, List, [], ◌∷◌, ◌++◌, drop, take, map, length, get_or, arith}
-use Rattle.std.specs.Prelude.{nat_lt, slice_index}
-use Rattle.std.proofs.lemmas.List.{append-nil, drop_more, get_or-drop, length-drop, take_more}
+use Rattle.base_lists.proofs.Common.{◌≡◌, ◌≢◌, ◌∙◌, ap, ap₂, sym, refl, append_assoc, ℕ, zero, suc, ◌+◌, ◌-◌, ◌*◌, ◌<◌, ◌≤◌, Bool, true, false, cond, List, [], ◌∷◌, ◌++◌, drop, take, map, length, get_or, arith, nat_lt, slice_index, drop_more, get_or-drop, length-drop, take_more}
+use Rattle.std.proofs.lemmas.List.{append-nil}
 use Rattle.base_lists.specs.Places.{places}
 use Rattle.block_pool.specs.Pages.{IsNextNonzero, IsZeroFrom, little, part}
-use Rattle.wasm_tree.specs.declared.module.DataSeg.{DataSeg}
+use Rattle.wasm_tree_spec.specs.Prelude.{DataSeg}
 use Rattle.eval_snapshot_spec.specs.Contents.{Stretch, is_joined, is_nonzero, stretches_from, stretches_over}
 use Rattle.eval_snapshot.specs.Scan.{IsStretch, nonzero_from}
 

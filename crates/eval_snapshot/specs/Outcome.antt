@@ -1,11 +1,10 @@
 -- What a snapshot gives: the module, or why there is none.
 use Rattle.std.specs.Prelude.{◌≡◌, List, length, Option, Some, None, Result, Ok, Err}
-use Rattle.wasm_tree.specs.declared.which.Which.{Which}
+use Rattle.wasm_tree_spec.specs.Prelude.{Which, Module}
 use Rattle.wasm_tree.specs.declared.which.Which.TheVariants as which
-use Rattle.wasm_tree.specs.declared.module.Module.{Module}
 use Rattle.module_limits.specs.Counts.{or_above}
-use Rattle.wasm_meaning.specs.State.{Text}
-use Rattle.eval_spec.specs.State.{State}
+use Rattle.wasm_meaning.specs.Prelude.{Text}
+use Rattle.eval_spec.specs.Prelude.{State}
 use Rattle.eval_snapshot_spec.specs.Snapshot.{snapshot, too_much}
 use Rattle.eval_snapshot.specs.declared.faults.SnapshotFault.{SnapshotFault}
 use Rattle.eval_snapshot.specs.declared.faults.SnapshotFault.TheVariants.{TooMany}

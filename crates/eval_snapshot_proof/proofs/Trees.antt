@@ -1,52 +1,26 @@
 -- Each item of a snapshot holds, but for references.
-use Rattle.std.proofs.Common.{◌≡◌, ◌∙◌, ap, ap₂, sym, subst, refl, ℕ, zero, suc, ◌+◌, ◌<◌, ◌≤◌, List, [], ◌∷◌, ◌++◌, map, length, take, replicate, Option, Some, None, Bool, true, false, not, ◌&&◌, ◌||◌, cond, filter_map, slice_get, ⊎_elim, ◌⊎◌, inl, inr, true≢false, arith, append_assoc}
-use Rattle.std.specs.Prelude.{Contains, nat_eq, nat_lt, nat_le, unwrap_or}
+use Rattle.base_lists.proofs.Common.{◌≡◌, ◌∙◌, ap, ap₂, sym, subst, refl, ℕ, zero, suc, ◌+◌, ◌<◌, ◌≤◌, List, [], ◌∷◌, ◌++◌, map, length, take, replicate, Option, Some, None, Bool, true, false, not, ◌&&◌, ◌||◌, cond, slice_get, ⊎_elim, ◌⊎◌, inl, inr, true≢false, arith, append_assoc, Contains, nat_eq, nat_lt, nat_le, list_any, cons_option, lt-ltb, ltb-true, length-append, map-append, any_passes_from_place, slice_get_within, first_at, append_from, map_from, replicate_at, slice_get_there}
+use Rattle.std.proofs.Common.{filter_map}
+use Rattle.std.specs.Prelude.{unwrap_or}
 use Rattle.base_lists.specs.Options.{◌>>=◌}
-use Rattle.std.specs.List.{list_any, cons_option, take-map}
-use Rattle.std.proofs.lemmas.Bool.{lt-ltb, ltb-true}
-use Rattle.std.proofs.lemmas.List.{length-append, map-append}
-use Rattle.std.proofs.lemmas.Map.Keys.{any_passes_from_place}
-use Rattle.std.proofs.lemmas.Option.{slice_get_within}
-use Rattle.base_lists.proofs.Filtered.{first_at}
-use Rattle.base_lists.proofs.Places.{append_from, map_from, replicate_at, slice_get_there}
+use Rattle.std.specs.List.{take-map}
 use Rattle.base_kept.specs.Kept.{kept as keeping, kept_before, is_marked}
 use Rattle.base_kept.proofs.Laws.{kept_from, kept_map, kept_take, kept_contained}
-use Rattle.wasm_tree.specs.declared.types.FuncType.{FuncType}
-use Rattle.wasm_tree.specs.declared.types.Limits.{Limits}
-use Rattle.wasm_tree.specs.declared.types.RefType.{RefType}
+use Rattle.wasm_tree_spec.specs.Prelude.{FuncType, Limits, RefType, ValType, Ref, ConstExpr, DataMode, DataSeg, ElemMode, Export, ExportDesc, Func, GlobalDef, ImportDesc, Module, any_uses_data, uses_data, AnyInside, PassesInside, PassesLayerByLayer, funcs_of, globals_of, memories_of, imported_funcs, imported_globals, imported_memories}
 use Rattle.wasm_tree.specs.declared.types.RefType.TheVariants.{Func as func_ref}
-use Rattle.wasm_tree.specs.declared.types.ValType.{ValType}
-use Rattle.wasm_tree.specs.declared.types.ValType.TheVariants.{Ref}
-use Rattle.wasm_tree.specs.declared.module.ConstExpr.{ConstExpr}
 use Rattle.wasm_tree.specs.declared.module.ConstExpr.TheVariants as const
-use Rattle.wasm_tree.specs.declared.module.DataMode.{DataMode}
 use Rattle.wasm_tree.specs.declared.module.DataMode.TheVariants as data'
-use Rattle.wasm_tree.specs.declared.module.DataSeg.{DataSeg}
-use Rattle.wasm_tree.specs.declared.module.ElemMode.{ElemMode}
 use Rattle.wasm_tree.specs.declared.module.ElemMode.TheVariants as elem
-use Rattle.wasm_tree.specs.declared.module.Export.{Export}
-use Rattle.wasm_tree.specs.declared.module.ExportDesc.{ExportDesc}
 use Rattle.wasm_tree.specs.declared.module.ExportDesc.TheVariants as ex
-use Rattle.wasm_tree.specs.declared.module.Func.{Func}
-use Rattle.wasm_tree.specs.declared.module.GlobalDef.{GlobalDef}
-use Rattle.wasm_tree.specs.declared.module.ImportDesc.{ImportDesc}
 use Rattle.wasm_tree.specs.declared.module.ImportDesc.TheVariants as im
-use Rattle.wasm_tree.specs.declared.module.Module.{Module}
-use Rattle.wasm_tree.specs.DataUse.{any_uses_data, uses_data}
-use Rattle.wasm_tree.specs.OperandLaws.{AnyInside, PassesInside, PassesLayerByLayer}
-use Rattle.wasm_tree.specs.Spaces.{funcs_of, globals_of, memories_of, imported_funcs, imported_globals, imported_memories}
 use Rattle.wasm_valid_bodies.specs.Typing.{WellTyped, only}
 use Rattle.wasm_valid.specs.declared.kinds.ItemKind.{ItemKind}
 use Rattle.wasm_valid.specs.declared.kinds.ItemKind.TheVariants as kind
-use Rattle.wasm_valid.specs.Constants.{const_type}
-use Rattle.wasm_valid.specs.Named.{refs_of}
-use Rattle.wasm_valid.specs.Validity.{DataModeHolds, ElemModeHolds, HoldsAt, ImportHolds, InSpace, body_context, count_of}
-use Rattle.wasm_meaning.specs.State.{Text}
+use Rattle.wasm_valid.specs.Prelude.{const_type, refs_of, DataModeHolds, ElemModeHolds, HoldsAt, ImportHolds, InSpace, body_context, count_of}
+use Rattle.wasm_meaning.specs.Prelude.{Text}
 use Rattle.index_remap_proof.specs.ButForReferences.{HoldsButForReferences, any_named}
 use Rattle.index_remap_proof.proofs.Lists.{named_within, only_true}
-use Rattle.eval_spec.specs.State.{State}
-use Rattle.eval_spec.specs.Stops.{takes_and_gives_nothing}
-use Rattle.eval_spec.specs.Told.{value_of_global, memory_bytes, is_dropped}
+use Rattle.eval_spec.specs.Prelude.{State, takes_and_gives_nothing, value_of_global, memory_bytes, is_dropped}
 use Rattle.eval_snapshot_spec.specs.Contents.{contents, stretches, stretch_segment}
 use Rattle.eval_snapshot_spec.specs.Snapshot.{added_funcs, empty_func, empty_type, export_left, global_left, globals_left, is_among_names, is_kept, is_passive, emptied, memory_segments, old_segments, segment_left, segments_left, snapshot_tree}
 use Rattle.eval_snapshot_proof.specs.Suits.{HasEmptyType, Suits}

@@ -1,21 +1,12 @@
 -- Code that stays well typed where there are more functions, others may be named, and there are other data segments, as many as before if it names one.
-use Rattle.std.proofs.Common.{◌≡◌, ◌∙◌, ap, refl, ℕ, Bool, true, false, not, ◌&&◌, ◌||◌, List, [], ◌∷◌, ◌++◌, Some, slice_get, arith}
-use Rattle.std.specs.Prelude.{nat_lt, nat_le}
-use Rattle.std.specs.List.{list_all, list_any}
+use Rattle.base_lists.proofs.Common.{◌≡◌, ◌∙◌, ap, refl, ℕ, Bool, true, false, not, ◌&&◌, ◌||◌, List, [], ◌∷◌, ◌++◌, Some, slice_get, arith, nat_lt, nat_le, list_all, list_any, append_at_left}
 use Rattle.base_lists.specs.Every.{Every}
-use Rattle.base_lists.proofs.Places.{append_at_left}
-use Rattle.wasm_tree.specs.declared.space.Operand.{Operand}
-use Rattle.wasm_tree.specs.declared.types.ValType.{ValType}
-use Rattle.wasm_tree.specs.declared.instr.Instr.{Instr, out-Instr, Row_of-Instr, end_of-Instr, more_of-Instr}
+use Rattle.wasm_tree_spec.specs.Prelude.{Operand, ValType, Instr, Row_of-Instr, end_of-Instr, more_of-Instr, Block', Loop', If', Call, RefFunc, MemoryInit, DataDrop, names_data, uses_data, uses_data_in, Layers, RowLayers, ListLayers, all_operands_pass, held, operands, operands_of, operands_pass, AnyInside, PassesInside, PassesLayerByLayer}
+use Rattle.wasm_tree.specs.declared.instr.Instr.{out-Instr}
 use Rattle.wasm_tree.specs.declared.instr.Instr.TheOpen.{Instr-F}
-use Rattle.wasm_tree.specs.declared.instr.Instr.TheVariants.{Block', Loop', If', Call, RefFunc, MemoryInit, DataDrop}
-use Rattle.wasm_tree.specs.DataUse.{names_data, uses_data, uses_data_in}
-use Rattle.wasm_tree.specs.Layers.{Layers, RowLayers, ListLayers}
-use Rattle.wasm_tree.specs.Operands.{all_operands_pass, held, operands, operands_of, operands_pass}
-use Rattle.wasm_tree.specs.OperandLaws.{AnyInside, PassesInside, PassesLayerByLayer}
 use Rattle.wasm_tree.proofs.OperandLaws.{by_held}
 use Rattle.wasm_valid_bodies.specs.Typing.{Context, Effect, Fits, Leads, LeadsAll, Stack, WellTyped, effect_of}
-use Rattle.index_remap.specs.Agreement.{Keeps, labelled}
+use Rattle.index_remap.specs.Prelude.{Keeps, labelled}
 use Rattle.index_remap.proofs.Keeping.{keeps_map, keeps_only, keeps_signature, keeps_then, named_keeps}
 use Rattle.index_remap_proof.proofs.Lists.{both_true, left_either, right_either}
 

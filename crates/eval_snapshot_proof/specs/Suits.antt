@@ -1,15 +1,9 @@
 -- What a state has to be so that a module can begin in it.
 use Rattle.std.specs.Prelude.{◌≡◌, ℕ, ◌+◌, List, [], ◌∷◌, length, true, Some, slice_get}
-use Rattle.wasm_tree.specs.declared.types.FuncType.{FuncType}
-use Rattle.wasm_tree.specs.declared.module.ConstExpr.{ConstExpr}
-use Rattle.wasm_tree.specs.declared.module.GlobalDef.{GlobalDef}
-use Rattle.wasm_tree.specs.declared.module.Module.{Module}
-use Rattle.wasm_tree.specs.Spaces.{imported_globals}
-use Rattle.wasm_valid.specs.Constants.{const_type}
-use Rattle.wasm_meaning.specs.State.{Text}
-use Rattle.eval_spec.specs.State.{State}
-use Rattle.eval_spec.specs.Stops.{takes_and_gives_nothing}
-use Rattle.eval_spec.specs.Told.{value_of_global, memory_bytes}
+use Rattle.wasm_tree_spec.specs.Prelude.{FuncType, ConstExpr, GlobalDef, Module, imported_globals}
+use Rattle.wasm_valid.specs.Prelude.{const_type}
+use Rattle.wasm_meaning.specs.Prelude.{Text}
+use Rattle.eval_spec.specs.Prelude.{State, takes_and_gives_nothing, value_of_global, memory_bytes}
 
 pub record Suits (m : Module) (s : State) : Type 0 where
   -- the constant that is the value of a defined global has its type, so that a function which it names is there

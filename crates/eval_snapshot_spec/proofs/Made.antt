@@ -1,12 +1,10 @@
 -- How a snapshot is computed in parts: code is folded to see whether it names data segments and functions, and that is computed apart.
-use Rattle.std.proofs.Common.{◌≡◌, ◌∙◌, ap, Bool, List, [], ◌∷◌, ◌++◌, length, take, cond, Option, Some, None, filter_map}
-use Rattle.wasm_tree.specs.declared.module.Module.{Module}
-use Rattle.wasm_tree.specs.DataUse.{any_uses_data}
-use Rattle.wasm_tree.specs.Spaces.{imported_globals, funcs_of}
-use Rattle.wasm_meaning.specs.State.{Text}
-use Rattle.index_remap.specs.References.{declared}
-use Rattle.eval_spec.specs.State.{State}
-use Rattle.eval_spec.specs.Evaluation.{state_at_end}
+use Rattle.base_lists.proofs.Common.{◌≡◌, ◌∙◌, ap, Bool, List, [], ◌∷◌, ◌++◌, length, take, cond, Option, Some, None}
+use Rattle.std.proofs.Common.{filter_map}
+use Rattle.wasm_tree_spec.specs.Prelude.{Module, any_uses_data, imported_globals, funcs_of}
+use Rattle.wasm_meaning.specs.Prelude.{Text}
+use Rattle.index_remap.specs.Prelude.{declared}
+use Rattle.eval_spec.specs.Prelude.{State, state_at_end}
 use Rattle.eval_snapshot_spec.specs.Snapshot.{added_funcs, declared_snapshot, export_left, globals_left, memory_segments, segments_left, snapshot_tree}
 use Rattle.eval_snapshot_spec.specs.Evaluated.{evaluated_count, evaluated_tree, funcs_named, tree_in}
 

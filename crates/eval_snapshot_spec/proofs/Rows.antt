@@ -1,26 +1,20 @@
 -- Small modules whose constructors are evaluated, and their snapshots, computed.
-use Rattle.std.proofs.Common.{◌≡◌, refl, rules}
-use Rattle.std.specs.Prelude.{pos, List, negsuc, [], ◌∷◌, ◌++◌, Some, None, true, false}
+use Rattle.base_lists.proofs.Common.{◌≡◌, refl, rules, pos, List, negsuc, [], ◌∷◌, ◌++◌, Some, None, true, false}
 use Rattle.wasm_num.specs.declared.BinOp.TheVariants.{I32Shl, I32Sub}
 use Rattle.wasm_num.specs.Operations.{wrapped, signed, bin_from, bin_to, bin_value}
 use Rattle.wasm_tree.specs.declared.types.RefType.TheVariants.{Func as func_ref, Extern as extern_ref}
-use Rattle.wasm_tree.specs.declared.types.ValType.TheVariants.{I32, I64, Ref}
-use Rattle.wasm_tree.specs.declared.types.FuncType.{FuncType}
-use Rattle.wasm_tree.specs.declared.types.GlobalType.{GlobalType}
+use Rattle.wasm_tree_spec.specs.Prelude.{I32, I64, Ref, FuncType, GlobalType, the_lemmas, I32Store, Module, any_uses_data}
 use Rattle.wasm_tree.specs.declared.types.BlockType.TheVariants as bt
-use Rattle.wasm_tree.specs.declared.instr.Instr.{out-Instr, the_lemmas}
+use Rattle.wasm_tree.specs.declared.instr.Instr.{out-Instr}
 use Rattle.wasm_tree.specs.declared.instr.Instr.TheBlock.{shown-the_row-Instr-0}
 use Rattle.wasm_tree.specs.declared.instr.Instr.TheVariants as i
-use Rattle.wasm_tree.specs.declared.instr.StoreOp.TheVariants.{I32Store}
 use Rattle.wasm_tree.specs.declared.module.ConstExpr.TheVariants as const
 use Rattle.wasm_tree.specs.declared.module.ElemMode.TheVariants as elem
 use Rattle.wasm_tree.specs.declared.module.ExportDesc.TheVariants as ex
 use Rattle.wasm_tree.specs.declared.module.ImportDesc.TheVariants as im
-use Rattle.wasm_tree.specs.declared.module.Module.{Module}
-use Rattle.wasm_tree.specs.DataUse.{any_uses_data}
-use Rattle.wasm_meaning.specs.State.{Text}
+use Rattle.wasm_meaning.specs.Prelude.{Text}
 use Rattle.wasm_meaning.specs.Access.{store_from, stored, little_bytes}
-use Rattle.index_remap.specs.References.{declared, declaring}
+use Rattle.index_remap.specs.Prelude.{declared, declaring}
 use Rattle.eval_snapshot_spec.specs.Evaluated.{evaluated_tree, evaluated_count, first_missing}
 use Rattle.eval_snapshot_spec.proofs.Modules.{a, b, c, empty, func, export, import, page, mutable_i32, fixed_i32, global, num, stores, at, passive}
 use Rattle.eval_snapshot_spec.proofs.Made.{made}

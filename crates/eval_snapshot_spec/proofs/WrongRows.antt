@@ -1,13 +1,10 @@
 -- Wrong claims about the snapshots of the same modules, each with a name of its own, which are refuted.
-use Rattle.std.proofs.Common.{◌≡◌, ◌∙◌, ap, sym, true≢false}
-use Rattle.std.specs.Prelude.{ℕ, pos, List, [], ◌∷◌, ◌++◌, map, length, take, drop, Bool, nat_eq, None}
-use Rattle.std.specs.List.{list_all}
+use Rattle.base_lists.proofs.Common.{◌≡◌, ◌∙◌, ap, sym, true≢false, ℕ, pos, List, [], ◌∷◌, ◌++◌, map, length, take, drop, Bool, nat_eq, None, list_all}
 use Rattle.base_lists.specs.Places.{places}
 use Rattle.base_lists.specs.Same.{each_same}
-use Rattle.wasm_tree.specs.declared.module.Module.{Module}
-use Rattle.wasm_tree.specs.Spaces.{index_of_export}
-use Rattle.index_remap.specs.References.{declaring}
-use Rattle.eval_spec.specs.Instantiation.{reads_global}
+use Rattle.wasm_tree_spec.specs.Prelude.{Module, index_of_export}
+use Rattle.index_remap.specs.Prelude.{declaring}
+use Rattle.eval_spec.specs.Prelude.{reads_global}
 use Rattle.eval_snapshot_spec.specs.Snapshot.{is_passive}
 use Rattle.wasm_tree.specs.declared.module.ConstExpr.TheVariants as const
 use Rattle.wasm_tree.specs.declared.module.DataMode.TheVariants as data'

@@ -1,10 +1,8 @@
 -- A state that tells what stands after a quiet evaluation.
 use Rattle.std.specs.Prelude.{◌≡◌, ℕ, List, None}
-use Rattle.wasm_tree.specs.declared.module.Module.{Module}
-use Rattle.wasm_meaning.specs.State.{Text}
-use Rattle.eval_spec.specs.State.{State, Finished}
-use Rattle.eval_spec.specs.Told.{value_of_global, memory_bytes, is_dropped}
-use Rattle.eval_spec.specs.Evaluation.{evaluated}
+use Rattle.wasm_tree_spec.specs.Prelude.{Module}
+use Rattle.wasm_meaning.specs.Prelude.{Text}
+use Rattle.eval_spec.specs.Prelude.{State, Finished, value_of_global, memory_bytes, is_dropped, evaluated}
 use Rattle.eval_snapshot_spec.specs.Evaluated.{first_missing, funcs_named}
 
 -- of both states the same is told: the globals, the bytes and the size of the memory, and which data segments are dropped

@@ -4,7 +4,7 @@ use Rattle.base_lists.specs.Places.{places}
 use Rattle.block_pool.specs.Pages.{part}
 use Rattle.wasm_tree.specs.declared.module.ConstExpr.TheVariants as const
 use Rattle.wasm_tree.specs.declared.module.DataMode.TheVariants as data'
-use Rattle.wasm_tree.specs.declared.module.DataSeg.{DataSeg}
+use Rattle.wasm_tree_spec.specs.Prelude.{DataSeg}
 use Rattle.wasm_num.specs.Operations.{signed}
 
 abbrev pub is_nonzero : ℕ → Bool

@@ -2,13 +2,10 @@
 use Rattle.std.specs.Prelude.{ℕ, List, [], ◌∷◌, take, cond, Option, Some, None, is_some}
 use Rattle.std.specs.List.{filter_map}
 use Rattle.base_lists.specs.Options.{◌>>=◌}
-use Rattle.wasm_tree.specs.declared.module.ExportDesc.{ExportDesc}
+use Rattle.wasm_tree_spec.specs.Prelude.{ExportDesc, Module}
 use Rattle.wasm_tree.specs.declared.module.ExportDesc.TheVariants as ex
-use Rattle.wasm_tree.specs.declared.module.Module.{Module}
-use Rattle.wasm_meaning.specs.State.{Text}
-use Rattle.wasm_meaning.specs.Linking.{export_named}
-use Rattle.eval_spec.specs.State.{State}
-use Rattle.eval_spec.specs.Evaluation.{done_count, state_at_end}
+use Rattle.wasm_meaning.specs.Prelude.{Text, export_named}
+use Rattle.eval_spec.specs.Prelude.{State, done_count, state_at_end}
 use Rattle.eval_snapshot_spec.specs.Snapshot.{snapshot}
 
 abbrev pub func_exported : ExportDesc → Option ℕ

@@ -2,24 +2,13 @@
 use Rattle.std.specs.Prelude.{ℕ, suc, List, [], ◌∷◌, ◌++◌, length, Bool, true, false, not, ◌&&◌, cond, Option, Some, None, unwrap_or}
 use Rattle.std.specs.List.{filter_map, list_any}
 use Rattle.base_lists.specs.Places.{first_place}
-use Rattle.wasm_tree.specs.declared.which.Which.{Which}
-use Rattle.wasm_tree.specs.declared.module.DataMode.{DataMode}
+use Rattle.wasm_tree_spec.specs.Prelude.{Which, DataMode, DataSeg, Export, Func, GlobalDef, Module, any_uses_data, imported_globals, imported_memories, funcs_of}
 use Rattle.wasm_tree.specs.declared.module.DataMode.TheVariants as data'
-use Rattle.wasm_tree.specs.declared.module.DataSeg.{DataSeg}
-use Rattle.wasm_tree.specs.declared.module.Export.{Export}
 use Rattle.wasm_tree.specs.declared.module.ExportDesc.TheVariants as ex
-use Rattle.wasm_tree.specs.declared.module.Func.{Func}
-use Rattle.wasm_tree.specs.declared.module.GlobalDef.{GlobalDef}
-use Rattle.wasm_tree.specs.declared.module.Module.{Module}
-use Rattle.wasm_tree.specs.DataUse.{any_uses_data}
-use Rattle.wasm_tree.specs.Spaces.{imported_globals, imported_memories, funcs_of}
 use Rattle.module_limits.specs.Counts.{over_limit}
-use Rattle.wasm_meaning.specs.State.{Text}
-use Rattle.wasm_meaning.specs.Linking.{same_text}
-use Rattle.index_remap.specs.References.{declared}
-use Rattle.eval_spec.specs.State.{State}
-use Rattle.eval_spec.specs.Stops.{takes_and_gives_nothing}
-use Rattle.eval_spec.specs.Told.{value_of_global, memory_bytes, is_dropped}
+use Rattle.wasm_meaning.specs.Prelude.{Text, same_text}
+use Rattle.index_remap.specs.Prelude.{declared}
+use Rattle.eval_spec.specs.Prelude.{State, takes_and_gives_nothing, value_of_global, memory_bytes, is_dropped}
 use Rattle.eval_snapshot_spec.specs.Contents.{contents}
 
 -- each element, with its index, which is counted from a given one on

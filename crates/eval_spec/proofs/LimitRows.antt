@@ -1,24 +1,19 @@
 -- The limits of turns, depth and written blocks at their numbers, of states that are one step away from them.
-use Rattle.std.proofs.Common.{◌≡◌, refl}
-use Rattle.std.specs.Prelude.{ℕ, pos, List, [], ◌∷◌, Some, None, Bool, true, false, replicate, ◌++◌, Option}
+use Rattle.base_lists.proofs.Common.{◌≡◌, refl, ℕ, pos, List, [], ◌∷◌, Some, None, Bool, true, false, replicate, ◌++◌, Option}
 use Rattle.wasm_tree.specs.declared.types.BlockType.TheVariants as bt
-use Rattle.wasm_tree.specs.declared.instr.Instr.{Instr, out-Instr}
+use Rattle.wasm_tree_spec.specs.Prelude.{Instr, I32Store8, I32}
+use Rattle.wasm_tree.specs.declared.instr.Instr.{out-Instr}
 use Rattle.wasm_tree.specs.declared.instr.Instr.TheOpen.{Instr-F}
 use Rattle.wasm_tree.specs.declared.instr.Instr.TheVariants as i
-use Rattle.wasm_tree.specs.declared.instr.StoreOp.TheVariants.{I32Store8}
 use Rattle.wasm_tree.specs.declared.module.ConstExpr.TheVariants as const
 use Rattle.wasm_num.specs.Operations.{W32, wrapped}
-use Rattle.wasm_meaning.specs.Outcomes.{Gives}
+use Rattle.wasm_meaning.specs.Prelude.{Gives, Inst, Func, Code, Val, Num, Entry, Running, Env, Bytes}
 use Rattle.wasm_meaning.specs.Access.{store_from, stored, little_bytes}
-use Rattle.wasm_tree.specs.declared.types.ValType.TheVariants.{I32}
 use Rattle.eval_spec.specs.declared.stop.Stop.{Stop}
-use Rattle.wasm_meaning.specs.State.{Inst, Func, Code, Val, Num, Entry, Running, Env}
-use Rattle.wasm_meaning.specs.Touched.{Bytes}
 use Rattle.eval_spec.specs.declared.limits.TheConstants.{MOST_TURNS, MOST_DEPTH, MOST_BLOCKS}
 use Rattle.eval_spec.specs.declared.stop.Stop.TheVariants as why
-use Rattle.eval_spec.specs.State.{State, stop_of}
-use Rattle.eval_spec.specs.Stops.{further_turns, written_after, too_many_blocks, stop}
-use Rattle.eval_spec.specs.Instantiation.{own_inst, imported_store, unknown_at_first, with_data}
+use Rattle.eval_spec.specs.Prelude.{State, stop_of, further_turns, written_after, too_many_blocks, own_inst, imported_store, unknown_at_first, with_data}
+use Rattle.eval_spec.specs.Stops.{stop}
 use Rattle.eval_spec.proofs.Modules.{does, with_page, after_import, data_at}
 
 the_turns : MOST_TURNS ≡ 50000000

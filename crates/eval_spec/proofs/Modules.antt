@@ -1,29 +1,17 @@
 -- Small modules that are evaluated, and what they come to.
-use Rattle.std.specs.Prelude.{ℕ, pos, List, [], ◌∷◌, Option, Some, None, true, false, slice_get}
+use Rattle.base_lists.proofs.Common.{ℕ, pos, List, [], ◌∷◌, Option, Some, None, true, false, slice_get}
 use Rattle.base_lists.specs.Options.{◌>>=◌}
 use Rattle.wasm_num.specs.declared.BinOp.TheVariants.{I32Sub}
 use Rattle.wasm_tree.specs.declared.types.RefType.TheVariants.{Func as func_ref}
-use Rattle.wasm_tree.specs.declared.types.ValType.TheVariants.{I32, Ref}
+use Rattle.wasm_tree_spec.specs.Prelude.{I32, Ref, GlobalType, Limits, TableType, Instr, I32Store8, ConstExpr, DataSeg, Func, ImportDesc, Module}
 use Rattle.wasm_tree.specs.declared.types.BlockType.TheVariants as bt
-use Rattle.wasm_tree.specs.declared.types.GlobalType.{GlobalType}
-use Rattle.wasm_tree.specs.declared.types.Limits.{Limits}
-use Rattle.wasm_tree.specs.declared.types.TableType.{TableType}
-use Rattle.wasm_tree.specs.declared.instr.Instr.{Instr}
 use Rattle.wasm_tree.specs.declared.instr.Instr.TheVariants as i
-use Rattle.wasm_tree.specs.declared.instr.StoreOp.TheVariants.{I32Store8}
-use Rattle.wasm_tree.specs.declared.module.ConstExpr.{ConstExpr}
 use Rattle.wasm_tree.specs.declared.module.ConstExpr.TheVariants as const
 use Rattle.wasm_tree.specs.declared.module.ElemMode.TheVariants as elem
 use Rattle.wasm_tree.specs.declared.module.DataMode.TheVariants as data'
-use Rattle.wasm_tree.specs.declared.module.DataSeg.{DataSeg}
-use Rattle.wasm_tree.specs.declared.module.Func.{Func}
-use Rattle.wasm_tree.specs.declared.module.ImportDesc.{ImportDesc}
 use Rattle.wasm_tree.specs.declared.module.ImportDesc.TheVariants as im
-use Rattle.wasm_tree.specs.declared.module.Module.{Module}
 use Rattle.eval_spec.specs.declared.stop.Stop.{Stop}
-use Rattle.eval_spec.specs.State.{State, stop_of}
-use Rattle.eval_spec.specs.Evaluation.{evaluated, evaluated_within}
-use Rattle.eval_spec.specs.Told.{memory_bytes}
+use Rattle.eval_spec.specs.Prelude.{State, stop_of, evaluated, evaluated_within, memory_bytes}
 
 -- ---- modules ----
 

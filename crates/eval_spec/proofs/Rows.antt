@@ -1,25 +1,19 @@
 -- Small evaluations, computed: which constructors are evaluated, what stops the next, and the state after them.
-use Rattle.std.proofs.Common.{◌≡◌, refl}
-use Rattle.std.specs.Prelude.{pos, negsuc, [], ◌∷◌, ◌++◌, Some, None, true, false, replicate, take, drop}
+use Rattle.base_lists.proofs.Common.{◌≡◌, refl, pos, negsuc, [], ◌∷◌, ◌++◌, Some, None, true, false, replicate, take, drop}
 use Rattle.base_lists.specs.Options.{◌>>=◌}
 use Rattle.wasm_tree.specs.declared.instr.Instr.{out-Instr}
 use Rattle.wasm_tree.specs.declared.instr.Instr.TheVariants as i
-use Rattle.wasm_tree.specs.declared.instr.StoreOp.TheVariants.{I32Store}
+use Rattle.wasm_tree_spec.specs.Prelude.{I32Store, I32, Module}
 use Rattle.wasm_num.specs.declared.BinOp.TheVariants.{I32Shl}
 use Rattle.wasm_tree.specs.declared.types.RefType.TheVariants.{Func as func_ref}
-use Rattle.wasm_tree.specs.declared.types.ValType.TheVariants.{I32}
 use Rattle.wasm_tree.specs.declared.module.ElemMode.TheVariants as elem
 use Rattle.wasm_tree.specs.declared.module.ConstExpr.TheVariants as const
 use Rattle.wasm_tree.specs.declared.module.DataMode.TheVariants as data'
 use Rattle.wasm_tree.specs.declared.module.ImportDesc.TheVariants as im
-use Rattle.wasm_tree.specs.declared.module.Module.{Module}
 use Rattle.wasm_num.specs.Operations.{wrapped, signed}
 use Rattle.wasm_meaning.specs.Access.{store_from, stored, little_bytes}
 use Rattle.eval_spec.specs.declared.stop.Stop.TheVariants as why
-use Rattle.eval_spec.specs.State.{state_of, left_behind}
-use Rattle.eval_spec.specs.Quiet.{call_end}
-use Rattle.eval_spec.specs.Evaluation.{evaluated, done_count, stopped_by, state_at_end}
-use Rattle.eval_spec.specs.Told.{memory_bytes, value_of_global, is_dropped}
+use Rattle.eval_spec.specs.Prelude.{state_of, left_behind, call_end, evaluated, done_count, stopped_by, state_at_end, memory_bytes, value_of_global, is_dropped}
 use Rattle.eval_spec.proofs.Modules.{empty, func, does, with_page, after_import, with_global, data_at, num, stores, byte, turns_left}
 
 -- ---- three constructors, of which the second calls an import ----

@@ -1,21 +1,17 @@
 -- Each stop, by a small module that comes to it, and by one that only just does not.
-use Rattle.std.proofs.Common.{◌≡◌, refl}
-use Rattle.std.specs.Prelude.{pos, List, [], ◌∷◌, ◌++◌, Some, None}
+use Rattle.base_lists.proofs.Common.{◌≡◌, refl, pos, List, [], ◌∷◌, ◌++◌, Some, None}
 use Rattle.wasm_tree.specs.declared.types.RefType.TheVariants.{Func as func_ref}
-use Rattle.wasm_tree.specs.declared.types.ValType.TheVariants.{I32}
-use Rattle.wasm_tree.specs.declared.instr.Instr.{Instr, out-Instr}
+use Rattle.wasm_tree_spec.specs.Prelude.{I32, Instr, I32Load, Module}
+use Rattle.wasm_tree.specs.declared.instr.Instr.{out-Instr}
 use Rattle.wasm_tree.specs.declared.instr.Instr.TheBlock.{shown-the_row-Instr-0}
 use Rattle.wasm_tree.specs.declared.instr.Instr.TheVariants as i
-use Rattle.wasm_tree.specs.declared.instr.LoadOp.TheVariants.{I32Load}
 use Rattle.wasm_tree.specs.declared.module.ConstExpr.TheVariants as const
 use Rattle.wasm_tree.specs.declared.module.DataMode.TheVariants as data'
 use Rattle.wasm_tree.specs.declared.module.ElemMode.TheVariants as elem
 use Rattle.wasm_tree.specs.declared.module.ImportDesc.TheVariants as im
-use Rattle.wasm_tree.specs.declared.module.Module.{Module}
 use Rattle.wasm_num.specs.Operations.{wrapped, bin_from, bin_to, bin_value}
 use Rattle.eval_spec.specs.declared.stop.Stop.TheVariants as why
-use Rattle.eval_spec.specs.State.{stop_of}
-use Rattle.eval_spec.specs.Evaluation.{evaluated_within, stopped_by}
+use Rattle.eval_spec.specs.Prelude.{stop_of, evaluated_within, stopped_by}
 use Rattle.eval_spec.proofs.Modules.{empty, func, does, page, with_page, imports, after_import, three_slots, with_slots, mutable_i32, fixed_i32, fixed_ref, with_global, data_at, num, rounds, stops, stops_within}
 
 -- ---- an imported function is called ----

@@ -1,6 +1,6 @@
 -- The evaluation of a list of constructors: the instantiation with the start, and then a call of each, until something stops one.
 use Rattle.std.specs.Prelude.{◌≡◌, ℕ, suc, List, ◌∷◌, take, cond, Option}
-use Rattle.wasm_tree.specs.declared.module.Module.{Module}
+use Rattle.wasm_tree_spec.specs.Prelude.{Module}
 use Rattle.eval_spec.specs.declared.limits.TheConstants.{MOST_TURNS}
 use Rattle.eval_spec.specs.declared.stop.Stop.{Stop}
 use Rattle.eval_spec.specs.State.{State, Stage, Finished, is_finished, stop_of, state_of}

@@ -4,3 +4,4 @@ pub mod Quiet
 pub mod Instantiation
 pub mod Evaluation
 pub mod Told
+pub mod Prelude

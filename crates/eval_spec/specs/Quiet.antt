@@ -1,13 +1,9 @@
 -- The quiet run: steps of the machine (WebAssembly Core 2.0, section 4.4) that nothing stops, from a call that the host makes to its end.
 use Rattle.std.specs.Prelude.{ℕ, zero, suc, ◌+◌, ◌-◌, ◌*◌, List, [], ◌∷◌, Option, Some, None, slice_get}
-use Rattle.wasm_tree.specs.declared.instr.Instr.{Instr}
+use Rattle.wasm_tree_spec.specs.Prelude.{Instr, Module}
 use Rattle.wasm_tree.specs.declared.instr.Instr.TheOpen.{Instr-F}
-use Rattle.wasm_tree.specs.declared.module.Module.{Module}
-use Rattle.wasm_meaning.specs.Outcomes.{Outcome, Gives}
-use Rattle.wasm_meaning.specs.State.{Val, Func, Entry, Mark, Env, Next, Ran, EndsCall}
-use Rattle.wasm_meaning.specs.Step.{step, enter}
-use Rattle.wasm_meaning.specs.Touched.{touched_by}
-use Rattle.index_remap.specs.Unknown.{left_unknown}
+use Rattle.wasm_meaning.specs.Prelude.{Outcome, Gives, Val, Func, Entry, Mark, Env, Next, Ran, EndsCall, step, enter, touched_by}
+use Rattle.index_remap.specs.Prelude.{left_unknown}
 use Rattle.eval_spec.specs.declared.stop.Stop.TheVariants as why
 use Rattle.eval_spec.specs.State.{State, Stage, Going, Stopped, Finished, tried}
 use Rattle.eval_spec.specs.Stops.{Beginning, beginning, frame_turns, further_turns, written_after, stack_depth, tests, host_tests}

@@ -1,15 +1,12 @@
 -- What is told of a state: the value of a global, a byte and the size of the memory, and whether a segment is dropped.
 use Rattle.std.specs.Prelude.{ℕ, List, [], length, Bool, false, cond, ◌||◌, Option, Some, None, slice_get, unwrap_or}
 use Rattle.base_lists.specs.Options.{◌>>=◌}
-use Rattle.wasm_tree.specs.declared.space.Space.TheVariants.{Globals}
+use Rattle.wasm_tree_spec.specs.Prelude.{Globals, ConstExpr, Module, imported_memories}
 use Rattle.wasm_tree.specs.declared.types.RefType.TheVariants as reft
-use Rattle.wasm_tree.specs.declared.module.ConstExpr.{ConstExpr}
 use Rattle.wasm_tree.specs.declared.module.ConstExpr.TheVariants as const
-use Rattle.wasm_tree.specs.declared.module.Module.{Module}
-use Rattle.wasm_tree.specs.Spaces.{imported_memories}
 use Rattle.wasm_num.specs.Operations.{W32, W64, signed}
-use Rattle.wasm_meaning.specs.State.{RefVal, FuncRef, ExternRef, Val, Num, Ref, Memory}
-use Rattle.index_remap.specs.References.{is_among}
+use Rattle.wasm_meaning.specs.Prelude.{RefVal, FuncRef, ExternRef, Val, Num, Ref, Memory}
+use Rattle.index_remap.specs.Prelude.{is_among}
 use Rattle.eval_spec.specs.State.{State}
 use Rattle.eval_spec.specs.Stops.{is_imported}
 

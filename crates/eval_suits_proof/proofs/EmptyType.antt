@@ -1,31 +1,14 @@
 -- A module of which a function was called has a type that takes and gives nothing.
-use Rattle.std.proofs.Common.{◌≡◌, ◌∙◌, ℕ, ◌-◌, arith, List, [], ◌∷◌, ◌++◌, Bool, true, false, not, cond, Option, Some, None, is_some, slice_get, refl, sym, ap, subst, inl, inr}
-use Rattle.std.specs.Prelude.{nat_lt}
-use Rattle.std.specs.List.{cons_option, filter_map}
-use Rattle.std.proofs.lemmas.Option.{same_Some, slice_get_within}
+use Rattle.base_lists.proofs.Common.{◌≡◌, ◌∙◌, ℕ, ◌-◌, arith, List, [], ◌∷◌, ◌++◌, Bool, true, false, not, cond, Option, Some, None, is_some, slice_get, refl, sym, ap, subst, inl, inr, nat_lt, cons_option, filter_map, same_Some, slice_get_within, chosen_from, all_there_at, all_there_length, and_then_is, append_from, slice_get_there}
 use Rattle.base_lists.specs.Options.{all_there}
-use Rattle.base_lists.proofs.Filtered.{chosen_from}
-use Rattle.base_lists.proofs.Options.{all_there_at, all_there_length, and_then_is}
-use Rattle.base_lists.proofs.Places.{append_from, slice_get_there}
 use Rattle.wasm_tree.specs.declared.module.Func.{Func as FuncDef}
-use Rattle.wasm_tree.specs.declared.module.Import.{Import}
-use Rattle.wasm_tree.specs.declared.module.Module.{Module}
-use Rattle.wasm_tree.specs.Spaces.{func_of}
-use Rattle.wasm_meaning.specs.Outcomes.{Gives}
-use Rattle.wasm_meaning.specs.State.{Func, Mark, Store}
-use Rattle.wasm_meaning.specs.Control.{own_of, type_of_func}
-use Rattle.wasm_meaning.specs.Step.{enter}
-use Rattle.wasm_meaning.specs.Sequential.{Added}
-use Rattle.wasm_meaning.specs.World.{const_value, elem_with, global_with, is_there, joined_stores, new_func, store_with}
+use Rattle.wasm_tree_spec.specs.Prelude.{Import, Module, func_of}
+use Rattle.wasm_meaning.specs.Prelude.{Gives, Func, Mark, Store, own_of, type_of_func, enter, Added, const_value, elem_with, global_with, is_there, joined_stores, new_func, store_with}
 use Rattle.world_simulation.proofs.FuncsAside.{segments_funcs}
 use Rattle.eval_spec.specs.declared.limits.TheConstants.{MOST_TURNS}
 use Rattle.eval_spec.specs.declared.stop.Stop.{Stop}
 use Rattle.eval_spec.specs.declared.stop.Stop.TheVariants as why
-use Rattle.eval_spec.specs.State.{State, Stage, Going, Stopped, Finished, Test, tried}
-use Rattle.eval_spec.specs.Stops.{frame_turns, takes_and_gives_nothing, test}
-use Rattle.eval_spec.specs.Quiet.{call_end, came_to, host_opened, host_opened_if_there, run_end}
-use Rattle.eval_spec.specs.Evaluation.{called_in_order, evaluated_within}
-use Rattle.eval_spec.specs.Instantiation.{after_start, imported_func, imported_store, instantiated, own_inst}
+use Rattle.eval_spec.specs.Prelude.{State, Stage, Going, Stopped, Finished, Test, tried, frame_turns, takes_and_gives_nothing, test, call_end, came_to, host_opened, host_opened_if_there, run_end, called_in_order, evaluated_within, after_start, imported_func, imported_store, instantiated, own_inst}
 use Rattle.eval_proof.specs.Machines.{InstantiationsAreTheMachines}
 use Rattle.eval_snapshot_spec.specs.Evaluated.{first_missing, func_named, funcs_named}
 use Rattle.eval_snapshot_proof.specs.Suits.{HasEmptyType}

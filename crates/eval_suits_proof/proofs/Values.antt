@@ -1,25 +1,15 @@
 -- Values of globals are constants of their types.
-use Rattle.std.proofs.Common.{◌≡◌, ◌∙◌, ap, sym, subst, refl, ◌+◌, length, map, Option, Some, None, Bool, true, false, cond, slice_get}
-use Rattle.std.proofs.lemmas.Bool.{lt-ltb}
-use Rattle.std.proofs.lemmas.Option.{same_Some}
+use Rattle.base_lists.proofs.Common.{◌≡◌, ◌∙◌, ap, sym, subst, refl, ◌+◌, length, map, Option, Some, None, Bool, true, false, cond, slice_get, lt-ltb, same_Some, append_right, map_at}
 use Rattle.base_lists.specs.Options.{◌>>=◌}
-use Rattle.base_lists.proofs.Places.{append_right, map_at}
-use Rattle.wasm_tree.specs.declared.types.GlobalType.{GlobalType}
+use Rattle.wasm_tree_spec.specs.Prelude.{GlobalType, ValType, ConstExpr, GlobalDef, Module, same_type, funcs_of, imported_globals}
 use Rattle.wasm_tree.specs.declared.types.RefType.TheVariants as reft
-use Rattle.wasm_tree.specs.declared.types.ValType.{ValType}
 use Rattle.wasm_tree.specs.declared.types.ValType.TheVariants as valt
-use Rattle.wasm_tree.specs.declared.module.ConstExpr.{ConstExpr}
-use Rattle.wasm_tree.specs.declared.module.GlobalDef.{GlobalDef}
-use Rattle.wasm_tree.specs.declared.module.Module.{Module}
-use Rattle.wasm_tree.specs.SameTypes.{same_type}
-use Rattle.wasm_tree.specs.Spaces.{funcs_of, imported_globals}
 use Rattle.wasm_num.specs.Operations.{W32, W64}
 use Rattle.wasm_valid_bodies.specs.Typing.{only}
-use Rattle.wasm_valid.specs.Constants.{const_type}
-use Rattle.wasm_meaning.specs.State.{Val, Num, Ref, FuncRef, ExternRef, Global}
-use Rattle.wasm_meaning.specs.Values.{type_of}
+use Rattle.wasm_valid.specs.Prelude.{const_type}
+use Rattle.wasm_meaning.specs.Prelude.{Val, Num, Ref, FuncRef, ExternRef, Global, type_of}
 use Rattle.eval_spec.specs.declared.limits.TheConstants.{MOST_TURNS}
-use Rattle.eval_spec.specs.Told.{constant, is_unknown_global}
+use Rattle.eval_spec.specs.Prelude.{constant, is_unknown_global}
 use Rattle.eval_snapshot_spec.specs.Evaluated.{funcs_named}
 use Rattle.eval_references_proof.specs.References.{EvaluatedGlobalsAreTyped, EvaluatedRefsAreThere, IsThere}
 use Rattle.eval_suits_proof.specs.Typed.{ValuesAreTyped}

@@ -1,14 +1,9 @@
 -- What holds of a module and of the values of its globals where constructors were evaluated.
 use Rattle.std.specs.Prelude.{◌≡◌, ℕ, ◌+◌, List, length, Some, slice_get}
-use Rattle.wasm_tree.specs.declared.module.ConstExpr.{ConstExpr}
-use Rattle.wasm_tree.specs.declared.module.GlobalDef.{GlobalDef}
-use Rattle.wasm_tree.specs.declared.module.Module.{Module}
-use Rattle.wasm_tree.specs.Spaces.{imported_globals}
-use Rattle.wasm_valid.specs.Constants.{const_type}
-use Rattle.wasm_valid.specs.Validity.{IsValid}
-use Rattle.wasm_meaning.specs.State.{Text}
-use Rattle.eval_spec.specs.State.{State}
-use Rattle.eval_spec.specs.Told.{value_of_global}
+use Rattle.wasm_tree_spec.specs.Prelude.{ConstExpr, GlobalDef, Module, imported_globals}
+use Rattle.wasm_valid.specs.Prelude.{const_type, IsValid}
+use Rattle.wasm_meaning.specs.Prelude.{Text}
+use Rattle.eval_spec.specs.Prelude.{State, value_of_global}
 use Rattle.eval_snapshot_spec.specs.After.{IsAfter}
 use Rattle.eval_snapshot_proof.specs.Suits.{HasEmptyTypeFor}
 

@@ -1,7 +1,6 @@
 -- The law of steps of control.
 use Rattle.index_remap.specs.Related
-use Rattle.index_remap.specs.Related.{trap}
-use Rattle.index_remap.specs.Groups.{Control, GroupAgrees}
+use Rattle.index_remap.specs.Prelude.{trap, Control, GroupAgrees}
 use Rattle.index_remap.proofs.ValueSteps.{go_rel}
 use Rattle.index_remap.proofs.ControlSteps.{call_rel, call_indirect_rel, finish_rel, branch_rel, branch_if_rel, branch_table_rel, open_here_rel, open_loop_rel, open_if_rel}
 

@@ -1,22 +1,15 @@
 -- Calls, ends, branches and blocks agree.
-use Rattle.std.proofs.Common.{◌≡◌, ◌∙◌, ℕ, List, [], ◌∷◌, ◌++◌, length, refl, sym, subst, append_assoc, slice_get, unwrap_or}
-use Rattle.wasm_tree.specs.declared.space.Space.TheVariants.{Functions, Tables}
-use Rattle.std.specs.Prelude.{nat_eq}
-use Rattle.wasm_tree.specs.declared.types.ValType.{ValType}
-use Rattle.wasm_tree.specs.declared.types.BlockType.{BlockType}
-use Rattle.wasm_tree.specs.declared.instr.Instr.{Instr}
+use Rattle.base_lists.proofs.Common.{◌≡◌, ◌∙◌, ℕ, List, [], ◌∷◌, ◌++◌, length, refl, sym, subst, append_assoc, slice_get, unwrap_or, nat_eq}
+use Rattle.wasm_tree_spec.specs.Prelude.{Functions, Tables, ValType, BlockType, Instr, outs-Loop}
 use Rattle.wasm_tree.specs.declared.instr.Instr.TheOpen.{Instr-F}
 use Rattle.wasm_tree.specs.declared.instr.Instr.TheVariants as i
-use Rattle.wasm_tree.specs.declared.instr.Instr.TheVariants.{outs-Loop}
-use Rattle.wasm_meaning.specs.Outcomes.{bind, split_at, or_ill_typed}
+use Rattle.wasm_meaning.specs.Prelude.{bind, split_at, or_ill_typed, RefVal, Val, Inst, Level, Env, Body, same_func_type, func_ref, resume, end_level, level_here, branch, shape_of, open_level, open_block}
 use Rattle.wasm_num.specs.Operations.{W32}
-use Rattle.wasm_meaning.specs.State.{RefVal, Val, Inst, Level, Env, Body}
-use Rattle.wasm_meaning.specs.Values.{same_func_type}
-use Rattle.wasm_meaning.specs.Control.{call, func_ref, call_indirect, finish, resume, end_level, level_here, branch, branch_if, branch_table, shape_of, open_level, open_block, open_loop, open_if}
+use Rattle.wasm_meaning.specs.Control.{call, call_indirect, finish, branch_if, branch_table, open_loop, open_if}
 use Rattle.wasm_meaning.proofs.Outcomes.{then_given, then_found}
 use Rattle.index_remap.specs.Related
-use Rattle.index_remap.specs.Related.{Pairing, OptRel, none, some, ResRel, done, trap, wrong, ListRel, nil, cons, RefRel, func, extern, ValRel, Names, SameType, BlockRel, empty, value, indexed, OpRel, CodeRel, end, then, instead, TableRel, LevelRel, BodyRel, keep, goes, calls, ends}
-use Rattle.index_remap.specs.Unknown.{Unknowns, StoreRelOff, read_by, ReadsKnown, known, ActOff}
+use Rattle.index_remap.specs.Prelude.{Pairing, OptRel, none, some, ResRel, done, trap, wrong, ListRel, nil, cons, RefRel, func, extern, ValRel, Names, BlockRel, empty, value, indexed, OpRel, CodeRel, end, then, instead, TableRel, LevelRel, BodyRel, keep, goes, calls, ends, Unknowns, StoreRelOff, read_by, ReadsKnown, known, ActOff}
+use Rattle.index_remap.specs.Related.{SameType}
 use Rattle.index_remap.proofs.Rel.{same_there, bind_rel, cond_rel, cond_two, onto_rel, append_rel, past_rel, split_rel, or_trap_rel, bind_found, bind_is, get_rel}
 use Rattle.index_remap.proofs.ValueSteps.{bind_num, bind_num_is, pop_typed_rel, go_rel, values_rel}
 use Rattle.index_remap.proofs.TableSteps.{bind_table, slot_known}

@@ -1,19 +1,10 @@
 -- What holds of a whole list holds of each item, and of a block what holds of what it holds.
-use Rattle.std.proofs.Common.{◌≡◌, ℕ, ◌<◌, List, [], ◌∷◌, length, get_or, Bool, ◌&&◌, IsTrue, refl, sym, ap, ap₂, ◌∙◌}
-use Rattle.std.specs.List.{list_all}
-use Rattle.std.specs.Prelude.{map}
-use Rattle.std.proofs.lemmas.Option.{slice_get_read}
-use Rattle.std.proofs.lemmas.List.Folds.{list_all-append, list_all-map}
-use Rattle.base_lists.proofs.Bools.{left_true, right_true}
-use Rattle.base_lists.proofs.Each.{list_all_each}
-use Rattle.wasm_tree.specs.declared.types.BlockType.{BlockType}
-use Rattle.wasm_tree.specs.declared.instr.Instr.{Instr, fold_out-Instr, map-Instr}
+use Rattle.base_lists.proofs.Common.{◌≡◌, ℕ, ◌<◌, List, [], ◌∷◌, length, get_or, Bool, ◌&&◌, IsTrue, refl, sym, ap, ap₂, ◌∙◌, list_all, map, slice_get_read, list_all-append, list_all-map, left_true, right_true, list_all_each}
+use Rattle.wasm_tree_spec.specs.Prelude.{BlockType, Instr, fold_out-Instr, map-Instr, Block, Loop, If, outs-Block, outs-Loop, outs-If, all_pass_step, FuncType}
 use Rattle.wasm_tree.specs.declared.instr.Instr.TheOpen.{Instr-F}
-use Rattle.wasm_tree.specs.declared.instr.Instr.TheVariants.{Block, Loop, If, outs-Block, outs-Loop, outs-If}
-use Rattle.wasm_tree.specs.Operands.{all_pass_step}
-use Rattle.wasm_tree.specs.declared.types.FuncType.{FuncType}
 use Rattle.index_remap.specs.declared.remap.Remap.{Remap}
-use Rattle.index_remap.specs.Renumbered.{has_entry, fits_type, fits, fits_all, any_type}
+use Rattle.index_remap.specs.Prelude.{has_entry, fits_all}
+use Rattle.index_remap.specs.Renumbered.{fits_type, fits, any_type}
 
 pub each_at : {A : Type 0} (test : A → Bool) (xs : List A) (i : ℕ) (x : A) → IsTrue (list_all test xs) → i < length xs → x ≡ get_or xs i x → IsTrue (test x)
 each_at test xs i x h lt is = list_all_each test xs h i x (slice_get_read xs _ i x refl lt is)

@@ -1,20 +1,15 @@
 -- An instruction without a body keeps its type where each index that it names agrees with its entry, and a block the one of its block type.
-use Rattle.std.proofs.Common.{◌≡◌, ℕ, ◌^◌, true, nat_lt, nat_le, List, [], ◌∷◌, Some, sym, ap, ◌∙◌, subst, option_and_then, option_map}
-use Rattle.std.specs.Prelude.{slice_get, slice_index}
-use Rattle.std.proofs.lemmas.Bool.{ltb-true, lt-ltb}
-use Rattle.wasm_tree.specs.declared.types.ValType.{ValType}
-use Rattle.wasm_tree.specs.declared.types.BlockType.{BlockType}
+use Rattle.base_lists.proofs.Common.{◌≡◌, ℕ, ◌^◌, true, nat_lt, nat_le, List, [], ◌∷◌, Some, sym, ap, ◌∙◌, subst, option_and_then, option_map, slice_get, slice_index, ltb-true, lt-ltb}
+use Rattle.wasm_tree_spec.specs.Prelude.{ValType, BlockType, MemArg, Instr, fold_out-Instr, map-Instr, Block', Loop', If', Return, Call, CallIndirect, LocalGet, LocalSet, LocalTee, GlobalGet, GlobalSet, TableGet, TableSet, Load, Store, MemorySize, MemoryGrow, RefFunc, MemoryInit, DataDrop, MemoryCopy, MemoryFill, TableInit, ElemDrop, TableCopy, TableGrow, TableSize, TableFill, block_operands, map_operands}
 use Rattle.wasm_tree.specs.declared.types.BlockType.TheVariants as bt
-use Rattle.wasm_tree.specs.declared.instr.MemArg.{MemArg}
-use Rattle.wasm_tree.specs.declared.instr.Instr.{Instr, fold_out-Instr, map-Instr, out-Instr}
-use Rattle.wasm_tree.specs.declared.instr.Instr.TheVariants.{Block', Loop', If', Return, Call, CallIndirect, LocalGet, LocalSet, LocalTee, GlobalGet, GlobalSet, TableGet, TableSet, Load, Store, MemorySize, MemoryGrow, RefFunc, MemoryInit, DataDrop, MemoryCopy, MemoryFill, TableInit, ElemDrop, TableCopy, TableGrow, TableSize, TableFill}
+use Rattle.wasm_tree.specs.declared.instr.Instr.{out-Instr}
 use Rattle.base_lists.specs.Every.{Every}
-use Rattle.wasm_tree.specs.Operands.{block_operands, map_operands}
 use Rattle.wasm_valid_bodies.specs.Ops.{load_width, store_width}
 use Rattle.wasm_valid_bodies.specs.Typing.{Stack, Effect, Gives, Leaves, Acts, Context, signature_of, fits_memory, effect_of, Fits}
 use Rattle.index_remap.specs.declared.remap.Remap.{Remap}
-use Rattle.index_remap.specs.Renumbered.{entry, new_type, new_memarg, renumbered}
-use Rattle.index_remap.specs.Agreement.{Keeps, FuncAgrees, OperandAgrees, LayerAgrees, MemoryAgrees, DataAgrees, labelled}
+use Rattle.index_remap.specs.Prelude.{entry, new_type, renumbered, Keeps, OperandAgrees, LayerAgrees, labelled}
+use Rattle.index_remap.specs.Renumbered.{new_memarg}
+use Rattle.index_remap.specs.Agreement.{FuncAgrees, MemoryAgrees, DataAgrees}
 use Rattle.index_remap.proofs.Keeping.{keeps_map, keeps_then, keeps_only, keeps_signature, and_keeps, both_keeps, named_keeps, then_is}
 
 -- an instruction without a body fits where its type acts

@@ -1,15 +1,12 @@
 -- Code is related to itself.
-use Rattle.std.proofs.Common.{◌≡◌, ℕ, List, [], ◌∷◌, refl, false, slice_get, Some, None, Option}
-use Rattle.wasm_tree.specs.declared.space.Space.{Space}
-use Rattle.wasm_tree.specs.declared.space.Space.TheVariants.{Functions, Tables, Memories, Globals, ElementSegments, DataSegments}
-use Rattle.wasm_tree.specs.declared.types.BlockType.{BlockType}
+use Rattle.base_lists.proofs.Common.{◌≡◌, ℕ, List, [], ◌∷◌, refl, false, slice_get, Some, None, Option}
+use Rattle.wasm_tree_spec.specs.Prelude.{Space, Functions, Tables, Memories, Globals, ElementSegments, DataSegments, BlockType, Instr, Row_of-Instr, end_of-Instr, more_of-Instr, items-the_row-Instr, items_shown-the_row-Instr-0}
 use Rattle.wasm_tree.specs.declared.types.BlockType.TheVariants as bt
-use Rattle.wasm_tree.specs.declared.instr.Instr.{Instr, out-Instr, Row_of-Instr, end_of-Instr, more_of-Instr, items-the_row-Instr, items_shown-the_row-Instr-0, Block', Loop', If'}
+use Rattle.wasm_tree.specs.declared.instr.Instr.{out-Instr, Block', Loop', If'}
 use Rattle.wasm_tree.specs.declared.instr.Instr.TheOpen.{Instr-F}
-use Rattle.wasm_meaning.specs.State.{Inst}
+use Rattle.wasm_meaning.specs.Prelude.{Inst}
 use Rattle.index_remap.specs.Related
-use Rattle.index_remap.specs.Related.{Pairing, OptRel, none, some, Names, BlockRel, empty, value, indexed, OpRel, CodeRel, end, then}
-use Rattle.index_remap.specs.Laws.{NamesItself}
+use Rattle.index_remap.specs.Prelude.{Pairing, OptRel, none, some, Names, BlockRel, empty, value, indexed, OpRel, CodeRel, end, then, NamesItself}
 
 module _ (R : Pairing) (i : Inst) (h : NamesItself R i) where
   self : (k : Space) (xs : List ℕ) → ((n a : ℕ) → slice_get xs n ≡ Some a → R.named k a a) → (n : ℕ) → Names R.named k xs xs n n

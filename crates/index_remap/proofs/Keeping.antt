@@ -1,12 +1,9 @@
 -- What is there stays there, through the words of which the types of instructions are made.
-use Rattle.std.proofs.Common.{◌≡◌, Bool, true, false, ◌&&◌, [], ◌∷◌, Option, Some, None, refl, ap, ◌∙◌, option_map}
-use Rattle.std.specs.Prelude.{option_and_then}
-use Rattle.wasm_tree.specs.declared.types.RefType.{RefType}
+use Rattle.base_lists.proofs.Common.{◌≡◌, Bool, true, false, ◌&&◌, [], ◌∷◌, Option, Some, None, refl, ap, ◌∙◌, option_map, option_and_then}
+use Rattle.wasm_tree_spec.specs.Prelude.{RefType, Ref, FuncType}
 use Rattle.wasm_tree.specs.declared.types.RefType.TheVariants.{Func}
-use Rattle.wasm_tree.specs.declared.types.ValType.TheVariants.{Ref}
-use Rattle.wasm_tree.specs.declared.types.FuncType.{FuncType}
 use Rattle.wasm_valid_bodies.specs.Typing.{Gives, signature_in, only, both}
-use Rattle.index_remap.specs.Agreement.{Keeps}
+use Rattle.index_remap.specs.Prelude.{Keeps}
 
 pub keeps_map : {A B : Type 0} (f : A → B) (m n : Option A) → Keeps m n → Keeps (option_map f m) (option_map f n)
 keeps_map f None n k y h = cc

@@ -1,12 +1,10 @@
 -- Where whatever is in the code relation is related, the next instruction names related addresses.
-use Rattle.std.proofs.Common.{ℕ, List, [], ◌∷◌, Option, true, false}
-use Rattle.wasm_tree.specs.declared.space.Space.{Space}
-use Rattle.wasm_tree.specs.declared.instr.Instr.{Instr}
+use Rattle.base_lists.proofs.Common.{ℕ, List, [], ◌∷◌, Option, true, false}
+use Rattle.wasm_tree_spec.specs.Prelude.{Space, Instr}
 use Rattle.wasm_tree.specs.declared.instr.Instr.TheOpen.{Instr-F}
-use Rattle.wasm_meaning.specs.State.{Inst, Level, Entry, Running, Mark, Opening, Waiting, Ended, Growing}
+use Rattle.wasm_meaning.specs.Prelude.{Inst, Level, Entry, Running, Mark, Opening, Waiting, Ended, Growing}
 use Rattle.index_remap.specs.Related
-use Rattle.index_remap.specs.Related.{Pairing, OptRel, none, some, Names, ArgRel, OpRel, NextKnown, TopKnown}
-use Rattle.index_remap.specs.Laws.{EntriesKnown}
+use Rattle.index_remap.specs.Prelude.{Pairing, OptRel, none, some, Names, ArgRel, OpRel, NextKnown, TopKnown, EntriesKnown}
 
 module _ (R : Pairing) (known : (k : Space) (a b : ℕ) → R.named k a b → R.of k a b) (i j : Inst) where
   names_known : {k : Space} {o p : Option ℕ} → OptRel (R.named k) o p → OptRel (R.of k) o p

@@ -1,21 +1,15 @@
 -- The law of steps where it says more than of equal stores: a dropped segment beside an empty one, functions that are not one to one, and a list of functions of
 -- which only the types are known. What the steps come to is computed.
-use Rattle.std.proofs.Common.{◌≡◌, refl, sym, subst, ◌∙◌, ℕ, zero, suc, List, [], ◌∷◌, Some, None, Bool, true, false, arith, slice_get}
+use Rattle.base_lists.proofs.Common.{◌≡◌, refl, sym, subst, ◌∙◌, ℕ, zero, suc, List, [], ◌∷◌, Some, None, Bool, true, false, arith, slice_get}
 use Rattle.std.proofs.lemmas.Bool.{true≢false}
-use Rattle.wasm_tree.specs.declared.space.Space.{Space}
-use Rattle.wasm_tree.specs.declared.space.Space.TheVariants.{Types, Functions, Tables, Memories, Globals, ElementSegments, DataSegments}
+use Rattle.wasm_tree_spec.specs.Prelude.{Space, Types, Functions, Tables, Memories, Globals, ElementSegments, DataSegments, FuncType, Instr}
 use Rattle.wasm_tree.specs.declared.types.RefType.TheVariants as reft
-use Rattle.wasm_tree.specs.declared.types.FuncType.{FuncType}
-use Rattle.wasm_tree.specs.declared.instr.Instr.{Instr, out-Instr}
+use Rattle.wasm_tree.specs.declared.instr.Instr.{out-Instr}
 use Rattle.wasm_tree.specs.declared.instr.Instr.TheVariants as i
 use Rattle.wasm_num.specs.Operations.{W32}
-use Rattle.wasm_meaning.specs.Outcomes.{Outcome, Gives, Traps}
-use Rattle.wasm_meaning.specs.State.{FuncRef, Val, Num, Ref, Inst, Func, Code, Store, Entry, Running, Act, Ran}
-use Rattle.wasm_meaning.specs.Control.{type_at, own_at}
-use Rattle.wasm_meaning.specs.Step.{step}
+use Rattle.wasm_meaning.specs.Prelude.{Outcome, Gives, Traps, FuncRef, Val, Num, Ref, Inst, Func, Code, Store, Entry, Running, Act, Ran, type_at, own_at, step}
 use Rattle.index_remap.specs.Related
-use Rattle.index_remap.specs.Related.{Pairing, OneToOne, OneToOneWhereWritten, is_written, some, ResRel, BothRel, both, ListRel, nil, cons, RefRel, ValRel, number, CodeRel, end, then, instead, FuncRel, defined, TableRel, ElemRel, StoreRel, EntryRel, running, NextRel, NotOpaque, TopSkips}
-use Rattle.index_remap.specs.Laws.{passed, Above}
+use Rattle.index_remap.specs.Prelude.{Pairing, OneToOne, OneToOneWhereWritten, is_written, some, ResRel, BothRel, both, ListRel, nil, cons, RefRel, ValRel, number, CodeRel, end, then, instead, FuncRel, defined, TableRel, ElemRel, StoreRel, EntryRel, running, NextRel, NotOpaque, TopSkips, passed, Above}
 use Rattle.index_remap.proofs.AboveSteps.{step_above}
 use Rattle.index_remap.proofs.Known.{entries_known}
 use Rattle.index_remap.proofs.SameRuns.{touches, skips}

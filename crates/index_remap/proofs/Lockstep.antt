@@ -1,12 +1,7 @@
 -- Stacks that are related entry by entry.
-use Rattle.std.proofs.Common.{◌≡◌, List, ◌∷◌, refl}
-use Rattle.wasm_meaning.specs.State.{Store, Entry, Frame, Running, Caller}
-use Rattle.wasm_meaning.specs.Step.{step, to_mark}
-use Rattle.wasm_meaning.specs.Run.{Run, tick}
-use Rattle.index_remap.specs.Related.{Pairing, OneToOne, ResRel, done, wrong, ListRel, nil, cons, FrameRel, EntryRel, running, mark, opening, waiting, ended, growing, NextRel}
-use Rattle.index_remap.specs.RelatedRuns.{RunRel}
-use Rattle.index_remap.specs.Laws.{EntryByEntry, EntriesKnown}
-use Rattle.index_remap.specs.OpaqueRuns.{TickSkips, RunsStepTogether}
+use Rattle.base_lists.proofs.Common.{◌≡◌, List, ◌∷◌, refl}
+use Rattle.wasm_meaning.specs.Prelude.{Store, Entry, Frame, Running, Caller, step, to_mark, Run, tick}
+use Rattle.index_remap.specs.Prelude.{Pairing, OneToOne, ResRel, done, wrong, ListRel, nil, cons, FrameRel, EntryRel, running, mark, opening, waiting, ended, growing, NextRel, RunRel, EntryByEntry, EntriesKnown, TickSkips, RunsStepTogether}
 use Rattle.index_remap.proofs.Rel.{written, bind_rel_is, PairRel}
 use Rattle.index_remap.proofs.StepsAgree.{TopView, top_none, top_mark, top_opening, top_waiting, top_ended, top_growing, top_running, act_rel}
 use Rattle.index_remap.proofs.Shapes.{Shape, Held, unchanged, perform_rel, together}

@@ -1,16 +1,11 @@
 -- Marks at the functions that bodies name, and the list of those that are to be declared.
-use Rattle.std.proofs.Common.{◌≡◌, ℕ, zero, suc, ◌+◌, ◌<◌, Bool, true, false, ◌&&◌, not, cond, List, [], ◌∷◌, ◌++◌, map, length, drop, get_or, refl, sym, ap, ap₂, ◌∙◌, arith, zero-add, add-zero, append-nil, rules}
-use Rattle.std.specs.Prelude.{replicate}
-use Rattle.std.proofs.lemmas.List.{map-append}
-use Rattle.std.specs.List.{filter, flat_map, range_with_len}
-use Rattle.wasm_tree.specs.declared.types.BlockType.{BlockType}
-use Rattle.wasm_tree.specs.declared.instr.Instr.{Instr, If, the_lemmas}
-use Rattle.wasm_tree.specs.declared.module.ConstExpr.{ConstExpr}
+use Rattle.base_lists.proofs.Common.{◌≡◌, ℕ, zero, suc, ◌+◌, ◌<◌, Bool, true, false, ◌&&◌, not, cond, List, [], ◌∷◌, ◌++◌, map, length, drop, get_or, refl, sym, ap, ap₂, ◌∙◌, arith, zero-add, add-zero, append-nil, rules, replicate, map-append, filter, flat_map, range_with_len}
+use Rattle.wasm_tree_spec.specs.Prelude.{BlockType, Instr, the_lemmas, ConstExpr, Func}
+use Rattle.wasm_tree.specs.declared.instr.Instr.{If}
 use Rattle.wasm_tree.specs.declared.module.ConstExpr.TheVariants as const
-use Rattle.wasm_tree.specs.declared.module.Func.{Func}
-use Rattle.wasm_valid.specs.Named.{named_from, marked_all}
+use Rattle.wasm_valid.specs.Prelude.{named_from, marked_all}
 use Rattle.wasm_valid.proofs.Marked.{segment_step, marked_append, all_marks, no_marks}
-use Rattle.index_remap.specs.References.{refs, refs_all, body_refs, is_among, marked_only}
+use Rattle.index_remap.specs.Prelude.{refs, refs_all, body_refs, is_among, marked_only}
 
 joined : {X : Type 0} (f : X → List ℕ) (xs : List X) → flat_map (λ ys. ys) (map f xs) ≡ flat_map f xs
 joined f [] = refl

@@ -1,16 +1,10 @@
 -- Steps on memories and data segments agree.
-use Rattle.std.proofs.Common.{◌≡◌, ℕ, ◌+◌, ◌%◌, List, refl, subst}
-use Rattle.wasm_tree.specs.declared.space.Space.TheVariants.{Memories, DataSegments}
-use Rattle.wasm_tree.specs.declared.instr.LoadOp.{LoadOp}
-use Rattle.wasm_tree.specs.declared.instr.StoreOp.{StoreOp}
-use Rattle.wasm_tree.specs.declared.instr.MemArg.{MemArg}
-use Rattle.wasm_meaning.specs.Outcomes.{Outcome, Gives, bind, slice, copies, or_trap}
+use Rattle.base_lists.proofs.Common.{◌≡◌, ℕ, ◌+◌, ◌%◌, List, refl, subst}
+use Rattle.wasm_tree_spec.specs.Prelude.{Memories, DataSegments, LoadOp, StoreOp, MemArg}
+use Rattle.wasm_meaning.specs.Prelude.{Outcome, Gives, bind, slice, copies, or_trap, load_width, store_from, stored, Val, Memory, Env, Body, written, load_from, with_memory, writes, store_into, memory_may_grow, pop_three, init_memory}
 use Rattle.wasm_num.specs.Operations.{W32}
-use Rattle.wasm_meaning.specs.Access.{load_width, store_from, stored}
-use Rattle.wasm_meaning.specs.State.{Val, Memory, Env, Body}
-use Rattle.wasm_meaning.specs.Memory.{written, load_from, with_memory, load, writes, store_into, store, memory_size, memory_may_grow, memory_grow, pop_three, init_memory, memory_init, data_drop, memory_copy, memory_fill}
-use Rattle.index_remap.specs.Related.{Pairing, ResRel, done, ListRel, cons, ValRel, number, Names, ArgRel, BodyRel, memory_grows, set_memory, drop_data, goes, asks_grow}
-use Rattle.index_remap.specs.Unknown.{Unknowns, StoreRelOff, known, ActOff}
+use Rattle.wasm_meaning.specs.Memory.{load, store, memory_size, memory_grow, memory_init, data_drop, memory_copy, memory_fill}
+use Rattle.index_remap.specs.Prelude.{Pairing, ResRel, done, ListRel, cons, ValRel, number, Names, ArgRel, BodyRel, memory_grows, set_memory, drop_data, goes, asks_grow, Unknowns, StoreRelOff, known, ActOff}
 use Rattle.index_remap.proofs.Rel.{there, bind_same, cond_rel, PairRel, bind_found, bind_rel_is}
 use Rattle.index_remap.proofs.ValueSteps.{bind_num, values_rel, on_values_rel, pushes_rel}
 

@@ -1,16 +1,10 @@
 -- Code in which no call is replaced: it is the body with other indices. And tests of layers of which one follows from another.
-use Rattle.std.proofs.Common.{List, [], ◌∷◌, refl, ap}
-use Rattle.wasm_tree.specs.declared.types.FuncType.{FuncType}
-use Rattle.wasm_tree.specs.declared.instr.Instr.{Instr, out-Instr, Row_of-Instr, items-the_row-Instr, end_of-Instr, more_of-Instr}
+use Rattle.base_lists.proofs.Common.{List, [], ◌∷◌, refl, ap}
+use Rattle.wasm_tree_spec.specs.Prelude.{FuncType, Instr, out-Instr, Row_of-Instr, items-the_row-Instr, end_of-Instr, more_of-Instr, Block', Loop', If', Call, Operand, operands, Layers, RowLayers, ListLayers}
 use Rattle.wasm_tree.specs.declared.instr.Instr.TheOpen.{Instr-F}
-use Rattle.wasm_tree.specs.declared.instr.Instr.TheVariants.{Block', Loop', If', Call}
 use Rattle.index_remap.specs.declared.remap.Remap.{Remap}
-use Rattle.index_remap.specs.Renumbered.{renumbered, renumbered_all}
+use Rattle.index_remap.specs.Prelude.{renumbered, renumbered_all, Labels, Codes, DenotesOne, RowReplaced, Replaced}
 use Rattle.base_lists.specs.Every.{Every}
-use Rattle.wasm_tree.specs.declared.space.Operand.{Operand}
-use Rattle.wasm_tree.specs.Operands.{operands}
-use Rattle.wasm_tree.specs.Layers.{Layers, RowLayers, ListLayers}
-use Rattle.index_remap.specs.Replaced.{Labels, Codes, DenotesOne, RowReplaced, Replaced}
 use Rattle.index_remap.proofs.Rows.{block_renumbered, loop_renumbered, if_renumbered}
 
 module _ (types : List FuncType) (m : Remap) (codes : Codes) where

@@ -1,12 +1,9 @@
 -- Related changes leave what has no partner, in either store.
-use Rattle.std.proofs.Common.{◌≡◌, ℕ, List, refl, subst, ◌∙◌, slice_set, slice_get}
-use Rattle.wasm_tree.specs.declared.space.Space.{Space}
-use Rattle.wasm_tree.specs.declared.space.Space.TheVariants.{Tables, Memories, Globals, ElementSegments, DataSegments}
-use Rattle.wasm_meaning.specs.State.{Table, Memory, Global, Store, Change, Keep, SetGlobal, SetMemory, SetTable, DropElem, DropData}
-use Rattle.wasm_meaning.specs.Step.{changed, no_items, no_bytes}
-use Rattle.index_remap.specs.Related.{Pairing, ChangeRel}
+use Rattle.base_lists.proofs.Common.{◌≡◌, ℕ, List, refl, subst, ◌∙◌, slice_set, slice_get}
+use Rattle.wasm_tree_spec.specs.Prelude.{Space, Tables, Memories, Globals, ElementSegments, DataSegments}
+use Rattle.wasm_meaning.specs.Prelude.{Table, Memory, Global, Store, Change, Keep, SetGlobal, SetMemory, SetTable, DropElem, DropData, changed, no_items, no_bytes}
+use Rattle.index_remap.specs.Prelude.{Pairing, ChangeRel, turned, HasNoPartner, KeepsOthers}
 use Rattle.index_remap.specs.Related as related
-use Rattle.index_remap.specs.RelatedRuns.{turned, HasNoPartner, KeepsOthers}
 use Rattle.index_remap.proofs.Rel.{at_put_there}
 
 -- the change is at an address of the second store that has a partner

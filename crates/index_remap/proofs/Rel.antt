@@ -1,11 +1,10 @@
 -- Options, lists and stores that correspond.
-use Rattle.std.proofs.Common.{◌≡◌, ℕ, zero, suc, List, [], ◌∷◌, ◌++◌, length, Option, Some, None, Bool, true, false, cond, option_and_then, slice_get, refl, sym, ap, subst, drop, slice_set}
-use Rattle.wasm_tree.specs.declared.space.Space.{Space}
+use Rattle.base_lists.proofs.Common.{◌≡◌, ℕ, zero, suc, List, [], ◌∷◌, ◌++◌, length, Option, Some, None, Bool, true, false, cond, option_and_then, slice_get, refl, sym, ap, subst, drop, slice_set, set_other}
+use Rattle.wasm_tree_spec.specs.Prelude.{Space}
 use native.Mathlib.Decide.{ℕ_discrete}
-use Rattle.wasm_meaning.specs.Outcomes.{Outcome, Gives, Traps, IllTyped, or_trap, bind, onto, split_at, slice, overwrite, copies, or_ill_typed}
+use Rattle.wasm_meaning.specs.Prelude.{Outcome, Gives, Traps, IllTyped, or_trap, bind, onto, split_at, slice, overwrite, copies, or_ill_typed}
 use Rattle.wasm_meaning.proofs.Outcomes.{AllOf, ill_typed, stopped, just}
-use Rattle.index_remap.specs.Related.{Pairing, OneToOne, OneToOneWhereWritten, is_written, OptRel, none, some, BothRel, both, ResRel, done, trap, wrong, ListRel, nil, cons}
-use Rattle.base_lists.proofs.Places.{set_other}
+use Rattle.index_remap.specs.Prelude.{Pairing, OneToOne, OneToOneWhereWritten, is_written, OptRel, none, some, BothRel, both, ResRel, done, trap, wrong, ListRel, nil, cons}
 
 -- ---- outcomes ----
 

@@ -1,26 +1,16 @@
 -- Code with other indices, in which code stands in place of calls of listed functions, is related to what it was.
-use Rattle.std.proofs.Common.{◌≡◌, ℕ, List, [], ◌∷◌, ◌++◌, Bool, true, false, ◌&&◌, refl, sym, subst}
-use Rattle.wasm_tree.specs.declared.types.FuncType.{FuncType}
-use Rattle.wasm_tree.specs.declared.types.BlockType.{BlockType}
+use Rattle.base_lists.proofs.Common.{◌≡◌, ℕ, List, [], ◌∷◌, ◌++◌, Bool, true, false, ◌&&◌, refl, sym, subst}
+use Rattle.wasm_tree_spec.specs.Prelude.{FuncType, BlockType, Instr, fold_out-Instr, map-Instr, Row_of-Instr, end_of-Instr, more_of-Instr, items-the_row-Instr, items_shown-the_row-Instr-0, Block, Block', Loop, Loop', If, If', Call, Space, Functions, block_operands, map_operands, Layers, RowLayers, ListLayers}
 use Rattle.wasm_tree.specs.declared.types.BlockType.TheVariants as bt
-use Rattle.wasm_tree.specs.declared.instr.Instr.{Instr, fold_out-Instr, map-Instr, out-Instr, Row_of-Instr, end_of-Instr, more_of-Instr, items-the_row-Instr, items_shown-the_row-Instr-0}
+use Rattle.wasm_tree.specs.declared.instr.Instr.{out-Instr}
 use Rattle.wasm_tree.specs.declared.instr.Instr.TheBlock.{shown-the_row-Instr-0}
 use Rattle.wasm_tree.specs.declared.instr.Instr.TheOpen.{Instr-F}
 use Rattle.wasm_tree.specs.declared.instr.Instr.TheVariants as i
-use Rattle.wasm_tree.specs.declared.instr.Instr.TheVariants.{Block, Block', Loop, Loop', If, If', Call}
-use Rattle.wasm_meaning.specs.State.{Inst}
+use Rattle.wasm_meaning.specs.Prelude.{Inst}
 use Rattle.base_lists.specs.Every.{Every}
-use Rattle.wasm_tree.specs.declared.space.Space.{Space}
-use Rattle.wasm_tree.specs.declared.space.Space.TheVariants.{Functions}
-use Rattle.wasm_tree.specs.Operands.{block_operands, map_operands}
 use Rattle.index_remap.specs.declared.remap.Remap.{Remap}
 use Rattle.index_remap.specs.Related
-use Rattle.index_remap.specs.Related.{Pairing, BlockRel, empty, value, indexed, OpRel, CodeRel, end, then, instead}
-use Rattle.index_remap.specs.Renumbered.{entry, new_type, renumbered, renumbered_all}
-use Rattle.index_remap.specs.References.{is_among}
-use Rattle.index_remap.specs.CodeNames.{EntryNames, LayerNames}
-use Rattle.wasm_tree.specs.Layers.{Layers, RowLayers, ListLayers}
-use Rattle.index_remap.specs.Replaced.{Labels, Codes, CallReplaced, DenotesOne, RowReplaced, Replaced, is_opaque_call, OtherNamed, OthersNamed, ReplacementCodesFit}
+use Rattle.index_remap.specs.Prelude.{Pairing, BlockRel, empty, value, indexed, OpRel, CodeRel, end, then, instead, entry, new_type, renumbered, renumbered_all, is_among, EntryNames, LayerNames, Labels, Codes, CallReplaced, DenotesOne, RowReplaced, Replaced, is_opaque_call, OtherNamed, OthersNamed, ReplacementCodesFit}
 use Rattle.index_remap.proofs.NotOpaque.{operands_follow, unlisted_renumbered}
 
 module _ (R : Pairing) (m : Remap) (x y : Inst) where

@@ -1,17 +1,12 @@
 -- Small code in which calls are replaced: what replaces what, and that a body stays well typed where a branch to a label around the call stands in its place.
-use Rattle.std.proofs.Common.{◌≡◌, ℕ, List, [], ◌∷◌, zero, suc, Option, Some, None, refl, sym, ap, subst, arith, rules, true≢false}
-use Rattle.std.specs.Prelude.{Contains}
-use Rattle.wasm_tree.specs.declared.types.FuncType.{FuncType}
+use Rattle.base_lists.proofs.Common.{◌≡◌, ℕ, List, [], ◌∷◌, zero, suc, Option, Some, None, refl, sym, ap, subst, arith, rules, true≢false, Contains}
+use Rattle.wasm_tree_spec.specs.Prelude.{FuncType, Instr, end_of-Instr, more_of-Instr, the_lemmas, Block, Block', Br, Call, CallIndirect, LocalGet, Nop, ListLayers}
 use Rattle.wasm_tree.specs.declared.types.BlockType.TheVariants as bt
-use Rattle.wasm_tree.specs.declared.instr.Instr.{Instr, out-Instr, end_of-Instr, more_of-Instr, the_lemmas}
+use Rattle.wasm_tree.specs.declared.instr.Instr.{out-Instr}
 use Rattle.wasm_tree.specs.declared.instr.Instr.TheViews.{outs-Block'}
-use Rattle.wasm_tree.specs.declared.instr.Instr.TheVariants.{Block, Block', Br, Call, CallIndirect, LocalGet, Nop}
 use Rattle.wasm_valid_bodies.specs.Typing.{Gives, Leaves, Context, WellTyped}
 use Rattle.index_remap.specs.declared.remap.Remap.{Remap}
-use Rattle.index_remap.specs.Renumbered.{renumbered}
-use Rattle.wasm_tree.specs.Layers.{ListLayers}
-use Rattle.index_remap.specs.Agreement.{func_type, LayerAgrees, labelled}
-use Rattle.index_remap.specs.Replaced.{Labels, Codes, Replaced, OthersAgree, CodesHaveTypes}
+use Rattle.index_remap.specs.Prelude.{renumbered, func_type, LayerAgrees, labelled, Labels, Codes, Replaced, OthersAgree, CodesHaveTypes}
 use Rattle.index_remap.proofs.Replacing.{replaced_typed}
 
 the_only : {A : Type 0} (x : A) → Contains (x ∷ []) x

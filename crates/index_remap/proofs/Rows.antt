@@ -1,12 +1,10 @@
 -- Blocks: what they hold as a row and as a list, and with other indices.
-use Rattle.std.proofs.Common.{◌≡◌, List, ap, sym, ◌∙◌, rules}
-use Rattle.wasm_tree.specs.declared.types.BlockType.{BlockType}
-use Rattle.wasm_tree.specs.declared.instr.Instr.{Instr, Row_of-Instr, items-the_row-Instr, items_shown-the_row-Instr-0, roll-out-Instr, the_lemmas}
-use Rattle.wasm_tree.specs.declared.instr.Instr.TheVariants.{Block, Block', Loop, Loop', If, If'}
+use Rattle.base_lists.proofs.Common.{◌≡◌, List, ap, sym, ◌∙◌, rules}
+use Rattle.wasm_tree_spec.specs.Prelude.{BlockType, Instr, Row_of-Instr, items-the_row-Instr, items_shown-the_row-Instr-0, roll-out-Instr, the_lemmas, Block, Block', Loop, Loop', If, If'}
 use Rattle.wasm_tree.specs.declared.instr.Instr.TheBlock.{shown-the_row-Instr-0}
 use Rattle.wasm_tree.specs.declared.instr.Instr.TheViews.{roll-Instr, outs-Block', rolls-Block, outs-Loop', rolls-Loop, outs-If', rolls-If}
 use Rattle.index_remap.specs.declared.remap.Remap.{Remap}
-use Rattle.index_remap.specs.Renumbered.{new_type, renumbered, renumbered_all}
+use Rattle.index_remap.specs.Prelude.{new_type, renumbered, renumbered_all}
 
 -- a block as the one with the list of what it holds
 pub block_is : (bt : BlockType) (n : _) (row : Row_of-Instr _) → Block' bt n row ≡ Block bt (items-the_row-Instr _ row)

@@ -1,15 +1,11 @@
 -- Where the list is empty no step begins a call of a function of it: runs from related states, where all is related, have equal traces.
-use Rattle.std.proofs.Common.{◌≡◌, ℕ, List, [], ◌∷◌, Bool, refl, sym}
-use Rattle.wasm_tree.specs.declared.space.Space.{Space}
+use Rattle.base_lists.proofs.Common.{◌≡◌, ℕ, List, [], ◌∷◌, Bool, refl, sym}
+use Rattle.wasm_tree_spec.specs.Prelude.{Space}
 use Rattle.std.proofs.lemmas.Bool.{true≢false}
-use Rattle.wasm_meaning.specs.State.{Store, Entry, Running, Mark, Opening, Waiting, Ended, Growing, Act}
-use Rattle.wasm_meaning.specs.Environment.{ExternalValue}
-use Rattle.wasm_meaning.specs.State.{Text}
-use Rattle.wasm_meaning.specs.Run.{Move, Call, Invoke, Run, tick, events_of}
+use Rattle.wasm_meaning.specs.Prelude.{Store, Entry, Running, Mark, Opening, Waiting, Ended, Growing, Act, ExternalValue, Text, Move, Call, Invoke, Run, tick, events_of}
 use Rattle.base_simulation.proofs.Lockstep.{lockstep}
-use Rattle.index_remap.specs.Related.{Pairing, OneToOne, TopSkips}
-use Rattle.index_remap.specs.Laws.{passed, NeedsBelow, Touches, EntryByEntry, RelatedRuns}
-use Rattle.index_remap.specs.OpaqueRuns.{MoveSkips, NextMoveSkips, TickSkips, RunsStepTogether}
+use Rattle.index_remap.specs.Prelude.{Pairing, OneToOne, TopSkips, passed, Touches, EntryByEntry, MoveSkips, NextMoveSkips, TickSkips, RunsStepTogether}
+use Rattle.index_remap.specs.Laws.{NeedsBelow, RelatedRuns}
 use Rattle.index_remap.proofs.Known.{entries_known}
 use Rattle.index_remap.proofs.StepsAgree.{none_called}
 use Rattle.index_remap.proofs.Lockstep.{ticks_together}

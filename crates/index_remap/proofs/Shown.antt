@@ -1,14 +1,9 @@
 -- What is shown of related values is the same.
-use Rattle.std.proofs.Common.{◌≡◌, ℕ, List, [], ◌∷◌, ◌++◌, Option, Some, None, true, false, ◌⊎◌, inl, inr, refl, sym, ap, subst, ◌∙◌}
-use Rattle.wasm_tree.specs.declared.space.Space.TheVariants.{Functions}
-use Rattle.std.proofs.lemmas.Bool.Decides.{eqb_tells}
-use Rattle.std.specs.Prelude.{nat_eq}
-use Rattle.wasm_tree.specs.declared.types.FuncType.{FuncType}
-use Rattle.wasm_meaning.specs.State.{Pair, Val, Store}
-use Rattle.wasm_meaning.specs.Control.{own_at}
-use Rattle.wasm_meaning.specs.Environment.{Function}
-use Rattle.wasm_meaning.specs.Run.{place_of, numbered, show_func, show, show_all}
-use Rattle.index_remap.specs.Related.{Pairing, OneToOne, none, some, ListRel, nil, cons, func, extern, ValRel, number, reference, StoreRel}
+use Rattle.base_lists.proofs.Common.{◌≡◌, ℕ, List, [], ◌∷◌, ◌++◌, Option, Some, None, true, false, ◌⊎◌, inl, inr, refl, sym, ap, subst, ◌∙◌, eqb_tells, nat_eq}
+use Rattle.wasm_tree_spec.specs.Prelude.{Functions, FuncType}
+use Rattle.wasm_meaning.specs.Prelude.{Pair, Val, Store, own_at, Function, show_all}
+use Rattle.wasm_meaning.specs.Run.{place_of, numbered, show_func, show}
+use Rattle.index_remap.specs.Prelude.{Pairing, OneToOne, none, some, ListRel, nil, cons, func, extern, ValRel, number, reference, StoreRel}
 use Rattle.index_remap.specs.RelatedRuns.{ShowRel}
 use Rattle.index_remap.proofs.Rel.{length_rel}
 

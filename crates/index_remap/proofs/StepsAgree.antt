@@ -1,20 +1,15 @@
 -- One step of each agrees.
-use Rattle.std.proofs.Common.{◌≡◌, ℕ, List, [], ◌∷◌, refl, ap, subst, ◌∙◌, true, Some}
+use Rattle.base_lists.proofs.Common.{◌≡◌, ℕ, List, [], ◌∷◌, refl, ap, subst, ◌∙◌, true, Some}
 use Rattle.wasm_tree.specs.declared.space.Space.TheVariants as space
-use Rattle.wasm_tree.specs.declared.types.ValType.{ValType}
-use Rattle.wasm_tree.specs.declared.instr.Instr.{Instr}
+use Rattle.wasm_tree_spec.specs.Prelude.{ValType, Instr, FuncType}
 use Rattle.wasm_tree.specs.declared.instr.Instr.TheOpen.{Instr-F}
-use Rattle.wasm_meaning.specs.Outcomes.{Gives, bind, onto, or_ill_typed}
-use Rattle.wasm_tree.specs.declared.types.FuncType.{FuncType}
-use Rattle.wasm_meaning.specs.State.{Val, Func, Store, Change, Level, Frame, Entry, Running, Caller, Mark, Opening, Waiting, Ended, Growing, Growth, Env, Body, Act, Goes, Calls, AsksGrow, Ends}
-use Rattle.wasm_meaning.specs.Control.{type_at, call_address}
-use Rattle.wasm_meaning.specs.Values.{with_values}
-use Rattle.wasm_meaning.specs.Step.{exec, step_code, step_levels, act, frame_of, give_levels, give, enter, enter_at, to_mark, changed}
-use Rattle.wasm_meaning.specs.Run.{is_mark}
+use Rattle.wasm_meaning.specs.Prelude.{Gives, bind, onto, or_ill_typed, Val, Func, Store, Change, Level, Frame, Entry, Running, Caller, Mark, Opening, Waiting, Ended, Growing, Growth, Env, Body, Act, Goes, Calls, AsksGrow, Ends, type_at, with_values, exec, step_code, step_levels, act, frame_of, give_levels, give, enter, enter_at, to_mark, changed, is_mark}
+use Rattle.wasm_meaning.specs.Control.{call_address}
 use Rattle.index_remap.specs.Related
-use Rattle.index_remap.specs.Related.{Pairing, OneToOneWhereWritten, OptRel, none, some, ResRel, done, wrong, ListRel, nil, cons, ValRel, OpRel, CodeRel, end, then, instead, FuncRel, defined, own, slot, TableRel, GlobalRel, ElemRel, StoreRel, LevelRel, FrameRel, EntryRel, mark, opening, waiting, growing, BodyRel, GrowthRel, ChangeRel, keep, set_global, set_memory, set_table, drop_elem, drop_data, ActRel, goes, calls, asks_grow, ends, NextRel, NextRelBy, ran, asked, asked_grow, loads, returned, NotOpaque, TopSkips, NextKnown, TopKnown}
-use Rattle.index_remap.specs.Unknown.{Unknowns, none_unknown, StoreRelOff, read_by, read_next, read_levels, ReadsKnown, known, ActOff}
-use Rattle.index_remap.specs.Groups.{Group, Values, Memories, Control, group_of, GroupAgrees}
+use Rattle.index_remap.specs.Prelude.{Pairing, OneToOneWhereWritten, OptRel, none, some, ResRel, done, wrong, ListRel, nil, cons, ValRel, OpRel, CodeRel, end, then, instead, FuncRel, defined, own, slot, TableRel, GlobalRel, ElemRel, StoreRel, LevelRel, FrameRel, EntryRel, mark, opening, waiting, growing, BodyRel, GrowthRel, ChangeRel, keep, set_global, set_memory, set_table, drop_elem, drop_data, ActRel, goes, calls, asks_grow, ends, NextRel, ran, asked, asked_grow, loads, returned, NotOpaque, TopSkips, NextKnown, TopKnown, Unknowns, none_unknown, StoreRelOff, read_by, ReadsKnown, known, ActOff, Values, Memories, Control, GroupAgrees}
+use Rattle.index_remap.specs.Related.{NextRelBy}
+use Rattle.index_remap.specs.Unknown.{read_next, read_levels}
+use Rattle.index_remap.specs.Groups.{Group, group_of}
 use Rattle.index_remap.proofs.Rel.{PairRel, onto_rel, append_rel, res_map}
 use Rattle.index_remap.proofs.Unknown.{to_off, to_related, changed_off, none_left_by, all_is_known, act_known}
 use Rattle.index_remap.proofs.ValueSteps.{Fits, zeros_rel}

@@ -1,16 +1,13 @@
 -- Steps on tables and element segments agree.
-use Rattle.std.proofs.Common.{◌≡◌, ◌∙◌, ℕ, ◌+◌, ◌<◌, ◌≤◌, List, length, Option, Some, Bool, true, not, ap, subst, arith, slice_get}
-use Rattle.wasm_tree.specs.declared.space.Space.TheVariants.{Tables, ElementSegments}
+use Rattle.base_lists.proofs.Common.{◌≡◌, ◌∙◌, ℕ, ◌+◌, ◌<◌, ◌≤◌, List, length, Option, Some, Bool, true, not, ap, subst, arith, slice_get}
+use Rattle.wasm_tree_spec.specs.Prelude.{Tables, ElementSegments}
 use Rattle.wasm_tree.specs.declared.instr.Instr.TheOpen.{Instr-F}
-use Rattle.wasm_meaning.specs.Outcomes.{Outcome, Gives}
+use Rattle.wasm_meaning.specs.Prelude.{Outcome, Gives, Val, RefVal, Table, Env, Body, GrowTable, AsksGrow, type_of_ref, same_ref, pop_three, with_table, fits, writes_table, table_may_grow, init_table}
 use Rattle.wasm_num.specs.Operations.{W32}
-use Rattle.wasm_meaning.specs.State.{Val, RefVal, Table, Env, Body, GrowTable, AsksGrow}
-use Rattle.wasm_meaning.specs.Values.{type_of_ref, same_ref}
-use Rattle.wasm_meaning.specs.Memory.{pop_three}
-use Rattle.wasm_meaning.specs.Tables.{with_table, fits, writes_table, table_get, table_set, table_size, table_may_grow, table_grow, table_fill, init_table, table_copy, table_init, elem_drop}
+use Rattle.wasm_meaning.specs.Tables.{table_get, table_set, table_size, table_grow, table_fill, table_copy, table_init, elem_drop}
 use Rattle.wasm_meaning.proofs.Outcomes.{then_given, then_found}
-use Rattle.index_remap.specs.Related.{Pairing, OptRel, ResRel, done, wrong, ListRel, nil, cons, RefRel, ValRel, number, reference, Names, BodyRel, table_grows, drop_elem, goes, asks_grow}
-use Rattle.index_remap.specs.Unknown.{Unknowns, is_place_among, RefsOff, TableOff, StoreRelOff, ReadPlace, ReadsSlots, read_by, ReadsKnown, known, off_slots, ActOff}
+use Rattle.index_remap.specs.Prelude.{Pairing, OptRel, ResRel, done, wrong, ListRel, nil, cons, RefRel, ValRel, number, reference, Names, BodyRel, table_grows, drop_elem, goes, asks_grow, Unknowns, is_place_among, RefsOff, TableOff, StoreRelOff, ReadPlace, ReadsSlots, read_by, ReadsKnown, known, ActOff}
+use Rattle.index_remap.specs.Unknown.{off_slots}
 use Rattle.index_remap.proofs.Rel.{there, bind_rel, bind_found, bind_found_is, cond_rel, copies_rel, or_trap_rel}
 use Rattle.index_remap.proofs.Off.{slice_off, overwrite_off}
 use Rattle.index_remap.proofs.ValueSteps.{bind_num, bind_num_is, pop_ref_rel, ref_type_rel, values_rel, pushes_rel}

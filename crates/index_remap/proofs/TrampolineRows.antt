@@ -1,29 +1,16 @@
 -- A function that is called directly, through a trampoline and through the two instructions, computed; slots in which there is none, or one of another type; and a call
 -- that ends under a frame of a trampoline.
-use Rattle.std.proofs.Common.{◌≡◌, ◌∙◌, subst, refl, sym, ℕ, zero, suc, List, [], ◌∷◌, Some, None, Bool, true, false, slice_get}
-use Rattle.std.specs.Prelude.{pos}
+use Rattle.base_lists.proofs.Common.{◌≡◌, ◌∙◌, subst, refl, sym, ℕ, zero, suc, List, [], ◌∷◌, Some, None, Bool, true, false, slice_get, pos}
 use Rattle.std.proofs.lemmas.Bool.{true≢false}
-use Rattle.wasm_tree.specs.declared.space.Space.{Space}
-use Rattle.wasm_tree.specs.declared.space.Space.TheVariants.{Types, Functions, Tables, Memories, Globals, ElementSegments, DataSegments}
+use Rattle.wasm_tree_spec.specs.Prelude.{Space, Types, Functions, Tables, Memories, Globals, ElementSegments, DataSegments, I32, FuncType, Instr}
 use Rattle.wasm_tree.specs.declared.types.RefType.TheVariants as reft
-use Rattle.wasm_tree.specs.declared.types.ValType.TheVariants.{I32}
-use Rattle.wasm_tree.specs.declared.types.FuncType.{FuncType}
-use Rattle.wasm_tree.specs.declared.instr.Instr.{Instr, out-Instr}
+use Rattle.wasm_tree.specs.declared.instr.Instr.{out-Instr}
 use Rattle.wasm_tree.specs.declared.instr.Instr.TheVariants as i
 use Rattle.wasm_num.specs.Operations.{W32, wrapped}
 use Rattle.base_simulation.specs.Machines.{events_of}
-use Rattle.wasm_meaning.specs.Outcomes.{Outcome, Gives, Traps}
-use Rattle.wasm_meaning.specs.State.{RefVal, FuncRef, Val, Num, Inst, Func, Code, Store, Entry, Running, Mark, Opening, Act, Ran}
-use Rattle.wasm_meaning.specs.Control.{type_at, own_at}
-use Rattle.wasm_meaning.specs.Environment.{Number}
-use Rattle.wasm_meaning.specs.Step.{enter_at, step}
-use Rattle.wasm_meaning.specs.Run.{Returned, Opened, Run, tick}
+use Rattle.wasm_meaning.specs.Prelude.{Outcome, Gives, Traps, RefVal, FuncRef, Val, Num, Inst, Func, Code, Store, Entry, Running, Mark, Opening, Act, Ran, type_at, own_at, Number, enter_at, step, Returned, Opened, Run, tick}
 use Rattle.index_remap.specs.Related
-use Rattle.index_remap.specs.Related.{Pairing, OneToOne, EntryRel, running, NotOpaque, some, ResRel, done, BothRel, both, ListRel, nil, cons, ValRel, number, CodeRel, end, then, StoreRel, NextRel}
-use Rattle.index_remap.specs.RelatedRuns.{opened}
-use Rattle.index_remap.specs.Laws.{passed, EntryByEntry}
-use Rattle.index_remap.specs.OpaqueRuns.{TickSkips, RunsStepTogether}
-use Rattle.index_remap.specs.Trampolines.{passing, WithPassing, through, AnsweredInTwo, FramesBetween, slot_call, trampoline, InSlot, go_on, CodeAt}
+use Rattle.index_remap.specs.Prelude.{Pairing, OneToOne, EntryRel, running, NotOpaque, some, ResRel, done, BothRel, both, ListRel, nil, cons, ValRel, number, CodeRel, end, then, StoreRel, NextRel, opened, passed, EntryByEntry, TickSkips, RunsStepTogether, passing, WithPassing, through, AnsweredInTwo, FramesBetween, slot_call, trampoline, InSlot, go_on, CodeAt}
 use Rattle.index_remap.specs.Trampolines as between
 use Rattle.index_remap.proofs.Known.{entries_known}
 use Rattle.index_remap.proofs.Lockstep.{ticks_together}

@@ -1,16 +1,9 @@
 -- Stores that are related off a set of unknown places.
-use Rattle.std.proofs.Common.{◌≡◌, ◌∙◌, refl, sym, ap, subst, ℕ, List, [], ◌∷◌, Some, Bool, true, false, cond, not, ◌⊎◌, inl, inr, slice_get}
-use Rattle.std.specs.Prelude.{nat_eq, ◌||◌}
-use Rattle.std.specs.List.{filter}
-use Rattle.std.proofs.lemmas.Bool.Decides.{eqb_tells}
-use Rattle.wasm_tree.specs.declared.space.Space.TheVariants.{Tables, Memories, Globals, ElementSegments, DataSegments}
-use Rattle.wasm_meaning.specs.Outcomes.{Outcome, Gives, Traps, IllTyped}
-use Rattle.wasm_meaning.specs.State.{Inst, Table, Global, Elem, Store, Entry, Running, Mark, Opening, Waiting, Ended, Growing, Change, Keep, SetGlobal, SetMemory, SetTable, DropElem, DropData, Act, Goes, Calls, AsksGrow, Ends}
-use Rattle.wasm_meaning.specs.Step.{act, changed, no_items, no_bytes}
-use Rattle.index_remap.specs.Related.{Pairing, OneToOneWhereWritten, BothRel, both, nil, TableRel, GlobalRel, StoreRel, ChangeRel, keep, set_global, set_memory, set_table, drop_elem, drop_data, ActRel, goes, calls, asks_grow, ends}
-use Rattle.index_remap.specs.References.{is_among}
-use Rattle.index_remap.specs.Laws.{passed}
-use Rattle.index_remap.specs.Unknown.{Unknowns, none_unknown, is_place_among, GlobalOff, RefsOff, TableOff, StoreRelOff, learnt, NothingUnknown, SetGlobalsAreKnown, ReadPlace, ReadsNothing, ReadsGlobal, ReadsSlots, ReadsItems, IsKnown, left_by, left_after, left_unknown, ChangeOff, known, off_slots, ActOff}
+use Rattle.base_lists.proofs.Common.{◌≡◌, ◌∙◌, refl, sym, ap, subst, ℕ, List, [], ◌∷◌, Some, Bool, true, false, cond, not, ◌⊎◌, inl, inr, slice_get, nat_eq, ◌||◌, filter, eqb_tells}
+use Rattle.wasm_tree_spec.specs.Prelude.{Tables, Memories, Globals, ElementSegments, DataSegments}
+use Rattle.wasm_meaning.specs.Prelude.{Outcome, Gives, Traps, IllTyped, Inst, Table, Global, Elem, Store, Entry, Running, Mark, Opening, Waiting, Ended, Growing, Change, Keep, SetGlobal, SetMemory, SetTable, DropElem, DropData, Act, Goes, Calls, AsksGrow, Ends, act, changed, no_items, no_bytes}
+use Rattle.index_remap.specs.Prelude.{Pairing, OneToOneWhereWritten, BothRel, both, nil, TableRel, GlobalRel, StoreRel, ChangeRel, keep, set_global, set_memory, set_table, drop_elem, drop_data, ActRel, goes, calls, asks_grow, ends, is_among, passed, Unknowns, none_unknown, is_place_among, GlobalOff, RefsOff, TableOff, StoreRelOff, ReadPlace, ReadsNothing, ReadsGlobal, ReadsSlots, ReadsItems, IsKnown, left_by, left_after, left_unknown, known, ActOff}
+use Rattle.index_remap.specs.Unknown.{learnt, NothingUnknown, SetGlobalsAreKnown, ChangeOff, off_slots}
 use Rattle.index_remap.proofs.Rel.{write_each, write_rel, both_map}
 use Rattle.index_remap.proofs.Off.{refs_off, refs_related}
 

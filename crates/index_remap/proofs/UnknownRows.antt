@@ -1,22 +1,17 @@
 -- The law of steps off unknown places, of two small stores that differ in a global and in a slot of a table: a run that reads the other slot, and the global once it
 -- was set; and a read of the global before, which breaks what the law says of steps that read no unknown place.
-use Rattle.std.proofs.Common.{◌≡◌, refl, sym, subst, ◌∙◌, ℕ, zero, suc, List, [], ◌∷◌, ◌++◌, Some, None, Bool, true, false, not, arith, slice_get}
+use Rattle.base_lists.proofs.Common.{◌≡◌, refl, sym, subst, ◌∙◌, ℕ, zero, suc, List, [], ◌∷◌, ◌++◌, Some, None, Bool, true, false, not, arith, slice_get}
 use Rattle.std.proofs.lemmas.Bool.{true≢false}
-use Rattle.wasm_tree.specs.declared.space.Space.{Space}
-use Rattle.wasm_tree.specs.declared.space.Space.TheVariants.{Types, Functions, Tables, Memories, Globals, ElementSegments, DataSegments}
+use Rattle.wasm_tree_spec.specs.Prelude.{Space, Types, Functions, Tables, Memories, Globals, ElementSegments, DataSegments, Instr}
 use Rattle.wasm_tree.specs.declared.types.RefType.TheVariants as reft
 use Rattle.wasm_tree.specs.declared.types.ValType.TheVariants as valt
-use Rattle.wasm_tree.specs.declared.instr.Instr.{Instr, out-Instr}
+use Rattle.wasm_tree.specs.declared.instr.Instr.{out-Instr}
 use Rattle.wasm_tree.specs.declared.instr.Instr.TheVariants as i
 use Rattle.wasm_num.specs.Operations.{W32}
-use Rattle.wasm_meaning.specs.Outcomes.{Outcome, Gives}
-use Rattle.wasm_meaning.specs.State.{RefVal, FuncRef, Val, Num, Inst, Store, Entry, Ran}
-use Rattle.wasm_meaning.specs.Step.{step}
+use Rattle.wasm_meaning.specs.Prelude.{Outcome, Gives, RefVal, FuncRef, Val, Num, Inst, Store, Entry, Ran, step}
 use Rattle.index_remap.specs.Related
-use Rattle.index_remap.specs.Related.{Pairing, OneToOneWhereWritten, none, some, ResRel, done, OptRel, BothRel, both, ListRel, nil, cons, RefRel, func, ValRel, number, CodeRel, end, then, EntryRel, running, ran, TopSkips}
-use Rattle.index_remap.specs.Laws.{passed, Above, Touches, EntriesKnown}
-use Rattle.index_remap.specs.References.{is_among}
-use Rattle.index_remap.specs.Unknown.{Unknowns, is_place_among, GlobalOff, RefsOff, TableOff, StoreRelOff, ReadPlace, ReadsNothing, ReadsGlobal, ReadsSlots, IsKnown, ReadsKnown, StepReadsKnown, left_unknown, NextOff, KnownSteps, none_left, known_step, FollowsOff}
+use Rattle.index_remap.specs.Prelude.{Pairing, OneToOneWhereWritten, none, some, ResRel, done, OptRel, BothRel, both, ListRel, nil, cons, RefRel, func, ValRel, number, CodeRel, end, then, EntryRel, running, ran, TopSkips, passed, Above, Touches, EntriesKnown, is_among, Unknowns, is_place_among, GlobalOff, RefsOff, TableOff, StoreRelOff, ReadPlace, ReadsNothing, ReadsGlobal, ReadsSlots, IsKnown, ReadsKnown, StepReadsKnown, left_unknown, NextOff, KnownSteps, none_left, known_step}
+use Rattle.index_remap.specs.Unknown.{FollowsOff}
 use Rattle.index_remap.proofs.Known.{entries_known}
 use Rattle.index_remap.proofs.AboveSteps.{entries_of}
 use Rattle.index_remap.proofs.SameRuns.{touches, skips}

@@ -1,11 +1,8 @@
 -- Steps and runs from stores that are related off a set of unknown places.
-use Rattle.std.proofs.Common.{◌≡◌, ℕ, List, [], refl, subst}
-use Rattle.wasm_meaning.specs.Outcomes.{Outcome, Gives}
-use Rattle.wasm_meaning.specs.State.{Store, Entry, Next, Ran}
-use Rattle.wasm_meaning.specs.Step.{step}
-use Rattle.index_remap.specs.Related.{Pairing, OneToOneWhereWritten, ResRel, done, ListRel, EntryRel, ran}
-use Rattle.index_remap.specs.Laws.{passed, Above}
-use Rattle.index_remap.specs.Unknown.{Unknowns, StoreRelOff, left_unknown, NextOff, here, step_on, KnownSteps, none_left, known_step, FollowsOff, StepsAgreeOff, RunsAgreeOff}
+use Rattle.base_lists.proofs.Common.{◌≡◌, ℕ, List, [], refl, subst}
+use Rattle.wasm_meaning.specs.Prelude.{Outcome, Gives, Store, Entry, Next, Ran, step}
+use Rattle.index_remap.specs.Prelude.{Pairing, OneToOneWhereWritten, ResRel, done, ListRel, EntryRel, ran, passed, Above, Unknowns, StoreRelOff, left_unknown, NextOff, here, step_on, KnownSteps, none_left, known_step, StepsAgreeOff, RunsAgreeOff}
+use Rattle.index_remap.specs.Unknown.{FollowsOff}
 use Rattle.index_remap.proofs.AboveSteps.{whole, entries_of, step_off}
 use Rattle.index_remap.proofs.SameRuns.{touches}
 

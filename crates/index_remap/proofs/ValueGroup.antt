@@ -1,8 +1,7 @@
 -- The law of steps on values.
-use Rattle.wasm_meaning.specs.Values.{unary, binary, ref_is_null, select_any, select_typed}
+use Rattle.wasm_meaning.specs.Prelude.{unary, binary, ref_is_null, select_any, select_typed}
 use Rattle.index_remap.specs.Related
-use Rattle.index_remap.specs.Related.{number, reference}
-use Rattle.index_remap.specs.Groups.{Values, GroupAgrees}
+use Rattle.index_remap.specs.Prelude.{number, reference, Values, GroupAgrees}
 use Rattle.index_remap.proofs.Rel.{bind_rel}
 use Rattle.index_remap.proofs.ValueSteps.{pop_rel, null_rel, unary_rel, binary_rel, ref_is_null_rel, select_any_rel, select_typed_rel, go_rel, values_rel, on_values_rel, pushes_rel, local_get_rel, local_set_rel, local_tee_rel, global_get_rel, global_set_rel, ref_func_rel}
 

@@ -1,19 +1,15 @@
 -- Steps that keep to values, locals and globals agree.
-use Rattle.std.proofs.Common.{◌≡◌, ℕ, List, [], ◌∷◌, Bool, true, false, cond, not, refl, ap, subst}
-use Rattle.wasm_tree.specs.declared.space.Space.TheVariants.{Functions, Globals}
-use Rattle.std.specs.Prelude.{nat_eq}
+use Rattle.base_lists.proofs.Common.{◌≡◌, ℕ, List, [], ◌∷◌, Bool, true, false, cond, not, refl, ap, subst, nat_eq}
+use Rattle.wasm_tree_spec.specs.Prelude.{Functions, Globals, ValType}
 use Rattle.wasm_tree.specs.declared.instr.Instr.TheOpen.{Instr-F}
 use Rattle.wasm_tree.specs.declared.types.RefType.TheVariants as reft
-use Rattle.wasm_tree.specs.declared.types.ValType.{ValType}
 use Rattle.wasm_tree.specs.declared.types.ValType.TheVariants as valt
 use Rattle.wasm_num.specs.declared.UnOp.{UnOp}
 use Rattle.wasm_num.specs.declared.BinOp.{BinOp}
-use Rattle.wasm_meaning.specs.Outcomes.{Outcome, Gives, IllTyped, or_trap, bind}
+use Rattle.wasm_meaning.specs.Prelude.{Outcome, Gives, IllTyped, or_trap, bind, RefVal, Val, Num, Global, Env, Body, type_of_ref, type_of, same_type, pop, pop_num, pop_ref, typed, pop_typed, null_of, zero_of, zeros, unary, binary, ref_is_null, select_of, select_any, select_typed, go, with_values, on_values, pushes, local_put, global_put, global_set}
 use Rattle.wasm_num.specs.Operations.{Width, W32, W64, un_from, bin_from, bin_value}
-use Rattle.wasm_meaning.specs.State.{RefVal, Val, Num, Global, Env, Body}
-use Rattle.wasm_meaning.specs.Values.{type_of_ref, type_of, same_type, pop, pop_num, pop_ref, typed, pop_typed, null_of, zero_of, zeros, unary, binary, is_null, ref_is_null, is_number, select_of, second_type, select_any, select_typed, go, with_values, on_values, pushes, local_get, local_put, local_set, local_tee, global_get, global_put, global_set, ref_func}
-use Rattle.index_remap.specs.Related.{Pairing, none, some, ResRel, done, wrong, ListRel, nil, cons, RefRel, func, extern, ValRel, number, reference, Names, BodyRel, keep, set_global, goes}
-use Rattle.index_remap.specs.Unknown.{Unknowns, StoreRelOff, ReadsGlobal, read_by, ReadsKnown, known, ActOff}
+use Rattle.wasm_meaning.specs.Values.{is_null, is_number, second_type, local_get, local_set, local_tee, global_get, ref_func}
+use Rattle.index_remap.specs.Prelude.{Pairing, none, some, ResRel, done, wrong, ListRel, nil, cons, RefRel, func, extern, ValRel, number, reference, Names, BodyRel, keep, set_global, goes, Unknowns, StoreRelOff, ReadsGlobal, read_by, ReadsKnown, known, ActOff}
 use Rattle.index_remap.proofs.Rel.{there, bind_rel, bind_same, bind_eq, cond_rel, cond_two, PairRel, put_rel, bind_all, any, bind_found, bind_found_is, get_rel}
 use Rattle.wasm_meaning.proofs.Outcomes.{AllOf, just, then_found}
 

@@ -1,9 +1,8 @@
 -- Instructions in three groups, and the law of steps of a group.
 use Rattle.std.proofs.Common.{◌≡◌, true}
-use Rattle.wasm_tree.specs.declared.instr.Instr.{Instr}
+use Rattle.wasm_tree_spec.specs.Prelude.{Instr}
 use Rattle.wasm_tree.specs.declared.instr.Instr.TheOpen.{Instr-F}
-use Rattle.wasm_meaning.specs.State.{Env, Body}
-use Rattle.wasm_meaning.specs.Step.{exec}
+use Rattle.wasm_meaning.specs.Prelude.{Env, Body, exec}
 use Rattle.index_remap.specs.Related.{Pairing, ResRel, OpRel, BodyRel}
 use Rattle.index_remap.specs.Unknown.{Unknowns, StoreRelOff, ActOff, read_by, ReadsKnown}
 

@@ -1,23 +1,15 @@
 -- The law of steps (from corresponding stores and related configurations one step of each agrees), and the laws of code with other indices, of what keeps typing,
 -- and of runs.
 use Rattle.std.proofs.Common.{◌≡◌, ℕ, List, [], ◌∷◌, ◌++◌, Bool, true, false, slice_get, Some}
-use Rattle.wasm_tree.specs.declared.space.Space.{Space}
-use Rattle.wasm_tree.specs.declared.space.Space.TheVariants.{Functions, Tables, Memories, Globals, ElementSegments, DataSegments}
+use Rattle.wasm_tree_spec.specs.Prelude.{Space, Functions, Tables, Memories, Globals, ElementSegments, DataSegments, ValType, FuncType, Instr, ListLayers}
 use Rattle.std.specs.Prelude.{IsTrue, nat_eq}
 use Rattle.std.specs.List.{list_any}
-use Rattle.wasm_meaning.specs.Outcomes.{Gives}
-use Rattle.wasm_meaning.specs.State.{Inst, Val, Store, Entry, Running, Mark, Opening, Caller, Act, Ends}
-use Rattle.wasm_meaning.specs.Step.{act, step, to_mark}
-use Rattle.wasm_meaning.specs.Run.{Run, Out, show_all, tick, events_of}
+use Rattle.wasm_meaning.specs.Prelude.{Gives, Inst, Val, Store, Entry, Running, Mark, Opening, Caller, Act, Ends, act, step, to_mark, Run, Out, show_all, tick, events_of}
 use Rattle.index_remap.specs.RelatedRuns.{ShowRel, RunRel, OutRel, turned, KeepsOthers, IsBegun}
-use Rattle.wasm_tree.specs.declared.types.ValType.{ValType}
-use Rattle.wasm_tree.specs.declared.types.FuncType.{FuncType}
-use Rattle.wasm_tree.specs.declared.instr.Instr.{Instr}
 use Rattle.wasm_valid_bodies.specs.Typing.{Context, WellTyped}
 use Rattle.index_remap.specs.declared.remap.Remap.{Remap}
 use Rattle.index_remap.specs.Renumbered.{renumbered_all}
 use Rattle.index_remap.specs.CodeNames.{LayerNames}
-use Rattle.wasm_tree.specs.Layers.{ListLayers}
 use Rattle.index_remap.specs.Agreement.{SameFrame}
 use Rattle.index_remap.specs.Replaced.{Labels, Codes, Replaced, OthersAgree, OthersNamed, ReplacementCodesFit, CodesHaveTypes}
 use Rattle.index_remap.specs.Related.{CodeRel, Pairing, OneToOne, OneToOneWhereWritten, ResRel, ListRel, ValRel, StoreRel, EntryRel, NextRel, TopSkips, TopKnown}

@@ -11,3 +11,4 @@ pub mod OpaqueRuns
 pub mod Trampolines
 pub mod Wider
 pub mod Unknown
+pub mod Prelude

@@ -1,12 +1,8 @@
 -- Runs over a list of functions of which only the types are known: which steps begin a call of one of them, and what every other step shows and leaves.
 use Rattle.std.proofs.Common.{◌≡◌, ℕ, List, [], ◌∷◌, Some, Bool, true, false, slice_get}
-use Rattle.wasm_tree.specs.declared.space.Space.{Space}
+use Rattle.wasm_tree_spec.specs.Prelude.{Space}
 use Rattle.base_lists.specs.Options.{◌>>=◌}
-use Rattle.wasm_meaning.specs.Outcomes.{Gives}
-use Rattle.wasm_meaning.specs.State.{Text, Store, Entry, Opening, Waiting, CallsPlaceholder}
-use Rattle.wasm_meaning.specs.Linking.{same_text}
-use Rattle.wasm_meaning.specs.Environment.{ExternalValue, look_up, func_of}
-use Rattle.wasm_meaning.specs.Run.{Move, Call, Invoke, Opened, Run, Out, Transition, Steps, tick}
+use Rattle.wasm_meaning.specs.Prelude.{Gives, Text, Store, Entry, Opening, Waiting, CallsPlaceholder, same_text, ExternalValue, look_up, func_of, Move, Call, Invoke, Opened, Run, Out, Transition, Steps, tick}
 use Rattle.index_remap.specs.Related.{Pairing, OneToOne, TopSkips}
 use Rattle.index_remap.specs.RelatedRuns.{OutRel, turned, KeepsOthers, IsBegun}
 use Rattle.index_remap.specs.Laws.{Test, passed_with, EntriesKnown, EntryByEntry, RelatedRuns}

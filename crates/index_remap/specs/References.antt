@@ -3,16 +3,11 @@
 use Rattle.std.specs.Prelude.{ℕ, Bool, false, ◌&&◌, not, nat_eq, List, [], ◌∷◌, ◌++◌, map, length, get_or, Option, None}
 use Rattle.std.specs.List.{filter, filter_map, flat_map, list_any, range_with_len}
 use Rattle.wasm_tree.specs.declared.types.RefType.TheVariants.{Func as func_ref}
-use Rattle.wasm_tree.specs.declared.instr.Instr.{Instr, fold-Instr}
+use Rattle.wasm_tree_spec.specs.Prelude.{Instr, fold-Instr, ElemMode, ElemSeg, Func, Module, funcs_of}
 use Rattle.wasm_tree.specs.declared.instr.Instr.TheOpen.{Instr-F}
 use Rattle.wasm_tree.specs.declared.module.ConstExpr.TheVariants as const
-use Rattle.wasm_tree.specs.declared.module.ElemMode.{ElemMode}
 use Rattle.wasm_tree.specs.declared.module.ElemMode.TheVariants as elem
-use Rattle.wasm_tree.specs.declared.module.ElemSeg.{ElemSeg}
-use Rattle.wasm_tree.specs.declared.module.Func.{Func}
-use Rattle.wasm_tree.specs.declared.module.Module.{Module}
-use Rattle.wasm_tree.specs.Spaces.{funcs_of}
-use Rattle.wasm_valid.specs.Named.{const_func, refs_of}
+use Rattle.wasm_valid.specs.Prelude.{const_func, refs_of}
 
 -- the functions that `ref.func` names in an instruction, where those are known that it names in each instruction inside it
 abbrev pub refs_step : Instr-F (List ℕ) → List ℕ

@@ -1,25 +1,13 @@
 -- Stores and configurations that correspond under a relation of addresses.
 use Rattle.std.proofs.Common.{◌≡◌, ℕ, List, [], ◌∷◌, ◌++◌, Option, Some, None, Bool, true, false, slice_get}
-use Rattle.wasm_tree.specs.declared.space.Space.{Space}
-use Rattle.wasm_tree.specs.declared.space.Space.TheVariants.{Functions, Tables, Memories, Globals, ElementSegments, DataSegments}
+use Rattle.wasm_tree_spec.specs.Prelude.{Space, Functions, Tables, Memories, Globals, ElementSegments, DataSegments, RefType, ValType, BlockType, FuncType, LoadOp, StoreOp, MemArg, Instr, out-Instr}
 use Rattle.std.specs.Prelude.{ℤ}
-use Rattle.wasm_tree.specs.declared.types.RefType.{RefType}
-use Rattle.wasm_tree.specs.declared.types.ValType.{ValType}
-use Rattle.wasm_tree.specs.declared.types.BlockType.{BlockType}
 use Rattle.wasm_tree.specs.declared.types.BlockType.TheVariants as bt
-use Rattle.wasm_tree.specs.declared.types.FuncType.{FuncType}
 use Rattle.wasm_num.specs.declared.UnOp.{UnOp}
 use Rattle.wasm_num.specs.declared.BinOp.{BinOp}
-use Rattle.wasm_tree.specs.declared.instr.LoadOp.{LoadOp}
-use Rattle.wasm_tree.specs.declared.instr.StoreOp.{StoreOp}
-use Rattle.wasm_tree.specs.declared.instr.MemArg.{MemArg}
-use Rattle.wasm_tree.specs.declared.instr.Instr.{Instr, out-Instr}
 use Rattle.wasm_tree.specs.declared.instr.Instr.TheOpen.{Instr-F}
-use Rattle.wasm_meaning.specs.Outcomes.{Outcome, Gives, Traps, IllTyped}
+use Rattle.wasm_meaning.specs.Prelude.{Outcome, Gives, Traps, IllTyped, Pair, RefVal, FuncRef, ExternRef, Val, Num, Ref, Inst, Func, Code, Own, Placeholder, Table, Memory, Global, Elem, Store, Level, Frame, Growth, GrowMemory, GrowTable, Entry, Running, Mark, Opening, Waiting, Ended, Growing, Body, Change, Keep, SetGlobal, SetMemory, SetTable, DropElem, DropData, Act, Goes, Calls, AsksGrow, Ends, Next, Ran, CallsOwn, WaitsGrowth, CallsPlaceholder, EndsCall, type_at, own_at, act}
 use Rattle.wasm_num.specs.Operations.{Width}
-use Rattle.wasm_meaning.specs.State.{Pair, RefVal, FuncRef, ExternRef, Val, Num, Ref, Inst, Func, Code, Own, Placeholder, Table, Memory, Global, Elem, Store, Level, Frame, Growth, GrowMemory, GrowTable, Entry, Running, Mark, Opening, Waiting, Ended, Growing, Body, Change, Keep, SetGlobal, SetMemory, SetTable, DropElem, DropData, Act, Goes, Calls, AsksGrow, Ends, Next, Ran, CallsOwn, WaitsGrowth, CallsPlaceholder, EndsCall}
-use Rattle.wasm_meaning.specs.Control.{type_at, own_at}
-use Rattle.wasm_meaning.specs.Step.{act}
 
 -- related addresses, addresses in the code relation, and the functions of a list, of which only the type is known and whose they are; and the code that may stand
 -- in place of a call of one of them, over an instance of the second

@@ -1,11 +1,7 @@
 -- Runs that are related: their states by a relation of addresses, their stacks by relations that are given.
 use Rattle.std.proofs.Common.{◌≡◌, ℕ, List, [], ◌∷◌, Option, slice_get}
-use Rattle.wasm_tree.specs.declared.space.Space.{Space}
-use Rattle.wasm_tree.specs.declared.space.Space.TheVariants.{Functions, Tables, Memories, Globals, ElementSegments, DataSegments}
-use Rattle.wasm_meaning.specs.State.{Text, Store, Entry, Opening}
-use Rattle.wasm_meaning.specs.Environment.{ExternalValue, FuncAt, TableAt, MemoryAt, GlobalAt}
-use Rattle.wasm_meaning.specs.World.{Begun}
-use Rattle.wasm_meaning.specs.Run.{Phase, Fresh, Pending, Opened, Closed, Run, Out}
+use Rattle.wasm_tree_spec.specs.Prelude.{Space, Functions, Tables, Memories, Globals, ElementSegments, DataSegments}
+use Rattle.wasm_meaning.specs.Prelude.{Text, Store, Entry, Opening, ExternalValue, FuncAt, TableAt, MemoryAt, GlobalAt, Begun, Phase, Fresh, Pending, Opened, Closed, Run, Out}
 use Rattle.index_remap.specs.Related.{Pairing, OptRel, ListRel, StoreRel}
 
 pub data ExternalValueRel (R : Pairing) : ExternalValue → ExternalValue → Type 0 where

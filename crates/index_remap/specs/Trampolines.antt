@@ -2,19 +2,10 @@
 -- place of a direct call. A frame of a trampoline between two others only passes results on.
 use Rattle.std.proofs.Common.{◌≡◌, ℕ, suc, ◌+◌, ◌≤◌, List, [], ◌∷◌, ◌++◌, length, Some, Bool, false, slice_get}
 use Rattle.std.specs.Prelude.{ℤ}
-use Rattle.wasm_tree.specs.declared.space.Space.{Space}
-use Rattle.wasm_tree.specs.declared.types.ValType.{ValType}
-use Rattle.wasm_tree.specs.declared.types.FuncType.{FuncType}
-use Rattle.wasm_tree.specs.declared.instr.Instr.{Instr}
-use Rattle.wasm_tree.specs.declared.instr.Instr.TheVariants.{Call, LocalGet, I32Const, CallIndirect}
+use Rattle.wasm_tree_spec.specs.Prelude.{Space, ValType, FuncType, Instr, Call, LocalGet, I32Const, CallIndirect}
 use Rattle.wasm_num.specs.Operations.{wrapped}
 use Rattle.base_simulation.specs.Machines.{events_of, state_after}
-use Rattle.wasm_meaning.specs.Outcomes.{Outcome, Gives}
-use Rattle.wasm_meaning.specs.State.{FuncRef, Val, Inst, Func, Code, Table, Store, Level, Frame, Entry, Running, Next, Ran}
-use Rattle.wasm_meaning.specs.Values.{typed, pop_typed}
-use Rattle.wasm_meaning.specs.Control.{type_of_func}
-use Rattle.wasm_meaning.specs.Step.{enter_at, step}
-use Rattle.wasm_meaning.specs.Run.{Run, transition, tick}
+use Rattle.wasm_meaning.specs.Prelude.{Outcome, Gives, FuncRef, Val, Inst, Func, Code, Table, Store, Level, Frame, Entry, Running, Next, Ran, typed, pop_typed, type_of_func, enter_at, step, Run, transition, tick}
 use Rattle.index_remap.specs.Related.{Pairing, OneToOne, ResRel, ListRel, ValRel, CodeRel, StoreRel, FrameRel, EntryRel, NextRel}
 use Rattle.index_remap.specs.RelatedRuns.{turned, KeepsOthers, IsBegun, RunRel}
 use Rattle.index_remap.specs.Laws.{Test, passed_with, EntriesKnown}

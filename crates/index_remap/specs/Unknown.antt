@@ -3,18 +3,10 @@
 use Rattle.std.proofs.Common.{◌≡◌, ℕ, suc, ◌+◌, ◌<◌, ◌≤◌, List, [], ◌∷◌, ◌++◌, length, Bool, true, false, not, slice_get, Some}
 use Rattle.std.specs.Prelude.{nat_eq, ◌↔◌, ◌&&◌}
 use Rattle.std.specs.List.{list_any, filter}
-use Rattle.wasm_tree.specs.declared.space.Space.{Space}
-use Rattle.wasm_tree.specs.declared.space.Space.TheVariants.{Functions, Tables, Memories, Globals, ElementSegments, DataSegments}
-use Rattle.wasm_tree.specs.declared.types.FuncType.{FuncType}
-use Rattle.wasm_tree.specs.declared.instr.Instr.{Instr, out-Instr}
+use Rattle.wasm_tree_spec.specs.Prelude.{Space, Functions, Tables, Memories, Globals, ElementSegments, DataSegments, FuncType, Instr, out-Instr}
 use Rattle.wasm_tree.specs.declared.instr.Instr.TheOpen.{Instr-F}
 use Rattle.wasm_num.specs.Operations.{W32}
-use Rattle.wasm_meaning.specs.Outcomes.{Outcome, Gives, IllTyped, bind, with_entry}
-use Rattle.wasm_meaning.specs.State.{Val, RefVal, Inst, Table, Global, Store, Level, Entry, Running, Env, Change, SetGlobal, SetTable, Act, Goes, Next, Ran}
-use Rattle.wasm_meaning.specs.Values.{pop_num}
-use Rattle.wasm_meaning.specs.Memory.{pop_three}
-use Rattle.wasm_meaning.specs.Control.{type_at, own_at}
-use Rattle.wasm_meaning.specs.Step.{act, changed, step}
+use Rattle.wasm_meaning.specs.Prelude.{Outcome, Gives, IllTyped, bind, with_entry, Val, RefVal, Inst, Table, Global, Store, Level, Entry, Running, Env, Change, SetGlobal, SetTable, Act, Goes, Next, Ran, pop_num, pop_three, type_at, own_at, act, changed, step}
 use Rattle.index_remap.specs.Related.{Pairing, OneToOneWhereWritten, OptRel, BothRel, ResRel, ListRel, RefRel, ValRel, FuncRel, StoreRel, EntryRel, ChangeRel, ActRelBy, NextRelBy, TopSkips}
 use Rattle.index_remap.specs.References.{is_among}
 use Rattle.index_remap.specs.Laws.{passed, Above, Touches, EntriesKnown}

@@ -1,9 +1,7 @@
 -- Code that may stand in place of calls, where more may stand there: what was related stays so.
 use Rattle.std.specs.Prelude.{ℕ, Bool, IsTrue, List}
-use Rattle.wasm_tree.specs.declared.space.Space.{Space}
-use Rattle.wasm_tree.specs.declared.instr.Instr.{Instr}
-use Rattle.wasm_meaning.specs.State.{Inst, Store}
-use Rattle.wasm_meaning.specs.Run.{Run}
+use Rattle.wasm_tree_spec.specs.Prelude.{Space, Instr}
+use Rattle.wasm_meaning.specs.Prelude.{Inst, Store, Run}
 use Rattle.index_remap.specs.Related.{CodeRel, StoreRel}
 use Rattle.index_remap.specs.RelatedRuns.{RunRel}
 use Rattle.index_remap.specs.Laws.{Test, passed_with}

@@ -1,13 +1,9 @@
 -- Where all that is kept agrees with its entry and a body names only what is kept, what the body names agrees.
-use Rattle.std.proofs.Common.{true≢false, IsTrue, List, [], sym}
-use Rattle.wasm_tree.specs.declared.types.ValType.{ValType}
-use Rattle.wasm_tree.specs.declared.instr.Instr.{Instr}
-use Rattle.wasm_tree.specs.Layers.{ListLayers}
+use Rattle.base_lists.proofs.Common.{true≢false, IsTrue, List, [], sym}
+use Rattle.wasm_tree_spec.specs.Prelude.{ValType, Instr, ListLayers}
 use Rattle.wasm_valid_bodies.specs.Typing.{Context, WellTyped}
 use Rattle.index_remap.specs.declared.remap.Remap.{Remap}
-use Rattle.index_remap.specs.Renumbered.{renumbered_all}
-use Rattle.index_remap.specs.Agreement.{OperandAgrees, LayerAgrees, SameFrame}
-use Rattle.index_remap.specs.Replaced.{OthersAgree}
+use Rattle.index_remap.specs.Prelude.{renumbered_all, OperandAgrees, LayerAgrees, SameFrame, OthersAgree}
 use Rattle.index_remap.specs.Laws.{TypingIsKept, NotOpaqueAreRenumbered}
 use Rattle.index_remap.proofs.NotOpaque.{all_follow, operands_follow}
 use Rattle.index_remap_proof.specs.Indices.{Indices, LayerNamesOnly}

@@ -1,41 +1,22 @@
 -- Trees whose references are declared.
-use Rattle.std.proofs.Common.{◌≡◌, ℕ, zero, suc, ◌+◌, ◌^◌, ◌<◌, Bool, true, false, ◌&&◌, not, cond, nat_eq, nat_lt, List, [], ◌∷◌, ◌++◌, length, map, Some, ◌⊎◌, inl, inr, ⊎_elim, refl, sym, ap, ◌∙◌, subst, arith, append-nil, length-append, eq-eqb}
-use Rattle.std.specs.Prelude.{slice_get, replicate}
-use Rattle.std.specs.List.{filter, filter_map, range_with_len}
-use Rattle.std.proofs.lemmas.Bool.{lt-ltb}
-use Rattle.std.proofs.lemmas.Grind.{flat_map-append}
-use Rattle.std.proofs.lemmas.List.{map-append}
-use Rattle.std.proofs.lemmas.Option.{slice_get_within}
-use Rattle.wasm_tree.specs.declared.types.RefType.{RefType}
+use Rattle.base_lists.proofs.Common.{◌≡◌, ℕ, zero, suc, ◌+◌, ◌^◌, ◌<◌, Bool, true, false, ◌&&◌, not, cond, nat_eq, nat_lt, List, [], ◌∷◌, ◌++◌, length, map, Some, ◌⊎◌, inl, inr, ⊎_elim, refl, sym, ap, ◌∙◌, subst, arith, append-nil, slice_get, replicate, filter, filter_map, range_with_len, lt-ltb, flat_map-append, map-append, slice_get_within, slice_get_there, map_from, append_at_left, replicate_at}
+use Rattle.std.proofs.Common.{length-append, eq-eqb}
+use Rattle.wasm_tree_spec.specs.Prelude.{RefType, I32, Ref, ImportDesc, ExportDesc, ElemMode, ElemSeg, DataMode, ConstExpr, Func, Module, IsBounded, funcs_of}
 use Rattle.wasm_tree.specs.declared.types.RefType.TheVariants.{Func as func_ref}
-use Rattle.wasm_tree.specs.declared.types.ValType.TheVariants.{I32, Ref}
-use Rattle.wasm_tree.specs.declared.module.ImportDesc.{ImportDesc}
 use Rattle.wasm_tree.specs.declared.module.ImportDesc.TheVariants as im
-use Rattle.wasm_tree.specs.declared.module.ExportDesc.{ExportDesc}
 use Rattle.wasm_tree.specs.declared.module.ExportDesc.TheVariants as ex
-use Rattle.wasm_tree.specs.declared.module.ElemMode.{ElemMode}
 use Rattle.wasm_tree.specs.declared.module.ElemMode.TheVariants as elem
-use Rattle.wasm_tree.specs.declared.module.ElemSeg.{ElemSeg}
-use Rattle.wasm_tree.specs.declared.module.DataMode.{DataMode}
 use Rattle.wasm_tree.specs.declared.module.DataMode.TheVariants as «data»
-use Rattle.wasm_tree.specs.declared.module.ConstExpr.{ConstExpr}
 use Rattle.wasm_tree.specs.declared.module.ConstExpr.TheVariants as const
-use Rattle.wasm_tree.specs.declared.module.Func.{Func}
-use Rattle.wasm_tree.specs.declared.module.Module.{Module}
-use Rattle.wasm_tree.specs.Bounds.{IsBounded}
-use Rattle.wasm_tree.specs.Spaces.{funcs_of}
 use Rattle.wasm_valid_bodies.specs.Typing.{only}
 use Rattle.wasm_valid.specs.declared.kinds.ItemKind.{ItemKind}
 use Rattle.wasm_valid.specs.declared.kinds.ItemKind.TheVariants as kind
-use Rattle.wasm_valid.specs.Constants.{const_type}
-use Rattle.wasm_valid.specs.Named.{const_func, elem_refs, global_refs, export_refs, named_of, refs_of}
-use Rattle.wasm_valid.specs.SpaceTypes.{elem_types}
-use Rattle.wasm_valid.specs.Validity.{HoldsAt, ImportHolds, InSpace, ElemModeHolds, DataModeHolds, IsSingle, IsValid, body_context, count_of}
-use Rattle.index_remap.specs.References.{refs_all, body_refs, offset_func, offset_refs, outside_refs, is_among, declared_refs, declaring, with_declared, declared}
-use Rattle.index_remap.specs.Agreement.{Keeps}
+use Rattle.wasm_valid.specs.Prelude.{const_type, const_func, elem_refs, global_refs, export_refs, named_of, refs_of, elem_types, HoldsAt, ImportHolds, InSpace, ElemModeHolds, DataModeHolds, IsSingle, IsValid, body_context, count_of}
+use Rattle.index_remap.specs.Prelude.{refs_all, body_refs, offset_refs, outside_refs, is_among, declared_refs, declaring, with_declared, declared, Keeps}
+use Rattle.index_remap.specs.References.{offset_func}
 use Rattle.index_remap_proof.specs.ButForReferences.{any_named, HoldsButForReferences, IsValidButForReferences}
 use Rattle.index_remap_proof.proofs.Lists.{two_cases, both_true, among_left, among_right, among_either, among_joined, joined_among, chosen_among, marked, is_marked, named_within, left_either, right_either}
-use Rattle.base_lists.proofs.Places.{slice_get_there, map_from, append_at_left, push_from, replicate_at, replicate_within}
+use Rattle.base_lists.proofs.Places.{push_from, replicate_within}
 use Rattle.index_remap_proof.proofs.NamedFuncs.{typed_named, typed_wider}
 use Rattle.index_remap_proof.proofs.WholeTrees.{ValidWhereItemsHold}
 

@@ -1,26 +1,14 @@
 -- What is well typed, or valid, names only indices of its spaces, so that a map with as many entries has one for each.
-use Rattle.std.proofs.Common.{◌≡◌, ℕ, true, nat_lt, List, [], ◌∷◌, Option, Some, None, refl, sym, arith, true≢false}
-use Rattle.std.specs.Prelude.{slice_get}
-use Rattle.std.proofs.lemmas.Bool.{ltb-true, lt-ltb}
-use Rattle.base_lists.proofs.Options.{and_then_is}
-use Rattle.wasm_tree.specs.declared.types.RefType.{RefType}
-use Rattle.wasm_tree.specs.declared.types.ValType.{ValType}
-use Rattle.wasm_tree.specs.declared.types.FuncType.{FuncType}
-use Rattle.wasm_tree.specs.declared.types.BlockType.{BlockType}
+use Rattle.base_lists.proofs.Common.{◌≡◌, ℕ, true, nat_lt, List, [], ◌∷◌, Option, Some, None, refl, sym, arith, true≢false, slice_get, ltb-true, lt-ltb, and_then_is}
+use Rattle.wasm_tree_spec.specs.Prelude.{RefType, ValType, FuncType, BlockType, Operand, Layers, RowLayers, ListLayers, PassesLayerByLayer, operands, block_operands, Instr, Row_of-Instr, end_of-Instr, more_of-Instr, Block', Loop', If', Call, CallIndirect, GlobalGet, GlobalSet, TableGet, TableSet, Load, Store, MemorySize, MemoryGrow, RefFunc, MemoryInit, DataDrop, MemoryCopy, MemoryFill, TableInit, ElemDrop, TableCopy, TableGrow, TableSize, TableFill}
 use Rattle.wasm_tree.specs.declared.types.BlockType.TheVariants as bt
 use Rattle.base_lists.specs.Every.{Every}
-use Rattle.wasm_tree.specs.declared.space.Operand.{Operand}
-use Rattle.wasm_tree.specs.Layers.{Layers, RowLayers, ListLayers}
-use Rattle.wasm_tree.specs.OperandLaws.{PassesLayerByLayer}
-use Rattle.wasm_tree.specs.Operands.{operands, block_operands}
 use Rattle.wasm_tree.specs.declared.instr.Instr.TheOpen.{Instr-F}
-use Rattle.wasm_tree.specs.declared.instr.Instr.{Instr, out-Instr, Row_of-Instr, end_of-Instr, more_of-Instr}
-use Rattle.wasm_tree.specs.declared.instr.Instr.TheVariants.{Block', Loop', If', Call, CallIndirect, GlobalGet, GlobalSet, TableGet, TableSet, Load, Store, MemorySize, MemoryGrow, RefFunc, MemoryInit, DataDrop, MemoryCopy, MemoryFill, TableInit, ElemDrop, TableCopy, TableGrow, TableSize, TableFill}
+use Rattle.wasm_tree.specs.declared.instr.Instr.{out-Instr}
 use Rattle.wasm_valid_bodies.specs.Typing.{Stack, Effect, Context, Signature, signature_in, signature_of, both, effect_of, Fits, Leads, LeadsAll, WellTyped}
 use Rattle.index_remap.specs.declared.remap.Remap.{Remap}
-use Rattle.index_remap.specs.Renumbered.{has, has_entry, fits_all}
+use Rattle.index_remap.specs.Prelude.{has, has_entry, fits_all, labelled}
 use Rattle.index_remap_proof.specs.Along.{CoversContext}
-use Rattle.index_remap.specs.Agreement.{labelled}
 use Rattle.index_remap_proof.proofs.Lists.{left_true, right_true, has_at, map_there, only_true, only_rest}
 
 both_there : (a b : Option RefType) → both a b ≡ true → (r : RefType) × (q : RefType) × (a ≡ Some r) × (b ≡ Some q)

@@ -1,44 +1,20 @@
 -- Items that come from others are valid where those are.
-use Rattle.std.proofs.Common.{◌≡◌, ℕ, ◌<◌, ◌≤◌, Bool, true, false, ◌&&◌, not, nat_lt, List, [], length, Some, refl, sym, ap, ◌∙◌, subst, arith, IsTrue}
-use Rattle.std.specs.Prelude.{slice_get, slice_index, replicate}
-use Rattle.std.proofs.lemmas.Bool.{ltb-true, lt-ltb}
-use Rattle.std.proofs.lemmas.List.{length-map}
-use Rattle.wasm_tree.specs.declared.types.RefType.{RefType}
-use Rattle.wasm_tree.specs.declared.types.ValType.{ValType}
-use Rattle.wasm_tree.specs.declared.types.ValType.TheVariants.{Ref}
-use Rattle.wasm_tree.specs.declared.types.FuncType.{FuncType}
-use Rattle.wasm_tree.specs.declared.instr.Instr.{Instr}
-use Rattle.wasm_tree.specs.declared.module.ImportDesc.{ImportDesc}
+use Rattle.base_lists.proofs.Common.{◌≡◌, ℕ, ◌<◌, ◌≤◌, Bool, true, false, ◌&&◌, not, nat_lt, List, [], length, Some, refl, sym, ap, ◌∙◌, subst, arith, IsTrue, slice_get, slice_index, replicate, ltb-true, lt-ltb, length-map, replicate_at}
+use Rattle.wasm_tree_spec.specs.Prelude.{RefType, ValType, Ref, FuncType, Instr, ImportDesc, ExportDesc, ElemMode, ElemSeg, DataMode, Space, Types, Functions, Tables, Memories, Globals, ElementSegments, DataSegments, ConstExpr, Func, Module, funcs_of, tables_of, memories_of, globals_of, imported_globals, type_of_func, ListLayers}
 use Rattle.wasm_tree.specs.declared.module.ImportDesc.TheVariants as im
-use Rattle.wasm_tree.specs.declared.module.ExportDesc.{ExportDesc}
 use Rattle.wasm_tree.specs.declared.module.ExportDesc.TheVariants as ex
-use Rattle.wasm_tree.specs.declared.module.ElemMode.{ElemMode}
-use Rattle.wasm_tree.specs.declared.module.ElemSeg.{ElemSeg}
-use Rattle.wasm_tree.specs.declared.module.DataMode.{DataMode}
-use Rattle.wasm_tree.specs.declared.space.Space.{Space}
-use Rattle.wasm_tree.specs.declared.space.Space.TheVariants.{Types, Functions, Tables, Memories, Globals, ElementSegments, DataSegments}
-use Rattle.wasm_tree.specs.declared.module.ConstExpr.{ConstExpr}
 use Rattle.wasm_tree.specs.declared.module.ConstExpr.TheVariants as const
-use Rattle.wasm_tree.specs.declared.module.Func.{Func}
-use Rattle.wasm_tree.specs.declared.module.Module.{Module}
-use Rattle.wasm_tree.specs.Spaces.{funcs_of, tables_of, memories_of, globals_of, imported_globals, type_of_func}
 use Rattle.wasm_valid_bodies.specs.Typing.{Context, WellTyped}
 use Rattle.wasm_valid.specs.declared.kinds.ItemKind.{ItemKind}
 use Rattle.wasm_valid.specs.declared.kinds.ItemKind.TheVariants as kind
-use Rattle.wasm_valid.specs.Constants.{const_type}
-use Rattle.wasm_valid.specs.Named.{named_of, refs_of}
-use Rattle.wasm_valid.specs.SpaceTypes.{table_types}
-use Rattle.wasm_valid.specs.Validity.{HoldsAt, ImportHolds, InSpace, ElemModeHolds, DataModeHolds, body_context}
+use Rattle.wasm_valid.specs.Prelude.{const_type, named_of, refs_of, table_types, HoldsAt, ImportHolds, InSpace, ElemModeHolds, DataModeHolds, body_context}
 use Rattle.index_remap.specs.declared.remap.Remap.{Remap}
-use Rattle.index_remap.specs.Renumbered.{new_const, new_func, new_import_desc, new_export_desc, renumbered_all}
-use Rattle.wasm_tree.specs.Layers.{ListLayers}
-use Rattle.index_remap.specs.Agreement.{OperandAgrees}
+use Rattle.index_remap.specs.Prelude.{new_const, new_func, new_import_desc, new_export_desc, renumbered_all, OperandAgrees}
 use Rattle.index_remap_proof.specs.Indices.{Indices, LayerNamesOnly, ConstNamesOnly, ImportNamesOnly, ExportNamesOnly}
 use Rattle.index_remap_proof.specs.Along.{AgreesAlong}
 use Rattle.index_remap_proof.specs.Trees.{TreesAgree, RefsAgree, ReadsImport, ConstComesFrom, ElemModeComesFrom, DataModeComesFrom, ItemComesFrom, active, passive, declarative}
 use Rattle.index_remap_proof.specs.ButForReferences.{any_named, HoldsButForReferences}
 use Rattle.index_remap_proof.proofs.Lists.{place_kept, named_within}
-use Rattle.base_lists.proofs.Places.{replicate_at}
 use Rattle.index_remap.proofs.Keeping.{keeps_then, keeps_only, and_keeps}
 
 -- bodies stay well typed

@@ -1,23 +1,12 @@
 -- Lists: places that are there, and tests of all of them.
-use Rattle.std.proofs.Common.{◌≡◌, ℕ, zero, suc, ◌+◌, ◌<◌, ◌≤◌, Bool, true, false, ◌&&◌, ◌||◌, nat_eq, List, [], ◌∷◌, ◌++◌, map, length, Option, Some, None, ◌⊎◌, inl, inr, ⊎_elim, true≢false, refl, sym, ap, ◌∙◌, subst, arith, add-zero, eq-eqb, option_map}
-use Rattle.std.specs.Prelude.{slice_get}
-use Rattle.std.specs.List.{flat_map, filter_map, cons_option}
-use Rattle.std.proofs.lemmas.Bool.{lt-ltb}
-use Rattle.std.proofs.lemmas.Bool.Decides.{nat_tests}
-use Rattle.std.proofs.lemmas.List.Folds.{list_any-append}
-use Rattle.std.proofs.lemmas.Option.{slice_get_within}
+use Rattle.base_lists.proofs.Common.{◌≡◌, ℕ, zero, suc, ◌+◌, ◌<◌, ◌≤◌, Bool, true, false, ◌&&◌, ◌||◌, nat_eq, List, [], ◌∷◌, ◌++◌, map, length, Option, Some, None, ◌⊎◌, inl, inr, ⊎_elim, true≢false, refl, sym, ap, ◌∙◌, subst, arith, add-zero, option_map, slice_get, flat_map, filter_map, cons_option, lt-ltb, nat_tests, list_any-append, slice_get_within, slice_get_there, each_same_is, each_same_self, all_there_at, all_there_length}
+use Rattle.std.proofs.Common.{eq-eqb}
 use Rattle.wasm_valid_bodies.specs.Typing.{only}
-use Rattle.index_remap.specs.Renumbered.{has}
+use Rattle.index_remap.specs.Prelude.{has, is_among, Keeps}
 pub use Rattle.base_lists.proofs.Bools.{left_true, right_true}
-use Rattle.base_lists.proofs.Places.{slice_get_there}
-use Rattle.index_remap.specs.References.{is_among}
-use Rattle.wasm_valid.specs.Named.{named_from}
-use Rattle.index_remap.specs.Agreement.{Keeps}
-use Rattle.base_lists.proofs.Same.{each_same_is, each_same_self}
-use Rattle.wasm_meaning.specs.State.{Text}
-use Rattle.wasm_meaning.specs.Linking.{same_text}
+use Rattle.wasm_valid.specs.Prelude.{named_from}
+use Rattle.wasm_meaning.specs.Prelude.{Text, same_text}
 use Rattle.base_lists.specs.Options.{all_there}
-use Rattle.base_lists.proofs.Options.{all_there_at, all_there_length}
 
 pub both_true : (a b : Bool) → a ≡ true → b ≡ true → a && b ≡ true
 both_true a b g h = ap (λ z. z && b) g ∙ h

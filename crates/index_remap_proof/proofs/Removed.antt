@@ -1,24 +1,13 @@
 -- A function may be gone from the middle of a valid tree, with no function of its type left: what is left is valid by the law.
-use Rattle.std.proofs.Common.{◌≡◌, ℕ, zero, suc, ◌<◌, Bool, true, false, IsTrue, List, [], ◌∷◌, Option, Some, None, ap, refl, true≢false, sym, arith, rules}
-use Rattle.std.specs.Prelude.{slice_get, slice_index, pos}
-use Rattle.wasm_tree.specs.declared.space.Space.TheVariants.{Types, Functions}
-use Rattle.wasm_tree.specs.declared.types.ValType.{ValType}
-use Rattle.wasm_tree.specs.declared.types.ValType.TheVariants.{I32}
-use Rattle.wasm_tree.specs.declared.types.FuncType.{FuncType}
-use Rattle.wasm_tree.specs.declared.instr.Instr.{Instr, out-Instr, the_lemmas}
-use Rattle.wasm_tree.specs.declared.instr.Instr.TheVariants.{Call, I32Const}
-use Rattle.wasm_tree.specs.declared.module.Func.{Func}
-use Rattle.wasm_tree.specs.declared.module.Export.{Export}
+use Rattle.base_lists.proofs.Common.{◌≡◌, ℕ, zero, suc, ◌<◌, Bool, true, false, IsTrue, List, [], ◌∷◌, Option, Some, None, ap, refl, true≢false, sym, arith, rules, slice_get, slice_index, pos}
+use Rattle.wasm_tree_spec.specs.Prelude.{Types, Functions, ValType, I32, FuncType, Instr, the_lemmas, Call, I32Const, Func, Export, Module, type_of_func, Layers}
+use Rattle.wasm_tree.specs.declared.instr.Instr.{out-Instr}
 use Rattle.wasm_tree.specs.declared.module.ExportDesc.TheVariants as ex
-use Rattle.wasm_tree.specs.declared.module.Module.{Module}
-use Rattle.wasm_tree.specs.Spaces.{type_of_func}
 use Rattle.wasm_valid_bodies.specs.Typing.{Gives}
 use Rattle.wasm_valid.specs.declared.kinds.ItemKind.TheVariants as kind
-use Rattle.wasm_valid.specs.Validity.{IsValid}
+use Rattle.wasm_valid.specs.Prelude.{IsValid}
 use Rattle.index_remap.specs.declared.remap.Remap.{Remap}
-use Rattle.index_remap.specs.Renumbered.{renumbered}
-use Rattle.wasm_tree.specs.Layers.{Layers}
-use Rattle.index_remap.specs.Agreement.{Keeps}
+use Rattle.index_remap.specs.Prelude.{renumbered, Keeps}
 use Rattle.index_remap_proof.specs.Indices.{Indices, LayerNamesOnly}
 use Rattle.index_remap_proof.specs.Trees.{TreesAgree, RefsAgree, EachItemComesFrom}
 

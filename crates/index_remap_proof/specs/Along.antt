@@ -1,9 +1,9 @@
 -- When two contexts have the same along a map of indices: at each index of a set, and at its entry (WebAssembly Core 2.0, section 3.1.1).
 use Rattle.std.specs.Prelude.{ℕ, ◌≤◌, Bool, IsTrue, length}
-use Rattle.wasm_tree.specs.declared.space.Space.{Space}
+use Rattle.wasm_tree_spec.specs.Prelude.{Space}
 use Rattle.wasm_valid_bodies.specs.Typing.{Context}
 use Rattle.index_remap.specs.declared.remap.Remap.{Remap}
-use Rattle.index_remap.specs.Agreement.{OperandAgrees, SameFrame}
+use Rattle.index_remap.specs.Prelude.{OperandAgrees, SameFrame}
 use Rattle.index_remap_proof.specs.Indices.{Indices}
 
 -- each index that is kept agrees with its entry; of other indices nothing is said

@@ -1,12 +1,10 @@
 -- Trees that are valid but for functions that `ref.func` names in a body and that are named in no other place (WebAssembly Core 2.0, section 3.4.10).
 use Rattle.std.specs.Prelude.{◌≡◌, ℕ, ◌<◌, true, [], length, replicate, Some, slice_get}
-use Rattle.wasm_tree.specs.declared.types.FuncType.{FuncType}
-use Rattle.wasm_tree.specs.declared.module.Func.{Func}
-use Rattle.wasm_tree.specs.declared.module.Module.{Module}
+use Rattle.wasm_tree_spec.specs.Prelude.{FuncType, Func, Module}
 use Rattle.wasm_valid_bodies.specs.Typing.{Context, WellTyped}
 use Rattle.wasm_valid.specs.declared.kinds.ItemKind.{ItemKind}
 use Rattle.wasm_valid.specs.declared.kinds.ItemKind.TheVariants as kind
-use Rattle.wasm_valid.specs.Validity.{HoldsAt, count_of, body_context}
+use Rattle.wasm_valid.specs.Prelude.{HoldsAt, count_of, body_context}
 
 -- the context in which `ref.func` may name each function of the space
 abbrev pub any_named : Context → Context

@@ -1,29 +1,14 @@
 -- When two trees have the same along a map of indices, and when an item of one comes from an item of the other.
 use Rattle.std.specs.Prelude.{◌≡◌, ℕ, ◌<◌, ◌≤◌, true, IsTrue, length, map, take, Contains, Some, slice_get, slice_index}
-use Rattle.wasm_tree.specs.declared.space.Space.TheVariants.{Types, Functions, Tables, Memories, Globals, ElementSegments, DataSegments}
-use Rattle.wasm_tree.specs.declared.module.ConstExpr.{ConstExpr}
+use Rattle.wasm_tree_spec.specs.Prelude.{Types, Functions, Tables, Memories, Globals, ElementSegments, DataSegments, ConstExpr, Import, Func, GlobalDef, Export, ElemMode, ElemSeg, DataMode, DataSeg, Module, funcs_of, tables_of, memories_of, globals_of, imported_globals, type_of_func}
 use Rattle.wasm_tree.specs.declared.module.ConstExpr.TheVariants as const
-use Rattle.wasm_tree.specs.declared.module.Import.{Import}
-use Rattle.wasm_tree.specs.declared.module.Func.{Func}
-use Rattle.wasm_tree.specs.declared.module.GlobalDef.{GlobalDef}
-use Rattle.wasm_tree.specs.declared.module.Export.{Export}
-use Rattle.wasm_tree.specs.declared.module.ElemMode.{ElemMode}
 use Rattle.wasm_tree.specs.declared.module.ElemMode.TheVariants as elem
-use Rattle.wasm_tree.specs.declared.module.ElemSeg.{ElemSeg}
-use Rattle.wasm_tree.specs.declared.module.DataMode.{DataMode}
 use Rattle.wasm_tree.specs.declared.module.DataMode.TheVariants as «data»
-use Rattle.wasm_tree.specs.declared.module.DataSeg.{DataSeg}
-use Rattle.wasm_tree.specs.declared.module.Module.{Module}
-use Rattle.wasm_tree.specs.Spaces.{funcs_of, tables_of, memories_of, globals_of, imported_globals, type_of_func}
 use Rattle.wasm_valid.specs.declared.kinds.ItemKind.{ItemKind}
 use Rattle.wasm_valid.specs.declared.kinds.ItemKind.TheVariants as kind
-use Rattle.wasm_valid.specs.Constants.{const_type}
-use Rattle.wasm_valid.specs.Named.{named_of}
-use Rattle.wasm_valid.specs.SpaceTypes.{table_types, elem_types}
-use Rattle.wasm_valid.specs.Validity.{count_of}
+use Rattle.wasm_valid.specs.Prelude.{const_type, named_of, table_types, elem_types, count_of}
 use Rattle.index_remap.specs.declared.remap.Remap.{Remap}
-use Rattle.index_remap.specs.Renumbered.{new_import_desc, new_export_desc, new_func}
-use Rattle.index_remap.specs.Agreement.{Keeps}
+use Rattle.index_remap.specs.Prelude.{new_import_desc, new_export_desc, new_func, Keeps}
 use Rattle.index_remap_proof.specs.Indices.{Indices, ImportNamesOnly, ExportNamesOnly, FuncNamesOnly}
 
 -- each index of t that is kept stands in u, by its entry, for what has the same type; of other indices nothing is said

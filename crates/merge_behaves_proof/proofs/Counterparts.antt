@@ -1,34 +1,23 @@
 -- For what each entry of a part's index space stands, in the parts' world and in the merged module: for what a part defines, with its number among all
 -- definitions, or for an import that stays.
-use Rattle.std.proofs.Common.{◌≡◌, ◌∙◌, sym, ap, subst, refl, ℕ, zero, suc, ◌+◌, ◌-◌, ◌<◌, ◌≤◌, List, [], ◌∷◌, length, Option, Some, None, true, arith, option_and_then, slice_get}
-use Rattle.wasm_tree.specs.declared.space.Space.{Space}
-use Rattle.wasm_tree.specs.declared.space.Space.TheVariants.{Functions, Tables, Memories, Globals}
-use Rattle.wasm_tree.specs.declared.module.Import.{Import}
-use Rattle.wasm_tree.specs.declared.module.Module.{Module}
-use Rattle.wasm_meaning.specs.Linking.{Part, Site, Defined, Outside, has_kind, module_at, import_at, imports_of}
-use Rattle.wasm_tree.specs.declared.module.ImportDesc.{ImportDesc}
+use Rattle.base_lists.proofs.Common.{◌≡◌, ◌∙◌, sym, ap, subst, refl, ℕ, zero, suc, ◌+◌, ◌-◌, ◌<◌, ◌≤◌, List, [], ◌∷◌, length, Option, Some, None, true, arith, option_and_then, slice_get, and_then_is, place_back, slice_get_past}
+use Rattle.wasm_tree_spec.specs.Prelude.{Space, Functions, Tables, Memories, Globals, Import, Module, ImportDesc, index_of_export, space_of_export, space_of_import}
+use Rattle.wasm_meaning.specs.Prelude.{Part, Site, Defined, Outside, has_kind, module_at, import_at, imports_of, Environment, ExternalValue, owned_of, same_key, own_count, defined_count, defined_before, base, external_value_at, address_of, own_key, outside_external_value, defined_external_value}
 use Rattle.wasm_tree.specs.declared.module.ImportDesc.TheVariants as im
-use Rattle.wasm_tree.specs.Spaces.{index_of_export, space_of_export, space_of_import}
-use Rattle.wasm_meaning.specs.Environment.{Environment, ExternalValue, owned_of, same_key}
-use Rattle.wasm_meaning.specs.World.{own_count, defined_count, defined_before, base, external_value_at, address_of, own_key, outside_external_value, defined_external_value}
-use Rattle.merge_spec.specs.Faults.{link_fault}
-use Rattle.merge_spec.specs.Merged.{staying_of, new_index}
+use Rattle.merge_spec.specs.Prelude.{link_fault, staying_of, new_index}
 use Rattle.merge_valid_proof.specs.Ended.{EndsInside, EndsOutside, Ended, inside, outside, is_external}
 use Rattle.merge_valid_proof.proofs.ByPart.{before, defined_is}
 use Rattle.merge_valid_proof.proofs.Same.{kind_is}
-use Rattle.index_remap.specs.RelatedRuns.{ExternalValueRel}
+use Rattle.index_remap.specs.Prelude.{ExternalValueRel}
 use Rattle.world_simulation.proofs.Owned.{look_rel}
 use Rattle.world_simulation.proofs.Single.{address_rel}
-use Rattle.world_simulation.specs.Owned.{OwnEntitiesCorrespond}
+use Rattle.world_simulation.specs.Prelude.{OwnEntitiesCorrespond}
 use Rattle.world_simulation.proofs.Defined.{defined_at}
 use Rattle.world_simulation.proofs.Instancing.{import_address, Entry, imports, defines}
 use Rattle.world_simulation.proofs.Places.{opt_self}
 use Rattle.merge_behaves_proof.specs.Shared.{shared_count, is_shared, sharing}
 use Rattle.merge_behaves_proof.proofs.SpaceLaws.{SpaceLaws}
 use Rattle.merge_behaves_proof.proofs.ValueShared.{is_same, shares_own}
-use Rattle.base_lists.proofs.Options.{and_then_is}
-use Rattle.base_lists.proofs.Filtered.{place_back}
-use Rattle.std.proofs.lemmas.Option.{slice_get_past}
 
 address_at : (k : Space) (a : ℕ) → is_external k ≡ true → option_and_then (address_of k) (external_value_at k a) ≡ Some a
 address_at Functions a e = refl

@@ -1,37 +1,19 @@
 -- What the parts define and what it becomes in the merged module correspond: each definition stands in the merged module at its number among all of its space.
-use Rattle.wasm_tree.specs.declared.space.Space.TheVariants.{Functions, Tables, Memories, Globals, ElementSegments, DataSegments}
-use Rattle.wasm_tree.specs.declared.space.Space.{Space}
+use Rattle.wasm_tree_spec.specs.Prelude.{Functions, Tables, Memories, Globals, ElementSegments, DataSegments, Space, Module, Ref, GlobalDef, ElemSeg, ElemMode}
 use Rattle.merge_valid_proof.proofs.ByPart.{by_part_flat, by_part_same, map_self, defined_is, by_part_at, by_part_back}
-use Rattle.std.proofs.Common.{◌≡◌, refl, ℕ, ◌+◌, ◌<◌, List, ◌++◌, map, length, sym, ap, subst, ◌∙◌, [], append-nil, ◌∷◌, Option, Some, zero, suc, true, ◌⊎◌, inl, inr, ap₂, arith}
-use Rattle.std.specs.Prelude.{slice_get}
-use Rattle.std.specs.List.{flat_map, list_all}
-use Rattle.base_lists.proofs.Options.{all_there_from, AllThere, all_there_at}
-use Rattle.base_lists.proofs.Places.{slice_get_there, append_right, map_at, map_from, append_at_left, append_from}
-use Rattle.wasm_tree.specs.declared.module.Module.{Module}
-use Rattle.wasm_valid.specs.Validity.{IsValid}
-use Rattle.wasm_meaning.specs.State.{Inst, Code, Func, Elem, Store}
-use Rattle.wasm_meaning.specs.Values.{declared}
-use Rattle.wasm_meaning.specs.Linking.{Part, module_at}
-use Rattle.wasm_meaning.specs.World.{new_func, defined_count, base, defined_before, new_global, elem_of, part_store, insts_from, own_store, stores_from}
-use Rattle.index_remap.specs.References.{declared_refs}
+use Rattle.base_lists.proofs.Common.{◌≡◌, refl, ℕ, ◌+◌, ◌<◌, List, ◌++◌, map, length, sym, ap, subst, ◌∙◌, [], append-nil, ◌∷◌, Option, Some, zero, suc, true, ◌⊎◌, inl, inr, ap₂, arith, slice_get, flat_map, list_all, all_there_from, all_there_at, slice_get_there, append_right, map_at, map_from, append_at_left, append_from, same_Some, list_all_each}
+use Rattle.base_lists.proofs.Options.{AllThere}
+use Rattle.wasm_valid.specs.Prelude.{IsValid}
+use Rattle.wasm_meaning.specs.Prelude.{Inst, Code, Func, Elem, Store, declared, Part, module_at, new_func, defined_count, base, defined_before, new_global, elem_of, part_store, insts_from, own_store, stores_from, Environment}
+use Rattle.index_remap.specs.Prelude.{declared_refs, fits_import, fits_func, Pairing, OptRel}
 use Rattle.merge_names.specs.declared.mode.Mode.{Mode}
-use Rattle.merge_spec.specs.Joined.{joined_module}
-use Rattle.merge_spec.specs.Merged.{map_of, by_part_from, starts, start_calls, defined_funcs, merged, merged_global, merged_elem, merged_data, merged_const, merged_elem_mode}
+use Rattle.merge_spec.specs.Prelude.{joined_module, map_of, by_part_from, starts, start_calls, merged_global, merged_elem, merged_data, merged_const, merged_elem_mode}
+use Rattle.merge_spec.specs.Merged.{defined_funcs, merged}
 use Rattle.merge_behaves_proof.proofs.ValueGiven.{Laws, func_typed, EachAgrees, global_typed, item_typed}
 use Rattle.merge_behaves_proof.proofs.MergedAlone.{joined_keeps, names_of}
 use Rattle.world_simulation.proofs.Declared.{last_segments, last_elems}
-use Rattle.std.proofs.lemmas.Option.{same_Some}
-use Rattle.base_lists.proofs.Each.{list_all_each}
-use Rattle.wasm_tree.specs.declared.types.ValType.TheVariants.{Ref}
-use Rattle.wasm_tree.specs.declared.module.GlobalDef.{GlobalDef}
-use Rattle.wasm_tree.specs.declared.module.ElemSeg.{ElemSeg}
-use Rattle.wasm_tree.specs.declared.module.ElemMode.{ElemMode}
-use Rattle.wasm_meaning.specs.Environment.{Environment}
 use Rattle.index_remap.specs.declared.remap.Remap.{Remap}
-use Rattle.index_remap.specs.Renumbered.{fits_import, fits_func}
-use Rattle.index_remap.specs.Related.{Pairing, OptRel}
-use Rattle.world_simulation.specs.Alone.{one}
-use Rattle.world_simulation.specs.Definitions.{Instantiated, DefinedAt, values_in, FuncsCorrespond, FuncsAt, GlobalsCorrespond, is_declarative, Partners, DefinitionsCorrespond}
+use Rattle.world_simulation.specs.Prelude.{one, Instantiated, DefinedAt, values_in, FuncsCorrespond, FuncsAt, GlobalsCorrespond, is_declarative, Partners, DefinitionsCorrespond}
 use Rattle.world_simulation.proofs.Places.{both_or_none, left_true, right_true, map_length, right_there, left_there}
 use Rattle.world_simulation.proofs.Defined.{Stands, stands}
 use Rattle.world_simulation.proofs.Stored.{func_placed, global_placed, elem_placed, func_rel, global_rel, ElemsAlike, elem_rel, alike_correspond}

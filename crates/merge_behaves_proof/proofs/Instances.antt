@@ -1,26 +1,14 @@
 -- The instances of the parts, and the instance of the merged module: all there or none, and each index of a part and its new one name one address.
-use Rattle.std.proofs.Common.{◌≡◌, ◌∙◌, ap, ap₂, sym, refl, ℕ, ◌+◌, ◌<◌, ◌≤◌, List, [], ◌∷◌, ◌++◌, map, length, Option, Some, None, arith, option_and_then, slice_get, true}
-use Rattle.std.specs.Prelude.{slice_index}
-use Rattle.std.proofs.lemmas.List.{length-append}
-use Rattle.std.proofs.lemmas.Option.{same_Some, slice_get_within}
-use Rattle.wasm_tree.specs.declared.space.Space.{Space}
-use Rattle.wasm_tree.specs.declared.space.Space.TheVariants.{Functions, Tables, Memories, Globals, ElementSegments, DataSegments}
-use Rattle.wasm_tree.specs.declared.module.Module.{Module}
-use Rattle.wasm_tree.specs.Spaces.{imported_funcs, imported_tables, imported_memories, imported_globals}
-use Rattle.wasm_meaning.specs.State.{Inst}
-use Rattle.wasm_meaning.specs.Linking.{Part, Site, has_kind, module_at, imports_of}
-use Rattle.wasm_meaning.specs.Environment.{Environment}
-use Rattle.wasm_meaning.specs.World.{own_count, defined_count, base, all_there, numbers, space, inst_of, insts_from, defined_before}
-use Rattle.index_remap.specs.References.{declared_refs}
-use Rattle.index_remap.specs.Related.{OptRel}
-use Rattle.index_remap.specs.Renumbered.{entries}
+use Rattle.base_lists.proofs.Common.{◌≡◌, ◌∙◌, ap, ap₂, sym, refl, ℕ, ◌+◌, ◌<◌, ◌≤◌, List, [], ◌∷◌, ◌++◌, map, length, Option, Some, None, arith, option_and_then, slice_get, true, slice_index, length-append, same_Some, slice_get_within, place_there, length-numbers, numbers_at, and_then_is, all_there_at, all_there_length, all_there_from, slice_get_there, append_left, append_right, slice_index_is, map_at}
+use Rattle.wasm_tree_spec.specs.Prelude.{Space, Functions, Tables, Memories, Globals, ElementSegments, DataSegments, Module, imported_funcs, imported_tables, imported_memories, imported_globals}
+use Rattle.wasm_meaning.specs.Prelude.{Inst, Part, Site, has_kind, module_at, imports_of, Environment, own_count, defined_count, base, all_there, numbers, space, inst_of, insts_from, defined_before}
+use Rattle.index_remap.specs.Prelude.{declared_refs, OptRel, entries}
 use Rattle.merge_names.specs.declared.mode.Mode.{Mode}
-use Rattle.merge_spec.specs.Faults.{link_fault}
-use Rattle.merge_spec.specs.Merged.{merged, map_of, staying_of, new_index}
-use Rattle.merge_spec.specs.Joined.{joined_module}
+use Rattle.merge_spec.specs.Prelude.{link_fault, merged, staying_of, new_index, joined_module}
+use Rattle.merge_spec.specs.Merged.{map_of}
 use Rattle.merge_valid_proof.specs.Joinable.{CanBeJoined}
 use Rattle.merge_valid_proof.specs.Ended.{added_count, is_external}
-use Rattle.world_simulation.specs.Alone.{one}
+use Rattle.world_simulation.specs.Prelude.{one}
 use Rattle.world_simulation.proofs.Alone.{funcs_counted, tables_counted, memories_counted, globals_counted}
 use Rattle.world_simulation.proofs.Declared.{last_segments}
 use Rattle.world_simulation.proofs.Instancing.{addresses_in, import_address, IsSpace, is_space, entry_at, IsInst, inst_there, insts_are, inst_in, insts_in}
@@ -31,10 +19,6 @@ use Rattle.merge_behaves_proof.specs.Instances.{SameAddress, SpaceAgrees, PartAg
 use Rattle.merge_behaves_proof.proofs.SpaceLaws.{SpaceLaws}
 use Rattle.merge_behaves_proof.proofs.Counterparts.{defined_low, total, site_address, site_low, Stands, own, stays, import_stands, entry_stands}
 use Rattle.merge_behaves_proof.proofs.MergedAlone.{joined_keeps, joined_types, staying_kind, names_of, merged_space, elems_many, datas_many}
-use Rattle.base_lists.proofs.Filtered.{place_there}
-use Rattle.base_lists.proofs.Numbers.{length-numbers, numbers_at}
-use Rattle.base_lists.proofs.Options.{and_then_is, all_there_at, all_there_length, all_there_from}
-use Rattle.base_lists.proofs.Places.{slice_get_there, append_left, append_right, slice_index_is, map_at}
 
 -- ---- the entries of a part's map ----
 

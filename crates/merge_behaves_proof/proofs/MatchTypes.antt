@@ -1,31 +1,14 @@
 -- The external type of an entity of the store (WebAssembly Core 2.0, section 4.5.1), when it is what an import asks for, and limits that are asked for together.
-use Rattle.std.proofs.Common.{◌≡◌, ℕ, List, length, Option, Some, None, true, false, refl, sym, ap, ap₂, subst, ◌∙◌, option_and_then, slice_get, unwrap_or, zero, suc, [], ◌∷◌, Bool, cond, arith, ◌&&◌}
-use Rattle.std.proofs.lemmas.Bool.{and_parts, and_from, le-leb}
-use Rattle.std.proofs.lemmas.Option.{same_Some}
-use Rattle.wasm_tree.specs.declared.types.FuncType.{FuncType}
-use Rattle.wasm_tree.specs.declared.types.Limits.{Limits}
-use Rattle.wasm_tree.specs.declared.types.TableType.{TableType}
-use Rattle.wasm_tree.specs.declared.types.GlobalType.{GlobalType}
-use Rattle.wasm_tree.specs.declared.module.Import.{Import}
-use Rattle.wasm_tree.specs.declared.module.ImportDesc.{ImportDesc}
-use Rattle.wasm_tree.specs.declared.module.Module.{Module}
-use Rattle.wasm_meaning.specs.State.{Table, Memory, Global, Store}
-use Rattle.wasm_meaning.specs.Values.{same_func_type}
-use Rattle.wasm_meaning.specs.Control.{type_at}
-use Rattle.wasm_meaning.specs.Linking.{Part, Site, import_at, limits_of, is_outside, linked_end, consed, demands, least, met}
-use Rattle.wasm_meaning.specs.Environment.{Environment, ExternalValue, FuncAt, TableAt, MemoryAt, GlobalAt}
-use Rattle.wasm_meaning.specs.World.{meets, is_match, is_matched, imported_external_value, meets_most}
-use Rattle.index_remap.specs.Related.{Pairing, StoreRel}
-use Rattle.index_remap.specs.RelatedRuns.{ExternalValueRel, a_func, a_table, a_memory, a_global}
+use Rattle.base_lists.proofs.Common.{◌≡◌, ℕ, List, length, Option, Some, None, true, false, refl, sym, ap, ap₂, subst, ◌∙◌, option_and_then, slice_get, unwrap_or, zero, suc, [], ◌∷◌, Bool, cond, arith, ◌&&◌, and_parts, and_from, le-leb, same_Some, and_then_is, unwrap_or_false_is, nat_le, max, min, nat_tests}
+use Rattle.wasm_tree_spec.specs.Prelude.{FuncType, Limits, TableType, GlobalType, Import, ImportDesc, Module}
+use Rattle.wasm_meaning.specs.Prelude.{Table, Memory, Global, Store, same_func_type, type_at, Part, Site, import_at, limits_of, is_outside, linked_end, consed, demands, least, met, Environment, ExternalValue, FuncAt, TableAt, MemoryAt, GlobalAt, meets, is_match, is_matched, imported_external_value, meets_most}
+use Rattle.index_remap.specs.Prelude.{Pairing, StoreRel, ExternalValueRel, a_func, a_table, a_memory, a_global}
 use Rattle.index_remap.proofs.Rel.{length_rel, same_there, there}
 use Rattle.world_simulation.proofs.Places.{then_eq}
-use Rattle.merge_spec.specs.Faults.{External, FuncOf, TableOf, MemoryOf, GlobalOf, asked, asked_at, same_but_limits, meets_limits}
+use Rattle.merge_spec.specs.Prelude.{External, FuncOf, TableOf, MemoryOf, GlobalOf, asked, asked_at, same_but_limits, meets_limits}
 use Rattle.index_remap.proofs.SlotCalls.{func_type_is}
 use Rattle.merge_valid_proof.proofs.Linked.{import_site}
 use Rattle.merge_valid_proof.proofs.Same.{type_is, ref_is, bool_is}
-use Rattle.base_lists.proofs.Options.{and_then_is, unwrap_or_false_is}
-use Rattle.std.specs.Prelude.{nat_le, max, min}
-use Rattle.std.proofs.lemmas.Bool.Decides.{nat_tests}
 use Rattle.wasm_tree.specs.declared.module.ImportDesc.TheVariants as im
 
 -- ---- the external type of an entity ----

@@ -1,42 +1,21 @@
 -- All imports of the parts match where all imports of the merged module do.
-use Rattle.std.proofs.Common.{◌≡◌, ℕ, ◌+◌, ◌-◌, ◌≤◌, List, ◌++◌, length, Some, refl, sym, ap, ap₂, ◌∙◌, arith, zero, suc, ◌<◌, [], ◌∷◌, Option, None, Bool, true, option_and_then, slice_get}
-use Rattle.std.specs.Prelude.{slice_get, option_and_then, slice_index}
-use Rattle.std.proofs.lemmas.Option.{same_Some}
-use Rattle.wasm_tree.specs.declared.space.Space.{Space}
-use Rattle.wasm_tree.specs.declared.space.Space.TheVariants.{Functions, Tables, Memories, Globals}
-use Rattle.wasm_tree.specs.declared.types.FuncType.{FuncType}
-use Rattle.wasm_tree.specs.declared.module.ExportDesc.{ExportDesc}
-use Rattle.wasm_tree.specs.declared.module.Module.{Module}
-use Rattle.wasm_tree.specs.Spaces.{imported_funcs, imported_tables, imported_memories, imported_globals, funcs_of, tables_of, memories_of, globals_of, type_of_func, index_of_export, space_of_export}
-use Rattle.wasm_meaning.specs.State.{Inst, Code, Store}
-use Rattle.wasm_meaning.specs.Values.{null_of, declared}
-use Rattle.wasm_meaning.specs.Control.{type_at}
-use Rattle.wasm_meaning.specs.Linking.{imports_of, module_at, Part, Site, Defined, Outside, import_at, is_outside, sites, linked_end, limits_of, met_limits}
-use Rattle.wasm_meaning.specs.Environment.{Environment, ExternalValue, owned_of, all_of}
-use Rattle.wasm_meaning.specs.World.{base, external_value_at, value_of, own_store, stores_from, meets, defined_count, outside_external_value, imported_external_value, is_matched}
+use Rattle.base_lists.proofs.Common.{◌≡◌, ℕ, ◌+◌, ◌-◌, ◌≤◌, List, ◌++◌, length, Some, refl, sym, ap, ap₂, ◌∙◌, arith, zero, suc, ◌<◌, [], ◌∷◌, Option, None, Bool, true, option_and_then, slice_get, slice_index, same_Some, and_then_is, map_from, append_right, filter, and_from, same_tests, is_kept, chosen_from, has_chosen}
+use Rattle.wasm_tree_spec.specs.Prelude.{Space, Functions, Tables, Memories, Globals, FuncType, ExportDesc, Module, imported_funcs, imported_tables, imported_memories, imported_globals, funcs_of, tables_of, memories_of, globals_of, type_of_func, index_of_export, space_of_export, Limits, Import, ImportDesc}
+use Rattle.wasm_meaning.specs.Prelude.{Inst, Code, Store, null_of, declared, type_at, imports_of, module_at, Part, Site, Defined, Outside, import_at, is_outside, sites, linked_end, limits_of, met_limits, Environment, ExternalValue, owned_of, all_of, base, external_value_at, value_of, own_store, stores_from, meets, defined_count, outside_external_value, imported_external_value, is_matched}
 use Rattle.wasm_meaning.proofs.Slices.{copies_length}
-use Rattle.world_simulation.specs.Definitions.{Instantiated, DefinedAt}
+use Rattle.world_simulation.specs.Prelude.{Instantiated, DefinedAt, one, site, external_value_in}
 use Rattle.world_simulation.proofs.Alone.{funcs_counted, tables_counted, memories_counted, globals_counted}
 use Rattle.world_simulation.proofs.Stored.{func_placed, table_placed, memory_placed, global_placed}
-use Rattle.merge_spec.specs.Faults.{External, FuncOf, TableOf, MemoryOf, GlobalOf, external_of, asked, asked_at, stays, link_fault}
+use Rattle.merge_spec.specs.Prelude.{External, FuncOf, TableOf, MemoryOf, GlobalOf, external_of, asked, asked_at, stays, link_fault, map_of, merged_import, merged_desc, joined_module}
 use Rattle.merge_behaves_proof.proofs.MatchTypes.{type_in, Asks, func, asks_by, type_same, limits_in, kept, asked_limits, fits_limits, kept_fits, fits_kept, site_asks, site_fits, fits_site, each_met, met_each}
-use Rattle.base_lists.proofs.Options.{and_then_is}
-use Rattle.base_lists.proofs.Places.{map_from, append_right}
-use Rattle.std.specs.List.{filter}
-use Rattle.std.proofs.lemmas.Bool.{and_from}
-use Rattle.wasm_tree.specs.declared.types.Limits.{Limits}
-use Rattle.wasm_tree.specs.declared.module.Import.{Import}
-use Rattle.wasm_tree.specs.declared.module.ImportDesc.{ImportDesc}
-use Rattle.index_remap.specs.Related.{StoreRel}
+use Rattle.index_remap.specs.Prelude.{StoreRel}
 use Rattle.merge_names.specs.declared.mode.Mode.{Mode}
-use Rattle.merge_spec.specs.Merged.{map_of, merged_import, merged_desc, staying}
-use Rattle.merge_spec.specs.Joined.{joined_module}
+use Rattle.merge_spec.specs.Merged.{staying}
 use Rattle.merge_valid_proof.specs.Ended.{EndsInside, EndsOutside, Ended, inside, outside}
 use Rattle.merge_valid_proof.proofs.Ends.{outside_is}
 use Rattle.merge_valid_proof.proofs.Linked.{import_site}
 use Rattle.merge_valid_proof.proofs.MergedSpaces.{import_is}
 use Rattle.merge_valid_proof.proofs.Same.{site_same}
-use Rattle.world_simulation.specs.Alone.{one, site, external_value_in}
 use Rattle.world_simulation.proofs.Defined.{defined_at}
 use Rattle.world_simulation.proofs.Places.{all_each}
 use Rattle.merge_behaves_proof.specs.Instances.{InstancesAgree}
@@ -44,8 +23,6 @@ use Rattle.merge_behaves_proof.specs.Shared.{sharing}
 use Rattle.merge_behaves_proof.proofs.SpaceLaws.{SpaceLaws}
 use Rattle.merge_behaves_proof.proofs.Counterparts.{outside_rel}
 use Rattle.merge_behaves_proof.proofs.MergedAlone.{IsStaying, staying_is, demand_of, asked_staying, moved_thing, joined_types, joined_imports}
-use Rattle.base_lists.proofs.Bools.{same_tests}
-use Rattle.base_lists.proofs.Filtered.{is_kept, chosen_from, has_chosen}
 use Rattle.wasm_tree.specs.declared.module.ExportDesc.TheVariants as ex
 
 -- ---- what a part defines has the external type that its module says: what is allocated for it has its type, its least size and its maximum ----

@@ -1,35 +1,25 @@
 -- The merged module alone: its imports are those that stay, and denote what these denote in the parts' world; then comes what the parts define.
-use Rattle.std.proofs.Common.{◌≡◌, ◌∙◌, ap, ap₂, sym, refl, ℕ, ◌+◌, List, ◌++◌, map, length, Option, Some, None, true, arith, option_and_then, slice_get}
-use Rattle.wasm_tree.specs.declared.space.Space.{Space}
-use Rattle.wasm_tree.specs.declared.space.Space.TheVariants.{Functions, Tables, Memories, Globals, DataSegments, ElementSegments}
-use Rattle.wasm_tree.specs.Operands.{same_space}
-use Rattle.std.specs.List.{filter_map}
-use Rattle.wasm_tree.specs.declared.module.Import.{Import}
-use Rattle.wasm_tree.specs.declared.module.ImportDesc.{ImportDesc}
+use Rattle.base_lists.proofs.Common.{◌≡◌, ◌∙◌, ap, ap₂, sym, refl, ℕ, ◌+◌, List, ◌++◌, map, length, Option, Some, None, true, arith, option_and_then, slice_get, filter_map, kept_is, and_then_is}
+use Rattle.wasm_tree_spec.specs.Prelude.{Space, Functions, Tables, Memories, Globals, DataSegments, ElementSegments, same_space, Import, ImportDesc, Module, space_of_import}
 use Rattle.wasm_tree.specs.declared.module.ImportDesc.TheVariants as im
-use Rattle.wasm_tree.specs.declared.module.Module.{Module}
-use Rattle.wasm_meaning.specs.State.{Text, Pair}
-use Rattle.wasm_meaning.specs.Linking.{Part, Site, has_kind, pair_of, module_at, import_at, sites}
-use Rattle.wasm_tree.specs.Spaces.{space_of_import}
-use Rattle.wasm_meaning.specs.Environment.{Environment, owned_of}
-use Rattle.wasm_meaning.specs.World.{own_count, defined_count, defined_before, address_of, own_key_of, outside_external_value, all_there, numbers, space}
-use Rattle.index_remap.specs.References.{declared_refs}
+use Rattle.wasm_meaning.specs.Prelude.{Text, Pair, Part, Site, has_kind, pair_of, module_at, import_at, sites, Environment, owned_of, own_count, defined_count, defined_before, address_of, own_key_of, outside_external_value, all_there, numbers, space}
+use Rattle.index_remap.specs.Prelude.{declared_refs}
 use Rattle.world_simulation.proofs.Declared.{Keeps, keeps}
 use Rattle.merge_names.specs.declared.mode.Mode.{Mode}
 use Rattle.merge_names.specs.Names.{new_names}
-use Rattle.merge_spec.specs.Faults.{External, asked, asked_at, link_fault, stays}
-use Rattle.merge_spec.specs.Merged.{merged, merged_types, merged_import, merged_desc, merged_elem, merged_data, map_of, staying, staying_of, imports_kind, export_names}
+use Rattle.merge_spec.specs.Prelude.{External, asked, asked_at, link_fault, stays, merged_types, merged_import, merged_desc, merged_elem, merged_data, map_of, imports_kind, export_names}
+use Rattle.merge_spec.specs.Merged.{merged, staying, staying_of}
 use Rattle.merge_spec.specs.Joined.{joined_module}
 use Rattle.merge_valid_proof.specs.Ended.{Ended, inside, outside, added_count, is_external}
 use Rattle.merge_valid_proof.proofs.MergedSpaces.{types_are, imports_are, import_is}
 use Rattle.merge_valid_proof.proofs.ByPart.{elems_is, datas_is, by_part_many}
-use Rattle.world_simulation.specs.Alone.{one, key_in, external_value_in, address_in, addresses}
+use Rattle.world_simulation.specs.Prelude.{one, key_in, external_value_in, addresses}
+use Rattle.world_simulation.specs.Alone.{address_in}
 use Rattle.world_simulation.proofs.Places.{map_length}
 use Rattle.merge_behaves_proof.proofs.SpaceLaws.{SpaceLaws}
 use Rattle.merge_behaves_proof.proofs.Counterparts.{site_address}
 use Rattle.merge_behaves_proof.proofs.MatchTypes.{Asks, func, asks_by}
-use Rattle.base_lists.proofs.Filtered.{kept_is, at_places, of_chosen}
-use Rattle.base_lists.proofs.Options.{and_then_is}
+use Rattle.base_lists.proofs.Filtered.{at_places, of_chosen}
 
 -- ---- with references declared ----
 

@@ -1,34 +1,20 @@
 -- What the indices, the exports and the view of the parts name, and what the merged module's name.
-use Rattle.std.proofs.Common.{◌≡◌, refl, ℕ, suc, ◌+◌, List, [], ◌∷◌, map, Some, Bool, true, arith, ◌<◌, length, sym, ap, ◌∙◌, slice_get, Option, None}
-use Rattle.std.specs.Prelude.{IsTrue}
-use Rattle.wasm_tree.specs.declared.module.Module.{Module}
-use Rattle.wasm_meaning.specs.Linking.{Part, module_at, Entity}
+use Rattle.base_lists.proofs.Common.{◌≡◌, refl, ℕ, suc, ◌+◌, List, [], ◌∷◌, map, Some, Bool, true, arith, ◌<◌, length, sym, ap, ◌∙◌, slice_get, Option, None, IsTrue, list_all, ltb-true, slice_get_there}
+use Rattle.wasm_tree_spec.specs.Prelude.{Module, Types, Functions, Tables, Memories, Globals, ElementSegments, DataSegments, Instr, ExportDesc, Export}
+use Rattle.wasm_meaning.specs.Prelude.{Part, module_at, Entity, Inst, Text, Environment, address_in, seen_as, alone}
 use Rattle.index_remap.specs.declared.remap.Remap.{Remap}
-use Rattle.std.specs.List.{list_all}
-use Rattle.index_remap.specs.Renumbered.{fits_tree, fits_import, fits_func, fits_global, fits_export, fits_start, has, renumbered_all, fits_all, fits_export_desc, new_export_desc, new_export}
-use Rattle.index_remap.specs.Related.{ListRel, nil, cons, Pairing, OptRel, CodeRel, some}
+use Rattle.index_remap.specs.Prelude.{fits_tree, fits_import, fits_func, fits_global, fits_export, fits_start, has, renumbered_all, fits_all, fits_export_desc, new_export_desc, new_export, ListRel, nil, cons, Pairing, OptRel, CodeRel, some, ExternalValueRel, KeyRel}
 use Rattle.index_remap.proofs.Rel.{append_rel}
-use Rattle.merge_spec.specs.Merged.{map_of, by_part_from, all_exports, named_exports}
+use Rattle.merge_spec.specs.Prelude.{by_part_from, named_exports, joined_module}
+use Rattle.merge_spec.specs.Merged.{map_of, all_exports}
 use Rattle.world_simulation.proofs.Places.{left_true, right_true, map_length, then_rel}
-use Rattle.wasm_tree.specs.declared.space.Space.TheVariants.{Types, Functions, Tables, Memories, Globals, ElementSegments, DataSegments}
-use Rattle.std.proofs.lemmas.Bool.{ltb-true}
-use Rattle.base_lists.proofs.Places.{slice_get_there}
-use Rattle.wasm_tree.specs.declared.instr.Instr.{Instr}
-use Rattle.wasm_meaning.specs.State.{Inst, Text}
-use Rattle.wasm_meaning.specs.Environment.{Environment}
 use Rattle.index_remap_proof.specs.Indices.{with_entry, ExportNamesOnly}
-use Rattle.world_simulation.specs.Named.{EntriesName}
+use Rattle.world_simulation.specs.Prelude.{EntriesName, FuncsCorrespond}
 use Rattle.merge_behaves_proof.specs.Instances.{PartAgrees, InstancesAgree}
 use Rattle.merge_behaves_proof.specs.Shared.{is_shared, sharing}
 use Rattle.merge_behaves_proof.proofs.ValueShared.{names_one}
-use Rattle.wasm_tree.specs.declared.module.ExportDesc.{ExportDesc}
-use Rattle.wasm_meaning.specs.World.{address_in, seen_as, alone}
-use Rattle.index_remap.specs.RelatedRuns.{ExternalValueRel, KeyRel}
 use Rattle.merge_behaves_proof.proofs.ValueGiven.{Laws}
-use Rattle.world_simulation.specs.Definitions.{FuncsCorrespond}
-use Rattle.wasm_tree.specs.declared.module.Export.{Export}
 use Rattle.merge_names.specs.declared.mode.Mode.{Mode}
-use Rattle.merge_spec.specs.Joined.{joined_module}
 use Rattle.merge_spec.specs.View.{all_entities, named_entities, merge_view}
 use Rattle.merge_behaves_proof.proofs.MergedAlone.{joined_keeps, names_of as names_in}
 use Rattle.merge_valid_proof.proofs.Exports.{exports_are}

@@ -1,42 +1,31 @@
 -- The parts of the wrong merges can be joined, so that the law `merged_module_equivalent` speaks of them: a merge that gives a wrong module breaks it.
-use Rattle.std.proofs.Common.{◌≡◌, refl, ap, subst, ◌∙◌, ℕ, zero, suc, List, [], ◌∷◌, Some, None, arith, true}
-use Rattle.std.specs.Prelude.{pos, ◌+◌, length, ◌<◌, ◌^◌, slice_get}
+use Rattle.base_lists.proofs.Common.{◌≡◌, refl, ap, subst, ◌∙◌, ℕ, zero, suc, List, [], ◌∷◌, Some, None, arith, true, pos, ◌+◌, length, ◌<◌, ◌^◌, slice_get, same_Some, slice_get_within}
 use Rattle.wasm_tree.specs.declared.types.RefType.TheVariants as reft
 use Rattle.wasm_tree.specs.declared.types.ValType.TheVariants as valt
-use Rattle.wasm_tree.specs.declared.instr.Instr.{Instr, out-Instr, end_of-Instr, more_of-Instr}
+use Rattle.wasm_tree_spec.specs.Prelude.{Instr, end_of-Instr, more_of-Instr, Func, ConstExpr, Module, IsBounded, local_count, funcs_of, tables_of, memories_of, globals_of, Space, Types}
+use Rattle.wasm_tree.specs.declared.instr.Instr.{out-Instr}
 use Rattle.wasm_tree.specs.declared.instr.Instr.TheVariants as i
-use Rattle.wasm_tree.specs.declared.module.Func.{Func}
-use Rattle.wasm_tree.specs.declared.module.ConstExpr.{ConstExpr}
 use Rattle.wasm_tree.specs.declared.module.ConstExpr.TheVariants as const
-use Rattle.wasm_tree.specs.declared.module.Module.{Module}
-use Rattle.wasm_tree.specs.Bounds.{IsBounded, local_count}
-use Rattle.wasm_tree.specs.Spaces.{funcs_of, tables_of, memories_of, globals_of}
 use Rattle.wasm_valid_bodies.specs.Typing.{Stack, WellTyped, Gives, Drops, Leaves}
 use Rattle.wasm_tree.specs.declared.types.BlockType.TheVariants as bt
 use Rattle.index_remap.proofs.Rows.{loop_is}
-use Rattle.wasm_valid.specs.Constants.{const_type}
-use Rattle.wasm_valid.specs.Validity.{IsValid, body_context}
-use Rattle.wasm_meaning.specs.State.{Text}
-use Rattle.wasm_meaning.specs.Linking.{Part, sites, count_of}
-use Rattle.wasm_meaning.specs.World.{defined_before}
-use Rattle.wasm_tree.specs.declared.space.Space.{Space}
-use Rattle.wasm_tree.specs.declared.space.Space.TheVariants.{Types}
+use Rattle.wasm_valid.specs.Prelude.{const_type, IsValid, body_context}
+use Rattle.wasm_meaning.specs.Prelude.{Text, Part, sites, count_of, defined_before}
 use Rattle.merge_names.specs.declared.mode.Mode.{Mode}
 use Rattle.merge_names.specs.declared.mode.Mode.TheVariants as mode
 use Rattle.merge_names.specs.Names.{conflict_behind}
-use Rattle.merge_spec.specs.Merged.{all_exports, imports_kind}
-use Rattle.merge_spec.specs.Joined.{joined_module, repeated_name, most_added, FewInAll}
+use Rattle.merge_spec.specs.Prelude.{imports_kind, joined_module, FewInAll, link_fault, named_modules}
+use Rattle.merge_spec.specs.Merged.{all_exports}
+use Rattle.merge_spec.specs.Joined.{repeated_name, most_added}
 use Rattle.module_limits.specs.Counts.{over_limit}
 use Rattle.merge_spec.specs.declared.parts.Part as given
 use Rattle.merge_spec.specs.declared.links.End.TheVariants.{Outside}
 use Rattle.merge_spec.specs.declared.links.Links.{Links}
-use Rattle.merge_spec.specs.Faults.{link_fault, kept_limits, stays}
+use Rattle.merge_spec.specs.Faults.{kept_limits, stays}
 use Rattle.merge_spec.specs.Linked.{AreLinks}
-use Rattle.merge_spec.specs.Parts.{named_modules}
 use Rattle.merge_valid_proof.specs.Joinable.{EachPart, CanBeJoined}
 use Rattle.merge_behaves_proof.specs.Laws.{ObservationallyEquivalent}
 use Rattle.merge_behaves_proof.proofs.WrongMerges.{f, g, nothing, from_i32, empty, code, own_func, two_given, two_parts, starting, two_starts, two_starts_merged, two_starts_have_no_fault, two_starts_join, second_dropped, first_alone, second_first, dropped_starts_are_refused, first_starts_alone_are_refused, starts_in_reverse_are_refused, calling, two_types, two_types_with, two_types_have_no_fault, two_types_join, kept_type_indices_are_refused, own_memory, one_memory, one_memory_from, one_memory_has_no_fault, one_memory_joins, first_limits_are_refused, begins_again, never_ending, no_end, without_start, no_end_has_no_fault, no_end_joins, starts_without_end_are_not_left_out}
-use Rattle.std.proofs.lemmas.Option.{same_Some, slice_get_within}
 
 -- ---- what is common ----
 

@@ -1,41 +1,20 @@
 -- The segments of the parts and those of the merged module stand in the same order, and each is copied to the same place; a segment that declares references has no partner.
-use Rattle.std.proofs.Common.{◌≡◌, ℕ, suc, ◌+◌, ◌<◌, List, [], ◌∷◌, ◌++◌, map, length, Some, refl, sym, ap, subst, ◌∙◌, arith, append_assoc, drop, slice_get}
-use Rattle.std.proofs.lemmas.List.{drop-drop, append-nil}
-use Rattle.std.proofs.lemmas.Option.{same_Some, slice_get_within}
-use Rattle.wasm_tree.specs.declared.space.Space.{Space}
-use Rattle.wasm_tree.specs.declared.module.Module.{Module}
-use Rattle.wasm_meaning.specs.State.{Inst}
-use Rattle.wasm_meaning.specs.Linking.{Part, module_at}
-use Rattle.wasm_meaning.specs.Environment.{Environment}
-use Rattle.wasm_meaning.specs.World.{PlacedSegment, segments_in, defined_count, defined_before, numbers, insts_from, placed_elems, placed_datas}
+use Rattle.base_lists.proofs.Common.{◌≡◌, ℕ, suc, ◌+◌, ◌<◌, List, [], ◌∷◌, ◌++◌, map, length, Some, refl, sym, ap, subst, ◌∙◌, arith, append_assoc, drop, slice_get, drop-drop, same_Some, slice_get_within, length-numbers, numbers_at, drop_at, slice_index_is, map_from, lt-ltb}
+use Rattle.std.proofs.lemmas.List.{append-nil}
+use Rattle.wasm_tree_spec.specs.Prelude.{Space, Module, Tables, Memories, ElementSegments, DataSegments, ValType, I32, ConstExpr, ElemMode, ElemSeg, DataMode, DataSeg, tables_of, memories_of}
+use Rattle.wasm_meaning.specs.Prelude.{Inst, Part, module_at, Environment, PlacedSegment, segments_in, defined_count, defined_before, numbers, insts_from, placed_elems, placed_datas}
 use Rattle.wasm_meaning.proofs.Counts.{defined_none, defined_next}
-use Rattle.merge_spec.specs.Merged.{by_part_from, map_of, merged_const, merged_elem, merged_elem_mode, merged_data, merged_data_mode}
-use Rattle.world_simulation.specs.Segments.{InOrder, both, ends, only_second, ElemsPartner, ElemAlone, DatasPartner, offset_in, ElemsInOrder, DatasInOrder}
+use Rattle.merge_spec.specs.Prelude.{by_part_from, merged_const, merged_elem, merged_elem_mode, merged_data, merged_data_mode, joined_module}
+use Rattle.merge_spec.specs.Merged.{map_of}
+use Rattle.world_simulation.specs.Prelude.{InOrder, both, ends, only_second, ElemsPartner, ElemAlone, DatasPartner, offset_in, ElemsInOrder, DatasInOrder, one, Instantiated, values_in}
 use Rattle.world_simulation.proofs.Instancing.{addresses_in}
 use Rattle.world_simulation.proofs.Ordered.{tasks_by, elems_by, datas_by}
 use Rattle.merge_behaves_proof.specs.Instances.{SpaceAgrees, PartAgrees, InstancesAgree}
 use Rattle.merge_behaves_proof.specs.Shared.{shared_count, sharing}
-use Rattle.base_lists.proofs.Numbers.{length-numbers, numbers_at}
-use Rattle.base_lists.proofs.Places.{drop_at, slice_index_is, map_from}
-use Rattle.std.proofs.lemmas.Bool.{lt-ltb}
-use Rattle.wasm_tree.specs.declared.space.Space.TheVariants.{Tables, Memories, ElementSegments, DataSegments}
-use Rattle.wasm_tree.specs.declared.types.ValType.{ValType}
-use Rattle.wasm_tree.specs.declared.types.ValType.TheVariants.{I32}
-use Rattle.wasm_tree.specs.declared.module.ConstExpr.{ConstExpr}
-use Rattle.wasm_tree.specs.declared.module.ElemMode.{ElemMode}
-use Rattle.wasm_tree.specs.declared.module.ElemSeg.{ElemSeg}
-use Rattle.wasm_tree.specs.declared.module.DataMode.{DataMode}
-use Rattle.wasm_tree.specs.declared.module.DataSeg.{DataSeg}
-use Rattle.wasm_tree.specs.Spaces.{tables_of, memories_of}
-use Rattle.wasm_valid.specs.Constants.{const_type}
-use Rattle.wasm_valid.specs.Validity.{ElemModeHolds, DataModeHolds}
-use Rattle.index_remap.specs.Related.{Pairing}
-use Rattle.index_remap.specs.RelatedRuns.{turned, HasNoPartner}
+use Rattle.wasm_valid.specs.Prelude.{const_type, ElemModeHolds, DataModeHolds}
+use Rattle.index_remap.specs.Prelude.{Pairing, turned, HasNoPartner}
 use Rattle.merge_names.specs.declared.mode.Mode.{Mode}
-use Rattle.merge_spec.specs.Joined.{joined_module}
 use Rattle.merge_valid_proof.specs.Joinable.{CanBeJoined}
-use Rattle.world_simulation.specs.Alone.{one}
-use Rattle.world_simulation.specs.Definitions.{Instantiated, values_in}
 use Rattle.world_simulation.proofs.Declared.{last_segments}
 use Rattle.world_simulation.proofs.Places.{map_length}
 use Rattle.world_simulation.proofs.Renamed.{offset_same}

@@ -1,46 +1,25 @@
 -- The functions that the parts start, and what the merged module starts in place of these.
-use Rattle.std.proofs.Common.{◌≡◌, ◌∙◌, ap, ap₂, sym, subst, refl, ℕ, suc, ◌+◌, ◌<◌, List, [], ◌∷◌, ◌++◌, length, Option, Some, None, true, arith, slice_get, ◌-◌, map, Bool, false, cond}
-use Rattle.wasm_tree.specs.declared.space.Space.TheVariants.{Functions}
-use Rattle.std.specs.Prelude.{slice_index, slice_get, option_and_then}
-use Rattle.std.proofs.lemmas.Bool.{ltb-true}
-use Rattle.base_lists.proofs.Places.{append_right, append_left}
-use Rattle.base_lists.proofs.Numbers.{numbers_at}
-use Rattle.wasm_tree.specs.declared.module.Module.{Module}
-use Rattle.wasm_meaning.specs.State.{Inst, RefVal, Code, Table, Memory, Store, Val}
-use Rattle.wasm_meaning.specs.Linking.{Part, module_at, has_kind, imports_of, sites}
-use Rattle.wasm_meaning.specs.Environment.{Environment, FuncAt, all_of}
-use Rattle.wasm_meaning.specs.World.{own_count, defined_before, one_place, start_in, starts_of, insts_from, base, own_store, stores_from, is_matched, Filled, PlacedSegment, copy_slots, run_elem, copy_bytes, run_data, and_then, one_by_one, segments, placed_elems, placed_datas, value_of, run_elem_with, run_data_with}
-use Rattle.index_remap.specs.Renumbered.{fits_start}
-use Rattle.index_remap.specs.Related.{ListRel, nil, cons}
+use Rattle.base_lists.proofs.Common.{◌≡◌, ◌∙◌, ap, ap₂, sym, subst, refl, ℕ, suc, ◌+◌, ◌<◌, List, [], ◌∷◌, ◌++◌, length, Option, Some, None, true, arith, slice_get, ◌-◌, map, Bool, false, cond, slice_index, option_and_then, ltb-true, append_right, append_left, numbers_at, same_Some, slice_get_within, place_of, and_then_is}
+use Rattle.wasm_tree_spec.specs.Prelude.{Functions, Module, FuncType, Call, ElemMode, ElemSeg, DataMode, DataSeg, func_of, imported_funcs, funcs_of, type_of_func, ConstExpr}
+use Rattle.wasm_meaning.specs.Prelude.{Inst, RefVal, Code, Table, Memory, Store, Val, Part, module_at, has_kind, imports_of, sites, Environment, FuncAt, all_of, own_count, defined_before, one_place, start_in, starts_of, insts_from, base, own_store, stores_from, is_matched, Filled, PlacedSegment, copy_slots, run_elem, copy_bytes, run_data, and_then, one_by_one, segments, placed_elems, placed_datas, value_of, run_elem_with, run_data_with, overwrite, declared, type_at}
+use Rattle.index_remap.specs.Prelude.{fits_start, ListRel, nil, cons}
 use Rattle.index_remap.proofs.Rel.{append_rel}
 use Rattle.merge_names.specs.declared.mode.Mode.{Mode}
-use Rattle.merge_spec.specs.Faults.{link_fault, External, FuncOf, asked, asked_at, same_but_limits}
-use Rattle.merge_spec.specs.Merged.{map_of, new_index, start_of, starts, start_among, staying_of, by_part_from, start_calls, defined_funcs, nullary, place_of_type}
-use Rattle.merge_spec.specs.Joined.{joined_module}
+use Rattle.merge_spec.specs.Prelude.{link_fault, External, FuncOf, asked, asked_at, same_but_limits, map_of, new_index, start_of, start_among, staying_of, by_part_from, start_calls, nullary, place_of_type, joined_module}
+use Rattle.merge_spec.specs.Merged.{starts, defined_funcs}
 use Rattle.index_remap.proofs.SlotCalls.{func_type_is}
 use Rattle.merge_valid_proof.proofs.Starts.{start_is, funcs_are}
 use Rattle.merge_valid_proof.specs.Ended.{added_count}
-use Rattle.world_simulation.specs.Alone.{one, site}
+use Rattle.world_simulation.specs.Prelude.{one, site, offset_in}
 use Rattle.merge_behaves_proof.specs.Shared.{shared_count, sharing}
 use Rattle.merge_behaves_proof.specs.Instances.{PartAgrees, InstancesAgree}
 use Rattle.merge_behaves_proof.proofs.SpaceLaws.{SpaceLaws}
 use Rattle.world_simulation.proofs.Instancing.{IsInst, import_address, is_space, Entry, imports, defines, entry_at}
 use Rattle.world_simulation.proofs.Single.{one_inst}
-use Rattle.std.proofs.lemmas.Option.{same_Some, slice_get_within}
 use Rattle.merge_behaves_proof.proofs.ValueShared.{shares}
 use Rattle.merge_behaves_proof.proofs.MergedAlone.{joined_keeps, names_of, joined_types}
 use Rattle.merge_behaves_proof.proofs.Instances.{entry_is, merged_part}
 use Rattle.merge_behaves_proof.proofs.Named.{AllFit, start_fits}
-use Rattle.wasm_tree.specs.declared.types.FuncType.{FuncType}
-use Rattle.wasm_tree.specs.declared.instr.Instr.TheVariants.{Call}
-use Rattle.wasm_tree.specs.declared.module.ElemMode.{ElemMode}
-use Rattle.wasm_tree.specs.declared.module.ElemSeg.{ElemSeg}
-use Rattle.wasm_tree.specs.declared.module.DataMode.{DataMode}
-use Rattle.wasm_tree.specs.declared.module.DataSeg.{DataSeg}
-use Rattle.wasm_tree.specs.Spaces.{func_of, imported_funcs, funcs_of, type_of_func}
-use Rattle.wasm_meaning.specs.Outcomes.{overwrite}
-use Rattle.wasm_meaning.specs.Values.{declared}
-use Rattle.wasm_meaning.specs.Control.{type_at}
 use Rattle.merge_valid_proof.specs.Joinable.{CanBeJoined}
 use Rattle.merge_valid_proof.specs.Started.{StartsTakeNothing}
 use Rattle.merge_behaves_proof.proofs.MatchTypes.{type_in, Fits, site_fits}
@@ -48,12 +27,8 @@ use Rattle.merge_behaves_proof.proofs.Matching.{func_typed}
 use Rattle.merge_valid_proof.proofs.ByPart.{by_part_many, defined_is}
 use Rattle.world_simulation.proofs.Places.{map_length, all_each}
 use Rattle.world_simulation.proofs.Alone.{func_kind, funcs_counted, func_desc, func_thing}
-use Rattle.world_simulation.specs.Segments.{offset_in}
 use Rattle.world_simulation.proofs.Copied.{then_holds}
 use Rattle.world_simulation.proofs.Stored.{func_placed}
-use Rattle.wasm_tree.specs.declared.module.ConstExpr.{ConstExpr}
-use Rattle.base_lists.proofs.Filtered.{place_of}
-use Rattle.base_lists.proofs.Options.{and_then_is}
 use Rattle.wasm_tree.specs.declared.module.ImportDesc.TheVariants as im
 use Rattle.wasm_tree.specs.declared.module.Func as tree
 use Rattle.wasm_tree.specs.declared.module.ElemMode.TheVariants as elem

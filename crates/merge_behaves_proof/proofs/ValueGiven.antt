@@ -1,31 +1,17 @@
 -- What the laws of lower crates say that the values and stores of parts and of their merged module rest on.
-use Rattle.std.specs.Prelude.{◌≡◌, ◌↔◌, ℕ, ◌<◌, List, length, Some, None, true, IsTrue, slice_get}
-use Rattle.std.proofs.Common.{sym, ◌∙◌}
-use Rattle.std.proofs.lemmas.Option.{same_Some, slice_get_within}
-use Rattle.wasm_tree.specs.declared.types.ValType.TheVariants.{Ref}
+use Rattle.base_lists.proofs.Common.{◌≡◌, ◌↔◌, ℕ, ◌<◌, List, length, Some, None, true, IsTrue, slice_get, sym, ◌∙◌, same_Some, slice_get_within}
+use Rattle.wasm_tree_spec.specs.Prelude.{Ref, GlobalDef, ElemSeg, DataSeg, ValType, ConstExpr, Module}
 use Rattle.wasm_tree.specs.declared.module.Func as tree
-use Rattle.wasm_tree.specs.declared.module.GlobalDef.{GlobalDef}
-use Rattle.wasm_tree.specs.declared.module.ElemSeg.{ElemSeg}
-use Rattle.wasm_tree.specs.declared.module.DataSeg.{DataSeg}
 use Rattle.wasm_valid.specs.declared.kinds.ItemKind.TheVariants as kind
-use Rattle.wasm_tree.specs.declared.types.ValType.{ValType}
-use Rattle.wasm_tree.specs.declared.module.ConstExpr.{ConstExpr}
-use Rattle.wasm_tree.specs.declared.module.Module.{Module}
 use Rattle.wasm_valid.specs.declared.kinds.ItemKind.{ItemKind}
-use Rattle.wasm_valid.specs.Constants.{const_type}
-use Rattle.wasm_valid.specs.Validity.{IsValid, HoldsAt, ElemModeHolds, DataModeHolds, count_of}
-use Rattle.wasm_meaning.specs.State.{Inst}
-use Rattle.wasm_meaning.specs.Linking.{Part, Read, module_at, read_of}
-use Rattle.wasm_meaning.specs.Environment.{Environment}
-use Rattle.index_remap.specs.Renumbered.{fits_tree}
-use Rattle.index_remap.specs.Laws.{RenumberedCodeIsRelated}
+use Rattle.wasm_valid.specs.Prelude.{const_type, IsValid, HoldsAt, ElemModeHolds, DataModeHolds, count_of}
+use Rattle.wasm_meaning.specs.Prelude.{Inst, Part, Read, module_at, read_of, Environment}
+use Rattle.index_remap.specs.Prelude.{fits_tree, RenumberedCodeIsRelated}
 use Rattle.world_simulation.specs.Alone.{SpacesAreImportsAndOwn, ReadsStay}
 use Rattle.world_simulation.specs.Named.{FittingCodeIsNamed}
-use Rattle.world_simulation.specs.Owned.{OwnEntitiesCorrespond}
+use Rattle.world_simulation.specs.Prelude.{OwnEntitiesCorrespond}
 use Rattle.merge_names.specs.declared.mode.Mode.{Mode}
-use Rattle.merge_spec.specs.Faults.{link_fault}
-use Rattle.merge_spec.specs.Joined.{joined_module}
-use Rattle.merge_spec.specs.Merged.{map_of}
+use Rattle.merge_spec.specs.Prelude.{link_fault, joined_module, map_of}
 use Rattle.merge_valid_proof.specs.Entries.{HasEntry}
 use Rattle.merge_valid_proof.specs.Joinable.{CanBeJoined, EachPart}
 use Rattle.merge_behaves_proof.specs.Instances.{PartAgrees}

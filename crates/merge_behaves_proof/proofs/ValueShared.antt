@@ -1,18 +1,12 @@
 -- The addresses that both worlds have: each is related to itself, and those of the environment's own entities are among them.
-use Rattle.std.proofs.Common.{◌≡◌, ℕ, ◌<◌, List, true, refl, sym, ◌∙◌, arith, slice_get}
-use Rattle.wasm_tree.specs.declared.space.Space.{Space}
-use Rattle.wasm_tree.specs.declared.space.Space.TheVariants.{Functions, Tables, Memories, Globals}
-use Rattle.std.specs.Prelude.{nat_eq, nat_lt, slice_index}
-use Rattle.std.proofs.lemmas.Bool.{eqb-true, eq-eqb, ltb-true, lt-ltb, and_from}
-use Rattle.wasm_meaning.specs.Linking.{Part}
-use Rattle.wasm_meaning.specs.Environment.{Environment}
-use Rattle.index_remap.specs.Related.{Pairing, OneToOne, OptRel, some}
-use Rattle.index_remap.specs.Renumbered.{has}
+use Rattle.base_lists.proofs.Common.{◌≡◌, ℕ, ◌<◌, List, true, refl, sym, ◌∙◌, arith, slice_get, nat_eq, nat_lt, slice_index, eqb-true, eq-eqb, ltb-true, lt-ltb, and_from, left_true, right_true}
+use Rattle.wasm_tree_spec.specs.Prelude.{Space, Functions, Tables, Memories, Globals}
+use Rattle.wasm_meaning.specs.Prelude.{Part, Environment}
+use Rattle.index_remap.specs.Prelude.{Pairing, OneToOne, OptRel, some, has}
 use Rattle.world_simulation.proofs.Places.{opt_at}
 use Rattle.merge_behaves_proof.specs.Instances.{SpaceAgrees}
-use Rattle.world_simulation.specs.Owned.{SharesOwn, OwnCorrespond, OwnEntitiesCorrespond}
+use Rattle.world_simulation.specs.Prelude.{SharesOwn, OwnCorrespond, OwnEntitiesCorrespond}
 use Rattle.merge_behaves_proof.specs.Shared.{shared_count, is_shared, sharing}
-use Rattle.base_lists.proofs.Bools.{left_true, right_true}
 
 module _ (env : Environment) (parts : List Part) where
   abbrev R : Pairing

@@ -1,33 +1,19 @@
 -- The values of constant expressions of a part, and of what these become in the merged module.
-use Rattle.std.proofs.Common.{◌≡◌, ℕ, zero, suc, ◌+◌, ◌<◌, ◌≤◌, List, [], ◌∷◌, map, length, Option, Some, None, Bool, true, false, cond, refl, ap, ◌∙◌, arith, option_and_then, slice_get}
-use Rattle.wasm_tree.specs.declared.space.Space.{Space}
-use Rattle.wasm_tree.specs.declared.space.Space.TheVariants.{Functions, Globals}
-use Rattle.wasm_tree.specs.declared.module.Import.{Import}
-use Rattle.wasm_tree.specs.declared.module.Module.{Module}
-use Rattle.wasm_tree.specs.Spaces.{imported_funcs, funcs_of}
-use Rattle.wasm_meaning.specs.State.{Inst}
-use Rattle.wasm_meaning.specs.Linking.{Read, places, has_kind, space_index, Part, module_at, read_of}
-use Rattle.wasm_meaning.specs.Environment.{Environment, own_globals}
-use Rattle.wasm_meaning.specs.World.{insts_from, value_of_read, value_of, const_value}
+use Rattle.base_lists.proofs.Common.{◌≡◌, ℕ, zero, suc, ◌+◌, ◌<◌, ◌≤◌, List, [], ◌∷◌, map, length, Option, Some, None, Bool, true, false, cond, refl, ap, ◌∙◌, arith, option_and_then, slice_get, slice_get_past, slice_get_within, length-append, slice_get_there, slice_index, ltb-true}
+use Rattle.wasm_tree_spec.specs.Prelude.{Space, Functions, Globals, Import, Module, imported_funcs, funcs_of, ValType, ConstExpr}
+use Rattle.wasm_meaning.specs.Prelude.{Inst, Read, places, has_kind, space_index, Part, module_at, read_of, Environment, own_globals, insts_from, value_of_read, value_of, const_value}
 use Rattle.world_simulation.proofs.Alone.{funcs_counted}
-use Rattle.world_simulation.specs.Alone.{one, import_places, read_in, ReadsStay}
+use Rattle.world_simulation.specs.Prelude.{one, import_places, read_in}
+use Rattle.world_simulation.specs.Alone.{ReadsStay}
 use Rattle.world_simulation.proofs.Places.{map_length, then_rel, opt_at}
 use Rattle.world_simulation.proofs.Instancing.{is_space, Entry, imports, defines, entry_at, IsInst}
 use Rattle.world_simulation.proofs.Ordered.{inst_at}
-use Rattle.std.proofs.lemmas.Option.{slice_get_past, slice_get_within}
-use Rattle.std.proofs.lemmas.List.{length-append}
-use Rattle.base_lists.proofs.Places.{slice_get_there}
-use Rattle.std.specs.Prelude.{slice_index}
-use Rattle.std.proofs.lemmas.Bool.{ltb-true}
-use Rattle.wasm_tree.specs.declared.types.ValType.{ValType}
-use Rattle.wasm_tree.specs.declared.module.ConstExpr.{ConstExpr}
-use Rattle.wasm_valid.specs.Constants.{const_type}
-use Rattle.index_remap.specs.Renumbered.{new_const, fits_const}
+use Rattle.wasm_valid.specs.Prelude.{const_type}
+use Rattle.index_remap.specs.Prelude.{new_const, fits_const, Pairing, OptRel, some, func, ValRel, number, reference}
 use Rattle.index_remap.proofs.Rel.{get_rel}
-use Rattle.index_remap.specs.Related.{Pairing, OptRel, some, func, ValRel, number, reference}
 use Rattle.merge_names.specs.declared.mode.Mode.{Mode}
-use Rattle.merge_spec.specs.Joined.{joined_module}
-use Rattle.merge_spec.specs.Merged.{map_of, merged_const}
+use Rattle.merge_spec.specs.Prelude.{joined_module, map_of}
+use Rattle.merge_spec.specs.Merged.{merged_const}
 use Rattle.merge_valid_proof.specs.Joinable.{CanBeJoined}
 use Rattle.merge_behaves_proof.specs.Instances.{PartAgrees, InstancesAgree}
 use Rattle.merge_behaves_proof.specs.Shared.{sharing}

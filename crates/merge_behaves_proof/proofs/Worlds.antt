@@ -1,25 +1,14 @@
 -- The world of linked parts and that of their merged module: both are instantiated or neither, and then they have equal traces.
-use Rattle.std.proofs.Common.{option_and_then, ◌≡◌, ◌∙◌, ap, sym, subst, refl, ℕ, ◌+◌, ◌≤◌, List, [], ◌∷◌, length, Option, Some, None, Bool, true, false, cond, arith, append-nil, slice_get}
-use Rattle.wasm_tree.specs.declared.space.Space.TheVariants.{Functions}
-use Rattle.wasm_tree.specs.declared.module.Module.{Module}
-use Rattle.wasm_meaning.specs.State.{Inst, Store}
-use Rattle.wasm_meaning.specs.Control.{type_of_func}
-use Rattle.wasm_meaning.specs.Linking.{Part, sites}
-use Rattle.wasm_meaning.specs.Environment.{Environment, all_of}
-use Rattle.wasm_meaning.specs.World.{Begun, alone, insts_from, own_store, stores_from, is_matched, segments, starts_of, begun, instantiate, is_there, links}
-use Rattle.wasm_meaning.specs.Run.{Event, Move, tick, events_of, IsPrefix, fresh_run}
+use Rattle.base_lists.proofs.Common.{option_and_then, ◌≡◌, ◌∙◌, ap, sym, subst, refl, ℕ, ◌+◌, ◌≤◌, List, [], ◌∷◌, length, Option, Some, None, Bool, true, false, cond, arith, append-nil, slice_get}
+use Rattle.wasm_tree_spec.specs.Prelude.{Functions, Module}
+use Rattle.wasm_meaning.specs.Prelude.{Inst, Store, type_of_func, Part, sites, Environment, all_of, Begun, alone, insts_from, own_store, stores_from, is_matched, segments, starts_of, begun, instantiate, is_there, links, Event, Move, tick, events_of, IsPrefix, fresh_run}
 use Rattle.base_simulation.proofs.Prefixes.{prefix_trans, later}
-use Rattle.index_remap.specs.Related.{Pairing, OptRel, none, some, ListRel, nil, cons, opening}
-use Rattle.index_remap.specs.RelatedRuns.{BegunRel}
-use Rattle.index_remap.specs.Laws.{EntryByEntry}
-use Rattle.world_simulation.specs.Alone.{one}
-use Rattle.world_simulation.specs.Instances.{RelatedBegunHaveEqualTraces}
+use Rattle.index_remap.specs.Prelude.{Pairing, OptRel, none, some, ListRel, nil, cons, opening, BegunRel, EntryByEntry}
+use Rattle.world_simulation.specs.Prelude.{one, RelatedBegunHaveEqualTraces, DefinitionsCorrespond, IsInstantiated, AreSimilar}
 use Rattle.world_simulation.specs.Starts.{NamesStart, CallsEach, OneStartMayCallSeveral}
 use Rattle.world_simulation.proofs.Places.{then_rel, opt_both, all_rel, alike_there}
 use Rattle.merge_names.specs.declared.mode.Mode.{Mode}
-use Rattle.merge_spec.specs.Merged.{starts}
-use Rattle.merge_spec.specs.Joined.{joined_module}
-use Rattle.merge_spec.specs.View.{linked_world}
+use Rattle.merge_spec.specs.Prelude.{starts, joined_module, linked_world}
 use Rattle.merge_valid_proof.specs.Joinable.{CanBeJoined}
 use Rattle.merge_valid_proof.specs.Started.{StartsTakeNothing}
 use Rattle.merge_behaves_proof.specs.Shared.{shared_count, is_shared, sharing}
@@ -33,8 +22,7 @@ use Rattle.world_simulation.proofs.Ordered.{inst_at}
 use Rattle.merge_behaves_proof.proofs.Named.{AllFit, view_agrees}
 use Rattle.merge_behaves_proof.proofs.Segments.{elems_in_order, datas_in_order}
 use Rattle.merge_behaves_proof.proofs.Definitions.{definitions_correspond, stores_both}
-use Rattle.world_simulation.specs.Definitions.{DefinitionsCorrespond}
-use Rattle.world_simulation.specs.Simulation.{IsInstantiated, WhatIsInstantiated, AreSimilar, AllocatedStoresCorrespond, CorrespondingWorldsBeginRelated}
+use Rattle.world_simulation.specs.Simulation.{WhatIsInstantiated, AllocatedStoresCorrespond, CorrespondingWorldsBeginRelated}
 use Rattle.merge_behaves_proof.proofs.Matching.{all_matched}
 use Rattle.merge_behaves_proof.proofs.Starts.{StartsAgree, starts_agree, segments_keep_funcs, caller_code, starts_typed}
 

@@ -1,33 +1,24 @@
 -- Merges that are wrong, of two small parts each, with names: a trace of the parts is no trace of such a module, by computation.
-use Rattle.std.proofs.Common.{◌≡◌, refl, ap, ◌∙◌, ℕ, zero, suc, List, [], ◌∷◌, Bool, true, false, Some, None}
-use Rattle.std.specs.Prelude.{pos, ◌+◌, IsTrue}
+use Rattle.base_lists.proofs.Common.{◌≡◌, refl, ap, ◌∙◌, ℕ, zero, suc, List, [], ◌∷◌, Bool, true, false, Some, None, pos, ◌+◌, IsTrue}
 use Rattle.wasm_tree.specs.declared.types.RefType.TheVariants as reft
 use Rattle.wasm_tree.specs.declared.types.ValType.TheVariants as valt
-use Rattle.wasm_tree.specs.declared.types.FuncType.{FuncType}
+use Rattle.wasm_tree_spec.specs.Prelude.{FuncType, Limits, Instr, fold_out-Instr, the_lemmas, Func, Import, Module}
 use Rattle.wasm_tree.specs.declared.types.BlockType.TheVariants as bt
-use Rattle.wasm_tree.specs.declared.types.Limits.{Limits}
-use Rattle.wasm_tree.specs.declared.instr.Instr.{Instr, fold_out-Instr, out-Instr, the_lemmas}
+use Rattle.wasm_tree.specs.declared.instr.Instr.{out-Instr}
 use Rattle.wasm_tree.specs.declared.instr.Instr.TheVariants as i
-use Rattle.wasm_tree.specs.declared.module.Func.{Func}
-use Rattle.wasm_tree.specs.declared.module.Import.{Import}
 use Rattle.wasm_tree.specs.declared.module.ImportDesc.TheVariants as im
 use Rattle.wasm_tree.specs.declared.module.ConstExpr.TheVariants as const
 use Rattle.wasm_tree.specs.declared.module.ElemMode.TheVariants as elem
-use Rattle.wasm_tree.specs.declared.module.Module.{Module}
 use Rattle.wasm_num.specs.Operations.{wrapped}
-use Rattle.wasm_meaning.specs.State.{Text, Level, Running, Opening}
-use Rattle.wasm_meaning.specs.Linking.{Part, same_text}
-use Rattle.wasm_meaning.specs.Environment.{Environment, Offer, is_environment}
-use Rattle.wasm_meaning.specs.World.{alone, instantiate}
+use Rattle.wasm_meaning.specs.Prelude.{Text, Level, Running, Opening, Part, same_text, Environment, Offer, is_environment, alone, instantiate, Event, Linked, LinkFault, InstanceTrapped, Asked, BadMove, Move, Answer, Run, IsPrefix, fresh_run, tick, events}
 use Rattle.base_simulation.specs.Machines.{events_of, state_after}
-use Rattle.wasm_meaning.specs.Run.{Event, Linked, LinkFault, InstanceTrapped, Asked, BadMove, Move, Answer, Run, IsPrefix, fresh_run, tick, events}
 use Rattle.merge_names.specs.declared.mode.Mode.TheVariants as mode
 use Rattle.merge_spec.specs.Faults.{link_fault, import_fault, stays, kept_limits, clash_fault, memory_count, memory_fault, defined_globals, global_fault}
 use Rattle.merge_spec.specs.Merged.{staying, staying_of, place_of_end, new_index, merged_types, place_of_type, map_of, merged_const, merged_import, starts, defined_funcs, all_exports, merged}
 use Rattle.merge_spec.specs.Joined.{joined_module}
 use Rattle.merge_spec.specs.declared.parts.Part as given
-use Rattle.merge_spec.specs.Parts.{named_modules}
-use Rattle.merge_spec.specs.View.{linked_world, all_entities, merge_view}
+use Rattle.merge_spec.specs.Prelude.{named_modules, linked_world}
+use Rattle.merge_spec.specs.View.{all_entities, merge_view}
 use Rattle.merge_behaves_proof.specs.Laws.{ObservationallyEquivalent}
 
 -- ---- what is common ----

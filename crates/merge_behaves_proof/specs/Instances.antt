@@ -1,13 +1,8 @@
 -- The instances of the parts, and the instance of the merged module.
 use Rattle.std.specs.Prelude.{◌≡◌, ℕ, ◌<◌, List, [], ◌∷◌, length, slice_index, Some, slice_get}
-use Rattle.wasm_tree.specs.declared.space.Space.{Space}
-use Rattle.wasm_tree.specs.declared.space.Space.TheVariants.{Functions, Tables, Memories, Globals, ElementSegments, DataSegments}
-use Rattle.wasm_tree.specs.declared.types.FuncType.{FuncType}
-use Rattle.wasm_tree.specs.declared.module.Module.{Module}
-use Rattle.wasm_meaning.specs.State.{Inst}
-use Rattle.wasm_meaning.specs.Linking.{Part, module_at}
-use Rattle.wasm_meaning.specs.Environment.{Environment}
-use Rattle.merge_spec.specs.Merged.{map_of}
+use Rattle.wasm_tree_spec.specs.Prelude.{Space, Functions, Tables, Memories, Globals, ElementSegments, DataSegments, FuncType, Module}
+use Rattle.wasm_meaning.specs.Prelude.{Inst, Part, module_at, Environment}
+use Rattle.merge_spec.specs.Prelude.{map_of}
 use Rattle.merge_behaves_proof.specs.Shared.{shared_count}
 
 -- an index of a part and its entry name one address, which both worlds have

@@ -1,12 +1,9 @@
 -- That a merged module behaves as its parts linked by name.
 use Rattle.std.specs.Prelude.{◌+◌, List}
-use Rattle.wasm_tree.specs.declared.module.Module.{Module}
-use Rattle.wasm_meaning.specs.Linking.{Part}
-use Rattle.wasm_meaning.specs.World.{alone}
-use Rattle.wasm_meaning.specs.Run.{Same, events}
+use Rattle.wasm_tree_spec.specs.Prelude.{Module}
+use Rattle.wasm_meaning.specs.Prelude.{Part, alone, Same, events}
 use Rattle.merge_names.specs.declared.mode.Mode.{Mode}
-use Rattle.merge_spec.specs.Joined.{joined_module}
-use Rattle.merge_spec.specs.View.{linked_world}
+use Rattle.merge_spec.specs.Prelude.{joined_module, linked_world}
 use Rattle.merge_valid_proof.specs.Joinable.{CanBeJoined}
 
 -- In every environment, whatever is seen of the parts, linked by name, in n steps is seen of this module alone in n + 4, and the other way round. The 4 covers

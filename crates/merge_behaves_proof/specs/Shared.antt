@@ -1,12 +1,9 @@
 -- The addresses that parts which are linked by name and their merged module both have: those of the environment's entities, and of what the parts define.
 -- They are the same numbers, since both allocate what the parts define by part.
 use Rattle.std.specs.Prelude.{ℕ, length, List, [], Bool, nat_eq, nat_lt, ◌&&◌}
-use Rattle.wasm_tree.specs.declared.space.Space.{Space}
-use Rattle.wasm_meaning.specs.Linking.{Part}
-use Rattle.wasm_meaning.specs.Environment.{Environment}
-use Rattle.wasm_meaning.specs.World.{base}
-use Rattle.index_remap.specs.Related.{Pairing}
-use Rattle.index_remap.specs.Laws.{passed}
+use Rattle.wasm_tree_spec.specs.Prelude.{Space}
+use Rattle.wasm_meaning.specs.Prelude.{Part, Environment, base}
+use Rattle.index_remap.specs.Prelude.{Pairing, passed}
 
 -- how many there are
 abbrev pub shared_count : Environment → List Part → Space → ℕ

@@ -1,13 +1,8 @@
 -- A body with other indices keeps its other numbers.
-use Rattle.std.proofs.Common.{◌≡◌, ℕ, true, List, [], ◌∷◌, map, refl, ◌∙◌, rules}
-use Rattle.std.proofs.lemmas.Bool.{and_from}
-use Rattle.base_lists.proofs.Bools.{right_true}
-use Rattle.wasm_tree.specs.declared.space.Space.{Space}
-use Rattle.wasm_tree.specs.declared.instr.Instr.{Instr, the_lemmas}
-use Rattle.wasm_tree.specs.declared.instr.Instr.TheVariants.{Call}
-use Rattle.wasm_tree.specs.Operands.{mapped_all, all_operands_pass}
+use Rattle.base_lists.proofs.Common.{◌≡◌, ℕ, true, List, [], ◌∷◌, map, refl, ◌∙◌, rules, and_from, right_true}
+use Rattle.wasm_tree_spec.specs.Prelude.{Space, Instr, the_lemmas, Call, mapped_all, all_operands_pass}
 use Rattle.index_remap.specs.declared.remap.Remap.{Remap}
-use Rattle.index_remap.specs.Renumbered.{entry, renumbered_all}
+use Rattle.index_remap.specs.Prelude.{entry, renumbered_all}
 use Rattle.wasm_write_proof.specs.Ranges.{small_operand, numbers_in, all_numbers_in, all_in_range}
 
 abbrev pub NumbersStay : Type 0

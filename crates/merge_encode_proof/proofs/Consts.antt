@@ -1,24 +1,15 @@
 -- The constant expressions of a merged module have numbers that stand in some part.
-use Rattle.std.proofs.Common.{◌≡◌, ℕ, zero, suc, ◌-◌, List, length, Option, Some, None, refl, subst, option_and_then, slice_get, unwrap_or}
-use Rattle.base_lists.proofs.Options.{and_then_is}
-use Rattle.base_lists.proofs.Each.{every_at}
-use Rattle.wasm_tree.specs.declared.space.Space.TheVariants.{Globals}
-use Rattle.wasm_tree.specs.declared.module.ConstExpr.{ConstExpr}
+use Rattle.base_lists.proofs.Common.{◌≡◌, ℕ, zero, suc, ◌-◌, List, length, Option, Some, None, refl, subst, option_and_then, slice_get, unwrap_or, and_then_is, every_at}
+use Rattle.wasm_tree_spec.specs.Prelude.{Globals, ConstExpr, GlobalDef, ElemMode, ElemSeg, DataMode, DataSeg, Module, index_of_export}
 use Rattle.wasm_tree.specs.declared.module.ConstExpr.TheVariants as const
-use Rattle.wasm_tree.specs.declared.module.GlobalDef.{GlobalDef}
-use Rattle.wasm_tree.specs.declared.module.ElemMode.{ElemMode}
 use Rattle.wasm_tree.specs.declared.module.ElemMode.TheVariants as elem
-use Rattle.wasm_tree.specs.declared.module.ElemSeg.{ElemSeg}
-use Rattle.wasm_tree.specs.declared.module.DataMode.{DataMode}
 use Rattle.wasm_tree.specs.declared.module.DataMode.TheVariants as segment
-use Rattle.wasm_tree.specs.declared.module.DataSeg.{DataSeg}
-use Rattle.wasm_tree.specs.declared.module.Module.{Module}
-use Rattle.wasm_meaning.specs.Paths.{PathStep, EndsWith, LeadsTo, walk, walk_on}
-use Rattle.wasm_meaning.specs.Linking.{Part, Site, End, Defined, Outside, Entity, Read, module_at, imports_of, space_index, initial, end_step, end_of, global_import, expr_step, read_step, initials_from, read_of}
-use Rattle.wasm_tree.specs.Spaces.{index_of_export}
+use Rattle.wasm_meaning.specs.Prelude.{PathStep, EndsWith, LeadsTo, walk, walk_on, Part, Site, End, Defined, Outside, Entity, Read, module_at, imports_of, space_index, initial, end_step, end_of, global_import, read_step, initials_from, read_of}
+use Rattle.wasm_meaning.specs.Linking.{expr_step}
 use Rattle.index_remap.specs.declared.remap.Remap.{Remap}
-use Rattle.index_remap.specs.Renumbered.{new_const}
-use Rattle.merge_spec.specs.Merged.{map_of, merged_read, merged_const, merged_global, merged_elem_mode, merged_elem, merged_data_mode, merged_data}
+use Rattle.index_remap.specs.Prelude.{new_const}
+use Rattle.merge_spec.specs.Prelude.{map_of, merged_read, merged_global, merged_elem_mode, merged_elem, merged_data_mode, merged_data}
+use Rattle.merge_spec.specs.Merged.{merged_const}
 use Rattle.wasm_write_proof.specs.Ranges.{ConstInRange, ElemModeInRange, ElemInRange, DataModeInRange, InRange}
 use Rattle.merge_encode_proof.proofs.Numbers.{ConstNumberInRange, ElemOffsetInRange, ElemNumbersInRange, DataOffsetInRange}
 use Rattle.merge_encode_proof.proofs.Lists.{every_map, at_part}

@@ -1,14 +1,9 @@
 -- The limits of what stays imported are in range.
-use Rattle.std.proofs.Common.{◌≡◌, ℕ, ◌<◌, ◌^◌, Bool, true, false, cond, List, [], ◌∷◌, Option, Some, None, refl, subst, arith, max, min, option_and_then, slice_get}
-use Rattle.base_lists.proofs.Options.{and_then_is}
-use Rattle.base_lists.proofs.Each.{every_at}
-use Rattle.wasm_tree.specs.declared.types.Limits.{Limits}
-use Rattle.wasm_tree.specs.declared.module.ImportDesc.{ImportDesc}
+use Rattle.base_lists.proofs.Common.{◌≡◌, ℕ, ◌<◌, ◌^◌, Bool, true, false, cond, List, [], ◌∷◌, Option, Some, None, refl, subst, arith, max, min, option_and_then, slice_get, and_then_is, every_at}
+use Rattle.wasm_tree_spec.specs.Prelude.{Limits, ImportDesc, Import, Module}
 use Rattle.wasm_tree.specs.declared.module.ImportDesc.TheVariants as im
-use Rattle.wasm_tree.specs.declared.module.Import.{Import}
-use Rattle.wasm_tree.specs.declared.module.Module.{Module}
 use Rattle.base_lists.specs.Every.{Every}
-use Rattle.wasm_meaning.specs.Linking.{Part, Site, module_at, import_at, sites, linked_end, is_outside, limits_of, consed, demands, least, met, met_limits}
+use Rattle.wasm_meaning.specs.Prelude.{Part, Site, module_at, import_at, sites, linked_end, is_outside, limits_of, consed, demands, least, met, met_limits}
 use Rattle.wasm_write_proof.specs.Ranges.{MaxInRange, LimitsInRange, ImportDescInRange, ImportInRange, InRange}
 use Rattle.merge_encode_proof.proofs.Lists.{at_part}
 

@@ -1,12 +1,9 @@
 -- What is so of each part is so of what is looked up in the parts.
-use Rattle.std.proofs.Common.{◌≡◌, ℕ, suc, List, [], ◌∷◌, ◌++◌, map, Option, Some, None, refl, subst, slice_get}
-use Rattle.std.specs.List.{filter_map, flat_map, cons_option}
-use Rattle.base_lists.proofs.Options.{and_then_is}
-use Rattle.base_lists.proofs.Each.{every_at}
-use Rattle.wasm_tree.specs.declared.module.Module.{Module}
+use Rattle.base_lists.proofs.Common.{◌≡◌, ℕ, suc, List, [], ◌∷◌, ◌++◌, map, Option, Some, None, refl, subst, slice_get, filter_map, flat_map, cons_option, and_then_is, every_at}
+use Rattle.wasm_tree_spec.specs.Prelude.{Module}
 use Rattle.base_lists.specs.Every.{Every}
-use Rattle.wasm_meaning.specs.Linking.{Part, module_at}
-use Rattle.merge_spec.specs.Merged.{by_part_from}
+use Rattle.wasm_meaning.specs.Prelude.{Part, module_at}
+use Rattle.merge_spec.specs.Prelude.{by_part_from}
 use Rattle.merge_spec.proofs.FaultParts.{every_append}
 
 pub every_map : {A B : Type 0} (P : A → Type 0) (Q : B → Type 0) (f : A → B) → ((x : A) → P x → Q (f x)) → (xs : List A) → Every P xs → Every Q (map f xs)

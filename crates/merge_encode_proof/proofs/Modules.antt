@@ -1,25 +1,16 @@
 -- The merged module keeps the numbers of its parts.
-use Rattle.std.proofs.Common.{◌≡◌, ℕ, List, [], ◌∷◌, map, Option, Some, subst, option_and_then}
-use Rattle.std.specs.Prelude.{IsUtf8}
-use Rattle.base_lists.proofs.Options.{and_then_is}
-use Rattle.wasm_tree.specs.declared.types.TableType.{TableType}
+use Rattle.base_lists.proofs.Common.{◌≡◌, ℕ, List, [], ◌∷◌, map, Option, Some, subst, option_and_then, IsUtf8, and_then_is}
+use Rattle.wasm_tree_spec.specs.Prelude.{TableType, ImportDesc, Import, Export, Func, GlobalDef, DataSeg, Module}
 use Rattle.wasm_tree.specs.declared.module.ConstExpr.TheVariants as const
-use Rattle.wasm_tree.specs.declared.module.ImportDesc.{ImportDesc}
 use Rattle.wasm_tree.specs.declared.module.ImportDesc.TheVariants as im
-use Rattle.wasm_tree.specs.declared.module.Import.{Import}
-use Rattle.wasm_tree.specs.declared.module.Export.{Export}
-use Rattle.wasm_tree.specs.declared.module.Func.{Func}
-use Rattle.wasm_tree.specs.declared.module.GlobalDef.{GlobalDef}
-use Rattle.wasm_tree.specs.declared.module.DataSeg.{DataSeg}
-use Rattle.wasm_tree.specs.declared.module.Module.{Module}
 use Rattle.base_lists.specs.Every.{Every}
-use Rattle.wasm_meaning.specs.Linking.{Part, Site, module_at, import_at}
+use Rattle.wasm_meaning.specs.Prelude.{Part, Site, module_at, import_at}
 use Rattle.index_remap.specs.declared.remap.Remap.{Remap}
-use Rattle.index_remap.specs.Renumbered.{new_func, new_export}
-use Rattle.index_remap.specs.References.{declaring, with_declared, declared_refs}
+use Rattle.index_remap.specs.Prelude.{new_func, new_export, declaring, with_declared, declared_refs}
 use Rattle.merge_names.specs.declared.mode.Mode.{Mode}
 use Rattle.merge_names.specs.Names.{new_names}
-use Rattle.merge_spec.specs.Merged.{staying, map_of, merged_desc, merged_import, merged_global, merged_elem, merged_data, starts, start_calls, defined_funcs, all_exports, export_names, merged}
+use Rattle.merge_spec.specs.Prelude.{staying, map_of, merged_desc, merged_global, merged_elem, merged_data, starts, start_calls, export_names}
+use Rattle.merge_spec.specs.Merged.{merged_import, defined_funcs, all_exports, merged}
 use Rattle.merge_spec.specs.Joined.{joined_module}
 use Rattle.wasm_write_proof.specs.Ranges.{LimitsInRange, ConstInRange, ExportInRange, ElemInRange, DataModeInRange, FuncInRange, InRange}
 use Rattle.merge_encode_proof.proofs.Numbers.{ConstNumberInRange, ImportLimitsInRange, ImportNumbersInRange, FuncNumbersInRange, ElemNumbersInRange, DataOffsetInRange, NumbersInRange}

@@ -1,16 +1,13 @@
 -- The names of the exports of a merge are UTF-8.
-use Rattle.std.proofs.Common.{◌≡◌, ℕ, zero, suc, ◌<◌, ◌/◌, ◌%◌, arith, Bool, true, false, cond, List, [], ◌∷◌, ◌++◌, map, length, decimal, Option, Some, None}
-use Rattle.std.specs.Prelude.{IsUtf8, nat_lt, ◌==◌}
-use Rattle.std.specs.Str.{IsAscii}
+use Rattle.base_lists.proofs.Common.{◌≡◌, ℕ, zero, suc, ◌<◌, ◌/◌, ◌%◌, arith, Bool, true, false, cond, List, [], ◌∷◌, ◌++◌, map, length, decimal, Option, Some, None, IsUtf8, nat_lt, ◌==◌, IsAscii, nat_tests, IsUtf8-from_ascii}
 use Rattle.std.specs.Fmt.{digits, digits_onto, digit_glyph}
-use Rattle.std.proofs.lemmas.Bool.Decides.{nat_tests}
-use Rattle.std.proofs.lemmas.Str.{IsUtf8-append, IsUtf8-from_ascii}
-use Rattle.wasm_tree.specs.declared.module.Export.{Export}
+use Rattle.std.proofs.lemmas.Str.{IsUtf8-append}
+use Rattle.wasm_tree_spec.specs.Prelude.{Export}
 use Rattle.base_lists.specs.Every.{Every}
 use Rattle.merge_names.specs.declared.mode.Mode.{Mode}
 use Rattle.merge_names.specs.declared.mode.Mode.TheVariants.{Refuse, Rename, Skip}
 use Rattle.merge_names.specs.Names.{among, numbered, least_free, new_name, renamed_behind, kept_behind, new_names}
-use Rattle.merge_spec.specs.Merged.{named_exports}
+use Rattle.merge_spec.specs.Prelude.{named_exports}
 
 abbrev pub NameIn : Option (List ℕ) → Type 0
 NameIn None = Unit {0}

@@ -1,23 +1,11 @@
 -- What validity does not bound: the numbers of a tree that are no indices of its index spaces, and its names.
-use Rattle.std.specs.Prelude.{IsTrue, IsUtf8}
-use Rattle.wasm_bytes.specs.Numbers.{IsWithin}
-use Rattle.wasm_tree.specs.declared.types.TableType.{TableType}
-use Rattle.wasm_tree.specs.declared.module.ImportDesc.{ImportDesc}
+use Rattle.base_lists.proofs.Common.{IsTrue, IsUtf8}
+use Rattle.wasm_bytes.specs.Prelude.{IsWithin}
+use Rattle.wasm_tree_spec.specs.Prelude.{TableType, ImportDesc, Import, Export, ConstExpr, GlobalDef, ElemMode, ElemSeg, DataMode, DataSeg, LocalGroup, Func, Module}
 use Rattle.wasm_tree.specs.declared.module.ImportDesc.TheVariants as import
-use Rattle.wasm_tree.specs.declared.module.Import.{Import}
-use Rattle.wasm_tree.specs.declared.module.Export.{Export}
-use Rattle.wasm_tree.specs.declared.module.ConstExpr.{ConstExpr}
 use Rattle.wasm_tree.specs.declared.module.ConstExpr.TheVariants as const
-use Rattle.wasm_tree.specs.declared.module.GlobalDef.{GlobalDef}
-use Rattle.wasm_tree.specs.declared.module.ElemMode.{ElemMode}
 use Rattle.wasm_tree.specs.declared.module.ElemMode.TheVariants as elem
-use Rattle.wasm_tree.specs.declared.module.ElemSeg.{ElemSeg}
-use Rattle.wasm_tree.specs.declared.module.DataMode.{DataMode}
 use Rattle.wasm_tree.specs.declared.module.DataMode.TheVariants as segment
-use Rattle.wasm_tree.specs.declared.module.DataSeg.{DataSeg}
-use Rattle.wasm_tree.specs.declared.module.LocalGroup.{LocalGroup}
-use Rattle.wasm_tree.specs.declared.module.Func.{Func}
-use Rattle.wasm_tree.specs.declared.module.Module.{Module}
 use Rattle.base_lists.specs.Every.{Every}
 use Rattle.wasm_write_proof.specs.Ranges.{all_numbers_in, IsU32, LimitsInRange}
 

@@ -1,11 +1,9 @@
 -- What the law of merged modules asks of the parts holds of some, and not of all.
-use Rattle.std.proofs.Common.{◌≡◌, refl, sym, ◌∙◌, ℕ, [], ◌∷◌, List, None, Bool, true, false, ◌&&◌, arith}
+use Rattle.base_lists.proofs.Common.{◌≡◌, refl, sym, ◌∙◌, ℕ, [], ◌∷◌, List, None, Bool, true, false, ◌&&◌, arith}
 use Rattle.base_lists.specs.Every.{Every}
-use Rattle.wasm_tree.specs.declared.instr.Instr.{out-Instr, fold_out-Instr}
-use Rattle.wasm_tree.specs.declared.instr.Instr.TheVariants.{Br}
-use Rattle.wasm_tree.specs.declared.module.Module.{Module}
-use Rattle.wasm_meaning.specs.Linking.{Part}
-use Rattle.wasm_tree.specs.Operands.{all_pass_step}
+use Rattle.wasm_tree_spec.specs.Prelude.{fold_out-Instr, Br, Module, all_pass_step}
+use Rattle.wasm_tree.specs.declared.instr.Instr.{out-Instr}
+use Rattle.wasm_meaning.specs.Prelude.{Part}
 use Rattle.wasm_write_proof.specs.Ranges.{InRange, all_in_range, number_step, small, small_operand}
 
 -- a part whose one function branches to this label

@@ -1,15 +1,11 @@
 -- Lists that are joined by part, read at a place and made one part after the other.
-use Rattle.std.proofs.Common.{◌≡◌, ◌∙◌, sym, ap, refl, ℕ, zero, suc, ◌+◌, ◌<◌, ◌≤◌, List, [], ◌∷◌, ◌++◌, length, map, take, arith, slice_get, slice_index, Some, append_assoc, append-nil}
+use Rattle.base_lists.proofs.Common.{◌≡◌, ◌∙◌, sym, ap, refl, ℕ, zero, suc, ◌+◌, ◌<◌, ◌≤◌, List, [], ◌∷◌, ◌++◌, length, map, take, arith, slice_get, slice_index, Some, append_assoc, append-nil, length-map, length-append, take_all, flat_map, slice_get-map, slice_get_within, get_or_from_slice_get}
 use Rattle.std.specs.Option.{option_map}
-use Rattle.std.proofs.lemmas.List.{length-map, length-append, take_all}
-use Rattle.std.specs.List.{flat_map}
-use Rattle.std.proofs.lemmas.Option.{slice_get-map, slice_get_within, get_or_from_slice_get}
-use Rattle.wasm_tree.specs.declared.module.Module.{Module}
-use Rattle.wasm_meaning.specs.Linking.{Part, Site, module_at, sites_in}
+use Rattle.wasm_tree_spec.specs.Prelude.{Module}
+use Rattle.wasm_meaning.specs.Prelude.{Part, Site, module_at, sites_in}
 use Rattle.merge_spec.specs.declared.parts.Part as declared
-use Rattle.merge_spec.specs.Parts.{named_module, named_modules}
-use Rattle.merge_spec.specs.Linked.{by_import_from, by_import}
-use Rattle.merge_spec.specs.Merged.{by_part_from, by_part}
+use Rattle.merge_spec.specs.Prelude.{named_module, named_modules, by_import, by_part_from, by_part}
+use Rattle.merge_spec.specs.Linked.{by_import_from}
 use Rattle.merge_join.specs.LinkedParts.{site, each_part}
 use Rattle.wasm_meaning.proofs.Counts.{module_there}
 use Rattle.merge_valid_proof.proofs.ByPart.{by_part_flat}

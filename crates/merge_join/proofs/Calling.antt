@@ -1,14 +1,9 @@
 -- The function that calls several.
-use Rattle.std.proofs.Common.{◌≡◌, ◌∙◌, ap, ℕ, ◌≤◌, List, [], ◌∷◌, length, map, arith, unwrap_or}
-use Rattle.wasm_tree.specs.declared.types.ValType.{ValType}
-use Rattle.wasm_tree.specs.declared.types.FuncType.{FuncType}
-use Rattle.wasm_tree.specs.declared.module.LocalGroup.{LocalGroup}
-use Rattle.wasm_tree.specs.declared.module.Func.{Func}
-use Rattle.wasm_tree.specs.declared.instr.Instr.{Instr}
-use Rattle.wasm_tree.specs.declared.instr.Instr.TheVariants.{Call}
-use Rattle.wasm_meaning.specs.Linking.{Part, first_place}
-use Rattle.wasm_tree.specs.SameTypes.{same_func_type}
-use Rattle.merge_spec.specs.Merged.{merged_types, place_of_type, nullary, start_calls}
+use Rattle.base_lists.proofs.Common.{◌≡◌, ◌∙◌, ap, ℕ, ◌≤◌, List, [], ◌∷◌, length, map, arith, unwrap_or}
+use Rattle.wasm_tree_spec.specs.Prelude.{ValType, FuncType, LocalGroup, Func, Instr, Call, same_func_type}
+use Rattle.wasm_meaning.specs.Prelude.{Part, first_place}
+use Rattle.merge_spec.specs.Prelude.{merged_types, nullary, start_calls}
+use Rattle.merge_spec.specs.Merged.{place_of_type}
 
 abbrev function : ℕ → List LocalGroup → List Instr → Func
 function ty locals body = record { ty = ty; locals = locals; body = body }

@@ -1,18 +1,11 @@
 -- How many stay or are defined before a place.
-use Rattle.std.proofs.Common.{◌≡◌, ◌∙◌, sym, ap, refl, ℕ, zero, suc, ◌+◌, ◌<◌, ◌≤◌, List, [], ◌∷◌, ◌++◌, length, take, arith, Bool, true, false, cond, Some, append_assoc, append-nil}
-use Rattle.wasm_tree.specs.declared.space.Space.{Space}
+use Rattle.base_lists.proofs.Common.{◌≡◌, ◌∙◌, sym, ap, refl, ℕ, zero, suc, ◌+◌, ◌<◌, ◌≤◌, List, [], ◌∷◌, ◌++◌, length, take, arith, Bool, true, false, cond, Some, append_assoc, append-nil, flat_map, length-append, take_all, filter-append}
+use Rattle.wasm_tree_spec.specs.Prelude.{Space, Types, Module}
 use Rattle.std.specs.Prelude.{filter}
-use Rattle.std.specs.List.{flat_map}
-use Rattle.wasm_tree.specs.declared.space.Space.TheVariants.{Types}
-use Rattle.std.proofs.lemmas.List.{length-append, take_all}
-use Rattle.std.proofs.lemmas.List.Elements.{filter-append}
-use Rattle.wasm_tree.specs.declared.module.Module.{Module}
-use Rattle.wasm_meaning.specs.World.{defined_count, defined_before}
-use Rattle.wasm_meaning.specs.Linking.{Part, Site, module_at, sites_in, sites_from, sites}
+use Rattle.wasm_meaning.specs.Prelude.{defined_count, defined_before, Part, Site, module_at, sites_in, sites_from, sites}
 use Rattle.merge_spec.specs.declared.parts.Part as declared
-use Rattle.merge_spec.specs.Parts.{named_modules}
-use Rattle.merge_spec.specs.Faults.{stays}
-use Rattle.merge_spec.specs.Merged.{staying, staying_of, imports_kind}
+use Rattle.merge_spec.specs.Prelude.{named_modules, stays, imports_kind}
+use Rattle.merge_spec.specs.Merged.{staying, staying_of}
 use Rattle.base_lists.specs.Places.{count_of}
 use Rattle.merge_join.specs.LinkedParts.{site}
 use Rattle.merge_join.specs.Spaces.{picked, sites_before, count_before}

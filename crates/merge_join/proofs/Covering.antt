@@ -1,17 +1,11 @@
 -- The map of a part has an entry for each index of the part's index spaces.
-use Rattle.std.proofs.Common.{◌≡◌, ◌∙◌, sym, ap, subst, ℕ, ◌<◌, List, [], ◌∷◌, length, arith, Some}
-use Rattle.base_lists.proofs.Numbers.{length-numbers, map_numbers_index}
-use Rattle.wasm_tree.specs.declared.space.Space.TheVariants.{Functions}
-use Rattle.std.specs.Prelude.{slice_index, IsTrue, nat_lt}
-use Rattle.std.proofs.lemmas.Bool.Decides.{nat_tests}
-use Rattle.std.proofs.lemmas.List.{length-map}
-use Rattle.wasm_tree.specs.declared.module.Module.{Module}
-use Rattle.wasm_tree.specs.Spaces.{funcs_of}
-use Rattle.wasm_meaning.specs.World.{numbers}
-use Rattle.wasm_meaning.specs.Linking.{Part}
+use Rattle.base_lists.proofs.Common.{◌≡◌, ◌∙◌, sym, ap, subst, ℕ, ◌<◌, List, [], ◌∷◌, length, arith, Some, length-numbers, map_numbers_index, slice_index, IsTrue, nat_lt, nat_tests, length-map}
+use Rattle.wasm_tree_spec.specs.Prelude.{Functions, Module, funcs_of}
+use Rattle.wasm_meaning.specs.Prelude.{numbers, Part}
 use Rattle.index_remap.specs.declared.remap.Remap.{Remap}
-use Rattle.index_remap.specs.Renumbered.{fits_start, fits_tree}
-use Rattle.merge_spec.specs.Merged.{map_of, new_index, start_of}
+use Rattle.index_remap.specs.Prelude.{fits_start, fits_tree}
+use Rattle.merge_spec.specs.Prelude.{new_index, start_of}
+use Rattle.merge_spec.specs.Merged.{map_of}
 use Rattle.merge_join.proofs.Holding.{fitting}
 
 -- the new index of a function of the part

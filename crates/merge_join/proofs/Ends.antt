@@ -1,15 +1,14 @@
 -- Ends as they are written down.
-use Rattle.std.proofs.Common.{◌≡◌, ap, refl, ℕ, List, Bool, false, Option, Some, None, eqb, arith}
-use Rattle.wasm_tree.specs.declared.space.Space.{Space}
+use Rattle.base_lists.proofs.Common.{◌≡◌, ap, refl, ℕ, List, Bool, false, Option, Some, None, arith, nat_tests}
+use Rattle.std.proofs.Common.{eqb}
+use Rattle.wasm_tree_spec.specs.Prelude.{Space, index_of_export}
 use Rattle.std.specs.Option.{option_map, unwrap_or}
-use Rattle.std.proofs.lemmas.Bool.Decides.{nat_tests}
 use Rattle.wasm_meaning.specs.Linking as linking
-use Rattle.wasm_meaning.specs.Linking.{Part, Site, Entity, linked_end, is_outside, same_site}
-use Rattle.wasm_tree.specs.Spaces.{index_of_export}
+use Rattle.wasm_meaning.specs.Prelude.{Part, Site, Entity, linked_end, is_outside, same_site}
 use Rattle.merge_spec.specs.declared.links.End.{End}
 use Rattle.merge_spec.specs.declared.links.End.TheVariants.{Defined, Outside}
 use Rattle.merge_spec.specs.Faults.{stays}
-use Rattle.merge_spec.specs.Linked.{end_entry}
+use Rattle.merge_spec.specs.Prelude.{end_entry}
 use Rattle.merge_spec.specs.Merged.{place_of_end}
 use Rattle.merge_join.specs.LinkedParts.{site, place_at}
 

@@ -1,16 +1,13 @@
 -- The exports of all parts.
-use Rattle.std.proofs.Common.{◌≡◌, ◌∙◌, sym, ap, refl, ℕ, zero, suc, ◌+◌, ◌≤◌, List, [], ◌∷◌, ◌++◌, length, map, take, arith, slice_get, Option, Some, None, append_assoc, option_and_then}
-use Rattle.std.proofs.lemmas.List.{length-map, map-append, length-append, length-take-le}
-use Rattle.std.proofs.lemmas.Option.{slice_get_within}
-use Rattle.wasm_tree.specs.declared.module.Module.{Module}
-use Rattle.wasm_tree.specs.declared.module.Export.{Export}
-use Rattle.wasm_meaning.specs.State.{Text}
-use Rattle.wasm_meaning.specs.Linking.{Part, module_at}
+use Rattle.base_lists.proofs.Common.{◌≡◌, ◌∙◌, sym, ap, refl, ℕ, zero, suc, ◌+◌, ◌≤◌, List, [], ◌∷◌, ◌++◌, length, map, take, arith, slice_get, Option, Some, None, append_assoc, option_and_then, length-map, map-append, length-append, length-take-le, slice_get_within}
+use Rattle.wasm_tree_spec.specs.Prelude.{Module, Export}
+use Rattle.wasm_meaning.specs.Prelude.{Text, Part, module_at}
 use Rattle.index_remap.specs.declared.remap.Remap.{Remap}
-use Rattle.index_remap.specs.Renumbered.{new_export}
+use Rattle.index_remap.specs.Prelude.{new_export}
 use Rattle.merge_names.specs.declared.mode.Mode.{Mode}
 use Rattle.merge_names.specs.Names.{conflict}
-use Rattle.merge_spec.specs.Merged.{map_of, by_part_from, all_exports, export_names, named_exports}
+use Rattle.merge_spec.specs.Prelude.{map_of, by_part_from, export_names, named_exports}
+use Rattle.merge_spec.specs.Merged.{all_exports}
 use Rattle.merge_spec.specs.Joined.{repeated_name}
 use Rattle.merge_join.proofs.ByPart.{part_push}
 

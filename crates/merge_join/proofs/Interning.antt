@@ -1,14 +1,8 @@
 -- Types that are added where they are not there yet, looked up by their texts.
-use Rattle.std.proofs.Common.{◌≡◌, ◌∙◌, sym, ap, refl, inl, inr, ℕ, suc, ◌+◌, List, [], ◌∷◌, ◌++◌, length, arith, ◌≤◌, Bool, true, false, cond, is_some, Option, Some, None, ◌||◌}
-use Rattle.std.specs.List.{list_any}
-use Rattle.std.specs.Str.{bytes_eq}
-use Rattle.std.proofs.lemmas.Bool.{cases_Bool}
-use Rattle.std.proofs.lemmas.List.{length_push}
-use Rattle.std.proofs.lemmas.Slice.Eq.{bytes_eq-Decides}
-use Rattle.wasm_tree.specs.declared.types.FuncType.{FuncType}
-use Rattle.wasm_meaning.specs.Linking.{first_place}
-use Rattle.wasm_tree.specs.SameTypes.{same_func_type}
-use Rattle.merge_spec.specs.Merged.{with_type, with_types}
+use Rattle.base_lists.proofs.Common.{◌≡◌, ◌∙◌, sym, ap, refl, inl, inr, ℕ, suc, ◌+◌, List, [], ◌∷◌, ◌++◌, length, arith, ◌≤◌, Bool, true, false, cond, is_some, Option, Some, None, ◌||◌, list_any, bytes_eq, cases_Bool, length_push, bytes_eq-Decides}
+use Rattle.wasm_tree_spec.specs.Prelude.{FuncType, same_func_type}
+use Rattle.wasm_meaning.specs.Prelude.{first_place}
+use Rattle.merge_spec.specs.Prelude.{with_type, with_types}
 use Rattle.merge_join.specs.Texts.{text_of_type}
 use Rattle.merge_join.proofs.TypeTexts.{same_by_text}
 

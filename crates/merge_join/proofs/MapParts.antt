@@ -1,16 +1,11 @@
 -- The map of a part, from its lists.
-use Rattle.std.proofs.Common.{◌≡◌, ◌∙◌, sym, ap, subst, ℕ, List, length, map, Some, unwrap_or}
-use Rattle.wasm_tree.specs.declared.space.Space.TheVariants.{Functions, Tables, Memories, Globals, DataSegments, ElementSegments}
-use Rattle.wasm_tree.specs.declared.module.Module.{Module}
-use Rattle.wasm_tree.specs.Spaces.{funcs_of, tables_of, memories_of, globals_of}
-use Rattle.wasm_meaning.specs.World.{numbers, defined_before}
-use Rattle.wasm_meaning.specs.Linking.{Part, module_at, first_place}
-use Rattle.wasm_tree.specs.SameTypes.{same_func_type}
+use Rattle.base_lists.proofs.Common.{◌≡◌, ◌∙◌, sym, ap, subst, ℕ, List, length, map, Some, unwrap_or}
+use Rattle.wasm_tree_spec.specs.Prelude.{Functions, Tables, Memories, Globals, DataSegments, ElementSegments, Module, funcs_of, tables_of, memories_of, globals_of, same_func_type, Space}
+use Rattle.wasm_meaning.specs.Prelude.{numbers, defined_before, Part, module_at, first_place}
 use Rattle.index_remap.specs.declared.remap.Remap.{Remap}
 use Rattle.merge_spec.specs.declared.parts.Part as declared
-use Rattle.merge_spec.specs.Parts.{named_modules}
-use Rattle.merge_spec.specs.Merged.{new_index, merged_types, place_of_type, map_of}
-use Rattle.wasm_tree.specs.declared.space.Space.{Space}
+use Rattle.merge_spec.specs.Prelude.{named_modules, new_index, merged_types}
+use Rattle.merge_spec.specs.Merged.{place_of_type, map_of}
 use Rattle.merge_join.specs.LinkedParts.{space_size}
 use Rattle.merge_join.proofs.SpaceSizes.{funcs_size, tables_size, memories_size, globals_size}
 

@@ -1,29 +1,12 @@
 -- The merged module, from its lists.
-use Rattle.std.proofs.Common.{◌≡◌, ◌∙◌, ap, ap₂, refl, ℕ, suc, ◌+◌, ◌<◌, ◌≤◌, ◌^◌, List, [], ◌∷◌, ◌++◌, length, map, arith, Option, Some, None, false, is_some, option_and_then, unwrap_or, slice_get}
-use Rattle.wasm_tree.specs.declared.space.Space.TheVariants.{Functions}
-use Rattle.std.specs.List.{filter_map}
-use Rattle.std.proofs.lemmas.List.{length-append, length-map}
-use Rattle.wasm_tree.specs.declared.types.FuncType.{FuncType}
-use Rattle.wasm_tree.specs.declared.types.TableType.{TableType}
-use Rattle.wasm_tree.specs.declared.types.Limits.{Limits}
-use Rattle.wasm_tree.specs.declared.module.Import.{Import}
-use Rattle.wasm_tree.specs.declared.module.Func.{Func}
-use Rattle.wasm_tree.specs.declared.module.GlobalDef.{GlobalDef}
-use Rattle.wasm_tree.specs.declared.module.Export.{Export}
-use Rattle.wasm_tree.specs.declared.module.ElemSeg.{ElemSeg}
-use Rattle.wasm_tree.specs.declared.module.DataSeg.{DataSeg}
-use Rattle.wasm_tree.specs.declared.module.Module.{Module}
-use Rattle.wasm_tree.specs.declared.module.ImportDesc.{ImportDesc}
+use Rattle.base_lists.proofs.Common.{◌≡◌, ◌∙◌, ap, ap₂, refl, ℕ, suc, ◌+◌, ◌<◌, ◌≤◌, ◌^◌, List, [], ◌∷◌, ◌++◌, length, map, arith, Option, Some, None, false, is_some, option_and_then, unwrap_or, slice_get, filter_map, length-append, length-map}
+use Rattle.wasm_tree_spec.specs.Prelude.{Functions, FuncType, TableType, Limits, Import, Func, GlobalDef, Export, ElemSeg, DataSeg, Module, ImportDesc, same_space, func_of, imported_funcs, funcs_of, space_of_import}
 use Rattle.wasm_tree.specs.declared.module.ImportDesc.TheVariants as im
-use Rattle.wasm_tree.specs.Operands.{same_space}
-use Rattle.wasm_tree.specs.Spaces.{func_of, imported_funcs, funcs_of, space_of_import}
 use Rattle.base_lists.proofs.Filtered.{as_many, chosen_twice}
-use Rattle.wasm_meaning.specs.State.{Text}
-use Rattle.wasm_meaning.specs.World.{defined_before}
-use Rattle.wasm_meaning.specs.Linking.{Part, Site, has_kind, module_at}
-use Rattle.index_remap.specs.Renumbered.{new_func}
-use Rattle.merge_spec.specs.Merged.{staying, staying_of, imports_kind, merged_desc, merged_import, by_part_from, defined_funcs, map_of, starts, start_calls, merged}
-use Rattle.merge_spec.specs.Joined.{FewInAll}
+use Rattle.wasm_meaning.specs.Prelude.{Text, defined_before, Part, Site, has_kind, module_at}
+use Rattle.index_remap.specs.Prelude.{new_func}
+use Rattle.merge_spec.specs.Prelude.{staying, imports_kind, merged_desc, by_part_from, map_of, starts, start_calls, FewInAll}
+use Rattle.merge_spec.specs.Merged.{staying_of, merged_import, defined_funcs, merged}
 use Rattle.merge_join.specs.Planned.{IsFrame, IsMoved}
 use Rattle.merge_join.proofs.Counts.{staying_few}
 

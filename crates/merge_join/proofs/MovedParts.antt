@@ -1,33 +1,17 @@
 -- What is moved of a part is what the merged module has of it.
-use Rattle.std.proofs.Common.{◌≡◌, ◌∙◌, ap, ap₂, sym, subst, refl, ℕ, suc, ◌+◌, ◌≤◌, List, [], ◌∷◌, ◌++◌, map, take, length, Some, None, Option, slice_get, slice_index, unwrap_or, option_and_then, arith}
-use Rattle.std.proofs.lemmas.Option.{slice_get_within}
-use Rattle.std.proofs.lemmas.List.{take_all}
-use Rattle.base_lists.proofs.Places.{map_at}
-use Rattle.wasm_tree.specs.declared.module.ConstExpr.{ConstExpr}
+use Rattle.base_lists.proofs.Common.{◌≡◌, ◌∙◌, ap, ap₂, sym, subst, refl, ℕ, suc, ◌+◌, ◌≤◌, List, [], ◌∷◌, ◌++◌, map, take, length, Some, None, Option, slice_get, slice_index, unwrap_or, option_and_then, arith, slice_get_within, take_all, map_at}
+use Rattle.wasm_tree_spec.specs.Prelude.{ConstExpr, GlobalDef, Func, TableType, Limits, RefType, ElemMode, ElemSeg, DataMode, DataSeg, Module, ValType, I32, Ref}
 use Rattle.wasm_tree.specs.declared.module.ConstExpr.TheVariants as const
-use Rattle.wasm_tree.specs.declared.module.GlobalDef.{GlobalDef}
-use Rattle.wasm_tree.specs.declared.module.Func.{Func}
-use Rattle.wasm_tree.specs.declared.types.TableType.{TableType}
-use Rattle.wasm_tree.specs.declared.types.Limits.{Limits}
-use Rattle.wasm_tree.specs.declared.types.RefType.{RefType}
-use Rattle.wasm_tree.specs.declared.module.ElemMode.{ElemMode}
 use Rattle.wasm_tree.specs.declared.module.ElemMode.TheVariants as elem
-use Rattle.wasm_tree.specs.declared.module.ElemSeg.{ElemSeg}
-use Rattle.wasm_tree.specs.declared.module.DataMode.{DataMode}
 use Rattle.wasm_tree.specs.declared.module.DataMode.TheVariants as data'
-use Rattle.wasm_tree.specs.declared.module.DataSeg.{DataSeg}
-use Rattle.wasm_tree.specs.declared.module.Module.{Module}
-use Rattle.wasm_tree.specs.declared.types.ValType.{ValType}
-use Rattle.wasm_tree.specs.declared.types.ValType.TheVariants.{I32, Ref}
-use Rattle.wasm_valid.specs.Constants.{const_type}
+use Rattle.wasm_valid.specs.Prelude.{const_type, IsValid, ElemModeHolds, DataModeHolds}
 use Rattle.wasm_valid.specs.declared.kinds.ItemKind.TheVariants as kind
-use Rattle.wasm_valid.specs.Validity.{IsValid, ElemModeHolds, DataModeHolds}
-use Rattle.wasm_meaning.specs.Linking.{Part, module_at}
+use Rattle.wasm_meaning.specs.Prelude.{Part, module_at}
 use Rattle.index_remap.specs.declared.remap.Remap.{Remap}
-use Rattle.index_remap.specs.Renumbered.{new_func}
+use Rattle.index_remap.specs.Prelude.{new_func}
 use Rattle.merge_spec.specs.declared.parts.Part as declared
-use Rattle.merge_spec.specs.Parts.{named_module, named_modules}
-use Rattle.merge_spec.specs.Merged.{by_part_from, map_of, defined_funcs, merged_const, merged_global, merged_elem_mode, merged_elem, merged_data_mode, merged_data}
+use Rattle.merge_spec.specs.Prelude.{named_module, named_modules, by_part_from, map_of, merged_const, merged_global, merged_elem_mode, merged_elem, merged_data_mode, merged_data}
+use Rattle.merge_spec.specs.Merged.{defined_funcs}
 use Rattle.merge_join.specs.Reads.{HasType}
 use Rattle.merge_join.specs.Moved.{moved_const, moved_global, moved_elem_mode, moved_elem, moved_data_mode, moved_data, with_moved, AreValues}
 use Rattle.merge_join.specs.Planned.{IsMoved}

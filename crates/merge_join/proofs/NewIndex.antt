@@ -1,16 +1,12 @@
 -- The new index of an entry of a part's index space.
-use Rattle.std.proofs.Common.{◌≡◌, ◌∙◌, sym, ap, refl, ℕ, zero, suc, ◌+◌, ◌≤◌, List, [], ◌∷◌, ◌++◌, length, map, take, arith, slice_get, Bool, true, false, cond, Option, Some, None, option_and_then, unwrap_or}
-use Rattle.base_lists.proofs.Numbers.{numbers_append}
-use Rattle.wasm_tree.specs.declared.space.Space.{Space}
+use Rattle.base_lists.proofs.Common.{◌≡◌, ◌∙◌, sym, ap, refl, ℕ, zero, suc, ◌+◌, ◌≤◌, List, [], ◌∷◌, ◌++◌, length, map, take, arith, slice_get, Bool, true, false, cond, Option, Some, None, option_and_then, unwrap_or, numbers_append, map-append}
+use Rattle.wasm_tree_spec.specs.Prelude.{Space, Module}
 use Rattle.std.specs.Option.{option_map}
-use Rattle.std.proofs.lemmas.List.{map-append}
-use Rattle.wasm_tree.specs.declared.module.Module.{Module}
-use Rattle.wasm_meaning.specs.World.{defined_before, numbers}
+use Rattle.wasm_meaning.specs.Prelude.{defined_before, numbers, Part, Site, places, module_at, imports_of, linked_end}
 use Rattle.wasm_meaning.specs.Linking as linking
-use Rattle.wasm_meaning.specs.Linking.{Part, Site, places, module_at, imports_of, linked_end}
 use Rattle.merge_spec.specs.declared.links.End.{End}
-use Rattle.merge_spec.specs.Linked.{end_entry}
-use Rattle.merge_spec.specs.Merged.{staying_of, place_of_end, place_of_entry, new_index}
+use Rattle.merge_spec.specs.Prelude.{end_entry, staying_of, place_of_end}
+use Rattle.merge_spec.specs.Merged.{place_of_entry, new_index}
 use Rattle.merge_join.specs.LinkedParts.{site, place_at}
 use Rattle.merge_join.proofs.Ends.{place_is}
 use Rattle.merge_valid_proof.proofs.Entries.{count_is}

@@ -1,8 +1,7 @@
 -- What the outcome of joining says.
-use Rattle.std.proofs.Common.{◌≡◌, ◌∙◌, ap, refl, Option, Some, None, Ok, Err}
-use Rattle.wasm_tree.specs.declared.which.Which.{Which}
-use Rattle.wasm_tree.specs.declared.module.Module.{Module}
-use Rattle.wasm_meaning.specs.State.{Text}
+use Rattle.base_lists.proofs.Common.{◌≡◌, ◌∙◌, ap, refl, Option, Some, None, Ok, Err}
+use Rattle.wasm_tree_spec.specs.Prelude.{Which, Module}
+use Rattle.wasm_meaning.specs.Prelude.{Text}
 use Rattle.merge_spec.specs.declared.faults.JoinFault.TheVariants.{ExportConflict, TooMany}
 use Rattle.merge_spec.specs.Joined.{outcome}
 

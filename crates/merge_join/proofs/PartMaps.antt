@@ -1,11 +1,9 @@
 -- The parts of what is joined and their maps, at a place.
-use Rattle.std.proofs.Common.{◌≡◌, ◌∙◌, sym, ap, ℕ, List, length, slice_get, get_or, Some}
-use Rattle.std.proofs.lemmas.Option.{get_or_from_slice_get}
-use Rattle.wasm_tree.specs.declared.module.Module.{Module}
-use Rattle.wasm_meaning.specs.Linking.{Part, module_at}
+use Rattle.base_lists.proofs.Common.{◌≡◌, ◌∙◌, sym, ap, ℕ, List, length, slice_get, get_or, Some, get_or_from_slice_get}
+use Rattle.wasm_tree_spec.specs.Prelude.{Module}
+use Rattle.wasm_meaning.specs.Prelude.{Part, module_at}
 use Rattle.index_remap.specs.declared.remap.Remap.{Remap}
-use Rattle.merge_spec.specs.Parts.{named_modules}
-use Rattle.merge_spec.specs.Merged.{map_of}
+use Rattle.merge_spec.specs.Prelude.{named_modules, map_of}
 use Rattle.merge_join.specs.declared.mapped_parts.MappedParts.{MappedParts}
 use Rattle.merge_join.specs.LinkedParts.{HaveTheirMaps}
 use Rattle.merge_join.proofs.ByPart.{named_length, each_at, each_length}

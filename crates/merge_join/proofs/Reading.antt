@@ -1,32 +1,19 @@
 -- What a constant expression of a part becomes, by what is read through the part's imported globals.
-use Rattle.std.proofs.Common.{◌≡◌, ◌∙◌, ap, sym, subst, refl, ℕ, zero, suc, ◌+◌, ◌<◌, List, [], ◌∷◌, ◌++◌, length, Option, Some, None, Bool, true, false, cond, ◌&&◌, not, nat_lt, arith, slice_get, get_or, option_and_then, unwrap_or, is_some}
-use Rattle.wasm_tree.specs.declared.space.Space.TheVariants.{Globals}
+use Rattle.base_lists.proofs.Common.{◌≡◌, ◌∙◌, ap, sym, subst, refl, ℕ, zero, suc, ◌+◌, ◌<◌, List, [], ◌∷◌, ◌++◌, length, Option, Some, None, Bool, true, false, cond, ◌&&◌, not, nat_lt, arith, slice_get, get_or, option_and_then, unwrap_or, is_some, cons_option, ltb-true, slice_get-map, slice_get_within, get_or_from_slice_get, and_then_is}
+use Rattle.wasm_tree_spec.specs.Prelude.{Globals, ValType, GlobalType, Import, ImportDesc, ConstExpr, Module, globals_of, global_of, imported_globals}
 use Rattle.std.specs.Option.{option_map}
-use Rattle.std.specs.List.{cons_option}
-use Rattle.std.proofs.lemmas.Bool.{ltb-true}
-use Rattle.std.proofs.lemmas.Option.{slice_get-map, slice_get_within, get_or_from_slice_get}
-use Rattle.base_lists.proofs.Options.{and_then_is}
-use Rattle.wasm_tree.specs.declared.types.ValType.{ValType}
-use Rattle.wasm_tree.specs.declared.types.GlobalType.{GlobalType}
-use Rattle.wasm_tree.specs.declared.module.Import.{Import}
-use Rattle.wasm_tree.specs.declared.module.ImportDesc.{ImportDesc}
 use Rattle.wasm_tree.specs.declared.module.ImportDesc.TheVariants as im
-use Rattle.wasm_tree.specs.declared.module.ConstExpr.{ConstExpr}
 use Rattle.wasm_tree.specs.declared.module.ConstExpr.TheVariants as const
-use Rattle.wasm_tree.specs.declared.module.Module.{Module}
-use Rattle.wasm_tree.specs.Spaces.{globals_of, global_of, imported_globals}
 use Rattle.wasm_valid_bodies.specs.Typing.{only}
-use Rattle.wasm_valid.specs.Constants.{const_type}
-use Rattle.wasm_valid.specs.Validity.{IsValid}
+use Rattle.wasm_valid.specs.Prelude.{const_type, IsValid}
 use Rattle.wasm_meaning.specs.Linking as linking
-use Rattle.wasm_meaning.specs.Linking.{Part, Site, places, has_kind, space_index, module_at, import_at, imports_of, read_of}
-use Rattle.index_remap.specs.Renumbered.{new_const}
+use Rattle.wasm_meaning.specs.Prelude.{Part, Site, places, has_kind, space_index, module_at, import_at, imports_of, read_of}
+use Rattle.index_remap.specs.Prelude.{new_const}
 use Rattle.index_remap_proof.proofs.Lists.{left_true, right_true, only_true}
 use Rattle.merge_spec.specs.declared.links.Read.{Read}
-use Rattle.merge_spec.specs.Parts.{named_modules}
-use Rattle.merge_spec.specs.Faults.{link_fault}
-use Rattle.merge_spec.specs.Linked.{read_entry, when_fixed, read_at_desc, read_at}
-use Rattle.merge_spec.specs.Merged.{map_of, merged_read, merged_const}
+use Rattle.merge_spec.specs.Prelude.{named_modules, link_fault, read_entry, when_fixed, read_at, map_of, merged_read}
+use Rattle.merge_spec.specs.Linked.{read_at_desc}
+use Rattle.merge_spec.specs.Merged.{merged_const}
 use Rattle.merge_valid_proof.specs.Entries.{HasEntry}
 use Rattle.merge_valid_proof.specs.Joinable.{EachPart}
 use Rattle.merge_join.specs.declared.mapped_parts.MappedParts.{MappedParts}

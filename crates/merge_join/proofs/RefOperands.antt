@@ -1,22 +1,13 @@
 -- What `ref.func` names in code, as operands of the code, and in code with other indices.
-use Rattle.std.proofs.Common.{◌≡◌, ◌∙◌, refl, sym, ap, ap₂, ℕ, Bool, true, false, ◌&&◌, ◌||◌, not, List, [], ◌∷◌, ◌++◌, map, slice_index}
-use Rattle.std.specs.List.{flat_map, list_all}
-use Rattle.std.proofs.lemmas.List.Folds.{list_all-append}
-use Rattle.std.proofs.lemmas.Bool.{and_from, and_parts}
+use Rattle.base_lists.proofs.Common.{◌≡◌, ◌∙◌, refl, sym, ap, ap₂, ℕ, Bool, true, false, ◌&&◌, ◌||◌, not, List, [], ◌∷◌, ◌++◌, map, slice_index, flat_map, list_all, list_all-append, and_from, and_parts}
 use Rattle.base_lists.specs.Every.{Every}
-use Rattle.wasm_tree.specs.declared.space.Space.{Space}
-use Rattle.wasm_tree.specs.declared.space.Space.TheVariants.{Functions}
-use Rattle.wasm_tree.specs.declared.space.Operand.{Operand}
-use Rattle.wasm_tree.specs.declared.types.BlockType.{BlockType}
+use Rattle.wasm_tree_spec.specs.Prelude.{Space, Functions, Operand, BlockType, Instr, fold_out-Instr, map-Instr, out-Instr, same_space, operands, operands_of, block_operands, held, operands_pass, all_operands_pass}
 use Rattle.wasm_tree.specs.declared.types.BlockType.TheVariants as block
-use Rattle.wasm_tree.specs.declared.instr.Instr.{Instr, fold_out-Instr, map-Instr, out-Instr}
 use Rattle.wasm_tree.specs.declared.instr.Instr.TheOpen.{Instr-F}
-use Rattle.wasm_tree.specs.Operands.{same_space, operands, operands_of, block_operands, held, operands_pass, all_operands_pass}
 use Rattle.wasm_tree.specs.OperandLaws.{moved}
 use Rattle.wasm_tree.proofs.OperandLaws.{operands_map, held_map, passes_inside, by_held, mapped_code_passes}
 use Rattle.index_remap.specs.declared.remap.Remap.{Remap}
-use Rattle.index_remap.specs.Renumbered.{entry, entries, has, has_entry, fits_all, renumbered_all}
-use Rattle.index_remap.specs.References.{refs, refs_all, refs_step}
+use Rattle.index_remap.specs.Prelude.{entry, entries, has, has_entry, fits_all, renumbered_all, refs, refs_all, refs_step}
 
 -- whether a function passes, where the operand is one that `ref.func` names
 abbrev ref_passes : (ℕ → Bool) → Operand → Bool

@@ -1,9 +1,7 @@
 -- Rows with an entry for each import, read at an import.
-use Rattle.std.proofs.Common.{◌≡◌, ◌∙◌, sym, ap, refl, ℕ, zero, suc, ◌<◌, List, [], ◌∷◌, length, map, arith, slice_get, get_or, Option, Some, None}
-use Rattle.std.proofs.lemmas.List.{length-map}
-use Rattle.std.proofs.lemmas.Option.{slice_get_within, get_or_from_slice_get}
-use Rattle.wasm_meaning.specs.Linking.{Part, Site, sites_in}
-use Rattle.merge_spec.specs.Linked.{by_import}
+use Rattle.base_lists.proofs.Common.{◌≡◌, ◌∙◌, sym, ap, refl, ℕ, zero, suc, ◌<◌, List, [], ◌∷◌, length, map, arith, slice_get, get_or, Option, Some, None, length-map, slice_get_within, get_or_from_slice_get}
+use Rattle.wasm_meaning.specs.Prelude.{Part, Site, sites_in}
+use Rattle.merge_spec.specs.Prelude.{by_import}
 use Rattle.merge_join.specs.LinkedParts.{site, IsSite}
 use Rattle.merge_join.proofs.ByPart.{row_at, entry_at, sites_in_length}
 

@@ -1,15 +1,10 @@
 -- The imports of all parts, one after the other, and those of a kind that stay.
-use Rattle.std.proofs.Common.{◌≡◌, ◌∙◌, sym, ap, refl, inl, inr, ℕ, zero, suc, ◌+◌, ◌-◌, ◌<◌, ◌≤◌, List, [], ◌∷◌, ◌++◌, length, take, arith, slice_get, Bool, true, false, cond, Some, None, append_assoc, ◌&&◌}
-use Rattle.wasm_tree.specs.declared.space.Space.{Space}
+use Rattle.base_lists.proofs.Common.{◌≡◌, ◌∙◌, sym, ap, refl, inl, inr, ℕ, zero, suc, ◌+◌, ◌-◌, ◌<◌, ◌≤◌, List, [], ◌∷◌, ◌++◌, length, take, arith, slice_get, Bool, true, false, cond, Some, None, append_assoc, ◌&&◌, cases_Bool, nat_tests, length-append, filter-append}
+use Rattle.wasm_tree_spec.specs.Prelude.{Space, Module}
 use Rattle.std.specs.Prelude.{filter}
-use Rattle.std.proofs.lemmas.Bool.{cases_Bool}
-use Rattle.std.proofs.lemmas.Bool.Decides.{nat_tests}
-use Rattle.std.proofs.lemmas.List.{length-append}
-use Rattle.std.proofs.lemmas.List.Elements.{filter-append}
-use Rattle.wasm_tree.specs.declared.module.Module.{Module}
-use Rattle.wasm_meaning.specs.Linking.{Part, Site, places, module_at, same_site, first_place, sites_in, sites_from, sites}
-use Rattle.merge_spec.specs.Faults.{stays}
-use Rattle.merge_spec.specs.Merged.{by_part, staying, staying_of, imports_kind}
+use Rattle.wasm_meaning.specs.Prelude.{Part, Site, places, module_at, same_site, first_place, sites_in, sites_from, sites}
+use Rattle.merge_spec.specs.Prelude.{stays, by_part, imports_kind}
+use Rattle.merge_spec.specs.Merged.{staying, staying_of}
 use Rattle.merge_join.specs.LinkedParts.{site}
 use Rattle.merge_join.specs.Spaces.{staying_place, picked, sites_before, count_before}
 use Rattle.merge_valid_proof.proofs.Linked.{sites_are}

@@ -1,12 +1,7 @@
 -- The sizes of the index spaces, by what is imported and what is defined.
-use Rattle.std.proofs.Common.{◌≡◌, ◌∙◌, sym, ap, arith, ◌+◌, List, length, map}
-use Rattle.wasm_tree.specs.declared.space.Space.TheVariants.{Functions, Tables, Memories, Globals}
-use Rattle.std.proofs.lemmas.List.{length-append, length-map}
-use Rattle.base_lists.proofs.Filtered.{places_many}
-use Rattle.wasm_tree.specs.declared.module.Import.{Import}
-use Rattle.wasm_tree.specs.declared.module.Module.{Module}
-use Rattle.wasm_tree.specs.Spaces.{func_of, table_of, memory_of, global_of, imported_funcs, imported_tables, imported_memories, imported_globals, funcs_of, tables_of, memories_of, globals_of}
-use Rattle.wasm_meaning.specs.Linking.{places, has_kind}
+use Rattle.base_lists.proofs.Common.{◌≡◌, ◌∙◌, sym, ap, arith, ◌+◌, List, length, map, length-append, length-map, places_many}
+use Rattle.wasm_tree_spec.specs.Prelude.{Functions, Tables, Memories, Globals, Import, Module, func_of, table_of, memory_of, global_of, imported_funcs, imported_tables, imported_memories, imported_globals, funcs_of, tables_of, memories_of, globals_of}
+use Rattle.wasm_meaning.specs.Prelude.{places, has_kind}
 use Rattle.merge_join.specs.LinkedParts.{space_size}
 
 -- as many of a space are imported as there are places of its imports

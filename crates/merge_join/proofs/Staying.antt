@@ -1,18 +1,13 @@
 -- The imports that stay, one after the other.
-use Rattle.std.proofs.Common.{◌≡◌, ◌∙◌, sym, ap, refl, ℕ, suc, ◌+◌, ◌<◌, List, [], ◌∷◌, ◌++◌, length, Option, Some, None, Bool, true, false, cond, slice_get, get_or, append_assoc, append-nil, option_and_then}
-use Rattle.std.specs.List.{filter, filter_map, cons_option}
-use Rattle.std.proofs.lemmas.List.Elements.{filter-append, filter_map-append}
+use Rattle.base_lists.proofs.Common.{◌≡◌, ◌∙◌, sym, ap, refl, ℕ, suc, ◌+◌, ◌<◌, List, [], ◌∷◌, ◌++◌, length, Option, Some, None, Bool, true, false, cond, slice_get, get_or, append_assoc, append-nil, option_and_then, filter, filter_map, cons_option, filter-append, filter_map-append}
 use Rattle.merge_join.proofs.Sites.{sites_in_more}
-use Rattle.wasm_tree.specs.declared.types.Limits.{Limits}
-use Rattle.wasm_tree.specs.declared.module.Import.{Import}
-use Rattle.wasm_tree.specs.declared.module.ImportDesc.{ImportDesc}
+use Rattle.wasm_tree_spec.specs.Prelude.{Limits, Import, ImportDesc, Module}
 use Rattle.wasm_tree.specs.declared.module.ImportDesc.TheVariants as im
-use Rattle.wasm_tree.specs.declared.module.Module.{Module}
-use Rattle.wasm_meaning.specs.State.{Text}
-use Rattle.wasm_meaning.specs.Linking.{Part, Site, module_at, import_at, limits_of, met_limits, sites_in, sites_from}
+use Rattle.wasm_meaning.specs.Prelude.{Text, Part, Site, module_at, import_at, limits_of, met_limits, sites_in, sites_from}
 use Rattle.index_remap.specs.declared.remap.Remap.{Remap}
-use Rattle.merge_spec.specs.Faults.{stays, kept_limits}
-use Rattle.merge_spec.specs.Merged.{by_part_from, by_part, map_of, merged_desc, merged_import, staying}
+use Rattle.merge_spec.specs.Prelude.{stays, by_part_from, by_part, map_of, merged_desc, merged_import}
+use Rattle.merge_spec.specs.Faults.{kept_limits}
+use Rattle.merge_spec.specs.Merged.{staying}
 use Rattle.merge_join.specs.Kept.{kept_desc}
 use Rattle.merge_join.specs.LinkedParts.{site}
 use Rattle.merge_join.proofs.Holding.{read_there}

@@ -1,13 +1,8 @@
 -- Two function types are equal exactly where their texts are.
-use Rattle.std.proofs.Common.{◌≡◌, ◌∙◌, sym, ap, refl, List, [], ◌∷◌, ◌++◌, map, arith}
-use Rattle.std.specs.Str.{bytes_eq}
-use Rattle.std.proofs.lemmas.Slice.Eq.{bytes_eq-Decides}
-use Rattle.base_lists.proofs.Bools.{same_tests}
+use Rattle.base_lists.proofs.Common.{◌≡◌, ◌∙◌, sym, ap, refl, List, [], ◌∷◌, ◌++◌, map, arith, bytes_eq, bytes_eq-Decides, same_tests}
 use Rattle.wasm_tree.specs.declared.types.RefType.TheVariants as reft
-use Rattle.wasm_tree.specs.declared.types.ValType.{ValType}
+use Rattle.wasm_tree_spec.specs.Prelude.{ValType, FuncType, same_func_type}
 use Rattle.wasm_tree.specs.declared.types.ValType.TheVariants as valt
-use Rattle.wasm_tree.specs.declared.types.FuncType.{FuncType}
-use Rattle.wasm_tree.specs.SameTypes.{same_func_type}
 use Rattle.merge_join.specs.Texts.{letter_of, text_of_type}
 use Rattle.index_remap.proofs.SlotCalls.{func_type_is, func_type_self}
 

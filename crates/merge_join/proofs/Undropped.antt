@@ -1,39 +1,20 @@
 -- Only a dropped export can leave a function undeclared that `ref.func` names in a body of the merged module: a part is valid, so what its bodies name it names outside
 -- them too, and there the merged module names it as well.
-use Rattle.std.proofs.Common.{◌≡◌, ◌∙◌, refl, sym, ap, subst, ℕ, zero, suc, ◌+◌, ◌<◌, ◌≤◌, Bool, true, false, ◌&&◌, ◌||◌, not, nat_eq, nat_lt, List, [], ◌∷◌, ◌++◌, map, length, Option, Some, None, ◌⊎◌, inl, inr, ⊎_elim, arith, option_map, unwrap_or, slice_get, slice_index, length-append}
-use Rattle.std.specs.List.{filter, filter_map, flat_map, list_all, range_with_len}
-use Rattle.std.proofs.lemmas.List.{length-map}
+use Rattle.base_lists.proofs.Common.{◌≡◌, ◌∙◌, refl, sym, ap, subst, ℕ, zero, suc, ◌+◌, ◌<◌, ◌≤◌, Bool, true, false, ◌&&◌, ◌||◌, not, nat_eq, nat_lt, List, [], ◌∷◌, ◌++◌, map, length, Option, Some, None, ◌⊎◌, inl, inr, ⊎_elim, arith, option_map, unwrap_or, slice_get, slice_index, filter, filter_map, flat_map, list_all, range_with_len, length-map, slice_get-get_or, eqb-true, eq-eqb, ltb-true, left_true, right_true, list_all_each, list_all_from, list_any_there, is_kept, chosen_from, has_chosen, length-numbers, Has, map_at, map_from, append_from, has_left, has_right}
+use Rattle.std.proofs.Common.{length-append}
 use Rattle.std.proofs.lemmas.List.FromFn.{get_or-range_with_len, length-range_with_len}
-use Rattle.std.proofs.lemmas.Option.{slice_get-get_or}
-use Rattle.std.proofs.lemmas.Bool.{eqb-true, eq-eqb, ltb-true}
-use Rattle.base_lists.proofs.Bools.{left_true, right_true}
-use Rattle.base_lists.proofs.Each.{list_all_each, list_all_from, list_any_there}
-use Rattle.base_lists.proofs.Filtered.{is_kept, chosen_from, has_chosen}
 use Rattle.base_lists.specs.Places.{numbers}
-use Rattle.base_lists.proofs.Numbers.{length-numbers}
-use Rattle.base_lists.proofs.Places.{Has, map_at, map_from, append_from, has_left, has_right}
-use Rattle.wasm_tree.specs.declared.space.Space.TheVariants.{Functions}
-use Rattle.wasm_tree.specs.declared.instr.Instr.{fold_out-Instr, out-Instr}
-use Rattle.wasm_tree.specs.declared.instr.Instr.TheVariants.{Call}
-use Rattle.wasm_tree.specs.declared.module.ConstExpr.{ConstExpr}
+use Rattle.wasm_tree_spec.specs.Prelude.{Functions, fold_out-Instr, Call, ConstExpr, ElemMode, ElemSeg, ExportDesc, Export, Func, GlobalDef, Module, funcs_of}
+use Rattle.wasm_tree.specs.declared.instr.Instr.{out-Instr}
 use Rattle.wasm_tree.specs.declared.module.ConstExpr.TheVariants as const
-use Rattle.wasm_tree.specs.declared.module.ElemMode.{ElemMode}
 use Rattle.wasm_tree.specs.declared.module.ElemMode.TheVariants as elem
-use Rattle.wasm_tree.specs.declared.module.ElemSeg.{ElemSeg}
-use Rattle.wasm_tree.specs.declared.module.ExportDesc.{ExportDesc}
 use Rattle.wasm_tree.specs.declared.module.ExportDesc.TheVariants as ex
-use Rattle.wasm_tree.specs.declared.module.Export.{Export}
-use Rattle.wasm_tree.specs.declared.module.Func.{Func}
-use Rattle.wasm_tree.specs.declared.module.GlobalDef.{GlobalDef}
-use Rattle.wasm_tree.specs.declared.module.Module.{Module}
-use Rattle.wasm_tree.specs.Spaces.{funcs_of}
-use Rattle.wasm_valid.specs.Named.{const_func, export_func, elem_refs, global_refs, export_refs, refs_of}
-use Rattle.wasm_valid.specs.Validity.{IsValid}
-use Rattle.wasm_meaning.specs.State.{Text}
-use Rattle.wasm_meaning.specs.Linking.{Part, module_at}
-use Rattle.index_remap.specs.Renumbered.{has, fits_all, fits_func, fits_import, fits_tree, new_func, new_export, new_export_desc, renumbered_all}
-use Rattle.index_remap.specs.References.{refs, refs_step, refs_all, body_refs, offset_func, offset_refs, outside_refs, is_among, declared_refs, declaring, with_declared, declared}
-use Rattle.merge_spec.specs.Merged.{by_part, by_part_from, map_of, new_index, merged_elem_mode, merged_const, merged_global, merged_elem, start_calls, starts, defined_funcs, all_exports, named_exports, merged}
+use Rattle.wasm_valid.specs.Prelude.{const_func, export_func, elem_refs, global_refs, export_refs, refs_of, IsValid}
+use Rattle.wasm_meaning.specs.Prelude.{Text, Part, module_at}
+use Rattle.index_remap.specs.Prelude.{has, fits_all, fits_func, fits_import, fits_tree, new_func, new_export, new_export_desc, renumbered_all, refs, refs_step, refs_all, body_refs, offset_refs, outside_refs, is_among, declared_refs, declaring, with_declared, declared}
+use Rattle.index_remap.specs.References.{offset_func}
+use Rattle.merge_spec.specs.Prelude.{by_part, by_part_from, new_index, merged_elem_mode, merged_const, merged_global, merged_elem, start_calls, starts, named_exports}
+use Rattle.merge_spec.specs.Merged.{map_of, defined_funcs, all_exports, merged}
 use Rattle.merge_join.specs.LinkedParts.{PartsHold}
 use Rattle.merge_join.proofs.Reading.{becomes_new}
 use Rattle.merge_join.proofs.RefOperands.{refs_kept}

@@ -1,25 +1,12 @@
 -- What replaces the imported globals of a part, one import after the other.
-use Rattle.std.proofs.Common.{◌≡◌, ◌∙◌, ap, sym, subst, refl, ℕ, ◌+◌, ◌<◌, List, [], ◌∷◌, ◌++◌, length, take, drop, Some, None, true, false, ◌&&◌, not, nat_lt, arith, slice_get, get_or, option_and_then, append_assoc, append-nil, ◌⊎◌, inl, inr}
-use Rattle.std.specs.List.{cons_option}
-use Rattle.std.proofs.lemmas.Bool.{cases_order}
-use Rattle.std.proofs.lemmas.Bool.Decides.{nat_tests}
-use Rattle.std.proofs.lemmas.List.{take_more, take-append-drop, length-append}
-use Rattle.std.proofs.lemmas.List.Elements.{filter_map-append}
-use Rattle.std.proofs.lemmas.Option.{slice_get_within}
-use Rattle.base_lists.proofs.Places.{append_right, append_at_left, push_last}
-use Rattle.wasm_tree.specs.declared.types.GlobalType.{GlobalType}
-use Rattle.wasm_tree.specs.declared.types.ValType.{ValType}
-use Rattle.wasm_tree.specs.declared.module.Import.{Import}
-use Rattle.wasm_tree.specs.declared.module.ImportDesc.{ImportDesc}
+use Rattle.base_lists.proofs.Common.{◌≡◌, ◌∙◌, ap, sym, subst, refl, ℕ, ◌+◌, ◌<◌, List, [], ◌∷◌, ◌++◌, length, take, drop, Some, None, true, false, ◌&&◌, not, nat_lt, arith, slice_get, get_or, option_and_then, append_assoc, append-nil, ◌⊎◌, inl, inr, cons_option, cases_order, nat_tests, take_more, take-append-drop, length-append, filter_map-append, slice_get_within, append_right, append_at_left, push_last}
+use Rattle.wasm_tree_spec.specs.Prelude.{GlobalType, ValType, Import, ImportDesc, ConstExpr, Module, global_of, imported_globals}
 use Rattle.wasm_tree.specs.declared.module.ImportDesc.TheVariants as im
-use Rattle.wasm_tree.specs.declared.module.ConstExpr.{ConstExpr}
 use Rattle.wasm_tree.specs.declared.module.ConstExpr.TheVariants as const
-use Rattle.wasm_tree.specs.declared.module.Module.{Module}
-use Rattle.wasm_tree.specs.Spaces.{global_of, imported_globals}
 use Rattle.wasm_valid_bodies.specs.Typing.{only}
-use Rattle.wasm_valid.specs.Constants.{const_type}
-use Rattle.wasm_meaning.specs.Linking.{Part, module_at}
-use Rattle.merge_spec.specs.Merged.{merged_const}
+use Rattle.wasm_valid.specs.Prelude.{const_type}
+use Rattle.wasm_meaning.specs.Prelude.{Part, module_at}
+use Rattle.merge_spec.specs.Prelude.{merged_const}
 use Rattle.merge_join.specs.Reads.{HasType}
 use Rattle.merge_join.specs.Moved.{AreValues}
 use Rattle.merge_join.proofs.Reading.{reads_global}

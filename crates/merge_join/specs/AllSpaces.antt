@@ -1,7 +1,7 @@
 -- The four merged index spaces of parts.
 use Rattle.std.specs.Prelude.{◌≡◌, List}
 use Rattle.merge_spec.specs.declared.parts.Part.{Part}
-use Rattle.wasm_tree.specs.declared.space.Space.TheVariants.{Functions, Tables, Memories, Globals}
+use Rattle.wasm_tree_spec.specs.Prelude.{Functions, Tables, Memories, Globals}
 use Rattle.merge_join.specs.declared.all_spaces.Spaces.{Spaces}
 
 pub record AreSpaces (parts : List Part) (spaces : Spaces) : Type 0 where

@@ -1,7 +1,6 @@
 -- What an import that stays asks for, with the limits that it keeps.
 use Rattle.std.specs.Prelude.{Option, slice_index, unwrap_or}
-use Rattle.wasm_tree.specs.declared.types.Limits.{Limits}
-use Rattle.wasm_tree.specs.declared.module.ImportDesc.{ImportDesc}
+use Rattle.wasm_tree_spec.specs.Prelude.{Limits, ImportDesc}
 use Rattle.wasm_tree.specs.declared.module.ImportDesc.TheVariants as im
 use Rattle.index_remap.specs.declared.remap.Remap.{Remap}
 

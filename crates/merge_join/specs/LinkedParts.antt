@@ -1,23 +1,16 @@
 -- What the calls of this crate say of parts, links and index spaces.
 use Rattle.std.specs.Prelude.{◌≡◌, ℕ, ◌+◌, ◌-◌, ◌<◌, List, ◌∷◌, [], length, Some, None, true, unwrap_or}
-use Rattle.wasm_tree.specs.declared.space.Space.{Space}
-use Rattle.wasm_tree.specs.declared.space.Space.TheVariants.{Functions}
-use Rattle.wasm_tree.specs.declared.module.Module.{Module}
-use Rattle.wasm_tree.specs.Bounds.{IsBounded}
-use Rattle.wasm_valid.specs.Validity.{IsValid}
-use Rattle.wasm_meaning.specs.World.{defined_before, defined_count}
+use Rattle.wasm_tree_spec.specs.Prelude.{Space, Functions, Module, IsBounded}
+use Rattle.wasm_valid.specs.Prelude.{IsValid}
+use Rattle.wasm_meaning.specs.Prelude.{defined_before, defined_count, Site, module_at, imports_of, same_site, first_place, sites_in}
 use Rattle.wasm_meaning.specs.Linking as linking
-use Rattle.wasm_meaning.specs.Linking.{Site, module_at, imports_of, same_site, first_place, sites_in}
 use Rattle.index_remap.specs.declared.remap.Remap.{Remap}
 use Rattle.merge_spec.specs.declared.parts.Part.{Part}
 use Rattle.merge_spec.specs.declared.links.End.{End}
 use Rattle.merge_spec.specs.declared.links.End.TheVariants.{Defined, Outside}
 use Rattle.merge_spec.specs.declared.links.Links.{Links}
-use Rattle.merge_spec.specs.Parts.{named_modules}
-use Rattle.merge_spec.specs.Faults.{link_fault}
+use Rattle.merge_spec.specs.Prelude.{named_modules, link_fault, staying_of, imported_count, by_part, map_of, FewInAll}
 use Rattle.merge_spec.specs.Linked.{AreLinks}
-use Rattle.merge_spec.specs.Merged.{staying_of, imported_count, by_part, map_of}
-use Rattle.merge_spec.specs.Joined.{FewInAll}
 use Rattle.merge_join.specs.declared.mapped_parts.MappedParts.{MappedParts}
 
 abbrev pub site : (part import : ℕ) → Site

@@ -1,19 +1,13 @@
 -- What is moved from a part into the merged module: its lists, with the indices of a map, and with what stands there for the part's imported globals.
 use Rattle.std.specs.Prelude.{◌≡◌, ℕ, List, ◌++◌, map, Some, slice_get, slice_index, unwrap_or}
-use Rattle.wasm_tree.specs.declared.module.ConstExpr.{ConstExpr}
+use Rattle.wasm_tree_spec.specs.Prelude.{ConstExpr, GlobalDef, ElemMode, ElemSeg, DataMode, DataSeg, Module}
 use Rattle.wasm_tree.specs.declared.module.ConstExpr.TheVariants as const
-use Rattle.wasm_tree.specs.declared.module.GlobalDef.{GlobalDef}
-use Rattle.wasm_tree.specs.declared.module.ElemMode.{ElemMode}
 use Rattle.wasm_tree.specs.declared.module.ElemMode.TheVariants as elem
-use Rattle.wasm_tree.specs.declared.module.ElemSeg.{ElemSeg}
-use Rattle.wasm_tree.specs.declared.module.DataMode.{DataMode}
 use Rattle.wasm_tree.specs.declared.module.DataMode.TheVariants as data'
-use Rattle.wasm_tree.specs.declared.module.DataSeg.{DataSeg}
-use Rattle.wasm_tree.specs.declared.module.Module.{Module}
-use Rattle.wasm_meaning.specs.Linking.{Part, module_at}
+use Rattle.wasm_meaning.specs.Prelude.{Part, module_at}
 use Rattle.index_remap.specs.declared.remap.Remap.{Remap}
-use Rattle.index_remap.specs.Renumbered.{new_const, new_func}
-use Rattle.merge_spec.specs.Merged.{merged_const}
+use Rattle.index_remap.specs.Prelude.{new_const, new_func}
+use Rattle.merge_spec.specs.Prelude.{merged_const}
 use Rattle.merge_join.specs.Reads.{HasType}
 
 -- a constant expression with other indices, where these replace the imported globals, in order

@@ -1,13 +1,10 @@
 -- What is read through the imported globals of a part, and constant expressions that have a type in a part.
 use Rattle.std.specs.Prelude.{◌≡◌, ℕ, List, map, Option, Some}
-use Rattle.wasm_tree.specs.declared.space.Space.TheVariants.{Globals}
-use Rattle.wasm_tree.specs.declared.types.ValType.{ValType}
-use Rattle.wasm_tree.specs.declared.module.ConstExpr.{ConstExpr}
-use Rattle.wasm_tree.specs.declared.module.Module.{Module}
-use Rattle.wasm_valid.specs.Constants.{const_type}
-use Rattle.wasm_meaning.specs.Linking.{Part, module_at, imports_of}
+use Rattle.wasm_tree_spec.specs.Prelude.{Globals, ValType, ConstExpr, Module}
+use Rattle.wasm_valid.specs.Prelude.{const_type}
+use Rattle.wasm_meaning.specs.Prelude.{Part, module_at, imports_of}
 use Rattle.merge_spec.specs.declared.links.Read.{Read}
-use Rattle.merge_spec.specs.Linked.{read_at}
+use Rattle.merge_spec.specs.Prelude.{read_at}
 use Rattle.merge_join.specs.LinkedParts.{site}
 
 -- one entry for each imported global of the part

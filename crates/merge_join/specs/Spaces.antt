@@ -1,12 +1,8 @@
 -- The merged index space of a kind, as it is written down.
 use Rattle.std.specs.Prelude.{◌≡◌, ℕ, ◌+◌, List, ◌++◌, filter, length, Option, Bool, take, ◌&&◌}
-use Rattle.wasm_tree.specs.declared.space.Space.{Space}
-use Rattle.wasm_tree.specs.declared.module.Module.{Module}
-use Rattle.wasm_meaning.specs.World.{defined_before}
-use Rattle.wasm_meaning.specs.Linking.{Part, Site, first_place, same_site, sites_in, sites_from}
-use Rattle.merge_spec.specs.Faults.{stays}
-use Rattle.merge_spec.specs.Linked.{by_import}
-use Rattle.merge_spec.specs.Merged.{staying_of, imports_kind, imported_count}
+use Rattle.wasm_tree_spec.specs.Prelude.{Space, Module}
+use Rattle.wasm_meaning.specs.Prelude.{defined_before, Part, Site, first_place, same_site, sites_in, sites_from}
+use Rattle.merge_spec.specs.Prelude.{stays, by_import, staying_of, imports_kind, imported_count}
 use Rattle.merge_join.specs.LinkedParts.{each_part}
 
 -- the place of an import among those of a kind that stay

@@ -1,9 +1,8 @@
 -- Function types as texts: a letter for each parameter, `>`, and a letter for each result.
 use Rattle.std.specs.Prelude.{ℕ, List, ◌∷◌, ◌++◌, map}
 use Rattle.wasm_tree.specs.declared.types.RefType.TheVariants as reft
-use Rattle.wasm_tree.specs.declared.types.ValType.{ValType}
+use Rattle.wasm_tree_spec.specs.Prelude.{ValType, FuncType}
 use Rattle.wasm_tree.specs.declared.types.ValType.TheVariants as valt
-use Rattle.wasm_tree.specs.declared.types.FuncType.{FuncType}
 
 abbrev pub letter_of : ValType → ℕ
 letter_of valt.I32 = 105

@@ -2,8 +2,8 @@
 use Rattle.std.specs.Prelude.{◌≡◌, ℕ, List, String}
 use Rattle.std.specs.BTreeMap.{BTreeMap, get_by_text}
 use Rattle.std.specs.Str.{bytes_eq}
-use Rattle.wasm_tree.specs.declared.types.FuncType.{FuncType}
-use Rattle.wasm_meaning.specs.Linking.{first_place}
+use Rattle.wasm_tree_spec.specs.Prelude.{FuncType}
+use Rattle.wasm_meaning.specs.Prelude.{first_place}
 use Rattle.merge_join.specs.Texts.{text_of_type}
 
 -- the map has the place of each text in the list of types

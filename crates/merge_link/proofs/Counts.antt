@@ -1,18 +1,13 @@
 -- Counts of memories.
-use Rattle.std.proofs.Common.{◌≡◌, ◌∙◌, sym, ap, refl, ℕ, zero, suc, ◌+◌, ◌<◌, ◌≤◌, List, [], ◌∷◌, Option, Some, None, Bool, true, false, cond, map, length, drop, get_or, nat_lt, arith, option_and_then, unwrap_or, ◌&&◌}
-use Rattle.wasm_tree.specs.declared.space.Space.{Space}
-use Rattle.wasm_tree.specs.declared.space.Space.TheVariants.{Memories}
-use Rattle.std.proofs.lemmas.List.{drop_more}
-use Rattle.std.proofs.lemmas.Bool.Decides.{nat_tests}
-use Rattle.wasm_tree.specs.declared.module.Import.{Import}
-use Rattle.wasm_tree.specs.declared.module.Module.{Module}
+use Rattle.base_lists.proofs.Common.{◌≡◌, ◌∙◌, sym, ap, refl, ℕ, zero, suc, ◌+◌, ◌<◌, ◌≤◌, List, [], ◌∷◌, Option, Some, None, Bool, true, false, cond, map, length, drop, get_or, nat_lt, arith, option_and_then, unwrap_or, ◌&&◌, drop_more, nat_tests}
+use Rattle.wasm_tree_spec.specs.Prelude.{Space, Memories, Import, Module}
 use Rattle.wasm_meaning.specs.Linking as linking
-use Rattle.wasm_meaning.specs.World.{defined_before, defined_count}
+use Rattle.wasm_meaning.specs.Prelude.{defined_before, defined_count}
 use Rattle.merge_spec.specs.declared.parts.Part.{Part}
 use Rattle.merge_spec.specs.Faults as faults
-use Rattle.merge_spec.specs.Parts.{named_modules}
+use Rattle.merge_spec.specs.Prelude.{named_modules}
 use Rattle.merge_link.specs.declared.sites.Site.{Site}
-use Rattle.merge_link.specs.Sites.{AreSites, the_site}
+use Rattle.merge_link.specs.Prelude.{AreSites, the_site}
 use Rattle.merge_link.specs.Gathering.{is_memory_at, linked_at}
 
 pub defined_none : (k : Space) (lp : List linking.Part) → defined_before k lp 0 ≡ 0

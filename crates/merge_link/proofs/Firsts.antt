@@ -1,8 +1,7 @@
 -- The first fault of a list.
-use Rattle.std.proofs.Common.{◌≡◌, ◌∙◌, sym, ap, refl, ℕ, ◌+◌, ◌<◌, ◌≤◌, List, [], ◌∷◌, Option, Some, None, map, length, drop, get_or}
-use Rattle.std.proofs.lemmas.List.{drop_more, drop_all}
+use Rattle.base_lists.proofs.Common.{◌≡◌, ◌∙◌, sym, ap, refl, ℕ, ◌+◌, ◌<◌, ◌≤◌, List, [], ◌∷◌, Option, Some, None, map, length, drop, get_or, drop_more, drop_all}
 use Rattle.merge_spec.specs.declared.faults.LinkFault.{LinkFault}
-use Rattle.merge_spec.specs.Faults.{or_else, first_fault}
+use Rattle.merge_spec.specs.Prelude.{or_else, first_fault}
 
 one_on : {A : Type 0} (f : A → Option LinkFault) (xs : List A) (i : ℕ) (x : A) → i < length xs → x ≡ get_or xs i x → first_fault f (drop i xs) ≡ or_else (f x) (first_fault f (drop (i + 1) xs))
 one_on f xs i x h is = ap (first_fault f) (drop_more xs i x h) ∙ ap (λ y. or_else (f y) (first_fault f (drop (i + 1) xs))) (sym is)

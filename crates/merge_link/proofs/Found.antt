@@ -1,16 +1,15 @@
 -- What is known of the places and the ends of imports, one at a time.
-use Rattle.std.proofs.Common.{◌≡◌, ◌∙◌, sym, ap, ℕ, List, Option, Some, None, map, length, slice_get}
+use Rattle.base_lists.proofs.Common.{◌≡◌, ◌∙◌, sym, ap, ℕ, List, Option, Some, None, map, length, slice_get, slice_get-map, length-map}
 use Rattle.std.specs.Option.{option_map, IfSome}
-use Rattle.std.proofs.lemmas.Option.{slice_get-map}
-use Rattle.std.proofs.lemmas.List.{length-map}
 use Rattle.wasm_meaning.specs.Linking as linking
 use Rattle.merge_spec.specs.declared.parts.Part.{Part}
-use Rattle.merge_spec.specs.Parts.{named_modules}
+use Rattle.merge_spec.specs.Prelude.{named_modules}
 use Rattle.merge_spec.specs.Faults as faults
 use Rattle.merge_link.specs.declared.sites.Site.{Site}
 use Rattle.merge_link.specs.declared.part_tables.Ending.{Ending}
-use Rattle.merge_link.specs.Sites.{AreSites, IsThere, the_site}
-use Rattle.merge_link.specs.PartTables.{AreKnown, AreStops, IsStop, end_at, the_end}
+use Rattle.merge_link.specs.Prelude.{AreSites, the_site, AreKnown, the_end}
+use Rattle.merge_link.specs.Sites.{IsThere}
+use Rattle.merge_link.specs.PartTables.{AreStops, IsStop, end_at}
 use Rattle.merge_link.proofs.Numbers.{site_there}
 
 pub there_at : (ps : List Part) (sites : List Site) (i : ℕ) (s : Site) → AreSites ps sites → slice_get sites i ≡ Some s → IsThere ps s

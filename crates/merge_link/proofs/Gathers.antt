@@ -1,21 +1,16 @@
 -- Memories that stay, gathered: the first of a pair is found in the map.
-use Rattle.std.proofs.Common.{◌≡◌, ◌∙◌, sym, ap, refl, subst, inl, inr, ℕ, suc, ◌++◌, List, [], ◌∷◌, Option, Some, None, Bool, true, false, cond, map, length, drop, slice_get, ◌-◌, ◌&&◌, Ordering, Less, Equal, Greater}
-use Rattle.wasm_tree.specs.declared.space.Space.TheVariants.{Memories}
-use Rattle.std.specs.Ordering.{nat_cmp, ordering_then, is_eq}
-use Rattle.std.specs.Cmp.Lexicographic.{slice_cmp}
-use Rattle.std.proofs.lemmas.Map.Text.{is_eq-slice_cmp}
-use Rattle.wasm_tree.specs.declared.module.Import.{Import}
-use Rattle.wasm_meaning.specs.State.{Pair}
+use Rattle.base_lists.proofs.Common.{◌≡◌, ◌∙◌, sym, ap, refl, subst, inl, inr, ℕ, suc, ◌++◌, List, [], ◌∷◌, Option, Some, None, Bool, true, false, cond, map, length, drop, slice_get, ◌-◌, ◌&&◌, Ordering, Less, Equal, Greater, nat_cmp, ordering_then, slice_cmp, is_eq-slice_cmp, cases_eq, and_false, push_last, push_before}
+use Rattle.wasm_tree_spec.specs.Prelude.{Memories, Import}
+use Rattle.std.specs.Ordering.{is_eq}
+use Rattle.wasm_meaning.specs.Prelude.{Pair}
 use Rattle.wasm_meaning.specs.Linking as linking
 use Rattle.merge_spec.specs.declared.parts.Part.{Part}
-use Rattle.merge_spec.specs.Parts.{named_modules}
+use Rattle.merge_spec.specs.Prelude.{named_modules}
 use Rattle.merge_link.specs.declared.sites.Site.{Site}
-use Rattle.merge_link.specs.Sites.{AreSites, IsThere, the_site}
-use Rattle.merge_link.specs.Gathering.{first_memory, is_memory_of, is_of_pair, is_memory_at, linked_at, EndsThere}
+use Rattle.merge_link.specs.Prelude.{AreSites, the_site, first_memory}
+use Rattle.merge_link.specs.Sites.{IsThere}
+use Rattle.merge_link.specs.Gathering.{is_memory_of, is_of_pair, is_memory_at, linked_at, EndsThere}
 use Rattle.merge_link.proofs.Found.{there_at}
-use Rattle.std.proofs.lemmas.Bool.{cases_eq}
-use Rattle.base_lists.proofs.Bools.{and_false}
-use Rattle.base_lists.proofs.Places.{push_last, push_before}
 use Rattle.merge_link.specs.declared.part_tables.Ending.{Ending}
 use Rattle.merge_link.proofs.Places.{same_text_is, same_text_back}
 

@@ -1,22 +1,14 @@
 -- What is looked up in tables is what linking by name looks up in parts.
-use Rattle.std.proofs.Common.{◌≡◌, ◌∙◌, sym, ap, refl, ℕ, zero, suc, ◌+◌, ◌<◌, ◌≤◌, List, [], ◌∷◌, Option, Some, None, Bool, true, false, cond, length, get_or, slice_get, arith, option_and_then}
-use Rattle.wasm_tree.specs.declared.space.Space.TheVariants.{Globals}
+use Rattle.base_lists.proofs.Common.{◌≡◌, ◌∙◌, sym, ap, refl, ℕ, zero, suc, ◌+◌, ◌<◌, ◌≤◌, List, [], ◌∷◌, Option, Some, None, Bool, true, false, cond, length, get_or, slice_get, arith, option_and_then, get_by, nat_cmp, slice_cmp, slice_get_read, slice_get_within}
+use Rattle.wasm_tree_spec.specs.Prelude.{Globals, Import, ExportDesc, Module, index_of_export, space_of_export}
 use Rattle.std.specs.Option.{option_map}
-use Rattle.std.specs.BTreeMap.{get_by}
-use Rattle.std.specs.Ordering.{nat_cmp}
-use Rattle.std.specs.Cmp.Lexicographic.{slice_cmp}
-use Rattle.std.proofs.lemmas.Option.{slice_get_read, slice_get_within}
-use Rattle.wasm_tree.specs.declared.module.Import.{Import}
-use Rattle.wasm_tree.specs.declared.module.ExportDesc.{ExportDesc}
-use Rattle.wasm_tree.specs.declared.module.Module.{Module}
 use Rattle.wasm_meaning.specs.Linking as linking
-use Rattle.wasm_tree.specs.Spaces.{index_of_export, space_of_export}
-use Rattle.wasm_meaning.specs.World.{defined_before}
+use Rattle.wasm_meaning.specs.Prelude.{defined_before}
 use Rattle.merge_link.specs.declared.tables.Table.{Table}
-use Rattle.merge_link.specs.Tables.{AreTables, IsTableOf, imports_before, places_of}
+use Rattle.merge_link.specs.Prelude.{AreTables, IsTableOf, imports_before, places_of}
 use Rattle.merge_link.specs.PartTables.{IsImportedAs}
 use Rattle.merge_spec.specs.declared.parts.Part.{Part}
-use Rattle.merge_spec.specs.Parts.{named_modules}
+use Rattle.merge_spec.specs.Prelude.{named_modules}
 use Rattle.merge_link.proofs.Places.{module_named}
 use Rattle.merge_link.proofs.Numbers.{site_at}
 

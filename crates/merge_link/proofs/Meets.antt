@@ -1,26 +1,17 @@
 -- Met limits, one import more at a time, from the last to the first.
-use Rattle.std.proofs.Common.{◌≡◌, ◌≢◌, ◌⊎◌, ◌∙◌, sym, ap, refl, subst, inl, inr, ℕ, zero, suc, ◌+◌, ◌<◌, List, [], ◌∷◌, Option, Some, None, Bool, true, false, cond, map, max, length, set, replicate, slice_get, nat_eq, arith, option_and_then}
+use Rattle.base_lists.proofs.Common.{◌≡◌, ◌≢◌, ◌⊎◌, ◌∙◌, sym, ap, refl, subst, inl, inr, ℕ, zero, suc, ◌+◌, ◌<◌, List, [], ◌∷◌, Option, Some, None, Bool, true, false, cond, map, max, length, set, replicate, slice_get, nat_eq, arith, option_and_then, cases_eq, nat_tests, length-map, length-set, slice_get-map, slice_get_within, set_at, set_other, slice_get_there}
 use Rattle.std.specs.Option.{option_map}
-use Rattle.std.proofs.lemmas.Bool.{cases_eq}
-use Rattle.std.proofs.lemmas.Bool.Decides.{nat_tests}
-use Rattle.std.proofs.lemmas.List.{length-map, length-set}
-use Rattle.std.proofs.lemmas.Option.{slice_get-map, slice_get_within}
-use Rattle.base_lists.proofs.Places.{set_at, set_other, slice_get_there}
-use Rattle.wasm_tree.specs.declared.types.Limits.{Limits}
-use Rattle.wasm_tree.specs.declared.module.Import.{Import}
-use Rattle.wasm_tree.specs.declared.module.Module.{Module}
+use Rattle.wasm_tree_spec.specs.Prelude.{Limits, Import, Module}
 use Rattle.wasm_meaning.specs.Linking as linking
 use Rattle.merge_spec.specs.declared.parts.Part.{Part}
-use Rattle.merge_spec.specs.Parts.{named_modules}
+use Rattle.merge_spec.specs.Prelude.{named_modules}
 use Rattle.merge_link.specs.declared.sites.Site.{Site}
 use Rattle.merge_link.specs.declared.tables.Table.{Table}
-use Rattle.merge_link.specs.Sites.{AreSites, the_site}
-use Rattle.merge_link.specs.Tables.{AreTables, imports_before}
+use Rattle.merge_link.specs.Prelude.{AreSites, the_site, AreTables, imports_before, the_end}
 use Rattle.merge_link.specs.Gathering.{AreLinkedEnds, linked_at}
 use Rattle.merge_link.specs.Limits.{IsDemand, asked_limits, clash_of, kept_of, met_at, met_of}
 use Rattle.merge_spec.specs.Faults as faults
 use Rattle.merge_link.specs.declared.part_tables.Ending.{Ending}
-use Rattle.merge_link.specs.PartTables.{the_end}
 use Rattle.merge_link.proofs.Found.{lengths_same, same_at}
 use Rattle.merge_link.proofs.Joins.{table_at}
 use Rattle.merge_link.proofs.Numbers.{site_at, site_of}

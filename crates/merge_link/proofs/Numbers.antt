@@ -1,15 +1,10 @@
 -- Imports and defined globals are numbered through all parts.
-use Rattle.std.proofs.Common.{◌≡◌, ◌∙◌, sym, ap, refl, ℕ, zero, suc, ◌+◌, ◌-◌, ◌<◌, ◌≤◌, List, [], ◌∷◌, ◌++◌, Option, Some, length, slice_get, arith, inl, inr, ◌⊎◌}
-use Rattle.wasm_tree.specs.declared.space.Space.TheVariants.{Globals}
-use Rattle.std.proofs.lemmas.List.{length-append}
-use Rattle.base_lists.proofs.Places.{slice_get_there, append_right, append_at_left}
-use Rattle.wasm_tree.specs.declared.module.Import.{Import}
-use Rattle.wasm_tree.specs.declared.module.GlobalDef.{GlobalDef}
-use Rattle.wasm_tree.specs.declared.module.Module.{Module}
+use Rattle.base_lists.proofs.Common.{◌≡◌, ◌∙◌, sym, ap, refl, ℕ, zero, suc, ◌+◌, ◌-◌, ◌<◌, ◌≤◌, List, [], ◌∷◌, ◌++◌, Option, Some, length, slice_get, arith, inl, inr, ◌⊎◌, length-append, slice_get_there, append_right, append_at_left}
+use Rattle.wasm_tree_spec.specs.Prelude.{Globals, Import, GlobalDef, Module}
 use Rattle.wasm_meaning.specs.Linking as linking
-use Rattle.wasm_meaning.specs.World.{defined_before}
-use Rattle.merge_spec.specs.Faults.{defined_globals_in, defined_globals_from}
-use Rattle.merge_link.specs.Tables.{imports_before}
+use Rattle.wasm_meaning.specs.Prelude.{defined_before}
+use Rattle.merge_spec.specs.Prelude.{defined_globals_in, defined_globals_from}
+use Rattle.merge_link.specs.Prelude.{imports_before}
 
 pub length-sites_in : (p count n : ℕ) → length (linking.sites_in p count n) ≡ count
 length-sites_in p zero n = refl

@@ -1,26 +1,14 @@
 -- Places in lists, and what is looked up by name.
-use Rattle.std.proofs.Common.{◌≡◌, ◌∙◌, sym, ap, refl, ℕ, zero, suc, ◌+◌, ◌-◌, ◌<◌, ◌≤◌, List, [], ◌∷◌, ◌++◌, Some, Bool, true, false, cond, length, drop, get_or, slice_get, nat_eq, arith, inl, inr}
-use Rattle.wasm_tree.specs.declared.space.Space.{Space}
-use Rattle.wasm_tree.specs.declared.space.Space.TheVariants.{Types, Functions, Tables, Memories, Globals, ElementSegments, DataSegments}
-use Rattle.wasm_tree.specs.Operands.{same_space}
-use Rattle.wasm_tree.specs.Spaces.{space_of_import}
-use Rattle.wasm_tree.specs.declared.module.ImportDesc.{ImportDesc}
+use Rattle.base_lists.proofs.Common.{◌≡◌, ◌∙◌, sym, ap, refl, ℕ, zero, suc, ◌+◌, ◌-◌, ◌<◌, ◌≤◌, List, [], ◌∷◌, ◌++◌, Some, Bool, true, false, cond, length, drop, get_or, slice_get, nat_eq, arith, inl, inr, bytes_eq, drop_more, cases_eq, nat_tests, push_last}
+use Rattle.wasm_tree_spec.specs.Prelude.{Space, Types, Functions, Tables, Memories, Globals, ElementSegments, DataSegments, same_space, space_of_import, ImportDesc, Module, Export, Import}
 use Rattle.wasm_tree.specs.declared.module.ImportDesc.TheVariants as im
-use Rattle.wasm_tree.specs.declared.module.Module.{Module}
 use Rattle.merge_link.specs.declared.tables.Table.{Table}
 use Rattle.merge_link.specs.Tables.{HasPlaces}
 use Rattle.std.specs.Option.{option_map}
-use Rattle.std.specs.Str.{bytes_eq}
-use Rattle.std.proofs.lemmas.List.{drop_more}
-use Rattle.std.proofs.lemmas.Bool.{cases_eq}
-use Rattle.std.proofs.lemmas.Bool.Decides.{nat_tests}
-use Rattle.base_lists.proofs.Places.{push_last}
-use Rattle.wasm_tree.specs.declared.module.Export.{Export}
 use Rattle.base_paths.proofs.Lists.{got_left}
-use Rattle.wasm_tree.specs.declared.module.Import.{Import}
 use Rattle.wasm_meaning.specs.Linking as linking
 use Rattle.merge_spec.specs.declared.parts.Part.{Part}
-use Rattle.merge_spec.specs.Parts.{named_modules}
+use Rattle.merge_spec.specs.Prelude.{named_modules}
 
 pub module_named : (ps : List Part) (p : ℕ) → linking.module_at (named_modules ps) p ≡ option_map (λ (x : Part). x.«module») (slice_get ps p)
 module_named [] p = refl

@@ -1,37 +1,28 @@
 -- Defined globals by their numbers, and one step of a read.
-use Rattle.std.proofs.Common.{◌≡◌, ◌∙◌, sym, ap, refl, ℕ, zero, suc, ◌+◌, ◌-◌, ◌^◌, ◌<◌, ◌≤◌, List, [], ◌∷◌, ◌++◌, Option, Some, None, map, length, drop, get_or, slice_get, arith, option_and_then}
-use Rattle.wasm_tree.specs.declared.space.Space.TheVariants.{Globals}
+use Rattle.base_lists.proofs.Common.{◌≡◌, ◌∙◌, sym, ap, refl, ℕ, zero, suc, ◌+◌, ◌-◌, ◌^◌, ◌<◌, ◌≤◌, List, [], ◌∷◌, ◌++◌, Option, Some, None, map, length, drop, get_or, slice_get, arith, option_and_then, length-append, length-map, drop_more, slice_get-map, slice_get_within, slice_get_past, slice_get_there, append_right, append_at_left}
+use Rattle.wasm_tree_spec.specs.Prelude.{Globals, GlobalDef, Import, Module, globals_of, imported_globals, index_of_export}
 use Rattle.std.specs.Option.{option_map}
-use Rattle.std.proofs.lemmas.List.{length-append, length-map, drop_more}
-use Rattle.std.proofs.lemmas.Option.{slice_get-map, slice_get_within, slice_get_past}
-use Rattle.base_lists.proofs.Places.{slice_get_there, append_right, append_at_left}
 use Rattle.wasm_tree.specs.declared.module.ConstExpr.TheVariants as const
-use Rattle.wasm_tree.specs.declared.module.GlobalDef.{GlobalDef}
-use Rattle.wasm_tree.specs.declared.module.Import.{Import}
-use Rattle.wasm_tree.specs.declared.module.Module.{Module}
 use Rattle.wasm_meaning.specs.Paths as paths
 use Rattle.wasm_meaning.specs.Linking as linking
-use Rattle.wasm_meaning.specs.World.{defined_before}
+use Rattle.wasm_meaning.specs.Prelude.{defined_before}
 use Rattle.base_paths.specs.declared.follow.Step.{Step}
 use Rattle.base_paths.specs.declared.follow.Step.TheVariants.{Goes, Ends, Nowhere}
 use Rattle.merge_spec.specs.declared.parts.Part.{Part}
 use Rattle.merge_spec.specs.declared.links.Read.{Read}
 use Rattle.merge_spec.specs.Faults as faults
-use Rattle.merge_spec.specs.Parts.{named_modules}
+use Rattle.merge_spec.specs.Prelude.{named_modules}
 use Rattle.merge_link.specs.declared.globals.DefinedGlobal.{DefinedGlobal}
 use Rattle.merge_link.specs.declared.part_tables.Ending.{Ending}
 use Rattle.merge_link.specs.declared.sites.Site.{Site}
 use Rattle.merge_link.specs.declared.tables.Table.{Table}
-use Rattle.merge_link.specs.Sites.{AreSites, the_site}
-use Rattle.merge_link.specs.Tables.{AreTables, places_of}
-use Rattle.merge_link.specs.PartTables.{AreKnown, IsStep, the_end}
-use Rattle.merge_link.specs.Globals.{IsEndStep, IsOwn, own_read, own_reads, the_own, the_read, value_at}
+use Rattle.merge_link.specs.Prelude.{AreSites, the_site, AreTables, places_of, AreKnown, IsStep, the_end, IsOwn, own_read, own_reads, the_own, the_read}
+use Rattle.merge_link.specs.Globals.{IsEndStep, value_at}
 use Rattle.merge_link.proofs.Found.{known_at, same_at}
 use Rattle.merge_link.proofs.Joins.{module_past}
 use Rattle.merge_link.proofs.Meets.{part_there}
 use Rattle.merge_link.proofs.Numbers.{length-own_in}
 use Rattle.merge_link.proofs.Types.{count_globals}
-use Rattle.wasm_tree.specs.Spaces.{globals_of, imported_globals, index_of_export}
 
 own_in : (p n : ℕ) (gs : List GlobalDef) (i : ℕ) (g : GlobalDef) → slice_get gs i ≡ Some g → (k : ℕ) × (slice_get (faults.defined_globals_in p n gs) i ≡ Some (record { part = p; index = k; init = g.init }))
 own_in p n [] i g h = cc

@@ -1,6 +1,5 @@
 -- From steps between numbers to paths between what is numbered.
-use Rattle.std.proofs.Common.{◌≡◌, ◌∙◌, sym, ap, refl, subst, ℕ, zero, suc, ◌<◌, List, [], ◌∷◌, Option, Some, None, length, map, slice_get, arith, ◌↔◌, ◌++◌, inl, inr}
-use Rattle.std.proofs.lemmas.Bool.{cases_eq}
+use Rattle.base_lists.proofs.Common.{◌≡◌, ◌∙◌, sym, ap, refl, subst, ℕ, zero, suc, ◌<◌, List, [], ◌∷◌, Option, Some, None, length, map, slice_get, arith, ◌↔◌, ◌++◌, inl, inr, cases_eq, slice_get_within, slice_get-map, length-map, push_last, push_before, slice_get_there}
 use Rattle.std.specs.Option.{option_map}
 use Rattle.wasm_meaning.specs.Paths as paths
 use Rattle.wasm_meaning.specs.Paths.Path.{ends, goes}
@@ -8,10 +7,7 @@ use Rattle.base_paths.specs.declared.follow.Step.{Step}
 use Rattle.base_paths.specs.declared.follow.Step.TheVariants.{Goes, Ends, Nowhere}
 use Rattle.base_paths.specs.Steps.{LeadsTo, AreEndings, AreNamed}
 use Rattle.base_paths.specs.Steps.LeadsTo.{there, on}
-use Rattle.std.proofs.lemmas.Option.{slice_get_within, slice_get-map}
-use Rattle.std.proofs.lemmas.List.{length-map}
-use Rattle.base_lists.proofs.Places.{push_last, push_before, slice_get_there}
-use Rattle.merge_link.specs.PartTables.{IsStep, AreSteps}
+use Rattle.merge_link.specs.Prelude.{IsStep, AreSteps}
 
 pub lists_same : {A : Type 0} (xs ys : List A) → length xs ≡ length ys → ((n : ℕ) → n < length xs → slice_get xs n ≡ slice_get ys n) → xs ≡ ys
 lists_same [] [] h all = refl

@@ -1,13 +1,10 @@
 -- One more table.
-use Rattle.std.proofs.Common.{◌≡◌, ◌∙◌, sym, ap, subst, inl, inr, ℕ, List, [], ◌∷◌, ◌++◌, Some, length, slice_get}
-use Rattle.wasm_tree.specs.declared.space.Space.TheVariants.{Globals}
-use Rattle.std.proofs.lemmas.Bool.{cases_eq}
-use Rattle.base_lists.proofs.Places.{push_last, push_before}
-use Rattle.wasm_tree.specs.declared.module.Module.{Module}
+use Rattle.base_lists.proofs.Common.{◌≡◌, ◌∙◌, sym, ap, subst, inl, inr, ℕ, List, [], ◌∷◌, ◌++◌, Some, length, slice_get, cases_eq, push_last, push_before}
+use Rattle.wasm_tree_spec.specs.Prelude.{Globals, Module}
 use Rattle.wasm_meaning.specs.Linking as linking
-use Rattle.wasm_meaning.specs.World.{defined_before}
+use Rattle.wasm_meaning.specs.Prelude.{defined_before}
 use Rattle.merge_link.specs.declared.tables.Table.{Table}
-use Rattle.merge_link.specs.Tables.{IsTableOf, imports_before}
+use Rattle.merge_link.specs.Prelude.{IsTableOf, imports_before}
 
 pub tables_more : (lp : List linking.Part) (ts : List Table) (t : Table) (m : Module) (n : ℕ) → length ts ≡ n → linking.module_at lp n ≡ Some m
     → IsTableOf (imports_before lp n) (defined_before Globals lp n) m t

@@ -1,27 +1,19 @@
 -- What is read through imports, by the ends of paths.
-use Rattle.std.proofs.Common.{◌≡◌, ◌∙◌, sym, ap, refl, subst, ℕ, zero, suc, ◌+◌, ◌<◌, List, [], ◌∷◌, Option, Some, None, Bool, true, false, cond, length, slice_get, arith, ◌↔◌, option_and_then}
-use Rattle.wasm_tree.specs.declared.space.Space.{Space}
-use Rattle.wasm_tree.specs.declared.space.Space.TheVariants.{Globals}
-use Rattle.wasm_tree.specs.Operands.{same_space}
+use Rattle.base_lists.proofs.Common.{◌≡◌, ◌∙◌, sym, ap, refl, subst, ℕ, zero, suc, ◌+◌, ◌<◌, List, [], ◌∷◌, Option, Some, None, Bool, true, false, cond, length, slice_get, arith, ◌↔◌, option_and_then, slice_get_within}
+use Rattle.wasm_tree_spec.specs.Prelude.{Space, Globals, same_space, ConstExpr, Import, ImportDesc, Module, space_of_import}
 use Rattle.std.specs.Option.{option_map}
-use Rattle.std.proofs.lemmas.Option.{slice_get_within}
-use Rattle.wasm_tree.specs.declared.module.ConstExpr.{ConstExpr}
 use Rattle.wasm_tree.specs.declared.module.ConstExpr.TheVariants as const
-use Rattle.wasm_tree.specs.declared.module.Import.{Import}
-use Rattle.wasm_tree.specs.declared.module.ImportDesc.{ImportDesc}
 use Rattle.wasm_tree.specs.declared.module.ImportDesc.TheVariants as im
-use Rattle.wasm_tree.specs.declared.module.Module.{Module}
 use Rattle.wasm_meaning.specs.Paths as paths
 use Rattle.wasm_meaning.specs.Paths.Path.{ends, goes}
 use Rattle.wasm_meaning.specs.Linking as linking
-use Rattle.wasm_tree.specs.Spaces.{space_of_import}
 use Rattle.merge_spec.specs.declared.parts.Part.{Part}
 use Rattle.merge_spec.specs.declared.links.Read.{Read}
 use Rattle.merge_spec.specs.Faults as faults
-use Rattle.merge_spec.specs.Linked.{read_at, read_at_desc, read_entry, when_fixed}
-use Rattle.merge_spec.specs.Parts.{named_modules}
-use Rattle.merge_link.specs.Globals.{IsOwn, the_read}
-use Rattle.merge_link.specs.Reads.{AreValues, fixed_desc, fixed_read, own_value, read_past}
+use Rattle.merge_spec.specs.Prelude.{read_at, read_entry, when_fixed, named_modules}
+use Rattle.merge_spec.specs.Linked.{read_at_desc}
+use Rattle.merge_link.specs.Prelude.{IsOwn, the_read, AreValues}
+use Rattle.merge_link.specs.Reads.{fixed_desc, fixed_read, own_value, read_past}
 use Rattle.merge_link.proofs.Found.{lengths_same, same_at}
 use Rattle.merge_link.proofs.Meets.{part_there}
 

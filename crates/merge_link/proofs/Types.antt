@@ -1,24 +1,13 @@
 -- External types of what modules define, and lists of types compared.
-use Rattle.std.proofs.Common.{◌≡◌, ◌∙◌, sym, ap, refl, ℕ, zero, suc, ◌-◌, ◌≤◌, List, [], ◌∷◌, ◌++◌, Option, Some, None, Bool, true, false, cond, ◌&&◌, map, length, slice_get, arith}
-use Rattle.wasm_tree.specs.declared.space.Space.TheVariants.{Functions, Tables, Memories, Globals}
-use Rattle.wasm_tree.specs.Operands.{same_space}
+use Rattle.base_lists.proofs.Common.{◌≡◌, ◌∙◌, sym, ap, refl, ℕ, zero, suc, ◌-◌, ◌≤◌, List, [], ◌∷◌, ◌++◌, Option, Some, None, Bool, true, false, cond, ◌&&◌, map, length, slice_get, arith, cons_option, slice_get-map, slice_get_none}
+use Rattle.wasm_tree_spec.specs.Prelude.{Functions, Tables, Memories, Globals, same_space, ValType, Import, ImportDesc, Func, GlobalDef, Module, func_of, table_of, memory_of, global_of, imported_funcs, imported_tables, imported_memories, imported_globals, funcs_of, index_of_export, space_of_export, space_of_import}
 use Rattle.std.specs.Option.{option_map, option_and_then}
-use Rattle.std.specs.List.{cons_option}
 use lib.Pointwise.{pointwise}
-use Rattle.std.proofs.lemmas.Option.{slice_get-map}
-use Rattle.base_lists.proofs.Places.{slice_get_none}
-use Rattle.wasm_tree.specs.declared.types.ValType.{ValType}
 use Rattle.wasm_tree.specs.declared.types.ValType.TheVariants as valt
 use Rattle.wasm_tree.specs.declared.types.RefType.TheVariants as reft
 use Rattle.wasm_tree.specs.contracts.types.ValTypePartialEq as ValTypePartialEq
-use Rattle.wasm_tree.specs.declared.module.Import.{Import}
-use Rattle.wasm_tree.specs.declared.module.ImportDesc.{ImportDesc}
 use Rattle.wasm_tree.specs.declared.module.ImportDesc.TheVariants as im
 use Rattle.wasm_tree.specs.declared.module.ExportDesc.TheVariants as ex
-use Rattle.wasm_tree.specs.declared.module.Func.{Func}
-use Rattle.wasm_tree.specs.declared.module.GlobalDef.{GlobalDef}
-use Rattle.wasm_tree.specs.declared.module.Module.{Module}
-use Rattle.wasm_tree.specs.Spaces.{func_of, table_of, memory_of, global_of, imported_funcs, imported_tables, imported_memories, imported_globals, funcs_of, index_of_export, space_of_export, space_of_import}
 use Rattle.wasm_meaning.specs.Linking as linking
 use Rattle.wasm_tree.specs.SameTypes as types
 use Rattle.merge_spec.specs.Faults as faults

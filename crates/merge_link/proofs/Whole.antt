@@ -1,31 +1,24 @@
 -- The stages of linking together.
-use Rattle.std.proofs.Common.{◌≡◌, ◌∙◌, ◌⊎◌, inl, inr, sym, ap, refl, ℕ, zero, suc, List, [], ◌∷◌, Option, Some, None, true, false, map, length, slice_get, nat_lt, arith}
-use Rattle.wasm_tree.specs.declared.space.Space.TheVariants.{Globals}
+use Rattle.base_lists.proofs.Common.{◌≡◌, ◌∙◌, ◌⊎◌, inl, inr, sym, ap, refl, ℕ, zero, suc, List, [], ◌∷◌, Option, Some, None, true, false, map, length, slice_get, nat_lt, arith, length-append, slice_get-map, slice_get_within, slice_get_there, map_twice}
+use Rattle.wasm_tree_spec.specs.Prelude.{Globals, Limits}
 use Rattle.std.specs.Option.{option_map}
-use Rattle.std.proofs.lemmas.List.{length-append}
-use Rattle.std.proofs.lemmas.Option.{slice_get-map, slice_get_within}
-use Rattle.base_lists.proofs.Places.{slice_get_there, map_twice}
-use Rattle.wasm_tree.specs.declared.types.Limits.{Limits}
 use Rattle.wasm_meaning.specs.Linking as linking
-use Rattle.wasm_meaning.specs.World.{defined_before}
+use Rattle.wasm_meaning.specs.Prelude.{defined_before}
 use Rattle.merge_spec.specs.declared.parts.Part.{Part}
 use Rattle.merge_spec.specs.declared.faults.LinkFault.{LinkFault}
 use Rattle.merge_spec.specs.declared.faults.LinkFault.TheVariants.{ImportCycle, TooManyMemories}
 use Rattle.merge_spec.specs.declared.links.Read.{Read}
 use Rattle.merge_spec.specs.Faults as faults
-use Rattle.merge_spec.specs.Faults.{or_else, first_fault}
-use Rattle.merge_spec.specs.Linked.{by_import, end_entry, read_at}
-use Rattle.merge_spec.specs.Parts.{named_modules}
+use Rattle.merge_spec.specs.Prelude.{or_else, first_fault, by_import, end_entry, read_at, named_modules}
 use Rattle.merge_link.specs.declared.globals.DefinedGlobal.{DefinedGlobal}
 use Rattle.merge_link.specs.declared.part_tables.Ending.{Ending}
 use Rattle.merge_link.specs.declared.sites.Site.{Site}
-use Rattle.merge_link.specs.Cutting.{cut_by, import_counts}
+use Rattle.merge_link.specs.Prelude.{cut_by, import_counts, the_own, the_read, AreKnown, end_at, the_end, AreValues, AreSites, the_site}
 use Rattle.merge_link.specs.Gathering.{AreLinkedEnds, linked_at}
-use Rattle.merge_link.specs.Globals.{AreOwn, the_own, the_read, value_at}
-use Rattle.merge_link.specs.PartTables.{AreKnown, AreStops, end_at, the_end}
-use Rattle.merge_link.specs.Reads.{AreValues, own_value}
+use Rattle.merge_link.specs.Globals.{AreOwn, value_at}
+use Rattle.merge_link.specs.PartTables.{AreStops}
+use Rattle.merge_link.specs.Reads.{own_value}
 use Rattle.merge_link.specs.Resolving.{IsRefusal, clash_faults, global_faults, import_faults, kept_entry_at, read_entry_at}
-use Rattle.merge_link.specs.Sites.{AreSites, the_site}
 use Rattle.merge_link.proofs.Cuts.{cut_map, cut_sites}
 use Rattle.merge_link.proofs.Firsts.{first_map}
 use Rattle.merge_link.proofs.Found.{fault_at, lengths_same}

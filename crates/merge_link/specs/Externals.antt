@@ -1,6 +1,6 @@
 -- External types, and those of what modules define.
 use Rattle.std.specs.Prelude.{ℕ, Option, option_map, option_and_then, slice_get}
-use Rattle.wasm_tree.specs.declared.module.Module.{Module}
+use Rattle.wasm_tree_spec.specs.Prelude.{Module}
 use Rattle.merge_spec.specs.Faults as faults
 use Rattle.merge_link.specs.declared.externals.External.{External}
 use Rattle.merge_link.specs.declared.externals.External.TheVariants.{Func, Table, Memory, Global}

@@ -1,15 +1,14 @@
 -- Memories that stay, gathered by their module and field names.
 use Rattle.std.specs.Prelude.{◌≡◌, ℕ, List, [], ◌∷◌, Option, Some, None, Bool, true, false, cond, map, slice_get, ◌&&◌}
-use Rattle.wasm_tree.specs.declared.space.Space.TheVariants.{Memories}
+use Rattle.wasm_tree_spec.specs.Prelude.{Memories, Import}
 use Rattle.std.specs.BTreeMap.{BTreeMap, get_by}
 use Rattle.std.specs.Ordering.{nat_cmp, ordering_then}
 use Rattle.std.specs.Cmp.Lexicographic.{slice_cmp}
 use denote.Ref.{Bor}
-use Rattle.wasm_tree.specs.declared.module.Import.{Import}
-use Rattle.wasm_meaning.specs.State.{Pair}
+use Rattle.wasm_meaning.specs.Prelude.{Pair}
 use Rattle.wasm_meaning.specs.Linking as linking
 use Rattle.merge_spec.specs.declared.parts.Part.{Part}
-use Rattle.merge_spec.specs.Parts.{named_modules}
+use Rattle.merge_spec.specs.Prelude.{named_modules}
 use Rattle.merge_link.specs.declared.sites.Site.{Site}
 use Rattle.merge_link.specs.declared.part_tables.Ending.{Ending}
 use Rattle.merge_link.specs.declared.part_tables.Ending.TheVariants.{Defined, Outside}

@@ -8,3 +8,4 @@ pub mod Reads
 pub mod Resolving
 pub mod Sites
 pub mod Tables
+pub mod Prelude

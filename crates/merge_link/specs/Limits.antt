@@ -1,13 +1,12 @@
 -- Limits of what stays.
 use Rattle.std.specs.Prelude.{◌≡◌, ℕ, List, Option, Some, None, cond, map, slice_get}
 use Rattle.base_lists.specs.Options.{◌>>=◌}
-use Rattle.wasm_tree.specs.declared.types.Limits.{Limits}
+use Rattle.wasm_tree_spec.specs.Prelude.{Limits}
 use Rattle.wasm_meaning.specs.Linking as linking
 use Rattle.merge_spec.specs.declared.parts.Part.{Part}
 use Rattle.merge_spec.specs.declared.faults.LinkFault.{LinkFault}
 use Rattle.merge_spec.specs.declared.faults.LinkFault.TheVariants.{LimitsClash}
-use Rattle.merge_spec.specs.Faults.{is_under}
-use Rattle.merge_spec.specs.Parts.{named_modules}
+use Rattle.merge_spec.specs.Prelude.{is_under, named_modules}
 use Rattle.merge_link.specs.declared.sites.Site.{Site}
 use Rattle.merge_link.specs.Sites.{the_site}
 

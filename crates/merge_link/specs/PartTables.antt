@@ -5,8 +5,7 @@ use Rattle.wasm_meaning.specs.Linking as linking
 use Rattle.base_paths.specs.declared.follow.Step.{Step}
 use Rattle.base_paths.specs.declared.follow.Step.TheVariants.{Goes, Ends, Nowhere}
 use Rattle.merge_spec.specs.declared.parts.Part.{Part}
-use Rattle.merge_spec.specs.Parts.{named_modules}
-use Rattle.merge_spec.specs.Faults.{defined_globals}
+use Rattle.merge_spec.specs.Prelude.{named_modules, defined_globals}
 use Rattle.merge_link.specs.declared.sites.Site.{Site}
 use Rattle.merge_link.specs.declared.part_tables.Entity.{Entity}
 use Rattle.merge_link.specs.declared.part_tables.Ending.{Ending}

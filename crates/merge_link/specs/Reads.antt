@@ -1,14 +1,13 @@
 -- What is read through imports.
 use Rattle.std.specs.Prelude.{◌≡◌, List, Option, None, map, option_map}
 use Rattle.base_lists.specs.Options.{◌>>=◌}
-use Rattle.wasm_tree.specs.declared.module.ImportDesc.{ImportDesc}
+use Rattle.wasm_tree_spec.specs.Prelude.{ImportDesc}
 use Rattle.wasm_tree.specs.declared.module.ImportDesc.TheVariants as im
 use Rattle.wasm_meaning.specs.Linking as linking
 use Rattle.merge_spec.specs.declared.parts.Part.{Part}
 use Rattle.merge_spec.specs.declared.links.Read.{Read}
 use Rattle.merge_spec.specs.Faults as faults
-use Rattle.merge_spec.specs.Linked.{read_entry, when_fixed}
-use Rattle.merge_spec.specs.Parts.{named_modules}
+use Rattle.merge_spec.specs.Prelude.{read_entry, when_fixed, named_modules}
 use Rattle.merge_link.specs.Globals.{the_read}
 
 -- what the value expression of a defined global reads

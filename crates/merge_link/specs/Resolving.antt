@@ -1,14 +1,13 @@
 -- What each stage of linking gives: what it finds where there is no fault of its kind, or the first such fault.
 use Rattle.std.specs.Prelude.{◌≡◌, ◌⊎◌, List, Option, Some, None, map, Result, Ok, Err}
-use Rattle.wasm_tree.specs.declared.types.Limits.{Limits}
+use Rattle.wasm_tree_spec.specs.Prelude.{Limits}
 use Rattle.wasm_meaning.specs.Linking as linking
 use Rattle.merge_spec.specs.declared.parts.Part.{Part}
 use Rattle.merge_spec.specs.declared.faults.LinkFault.{LinkFault}
 use Rattle.merge_spec.specs.declared.faults.LinkFault.TheVariants.{NoMemory}
 use Rattle.merge_spec.specs.declared.links.Read.{Read}
 use Rattle.merge_spec.specs.Faults as faults
-use Rattle.merge_spec.specs.Linked.{read_at}
-use Rattle.merge_spec.specs.Parts.{named_modules}
+use Rattle.merge_spec.specs.Prelude.{read_at, named_modules}
 use Rattle.merge_link.specs.declared.part_tables.Ending.{Ending}
 use Rattle.merge_link.specs.declared.resolving.Kept.{Kept}
 use Rattle.merge_link.specs.declared.sites.Site.{Site}

@@ -1,9 +1,9 @@
 -- The places of imports, as linking by name speaks of them.
 use Rattle.std.specs.Prelude.{◌≡◌, List, map, Some}
-use Rattle.wasm_tree.specs.declared.module.Import.{Import}
+use Rattle.wasm_tree_spec.specs.Prelude.{Import}
 use Rattle.wasm_meaning.specs.Linking as linking
 use Rattle.merge_spec.specs.declared.parts.Part.{Part}
-use Rattle.merge_spec.specs.Parts.{named_modules}
+use Rattle.merge_spec.specs.Prelude.{named_modules}
 use Rattle.merge_link.specs.declared.sites.Site.{Site}
 
 abbrev pub the_site : Site → linking.Site

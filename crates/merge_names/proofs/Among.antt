@@ -1,11 +1,5 @@
 -- What is among names.
-use Rattle.std.proofs.Common.{◌≡◌, ◌∙◌, sym, ap, refl, ℕ, zero, suc, ◌+◌, List, [], ◌∷◌, ◌++◌, take, slice_get, Some, Bool, true, false, cond, ◌||◌, ◌&&◌}
-use Rattle.std.specs.Prelude.{Contains}
-use Rattle.std.specs.Str.{bytes_eq}
-use Rattle.std.proofs.lemmas.Slice.Eq.{bytes_eq-Decides}
-use Rattle.std.proofs.lemmas.List.{take_more}
-use Rattle.std.proofs.lemmas.List.Folds.{list_any-append}
-use Rattle.std.proofs.lemmas.Option.{slice_get-get_or, slice_get_within, get_or_from_slice_get}
+use Rattle.base_lists.proofs.Common.{◌≡◌, ◌∙◌, sym, ap, refl, ℕ, zero, suc, ◌+◌, List, [], ◌∷◌, ◌++◌, take, slice_get, Some, Bool, true, false, cond, ◌||◌, ◌&&◌, Contains, bytes_eq, bytes_eq-Decides, take_more, list_any-append, slice_get-get_or, slice_get_within, get_or_from_slice_get}
 use Rattle.merge_names.specs.Names.{among}
 
 pub same_from : (x y : List ℕ) → bytes_eq x y ≡ true → x ≡ y

@@ -1,9 +1,5 @@
 -- How far a loop that renames has come.
-use Rattle.std.proofs.Common.{◌≡◌, ◌∙◌, sym, ap, refl, subst, ℕ, ◌<◌, ◌≤◌, ◌+◌, ◌^◌, List, [], ◌∷◌, ◌++◌, length, arith, slice_get, take, Option, Some, Bool, true, false, cond, is_some, append_assoc}
-use Rattle.std.specs.Str.{bytes_eq}
-use Rattle.std.proofs.lemmas.Slice.Eq.{bytes_eq-Decides}
-use Rattle.std.proofs.lemmas.List.{take_more}
-use Rattle.std.proofs.lemmas.Option.{slice_get_within, get_or_from_slice_get}
+use Rattle.base_lists.proofs.Common.{◌≡◌, ◌∙◌, sym, ap, refl, subst, ℕ, ◌<◌, ◌≤◌, ◌+◌, ◌^◌, List, [], ◌∷◌, ◌++◌, length, arith, slice_get, take, Option, Some, Bool, true, false, cond, is_some, append_assoc, bytes_eq, bytes_eq-Decides, take_more, slice_get_within, get_or_from_slice_get}
 use Rattle.merge_names.specs.Names.{numbered, IsLeastFree, IsRenamed, among, new_name, renamed}
 use Rattle.merge_names.specs.Chosen.{IsChosen}
 use Rattle.merge_names.specs.Chosen.IsChosen.{first, again}

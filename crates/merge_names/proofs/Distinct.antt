@@ -1,8 +1,5 @@
 -- The names that are given differ.
-use Rattle.std.proofs.Common.{◌≡◌, ◌∙◌, sym, ap, refl, inl, inr, ℕ, zero, suc, ◌<◌, ◌+◌, ◌^◌, List, [], ◌∷◌, ◌++◌, length, map, arith, slice_get, take, Some, None, Bool, true, false, cond, append_assoc, append-nil, subst, ◌||◌}
-use Rattle.std.specs.Str.{bytes_eq}
-use Rattle.std.proofs.lemmas.Bool.{cases_Bool}
-use Rattle.std.proofs.lemmas.List.{length-append, length_push}
+use Rattle.base_lists.proofs.Common.{◌≡◌, ◌∙◌, sym, ap, refl, inl, inr, ℕ, zero, suc, ◌<◌, ◌+◌, ◌^◌, List, [], ◌∷◌, ◌++◌, length, map, arith, slice_get, take, Some, None, Bool, true, false, cond, append_assoc, append-nil, subst, ◌||◌, bytes_eq, cases_Bool, length-append, length_push}
 use Rattle.merge_names.specs.declared.mode.Mode.TheVariants.{Refuse, Rename, Skip}
 use Rattle.merge_names.specs.Names.{among, numbered, given, new_name, kept_behind, conflict_behind, renamed_behind, renamed, AreDistinct, IsRenamed}
 use Rattle.merge_names.specs.Laws.{GivenNamesDiffer}

@@ -1,22 +1,11 @@
 -- Only so many numbers make names that are taken.
-use Rattle.std.proofs.Common.{◌≡◌, ◌∙◌, sym, ap, refl, ℕ, suc, ◌<◌, ◌≤◌, ◌-◌, ◌+◌, ◌^◌, List, [], ◌∷◌, length, map, arith, Some, Bool, true, false, decimal, string_bytes}
-use Rattle.std.specs.List.{list_any}
+use Rattle.base_lists.proofs.Common.{◌≡◌, ◌∙◌, sym, ap, refl, ℕ, suc, ◌<◌, ◌≤◌, ◌-◌, ◌+◌, ◌^◌, List, [], ◌∷◌, length, map, arith, Some, Bool, true, false, decimal, string_bytes, list_any, bytes_eq, contains_text, btree_set_len, nat_cmp, slice_cmp, is_eq-slice_cmp, decimal_injective, append_cancel_left, length-map, slice_get-map, list_any_there, pigeons, Has}
 use Rattle.std.specs.Option.{option_map}
 use Rattle.std.specs.Prelude.{String}
-use Rattle.std.specs.Str.{bytes_eq}
-use Rattle.std.specs.BTreeSet.{BTreeSet, contains_text, btree_set_len}
+use Rattle.std.specs.BTreeSet.{BTreeSet}
 use Rattle.std.specs.BTreeMap.{is_at}
-use Rattle.std.specs.Ordering.{nat_cmp}
-use Rattle.std.specs.Cmp.Lexicographic.{slice_cmp}
-use Rattle.std.proofs.lemmas.Map.Text.{is_eq-slice_cmp}
-use Rattle.std.proofs.lemmas.Fmt.{decimal_injective}
-use Rattle.std.proofs.lemmas.List.{append_cancel_left, length-map}
-use Rattle.std.proofs.lemmas.Option.{slice_get-map}
-use Rattle.base_lists.proofs.Each.{list_any_there}
 use Rattle.merge_names.specs.Names.{numbered, among}
 use Rattle.merge_names.proofs.Among.{same_from}
-use Rattle.base_lists.proofs.Pigeons.{pigeons}
-use Rattle.base_lists.proofs.Places.{Has}
 
 -- names with different numbers differ
 numbered_differ : (name : List ℕ) (i j : ℕ) → i < 2 ^ 64 → j < 2 ^ 64 → numbered name i ≡ numbered name j → i ≡ j

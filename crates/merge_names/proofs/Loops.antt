@@ -1,9 +1,7 @@
 -- One more name in a loop over names.
-use Rattle.std.proofs.Common.{◌≡◌, ◌∙◌, sym, ap, refl, ℕ, ◌<◌, ◌≤◌, ◌+◌, List, [], ◌∷◌, ◌++◌, length, map, arith, get_or, slice_get, take, drop, Some, None, cond}
+use Rattle.base_lists.proofs.Common.{◌≡◌, ◌∙◌, sym, ap, refl, ℕ, ◌<◌, ◌≤◌, ◌+◌, List, [], ◌∷◌, ◌++◌, length, map, arith, get_or, slice_get, take, drop, Some, None, cond, take_more, drop_more, drop_all, length-take-le, map_push, slice_get_within, get_or_from_slice_get, slice_get-map, slice_get_read}
 use denote.Ref.{Bor}
 use Rattle.std.specs.Option.{option_map}
-use Rattle.std.proofs.lemmas.List.{take_more, drop_more, drop_all, length-take-le, map_push}
-use Rattle.std.proofs.lemmas.Option.{slice_get_within, get_or_from_slice_get, slice_get-map, slice_get_read}
 use Rattle.merge_names.specs.Names.{among, kept_behind, conflict_behind}
 use Rattle.merge_names.specs.Given.{texts}
 

@@ -1,7 +1,5 @@
 -- The functions of renaming follow the rule.
-use Rattle.std.proofs.Common.{◌≡◌, ◌∙◌, sym, ap, refl, subst, inl, inr, ℕ, zero, suc, ◌<◌, ◌≤◌, ◌+◌, ◌^◌, List, [], ◌∷◌, ◌++◌, length, arith, slice_get, take, Some, Bool, true, false, cond, append_assoc, append-nil}
-use Rattle.std.proofs.lemmas.Bool.{cases_eq, cases_order, cases_lt, cases_Bool}
-use Rattle.std.proofs.lemmas.List.{length-append}
+use Rattle.base_lists.proofs.Common.{◌≡◌, ◌∙◌, sym, ap, refl, subst, inl, inr, ℕ, zero, suc, ◌<◌, ◌≤◌, ◌+◌, ◌^◌, List, [], ◌∷◌, ◌++◌, length, arith, slice_get, take, Some, Bool, true, false, cond, append_assoc, append-nil, cases_eq, cases_order, cases_lt, cases_Bool, length-append}
 use Rattle.merge_names.specs.Names.{numbered, IsLeastFree, IsRenamed, AreRenamed, among, least_free, new_name, renamed_behind, renamed}
 use Rattle.merge_names.proofs.Few.{few_among}
 

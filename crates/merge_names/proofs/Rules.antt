@@ -1,6 +1,5 @@
 -- The new names follow the rules, and a conflict is the first.
-use Rattle.std.proofs.Common.{◌≡◌, ◌∙◌, sym, ap, refl, ℕ, zero, suc, ◌<◌, ◌+◌, List, [], ◌∷◌, ◌++◌, length, arith, slice_get, take, Some, None, Bool, true, false, cond, append_assoc, append-nil}
-use Rattle.std.proofs.lemmas.List.{length_push}
+use Rattle.base_lists.proofs.Common.{◌≡◌, ◌∙◌, sym, ap, refl, ℕ, zero, suc, ◌<◌, ◌+◌, List, [], ◌∷◌, ◌++◌, length, arith, slice_get, take, Some, None, Bool, true, false, cond, append_assoc, append-nil, length_push}
 use Rattle.merge_names.specs.declared.mode.Mode.TheVariants.{Refuse, Rename, Skip}
 use Rattle.merge_names.specs.Names.{among, kept_behind, conflict_behind, renamed, AreKept}
 use Rattle.merge_names.specs.Laws.{NamesFollowRules, ConflictsAreFirst}

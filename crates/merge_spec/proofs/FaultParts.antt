@@ -1,12 +1,11 @@
 -- The parts that faults of linking name are there, no fault of linking is one of memory, and without a fault there is none either where several memories may be.
-use Rattle.std.proofs.Common.{◌≡◌, subst, ℕ, zero, suc, ◌+◌, ◌<◌, ◌≤◌, List, [], ◌∷◌, ◌++◌, length, Option, Some, None, IfSome, Bool, true, false, cond, nat_lt, arith}
+use Rattle.base_lists.proofs.Common.{◌≡◌, subst, ℕ, zero, suc, ◌+◌, ◌<◌, ◌≤◌, List, [], ◌∷◌, ◌++◌, length, Option, Some, None, IfSome, Bool, true, false, cond, nat_lt, arith}
 use Rattle.base_lists.specs.Options.{◌>>=◌}
 use Rattle.base_lists.specs.Every.{Every}
-use Rattle.wasm_tree.specs.declared.space.Space.TheVariants.{Globals}
-use Rattle.wasm_tree.specs.declared.types.Limits.{Limits}
-use Rattle.wasm_tree.specs.declared.module.GlobalDef.{GlobalDef}
-use Rattle.wasm_meaning.specs.Linking.{Part, Site, End, sites_in, sites_from, sites, end_of, imports_of, Read, read_of}
-use Rattle.merge_spec.specs.Faults.{or_else, first_fault, end_fault, import_fault, is_suited, is_under, kept_limits, clash_fault, memory_fault, memory_count, DefinedGlobal, defined_globals_in, defined_globals_from, defined_globals, value_fault, global_fault, link_fault, NamesPart}
+use Rattle.wasm_tree_spec.specs.Prelude.{Globals, Limits, GlobalDef}
+use Rattle.wasm_meaning.specs.Prelude.{Part, Site, End, sites_in, sites_from, sites, end_of, imports_of, Read, read_of}
+use Rattle.merge_spec.specs.Prelude.{or_else, first_fault, end_fault, is_suited, is_under, kept_limits, memory_count, defined_globals_in, defined_globals_from, NamesPart}
+use Rattle.merge_spec.specs.Faults.{import_fault, clash_fault, memory_fault, DefinedGlobal, defined_globals, value_fault, global_fault, link_fault}
 use Rattle.merge_spec.specs.declared.faults.LinkFault.{LinkFault}
 use Rattle.merge_spec.specs.declared.faults.LinkFault.TheVariants.{ImportMismatch, ImportCycle, LimitsClash, TooManyMemories, GlobalCycle, NoMemory}
 

@@ -1,25 +1,12 @@
 -- Small merges, computed: the definitions give the faults and the modules that the rules ask for.
-use Rattle.std.proofs.Common.{◌≡◌, refl, ℕ, zero, suc, List, [], ◌∷◌, Option, Some, None, false, slice_get, length, ap, arith, true}
-use Rattle.std.specs.Prelude.{pos}
-use Rattle.wasm_tree.specs.declared.types.ValType.{ValType}
+use Rattle.base_lists.proofs.Common.{◌≡◌, refl, ℕ, zero, suc, List, [], ◌∷◌, Option, Some, None, false, slice_get, length, ap, arith, true, pos}
+use Rattle.wasm_tree_spec.specs.Prelude.{ValType, FuncType, Limits, Instr, GlobalType, Func, ImportDesc, ExportDesc, Import, Export, GlobalDef, Module}
 use Rattle.wasm_tree.specs.declared.types.ValType.TheVariants as valt
-use Rattle.wasm_tree.specs.declared.types.FuncType.{FuncType}
-use Rattle.wasm_tree.specs.declared.types.Limits.{Limits}
-use Rattle.wasm_tree.specs.declared.instr.Instr.{Instr}
 use Rattle.wasm_tree.specs.declared.instr.Instr.TheVariants as i
-use Rattle.wasm_tree.specs.declared.types.GlobalType.{GlobalType}
-use Rattle.wasm_tree.specs.declared.module.Func.{Func}
-use Rattle.wasm_tree.specs.declared.module.ImportDesc.{ImportDesc}
 use Rattle.wasm_tree.specs.declared.module.ImportDesc.TheVariants as im
-use Rattle.wasm_tree.specs.declared.module.ExportDesc.{ExportDesc}
 use Rattle.wasm_tree.specs.declared.module.ExportDesc.TheVariants as ex
-use Rattle.wasm_tree.specs.declared.module.Import.{Import}
-use Rattle.wasm_tree.specs.declared.module.Export.{Export}
 use Rattle.wasm_tree.specs.declared.module.ConstExpr.TheVariants as const
-use Rattle.wasm_tree.specs.declared.module.GlobalDef.{GlobalDef}
-use Rattle.wasm_tree.specs.declared.module.Module.{Module}
-use Rattle.wasm_meaning.specs.State.{Text}
-use Rattle.wasm_meaning.specs.Linking.{Part}
+use Rattle.wasm_meaning.specs.Prelude.{Text, Part}
 use Rattle.merge_spec.specs.declared.faults.LinkFault.TheVariants.{ImportMismatch, ImportCycle, LimitsClash, TooManyMemories, GlobalCycle}
 use Rattle.merge_spec.specs.Faults.{link_fault, import_fault, clash_fault, memory_fault, memory_count, global_fault, defined_globals, stays, kept_limits}
 use Rattle.merge_spec.specs.Types.{AreFirstAppearances}

@@ -1,23 +1,11 @@
 -- Why parts are not linked: the first fault, in the order in which they are told.
 -- First every import is compared with its end; then the limits of what stays; then the memories are counted; then the values of globals are followed.
 use Rattle.std.specs.Prelude.{ℕ, suc, ◌+◌, ◌<◌, List, [], ◌∷◌, ◌++◌, length, Option, Some, None, Bool, true, false, cond, nat_lt, slice_get, unwrap_or, ◌&&◌}
-use Rattle.wasm_tree.specs.declared.space.Space.TheVariants.{Memories, Globals}
+use Rattle.wasm_tree_spec.specs.Prelude.{Memories, Globals, FuncType, Limits, TableType, GlobalType, ImportDesc, ExportDesc, ConstExpr, GlobalDef, Module, type_of_func, tables_of, memories_of, globals_of, same_func_type, same_ref, same_type}
 use Rattle.base_lists.specs.Options.{◌>>=◌}
-use Rattle.wasm_tree.specs.declared.types.FuncType.{FuncType}
-use Rattle.wasm_tree.specs.declared.types.Limits.{Limits}
-use Rattle.wasm_tree.specs.declared.types.TableType.{TableType}
-use Rattle.wasm_tree.specs.declared.types.GlobalType.{GlobalType}
-use Rattle.wasm_tree.specs.declared.module.ImportDesc.{ImportDesc}
 use Rattle.wasm_tree.specs.declared.module.ImportDesc.TheVariants as im
-use Rattle.wasm_tree.specs.declared.module.ExportDesc.{ExportDesc}
 use Rattle.wasm_tree.specs.declared.module.ExportDesc.TheVariants as ex
-use Rattle.wasm_tree.specs.declared.module.ConstExpr.{ConstExpr}
-use Rattle.wasm_tree.specs.declared.module.GlobalDef.{GlobalDef}
-use Rattle.wasm_tree.specs.declared.module.Module.{Module}
-use Rattle.wasm_tree.specs.Spaces.{type_of_func, tables_of, memories_of, globals_of}
-use Rattle.wasm_tree.specs.SameTypes.{same_func_type, same_ref, same_type}
-use Rattle.wasm_meaning.specs.World.{same_bool, meets, defined_before}
-use Rattle.wasm_meaning.specs.Linking.{Part, Site, End, Defined, Outside, count_of, has_kind, module_at, import_at, imports_of, sites, end_of, is_outside, linked_end, limits_of, met_limits, Read, read_of}
+use Rattle.wasm_meaning.specs.Prelude.{same_bool, meets, defined_before, Part, Site, End, Defined, Outside, count_of, has_kind, module_at, import_at, imports_of, sites, end_of, is_outside, linked_end, limits_of, met_limits, Read, read_of}
 use Rattle.merge_spec.specs.declared.faults.LinkFault.{LinkFault}
 use Rattle.merge_spec.specs.declared.faults.LinkFault.TheVariants.{ImportMismatch, ImportCycle, LimitsClash, TooManyMemories, GlobalCycle, NoMemory}
 

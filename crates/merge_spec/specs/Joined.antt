@@ -1,15 +1,10 @@
 -- What joining parts gives: the merged module with its references declared, or why there is none.
 use Rattle.std.specs.Prelude.{◌≡◌, ℕ, ◌+◌, ◌<◌, ◌^◌, List, length, Option, Some, None, cond, nat_lt, Result, Ok, Err, slice_get}
-use Rattle.wasm_tree.specs.declared.space.Space.TheVariants.{Types, Functions, Tables, Memories, Globals, ElementSegments, DataSegments}
-use Rattle.wasm_tree.specs.declared.space.Space.{Space}
+use Rattle.wasm_tree_spec.specs.Prelude.{Types, Functions, Tables, Memories, Globals, ElementSegments, DataSegments, Space, Which, Module}
 use Rattle.base_lists.specs.Options.{◌>>=◌}
-use Rattle.wasm_tree.specs.declared.which.Which.{Which}
-use Rattle.wasm_tree.specs.declared.module.Module.{Module}
-use Rattle.wasm_meaning.specs.State.{Text}
-use Rattle.wasm_meaning.specs.World.{defined_before}
-use Rattle.wasm_meaning.specs.Linking.{Part, sites}
+use Rattle.wasm_meaning.specs.Prelude.{Text, defined_before, Part, sites}
 use Rattle.base_lists.specs.Places.{count_of}
-use Rattle.index_remap.specs.References.{declared}
+use Rattle.index_remap.specs.Prelude.{declared}
 use Rattle.module_limits.specs.Counts.{over_limit}
 use Rattle.merge_names.specs.declared.mode.Mode.{Mode}
 use Rattle.merge_names.specs.Names.{new_names, conflict}

@@ -5,3 +5,4 @@ pub mod Merged
 pub mod Joined
 pub mod Types
 pub mod View
+pub mod Prelude

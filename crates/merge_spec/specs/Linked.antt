@@ -1,13 +1,10 @@
 -- The links of parts: for each import its end, the limits that it keeps, and what is read through it.
 use Rattle.std.specs.Prelude.{◌≡◌, ℕ, suc, List, [], ◌∷◌, map, length, Option, Some, None, option_map, Bool, true, false}
-use Rattle.wasm_tree.specs.declared.space.Space.TheVariants.{Globals}
+use Rattle.wasm_tree_spec.specs.Prelude.{Globals, GlobalType, ImportDesc, index_of_export}
 use Rattle.base_lists.specs.Options.{◌>>=◌}
-use Rattle.wasm_tree.specs.declared.types.GlobalType.{GlobalType}
-use Rattle.wasm_tree.specs.declared.module.ImportDesc.{ImportDesc}
 use Rattle.wasm_tree.specs.declared.module.ImportDesc.TheVariants as im
 use Rattle.wasm_tree.specs.declared.module.ConstExpr.TheVariants as const
-use Rattle.wasm_meaning.specs.Linking.{Part, Site, module_at, import_at, space_index, sites_in, linked_end, read_of}
-use Rattle.wasm_tree.specs.Spaces.{index_of_export}
+use Rattle.wasm_meaning.specs.Prelude.{Part, Site, module_at, import_at, space_index, sites_in, linked_end, read_of}
 use Rattle.wasm_meaning.specs.Linking as linking
 use Rattle.merge_spec.specs.Faults.{kept_limits}
 use Rattle.merge_spec.specs.declared.links.End.{End}

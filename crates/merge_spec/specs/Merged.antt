@@ -1,32 +1,14 @@
 -- The merged module: its lists are filters and joins of the parts' lists, and its indices are places in these.
 use Rattle.std.specs.Prelude.{ℕ, suc, ◌+◌, ◌-◌, List, [], ◌∷◌, ◌++◌, map, filter, length, Option, Some, None, Bool, false, cond, slice_index, slice_get, unwrap_or}
-use Rattle.wasm_tree.specs.declared.space.Space.{Space}
-use Rattle.wasm_tree.specs.declared.space.Space.TheVariants.{Functions, Tables, Memories, Globals, DataSegments, ElementSegments}
+use Rattle.wasm_tree_spec.specs.Prelude.{Space, Functions, Tables, Memories, Globals, DataSegments, ElementSegments, FuncType, Import, ImportDesc, Export, ConstExpr, Func, GlobalDef, ElemSeg, ElemMode, DataSeg, DataMode, Module, Call, funcs_of, tables_of, memories_of, globals_of, index_of_export, same_func_type}
 use Rattle.base_lists.specs.Options.{◌>>=◌}
 use Rattle.std.specs.List.{flat_map, filter_map, list_any}
-use Rattle.wasm_tree.specs.declared.types.FuncType.{FuncType}
-use Rattle.wasm_tree.specs.declared.module.Import.{Import}
-use Rattle.wasm_tree.specs.declared.module.ImportDesc.{ImportDesc}
 use Rattle.wasm_tree.specs.declared.module.ImportDesc.TheVariants as im
-use Rattle.wasm_tree.specs.declared.module.Export.{Export}
-use Rattle.wasm_tree.specs.declared.module.ConstExpr.{ConstExpr}
-use Rattle.wasm_tree.specs.declared.module.Func.{Func}
-use Rattle.wasm_tree.specs.declared.module.GlobalDef.{GlobalDef}
-use Rattle.wasm_tree.specs.declared.module.ElemSeg.{ElemSeg}
-use Rattle.wasm_tree.specs.declared.module.ElemMode.{ElemMode}
 use Rattle.wasm_tree.specs.declared.module.ElemMode.TheVariants as elem
-use Rattle.wasm_tree.specs.declared.module.DataSeg.{DataSeg}
-use Rattle.wasm_tree.specs.declared.module.DataMode.{DataMode}
 use Rattle.wasm_tree.specs.declared.module.DataMode.TheVariants as data'
-use Rattle.wasm_tree.specs.declared.module.Module.{Module}
-use Rattle.wasm_tree.specs.declared.instr.Instr.TheVariants.{Call}
-use Rattle.wasm_tree.specs.Spaces.{funcs_of, tables_of, memories_of, globals_of, index_of_export}
-use Rattle.wasm_meaning.specs.State.{Text}
-use Rattle.wasm_tree.specs.SameTypes.{same_func_type}
-use Rattle.wasm_meaning.specs.World.{defined_before, numbers}
-use Rattle.wasm_meaning.specs.Linking.{Part, Site, End, Defined, Outside, Read, first_place, has_kind, module_at, import_at, imports_of, same_site, sites, linked_end, met_limits, read_of}
+use Rattle.wasm_meaning.specs.Prelude.{Text, defined_before, numbers, Part, Site, End, Defined, Outside, Read, first_place, has_kind, module_at, import_at, imports_of, same_site, sites, linked_end, met_limits, read_of}
 use Rattle.index_remap.specs.declared.remap.Remap.{Remap}
-use Rattle.index_remap.specs.Renumbered.{new_const, new_func, new_export}
+use Rattle.index_remap.specs.Prelude.{new_const, new_func, new_export}
 use Rattle.merge_spec.specs.Faults.{stays}
 
 -- ---- what stays, and places in the merged index spaces ----

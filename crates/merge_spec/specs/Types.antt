@@ -1,8 +1,8 @@
 -- The types of the merged module, by those of the parts (WebAssembly Core 2.0, section 2.5.2).
 use Rattle.std.specs.Prelude.{◌≡◌, ◌<◌, ℕ, List, Some, slice_get}
 use Rattle.std.specs.List.{flat_map}
-use Rattle.wasm_tree.specs.declared.types.FuncType.{FuncType}
-use Rattle.wasm_meaning.specs.Linking.{Part}
+use Rattle.wasm_tree_spec.specs.Prelude.{FuncType}
+use Rattle.wasm_meaning.specs.Prelude.{Part}
 use Rattle.merge_names.specs.declared.mode.Mode.{Mode}
 use Rattle.merge_spec.specs.Joined.{joined_module}
 

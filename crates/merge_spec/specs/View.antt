@@ -1,8 +1,6 @@
 -- What is seen of parts that are linked by name: the parts' exports under the names that a mode gives them.
 use Rattle.std.specs.Prelude.{List, [], ◌∷◌, map, Option, Some, None}
-use Rattle.wasm_meaning.specs.State.{Text}
-use Rattle.wasm_meaning.specs.Linking.{Part, Entity}
-use Rattle.wasm_meaning.specs.World.{World}
+use Rattle.wasm_meaning.specs.Prelude.{Text, Part, Entity, World}
 use Rattle.merge_names.specs.declared.mode.Mode.{Mode}
 use Rattle.merge_names.specs.Names.{new_names}
 use Rattle.merge_spec.specs.Merged.{by_part, export_names}

@@ -1,33 +1,17 @@
 -- Each part agrees with the merged module along the part's map, and the map covers the part.
-use Rattle.std.proofs.Common.{◌≡◌, ◌∙◌, ap, sym, subst, refl, ℕ, ◌+◌, ◌<◌, List, map, length, Option, Some, None, true, arith, ◌⊎◌, inl, inr}
-use Rattle.wasm_tree.specs.declared.space.Space.{Space}
-use Rattle.wasm_tree.specs.declared.space.Space.TheVariants.{Types, Functions, Tables, Memories, Globals, DataSegments, ElementSegments}
-use Rattle.std.specs.Prelude.{slice_get, slice_index, option_and_then}
-use Rattle.std.proofs.lemmas.List.{length-map}
-use Rattle.wasm_tree.specs.declared.types.RefType.{RefType}
-use Rattle.wasm_tree.specs.declared.types.FuncType.{FuncType}
-use Rattle.wasm_tree.specs.declared.types.GlobalType.{GlobalType}
-use Rattle.wasm_tree.specs.declared.module.Import.{Import}
-use Rattle.wasm_tree.specs.declared.module.ImportDesc.{ImportDesc}
+use Rattle.base_lists.proofs.Common.{◌≡◌, ◌∙◌, ap, sym, subst, refl, ℕ, ◌+◌, ◌<◌, List, map, length, Option, Some, None, true, arith, ◌⊎◌, inl, inr, slice_get, slice_index, option_and_then, length-map, slice_get_within, slice_get_there, slice_index_is, map_at, map_from, append_from, chosen_from, numbers_at, length-numbers, and_then_is}
+use Rattle.wasm_tree_spec.specs.Prelude.{Space, Types, Functions, Tables, Memories, Globals, DataSegments, ElementSegments, RefType, FuncType, GlobalType, Import, ImportDesc, Func, ElemSeg, DataSeg, Module, funcs_of, tables_of, memories_of, globals_of, type_of_func}
 use Rattle.wasm_tree.specs.declared.module.ImportDesc.TheVariants as im
-use Rattle.wasm_tree.specs.declared.module.Func.{Func}
-use Rattle.wasm_tree.specs.declared.module.ElemSeg.{ElemSeg}
-use Rattle.wasm_tree.specs.declared.module.DataSeg.{DataSeg}
-use Rattle.wasm_tree.specs.declared.module.Module.{Module}
-use Rattle.wasm_tree.specs.Spaces.{funcs_of, tables_of, memories_of, globals_of, type_of_func}
 use Rattle.wasm_valid.specs.declared.kinds.ItemKind.{ItemKind}
 use Rattle.wasm_valid.specs.declared.kinds.ItemKind.TheVariants as kind
-use Rattle.wasm_valid.specs.SpaceTypes.{table_types, elem_types}
-use Rattle.wasm_valid.specs.Validity.{HoldsAt, ImportHolds, count_of}
-use Rattle.wasm_meaning.specs.State.{Text}
-use Rattle.wasm_meaning.specs.Laws.{EndsArePaths}
-use Rattle.wasm_meaning.specs.World.{numbers, defined_before}
-use Rattle.wasm_meaning.specs.Linking.{Part, module_at}
+use Rattle.wasm_valid.specs.Prelude.{table_types, elem_types, HoldsAt, ImportHolds, count_of}
+use Rattle.wasm_meaning.specs.Prelude.{Text, EndsArePaths, numbers, defined_before, Part, module_at}
 use Rattle.index_remap.specs.declared.remap.Remap.{Remap}
-use Rattle.index_remap.specs.Agreement.{Keeps}
+use Rattle.index_remap.specs.Prelude.{Keeps}
 use Rattle.index_remap_proof.specs.Indices.{with_entry}
 use Rattle.index_remap_proof.specs.Trees.{TreesAgree, Covers}
-use Rattle.merge_spec.specs.Merged.{merged, map_of, merged_elem, merged_data, by_part, new_index}
+use Rattle.merge_spec.specs.Prelude.{merged_elem, merged_data, by_part, new_index}
+use Rattle.merge_spec.specs.Merged.{merged, map_of}
 use Rattle.merge_valid_proof.specs.Ended.{is_external}
 use Rattle.merge_valid_proof.proofs.Entities.{of_desc, of_import, own, imported, space, Ty, FuncTy, TableTy, MemoryTy, GlobalTy, type_of, type_at, typed_external}
 use Rattle.merge_valid_proof.proofs.ByPart.{elems_is, datas_is, by_part_at}
@@ -35,11 +19,6 @@ use Rattle.merge_valid_proof.proofs.TypePlaces.{type_stands, types_map}
 use Rattle.merge_valid_proof.proofs.MergedSpaces.{types_are}
 use Rattle.merge_valid_proof.proofs.Linked.{AllAreSuited}
 use Rattle.merge_valid_proof.proofs.Entries.{entry_kept}
-use Rattle.std.proofs.lemmas.Option.{slice_get_within}
-use Rattle.base_lists.proofs.Places.{slice_get_there, slice_index_is, map_at, map_from, append_from}
-use Rattle.base_lists.proofs.Filtered.{chosen_from}
-use Rattle.base_lists.proofs.Numbers.{numbers_at, length-numbers}
-use Rattle.base_lists.proofs.Options.{and_then_is}
 
 -- each item of a module holds
 abbrev pub ItemsHold : Module → Type 0

@@ -1,27 +1,15 @@
 -- A u32 can count what the merged module has, and it has at most one memory.
-use Rattle.std.proofs.Common.{◌≡◌, ◌∙◌, ap, sym, refl, ℕ, ◌+◌, ◌^◌, ◌<◌, ◌≤◌, List, [], ◌∷◌, length, Option, Some, None, Bool, true, false, cond, nat_lt, arith}
-use Rattle.wasm_tree.specs.declared.space.Space.{Space}
-use Rattle.wasm_tree.specs.declared.space.Space.TheVariants.{Functions, Tables, Memories, Globals}
-use Rattle.std.specs.Prelude.{slice_get}
-use Rattle.std.proofs.lemmas.Bool.{ltb-false}
-use Rattle.std.proofs.lemmas.List.{length-append}
-use Rattle.base_lists.proofs.Filtered.{filter_map_most}
-use Rattle.wasm_tree.specs.declared.which.Which.{Which}
+use Rattle.base_lists.proofs.Common.{◌≡◌, ◌∙◌, ap, sym, refl, ℕ, ◌+◌, ◌^◌, ◌<◌, ◌≤◌, List, [], ◌∷◌, length, Option, Some, None, Bool, true, false, cond, nat_lt, arith, slice_get, ltb-false, length-append, filter_map_most}
+use Rattle.wasm_tree_spec.specs.Prelude.{Space, Functions, Tables, Memories, Globals, Which, Func, Module, memories_of, IsBounded, local_count, limit}
 use Rattle.wasm_tree.specs.declared.which.Which.TheVariants as which
-use Rattle.wasm_tree.specs.declared.module.Func.{Func}
-use Rattle.wasm_tree.specs.declared.module.Module.{Module}
-use Rattle.wasm_tree.specs.Spaces.{memories_of}
-use Rattle.wasm_tree.specs.Bounds.{IsBounded, local_count}
-use Rattle.wasm_valid.specs.Validity.{IsSingle}
-use Rattle.wasm_meaning.specs.State.{Text}
-use Rattle.wasm_meaning.specs.World.{defined_before}
-use Rattle.wasm_meaning.specs.Linking.{Part, count_of, sites}
-use Rattle.index_remap.specs.References.{declared, declared_refs, with_declared, declaring}
+use Rattle.wasm_valid.specs.Prelude.{IsSingle}
+use Rattle.wasm_meaning.specs.Prelude.{Text, defined_before, Part, count_of, sites}
+use Rattle.index_remap.specs.Prelude.{declared, declared_refs, with_declared, declaring}
 use Rattle.merge_spec.specs.declared.faults.LinkFault.TheVariants.{TooManyMemories}
-use Rattle.merge_spec.specs.Faults.{stays, is_staying_memory, memory_count, memory_fault}
-use Rattle.wasm_tree.specs.Limits.{limit}
+use Rattle.merge_spec.specs.Prelude.{stays, merged, imports_kind, by_part}
+use Rattle.merge_spec.specs.Faults.{is_staying_memory, memory_count, memory_fault}
 use Rattle.module_limits.specs.Counts.{over_limit, CountsAreWithin, CountsAreWithinWhereNoneIsOver}
-use Rattle.merge_spec.specs.Merged.{merged, staying, staying_of, imports_kind, by_part}
+use Rattle.merge_spec.specs.Merged.{staying, staying_of}
 use Rattle.merge_valid_proof.proofs.Entities.{of_import, own, imported, space, own_many}
 use Rattle.merge_valid_proof.proofs.MergedSpaces.{own_is, moved_own, extra, all_own, imported_many}
 use Rattle.base_lists.proofs.Filtered.{count_kept, filter_both}

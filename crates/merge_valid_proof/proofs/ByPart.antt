@@ -1,15 +1,8 @@
 -- Lists that are joined by part: an entry of a part's list has its place in all of them, and each entry comes from a part.
-use Rattle.std.proofs.Common.{◌≡◌, ◌∙◌, ap, ap₂, sym, refl, ℕ, zero, suc, ◌+◌, List, [], ◌∷◌, ◌++◌, map, length, Some, arith, ◌⊎◌, inl, inr}
-use Rattle.wasm_tree.specs.declared.space.Space.TheVariants.{DataSegments, ElementSegments}
-use Rattle.wasm_tree.specs.declared.space.Space.{Space}
-use Rattle.std.specs.Prelude.{slice_get}
-use Rattle.std.specs.List.{flat_map}
-use Rattle.std.proofs.lemmas.List.{length-append, map-append}
-use Rattle.wasm_tree.specs.declared.module.Module.{Module}
-use Rattle.wasm_meaning.specs.World.{defined_count, defined_before}
-use Rattle.wasm_meaning.specs.Linking.{Part, module_at}
-use Rattle.merge_spec.specs.Merged.{by_part_from}
-use Rattle.base_lists.proofs.Places.{append_at_left, append_right, append_from}
+use Rattle.base_lists.proofs.Common.{◌≡◌, ◌∙◌, ap, ap₂, sym, refl, ℕ, zero, suc, ◌+◌, List, [], ◌∷◌, ◌++◌, map, length, Some, arith, ◌⊎◌, inl, inr, slice_get, flat_map, length-append, map-append, append_at_left, append_right, append_from}
+use Rattle.wasm_tree_spec.specs.Prelude.{DataSegments, ElementSegments, Space, Module}
+use Rattle.wasm_meaning.specs.Prelude.{defined_count, defined_before, Part, module_at}
+use Rattle.merge_spec.specs.Prelude.{by_part_from}
 
 -- how many the first parts have
 abbrev pub before : (Module → ℕ) → List Part → ℕ → ℕ

@@ -1,33 +1,21 @@
 -- A constant expression of a part keeps its type where it becomes what it reads through joined globals.
-use Rattle.std.proofs.Common.{◌≡◌, ◌∙◌, ap, ap₂, sym, subst, refl, ℕ, zero, suc, ◌+◌, ◌-◌, ◌<◌, ◌≤◌, List, [], ◌∷◌, length, Option, Some, Bool, true, false, cond, ◌&&◌, not, nat_lt, arith, IsTrue, option_and_then, unwrap_or}
-use Rattle.wasm_tree.specs.declared.space.Space.{Space}
-use Rattle.wasm_tree.specs.declared.space.Space.TheVariants.{Functions, Globals}
-use Rattle.std.specs.Prelude.{slice_get, slice_index}
-use Rattle.std.proofs.lemmas.Bool.{ltb-true, lt-ltb}
+use Rattle.base_lists.proofs.Common.{◌≡◌, ◌∙◌, ap, ap₂, sym, subst, refl, ℕ, zero, suc, ◌+◌, ◌-◌, ◌<◌, ◌≤◌, List, [], ◌∷◌, length, Option, Some, Bool, true, false, cond, ◌&&◌, not, nat_lt, arith, IsTrue, option_and_then, unwrap_or, slice_get, slice_index, ltb-true, lt-ltb, is_some_there, and_then_is, slice_get_within, slice_get_there, map_from, append_at_left, place_of, places_many}
+use Rattle.wasm_tree_spec.specs.Prelude.{Space, Functions, Globals, ValType, Ref, GlobalType, Import, ConstExpr, GlobalDef, Module, funcs_of, globals_of, imported_globals, index_of_export}
 use Rattle.wasm_tree.specs.declared.types.RefType.TheVariants.{Func as func_ref}
-use Rattle.wasm_tree.specs.declared.types.ValType.{ValType}
-use Rattle.wasm_tree.specs.declared.types.ValType.TheVariants.{Ref}
-use Rattle.wasm_tree.specs.declared.types.GlobalType.{GlobalType}
-use Rattle.wasm_tree.specs.declared.module.Import.{Import}
-use Rattle.wasm_tree.specs.declared.module.ConstExpr.{ConstExpr}
 use Rattle.wasm_tree.specs.declared.module.ConstExpr.TheVariants as const
 use Rattle.wasm_tree.specs.declared.module.ExportDesc.TheVariants as ex
-use Rattle.wasm_tree.specs.declared.module.GlobalDef.{GlobalDef}
-use Rattle.wasm_tree.specs.declared.module.Module.{Module}
-use Rattle.wasm_tree.specs.Spaces.{funcs_of, globals_of, imported_globals, index_of_export}
 use Rattle.wasm_valid_bodies.specs.Typing.{only}
 use Rattle.wasm_valid.specs.declared.kinds.ItemKind.TheVariants as kind
-use Rattle.wasm_valid.specs.Constants.{const_type}
-use Rattle.wasm_meaning.specs.State.{Text}
-use Rattle.wasm_meaning.specs.Paths.{PathStep, EndsWith, LeadsTo, Path, ends, goes}
-use Rattle.wasm_meaning.specs.Laws.{EndsArePaths, ReadsArePaths}
-use Rattle.wasm_meaning.specs.Linking.{Part, Site, Outside, Entity, Read, places, has_kind, space_index, module_at, imports_of, global_import, end_of, initial, outside_read, end_step, read_step, read_of}
+use Rattle.wasm_valid.specs.Prelude.{const_type}
+use Rattle.wasm_meaning.specs.Prelude.{Text, PathStep, EndsWith, LeadsTo, Path, ends, goes, EndsArePaths, Part, Site, Outside, Entity, Read, places, has_kind, space_index, module_at, imports_of, global_import, end_of, initial, outside_read, end_step, read_step, read_of}
+use Rattle.wasm_meaning.specs.Laws.{ReadsArePaths}
 use Rattle.index_remap.specs.declared.remap.Remap.{Remap}
-use Rattle.index_remap.specs.Renumbered.{fits_const, new_const}
+use Rattle.index_remap.specs.Prelude.{fits_const, new_const}
 use Rattle.index_remap_proof.specs.Indices.{Indices, with_entry, ConstNamesOnly}
 use Rattle.index_remap_proof.specs.Trees.{TreesAgree, ReadsImport, ConstComesFrom}
 use Rattle.index_remap_proof.proofs.Lists.{left_true, right_true, only_true, only_rest}
-use Rattle.merge_spec.specs.Merged.{merged, map_of, merged_read, merged_const, staying_of, place_of_end, new_index}
+use Rattle.merge_spec.specs.Prelude.{merged, map_of, merged_read, staying_of, place_of_end, new_index}
+use Rattle.merge_spec.specs.Merged.{merged_const}
 use Rattle.merge_valid_proof.specs.Entries.{HasEntry}
 use Rattle.merge_valid_proof.proofs.Entities.{of_import, own, imported, space, import_kind, GlobalTy, type_of, asked_type}
 use Rattle.merge_valid_proof.proofs.Linked.{AllAreSuited, import_site}
@@ -35,10 +23,6 @@ use Rattle.merge_valid_proof.proofs.Ends.{EndsInside, EndsOutside, Landed, insid
 use Rattle.merge_valid_proof.proofs.MergedSpaces.{imported_many}
 use Rattle.merge_valid_proof.proofs.Entries.{inside_own, own_entry, outside_kind, outside_place, kind_there, site_at, imported_is, index_imported, joined_entry}
 use Rattle.merge_valid_proof.proofs.Agree.{ItemsHold, entry_at, entries_many, trees_agree}
-use Rattle.base_lists.proofs.Options.{is_some_there, and_then_is}
-use Rattle.std.proofs.lemmas.Option.{slice_get_within}
-use Rattle.base_lists.proofs.Places.{slice_get_there, map_from, append_at_left}
-use Rattle.base_lists.proofs.Filtered.{place_of, places_many}
 
 -- ---- constant expressions of one module ----
 

@@ -1,23 +1,10 @@
 -- Where imports of linked parts end, with all that is asked and found there; and which sites are imports.
-use Rattle.std.proofs.Common.{◌≡◌, ◌∙◌, ap, ap₂, sym, subst, refl, ℕ, zero, suc, ◌+◌, ◌<◌, List, length, Some, Bool, true, false, arith, option_and_then, ◌&&◌}
-use Rattle.wasm_tree.specs.declared.space.Space.{Space}
-use Rattle.wasm_tree.specs.declared.space.Space.TheVariants.{Functions, Tables, Memories, Globals, Types, ElementSegments, DataSegments}
-use Rattle.std.specs.Prelude.{slice_get}
-use Rattle.std.proofs.lemmas.List.{length-append, length-map}
-use Rattle.wasm_tree.specs.declared.types.GlobalType.{GlobalType}
-use Rattle.wasm_tree.specs.declared.module.Import.{Import}
-use Rattle.wasm_tree.specs.declared.module.ImportDesc.{ImportDesc}
+use Rattle.base_lists.proofs.Common.{◌≡◌, ◌∙◌, ap, ap₂, sym, subst, refl, ℕ, zero, suc, ◌+◌, ◌<◌, List, length, Some, Bool, true, false, arith, option_and_then, ◌&&◌, slice_get, length-append, length-map, slice_get_within, slice_get_there, slice_get_none, and_then_is, and_parts, and_from}
+use Rattle.wasm_tree_spec.specs.Prelude.{Space, Functions, Tables, Memories, Globals, Types, ElementSegments, DataSegments, GlobalType, Import, ImportDesc, Module, index_of_export, space_of_import}
 use Rattle.wasm_tree.specs.declared.module.ImportDesc.TheVariants as im
-use Rattle.wasm_tree.specs.declared.module.Module.{Module}
-use Rattle.wasm_meaning.specs.State.{Pair}
-use Rattle.wasm_meaning.specs.Laws.{EndsArePaths}
-use Rattle.wasm_meaning.specs.Environment.{Owned, MemoryKey, owned_at}
-use Rattle.wasm_meaning.specs.Values.{same_ref, same_type, same_func_type}
-use Rattle.wasm_meaning.specs.World.{same_bool, own_key, own_key_of, outside_external_value}
-use Rattle.wasm_meaning.specs.Linking.{Part, Site, End, Defined, Outside, Entity, has_kind, import_at, imports_of, pair_of, sites_in, sites, end_of, linked_end, gathered}
-use Rattle.wasm_tree.specs.Spaces.{index_of_export, space_of_import}
-use Rattle.merge_spec.specs.Faults.{External, FuncOf, TableOf, MemoryOf, GlobalOf, asked_at, found, suits, external_of, same_but_limits, meets_limits, stays}
-use Rattle.merge_spec.specs.Merged.{merged, start_calls, starts, by_part}
+use Rattle.wasm_meaning.specs.Prelude.{Pair, EndsArePaths, Owned, MemoryKey, owned_at, same_ref, same_type, same_func_type, same_bool, own_key, own_key_of, outside_external_value, Part, Site, End, Defined, Outside, Entity, has_kind, import_at, imports_of, pair_of, sites_in, sites, end_of, linked_end, gathered}
+use Rattle.merge_spec.specs.Prelude.{External, FuncOf, TableOf, MemoryOf, GlobalOf, asked_at, found, suits, external_of, same_but_limits, meets_limits, merged, start_calls, starts, by_part}
+use Rattle.merge_spec.specs.Faults.{stays}
 use Rattle.index_remap.proofs.SlotCalls.{func_type_self}
 use Rattle.merge_valid_proof.specs.Ended.{EndsInside, EndsOutside, Ended, inside, outside, added_count, LinkedImportsEnd, StayingImportsEndThere, SitesAreImports, StayingImportsHavePlaces, NewIndicesArePlaces, DefinedEntitiesHavePlaces, TypesHavePlaces, MergedModulesDefineAll}
 use Rattle.merge_valid_proof.proofs.Same.{ref_same, type_same, kind_is}
@@ -28,10 +15,6 @@ use Rattle.merge_valid_proof.proofs.MergedSpaces.{extra, moved_own, own_is, all_
 use Rattle.merge_valid_proof.proofs.Linked.{Suited, AllAreSuited, are_linked, sites_are, import_site, in_sites}
 use Rattle.merge_valid_proof.proofs.Ends.{Gathers, gathers, end_outside, kind_asked, gathered_type, lands_inside, outside_is}
 use Rattle.merge_valid_proof.proofs.Entries.{imports_many, inside_own, stays_is, staying_place, has_its_kind, index_imported, index_defined, end_defined}
-use Rattle.std.proofs.lemmas.Option.{slice_get_within}
-use Rattle.base_lists.proofs.Places.{slice_get_there, slice_get_none}
-use Rattle.base_lists.proofs.Options.{and_then_is}
-use Rattle.std.proofs.lemmas.Bool.{and_parts, and_from}
 
 -- ---- what is the same but for limits ----
 

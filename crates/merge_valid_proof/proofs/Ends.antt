@@ -1,20 +1,12 @@
 -- Where an import of linked parts ends: with an entity of a part that defines it, or with an import that stays, of the type that is asked for.
-use Rattle.std.proofs.Common.{◌≡◌, ◌∙◌, ap, ap₂, sym, subst, refl, ℕ, zero, suc, List, [], ◌∷◌, Option, Some, None, Bool, true, false, cond, option_and_then, ◌&&◌}
-use Rattle.wasm_tree.specs.declared.space.Space.TheVariants.{Memories}
-use Rattle.std.specs.Prelude.{slice_get}
-use Rattle.wasm_tree.specs.declared.module.Import.{Import}
-use Rattle.wasm_tree.specs.declared.module.Module.{Module}
-use Rattle.wasm_meaning.specs.Paths.{PathStep, EndsWith, Path, ends, goes}
-use Rattle.wasm_meaning.specs.Laws.{EndsArePaths}
-use Rattle.wasm_meaning.specs.Linking.{Part, Site, End, Defined, Outside, Entity, module_at, import_at, imported_as, joined, entity_step, joined_step, import_step, sites, end_of, is_outside, same_memory, same_pair, pair_of, has_kind, stays_as, first_site, gathered_at, gathered, linked_end}
-use Rattle.wasm_tree.specs.Spaces.{space_of_import}
-use Rattle.merge_spec.specs.Faults.{External, asked, asked_at, found, external_of}
+use Rattle.base_lists.proofs.Common.{◌≡◌, ◌∙◌, ap, ap₂, sym, subst, refl, ℕ, zero, suc, List, [], ◌∷◌, Option, Some, None, Bool, true, false, cond, option_and_then, ◌&&◌, slice_get, and_false, and_then_is, and_parts, and_from}
+use Rattle.wasm_tree_spec.specs.Prelude.{Memories, Import, Module, space_of_import}
+use Rattle.wasm_meaning.specs.Prelude.{PathStep, EndsWith, Path, ends, goes, EndsArePaths, Part, Site, End, Defined, Outside, Entity, module_at, import_at, imported_as, joined, entity_step, joined_step, import_step, sites, end_of, is_outside, same_pair, pair_of, has_kind, gathered, linked_end}
+use Rattle.wasm_meaning.specs.Linking.{same_memory, stays_as, first_site, gathered_at}
+use Rattle.merge_spec.specs.Prelude.{External, asked, asked_at, found, external_of}
 use Rattle.merge_valid_proof.proofs.Same.{site_is, site_same, pair_is, pair_same, kind_is}
 use Rattle.merge_valid_proof.proofs.Entities.{Ty, FuncTy, TableTy, MemoryTy, GlobalTy, bare, kind_of, asked_kind}
 use Rattle.merge_valid_proof.proofs.Linked.{Suited, AllAreSuited, import_site, in_sites}
-use Rattle.base_lists.proofs.Bools.{and_false}
-use Rattle.base_lists.proofs.Options.{and_then_is}
-use Rattle.std.proofs.lemmas.Bool.{and_parts, and_from}
 
 -- ---- paths ----
 

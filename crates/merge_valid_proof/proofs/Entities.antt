@@ -1,31 +1,13 @@
 -- The index spaces of entities at once: what an entry of one is, and its type, with the limits of tables and memories left aside. Types and segments are no entities.
-use Rattle.std.proofs.Common.{◌≡◌, ◌∙◌, ap, ap₂, sym, refl, ℕ, List, ◌++◌, map, length, Option, Some, None, true, is_some, []}
-use Rattle.wasm_tree.specs.declared.space.Space.{Space}
-use Rattle.wasm_tree.specs.declared.space.Space.TheVariants.{Types, Functions, Tables, Memories, Globals, ElementSegments, DataSegments}
-use Rattle.std.specs.Prelude.{slice_get, option_and_then}
-use Rattle.std.specs.List.{filter_map}
-use Rattle.std.proofs.lemmas.List.{length-map}
-use Rattle.wasm_tree.specs.declared.types.RefType.{RefType}
-use Rattle.wasm_tree.specs.declared.types.FuncType.{FuncType}
-use Rattle.wasm_tree.specs.declared.types.Limits.{Limits}
-use Rattle.wasm_tree.specs.declared.types.TableType.{TableType}
-use Rattle.wasm_tree.specs.declared.types.GlobalType.{GlobalType}
-use Rattle.wasm_tree.specs.declared.module.Import.{Import}
-use Rattle.wasm_tree.specs.declared.module.ImportDesc.{ImportDesc}
+use Rattle.base_lists.proofs.Common.{◌≡◌, ◌∙◌, ap, ap₂, sym, refl, ℕ, List, ◌++◌, map, length, Option, Some, None, true, is_some, [], slice_get, option_and_then, filter_map, length-map, and_then_is, and_parts}
+use Rattle.wasm_tree_spec.specs.Prelude.{Space, Types, Functions, Tables, Memories, Globals, ElementSegments, DataSegments, RefType, FuncType, Limits, TableType, GlobalType, Import, ImportDesc, ExportDesc, Module, func_of, table_of, memory_of, global_of, funcs_of, tables_of, memories_of, globals_of, type_of_func, index_of_export, space_of_export, space_of_import}
 use Rattle.wasm_tree.specs.declared.module.ImportDesc.TheVariants as im
-use Rattle.wasm_tree.specs.declared.module.ExportDesc.{ExportDesc}
 use Rattle.wasm_tree.specs.declared.module.ExportDesc.TheVariants as ex
-use Rattle.wasm_tree.specs.declared.module.Module.{Module}
-use Rattle.wasm_tree.specs.Spaces.{func_of, table_of, memory_of, global_of, funcs_of, tables_of, memories_of, globals_of, type_of_func, index_of_export, space_of_export, space_of_import}
-use Rattle.wasm_meaning.specs.Values.{same_type}
-use Rattle.wasm_meaning.specs.World.{same_bool, defined_count}
-use Rattle.wasm_meaning.specs.Linking.{has_kind}
-use Rattle.merge_spec.specs.Faults.{External, FuncOf, TableOf, MemoryOf, GlobalOf, asked, external_of, same_but_limits}
+use Rattle.wasm_meaning.specs.Prelude.{same_type, same_bool, defined_count, has_kind}
+use Rattle.merge_spec.specs.Prelude.{External, FuncOf, TableOf, MemoryOf, GlobalOf, asked, external_of, same_but_limits}
 use Rattle.index_remap.proofs.SlotCalls.{func_type_is}
 use Rattle.merge_valid_proof.specs.Ended.{is_external}
 use Rattle.merge_valid_proof.proofs.Same.{ref_is, type_is, bool_is}
-use Rattle.base_lists.proofs.Options.{and_then_is}
-use Rattle.std.proofs.lemmas.Bool.{and_parts}
 
 -- ---- entries ----
 

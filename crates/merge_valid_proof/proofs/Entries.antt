@@ -1,28 +1,15 @@
 -- The new index of an entry of a part's index space stands in the merged module for an entity of the same type.
-use Rattle.std.proofs.Common.{◌≡◌, ◌∙◌, ap, ap₂, sym, subst, refl, ℕ, zero, suc, ◌+◌, ◌-◌, ◌<◌, ◌≤◌, List, [], ◌∷◌, ◌++◌, length, Option, Some, None, true, arith, ◌⊎◌, inl, inr, option_and_then, unwrap_or, false}
-use Rattle.wasm_tree.specs.declared.space.Space.{Space}
-use Rattle.wasm_tree.specs.Operands.{same_space}
-use Rattle.std.specs.Prelude.{slice_get}
-use Rattle.std.specs.List.{filter}
-use Rattle.wasm_tree.specs.declared.module.Import.{Import}
-use Rattle.wasm_tree.specs.declared.module.ExportDesc.{ExportDesc}
-use Rattle.wasm_tree.specs.declared.module.Module.{Module}
-use Rattle.wasm_meaning.specs.State.{Text}
-use Rattle.wasm_meaning.specs.Laws.{EndsArePaths}
-use Rattle.wasm_meaning.specs.World.{defined_before}
-use Rattle.wasm_meaning.specs.Linking.{Part, Site, End, Defined, Outside, Entity, first_place, module_at, import_at, imports_of, has_kind, imported_as, sites, same_site, is_outside, linked_end}
-use Rattle.wasm_tree.specs.Spaces.{index_of_export, space_of_export, space_of_import}
-use Rattle.merge_spec.specs.Faults.{External, asked, asked_at, stays}
-use Rattle.merge_spec.specs.Merged.{merged, staying, staying_of, imports_kind, imported_count, place_of_end, place_of_entry, new_index}
+use Rattle.base_lists.proofs.Common.{◌≡◌, ◌∙◌, ap, ap₂, sym, subst, refl, ℕ, zero, suc, ◌+◌, ◌-◌, ◌<◌, ◌≤◌, List, [], ◌∷◌, ◌++◌, length, Option, Some, None, true, arith, ◌⊎◌, inl, inr, option_and_then, unwrap_or, false, slice_get, filter, is_some_there, and_then_is, slice_get_within, slice_get_none, append_from, Has, first_at, is_kept, place_of, places_many}
+use Rattle.wasm_tree_spec.specs.Prelude.{Space, same_space, Import, ExportDesc, Module, index_of_export, space_of_export, space_of_import}
+use Rattle.wasm_meaning.specs.Prelude.{Text, EndsArePaths, defined_before, Part, Site, End, Defined, Outside, Entity, first_place, module_at, import_at, imports_of, has_kind, imported_as, sites, same_site, is_outside, linked_end}
+use Rattle.merge_spec.specs.Prelude.{External, asked, asked_at, merged, imports_kind, imported_count}
+use Rattle.merge_spec.specs.Faults.{stays}
+use Rattle.merge_spec.specs.Merged.{staying, staying_of, place_of_end, place_of_entry, new_index}
 use Rattle.merge_valid_proof.proofs.Same.{site_is, site_same, kind_is, kind_same}
 use Rattle.merge_valid_proof.proofs.Entities.{Entry, of_desc, of_import, own, imported, space, import_kind, Ty, kind_of, bare, type_of, type_at, asked_type, asked_kind, external_kind, external_type}
 use Rattle.merge_valid_proof.proofs.Linked.{AllAreSuited, import_site, in_sites}
 use Rattle.merge_valid_proof.proofs.Ends.{Stays, EndsInside, EndsOutside, Landed, inside, outside, landed}
 use Rattle.merge_valid_proof.proofs.MergedSpaces.{staying_type, own_type}
-use Rattle.base_lists.proofs.Options.{is_some_there, and_then_is}
-use Rattle.std.proofs.lemmas.Option.{slice_get_within}
-use Rattle.base_lists.proofs.Places.{slice_get_none, append_from, Has}
-use Rattle.base_lists.proofs.Filtered.{first_at, is_kept, place_of, places_many}
 
 -- ---- an entry of a part: an import, or what the part defines ----
 

@@ -1,20 +1,16 @@
 -- The exports of the merged module come from exports of parts, under names that differ.
-use Rattle.std.proofs.Common.{◌≡◌, ◌∙◌, ap, sym, subst, refl, ℕ, zero, suc, ◌+◌, ◌^◌, ◌<◌, ◌≤◌, List, [], ◌∷◌, ◌++◌, map, take, length, Option, Some, None, arith, option_and_then}
-use Rattle.std.specs.Prelude.{slice_get, Contains}
-use Rattle.std.proofs.lemmas.List.{length-map}
-use Rattle.wasm_tree.specs.declared.module.Export.{Export}
-use Rattle.wasm_tree.specs.declared.module.Module.{Module}
-use Rattle.wasm_meaning.specs.State.{Text}
-use Rattle.wasm_meaning.specs.Linking.{Part, module_at}
-use Rattle.index_remap.specs.Renumbered.{new_export}
+use Rattle.base_lists.proofs.Common.{◌≡◌, ◌∙◌, ap, sym, subst, refl, ℕ, zero, suc, ◌+◌, ◌^◌, ◌<◌, ◌≤◌, List, [], ◌∷◌, ◌++◌, map, take, length, Option, Some, None, arith, option_and_then, slice_get, Contains, length-map, map_at, map_from, Has}
+use Rattle.wasm_tree_spec.specs.Prelude.{Export, Module}
+use Rattle.wasm_meaning.specs.Prelude.{Text, Part, module_at}
+use Rattle.index_remap.specs.Prelude.{new_export}
 use Rattle.merge_names.specs.declared.mode.Mode.{Mode}
 use Rattle.merge_names.specs.declared.mode.Mode.TheVariants.{Refuse, Rename, Skip}
 use Rattle.merge_names.specs.Names.{new_name, renamed_behind, kept_behind, new_names, given, conflict}
 use Rattle.merge_names.specs.Laws.{GivenNamesDiffer, ConflictsAreFirst}
 use Rattle.merge_spec.specs.Joined.{repeated_name}
-use Rattle.merge_spec.specs.Merged.{merged, map_of, all_exports, export_names, named_exports}
+use Rattle.merge_spec.specs.Prelude.{map_of, export_names, named_exports}
+use Rattle.merge_spec.specs.Merged.{merged, all_exports}
 use Rattle.merge_valid_proof.proofs.ByPart.{by_part_back}
-use Rattle.base_lists.proofs.Places.{map_at, map_from, Has}
 
 pub exports_are : (parts : List Part) (names : List (Option Text)) → (merged parts names).exports ≡ named_exports (all_exports parts) names
 unfolding merged

@@ -1,23 +1,16 @@
 -- The imports of the merged module hold: their types are there, and the limits that they keep are limits.
-use Rattle.std.proofs.Common.{◌≡◌, ◌∙◌, ap, sym, subst, refl, ℕ, ◌<◌, ◌≤◌, List, [], ◌∷◌, length, Option, Some, None, Bool, true, false, cond, arith, option_and_then}
-use Rattle.wasm_tree.specs.declared.space.Space.TheVariants.{Memories}
-use Rattle.std.specs.Prelude.{slice_get, slice_index, max}
-use Rattle.std.proofs.lemmas.Bool.{ltb-false}
-use Rattle.wasm_tree.specs.declared.types.Limits.{Limits}
-use Rattle.wasm_tree.specs.declared.module.Import.{Import}
-use Rattle.wasm_tree.specs.declared.module.ImportDesc.{ImportDesc}
+use Rattle.base_lists.proofs.Common.{◌≡◌, ◌∙◌, ap, sym, subst, refl, ℕ, ◌<◌, ◌≤◌, List, [], ◌∷◌, length, Option, Some, None, Bool, true, false, cond, arith, option_and_then, slice_get, slice_index, max, ltb-false, slice_get_within, slice_get_there, Has, kept_is, chosen_from, and_then_is}
+use Rattle.wasm_tree_spec.specs.Prelude.{Memories, Limits, Import, ImportDesc, Module, space_of_import}
 use Rattle.wasm_tree.specs.declared.module.ImportDesc.TheVariants as im
-use Rattle.wasm_tree.specs.declared.module.Module.{Module}
 use Rattle.wasm_valid.specs.declared.kinds.ItemKind.TheVariants as kind
-use Rattle.wasm_valid.specs.Validity.{HoldsAt, ImportHolds, LimitsHold, MostIsAtLeast, MostIsAtMost}
-use Rattle.wasm_meaning.specs.State.{Text}
-use Rattle.wasm_meaning.specs.Laws.{EndsArePaths}
-use Rattle.wasm_meaning.specs.Linking.{Part, Site, module_at, import_at, sites, is_outside, linked_end, limits_of, consed, demands, least, met, met_limits}
-use Rattle.wasm_tree.specs.Spaces.{space_of_import}
+use Rattle.wasm_valid.specs.Prelude.{HoldsAt, ImportHolds, LimitsHold}
+use Rattle.wasm_valid.specs.Validity.{MostIsAtLeast, MostIsAtMost}
+use Rattle.wasm_meaning.specs.Prelude.{Text, EndsArePaths, Part, Site, module_at, import_at, sites, is_outside, linked_end, limits_of, consed, demands, least, met, met_limits}
 use Rattle.merge_spec.specs.declared.faults.LinkFault.{LinkFault}
 use Rattle.merge_spec.specs.declared.faults.LinkFault.TheVariants.{LimitsClash}
-use Rattle.merge_spec.specs.Faults.{asked_at, stays, kept_limits, is_under, clash_fault}
-use Rattle.merge_spec.specs.Merged.{merged, map_of, merged_import, merged_desc, staying}
+use Rattle.merge_spec.specs.Prelude.{asked_at, stays, is_under, merged, map_of, merged_desc}
+use Rattle.merge_spec.specs.Faults.{kept_limits, clash_fault}
+use Rattle.merge_spec.specs.Merged.{merged_import, staying}
 use Rattle.merge_valid_proof.proofs.Same.{site_is}
 use Rattle.merge_valid_proof.proofs.Entities.{kind_of, bare, asked_kind}
 use Rattle.merge_valid_proof.proofs.Linked.{Suited, AllAreSuited, import_site}
@@ -26,10 +19,6 @@ use Rattle.merge_valid_proof.proofs.TypePlaces.{type_stands}
 use Rattle.merge_valid_proof.proofs.MergedSpaces.{types_are, imports_are}
 use Rattle.merge_valid_proof.proofs.Entries.{kind_there}
 use Rattle.merge_valid_proof.proofs.Agree.{ItemsHold}
-use Rattle.std.proofs.lemmas.Option.{slice_get_within}
-use Rattle.base_lists.proofs.Places.{slice_get_there, Has}
-use Rattle.base_lists.proofs.Filtered.{kept_is, chosen_from}
-use Rattle.base_lists.proofs.Options.{and_then_is}
 
 -- ---- limits ----
 

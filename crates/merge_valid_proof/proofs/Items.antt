@@ -1,30 +1,19 @@
 -- Each item of the merged module is valid, but for references: it comes from an item of a part, or it was added.
-use Rattle.std.proofs.Common.{◌≡◌, ◌∙◌, ap, ap₂, sym, subst, refl, ℕ, ◌+◌, ◌^◌, ◌<◌, List, map, take, length, Option, Some, true, arith, ◌⊎◌, inl, inr}
-use Rattle.std.specs.Prelude.{slice_get, slice_index, Contains}
-use Rattle.wasm_tree.specs.declared.module.Export.{Export}
-use Rattle.wasm_tree.specs.declared.module.ElemMode.{ElemMode}
+use Rattle.base_lists.proofs.Common.{◌≡◌, ◌∙◌, ap, ap₂, sym, subst, refl, ℕ, ◌+◌, ◌^◌, ◌<◌, List, map, take, length, Option, Some, true, arith, ◌⊎◌, inl, inr, slice_get, slice_index, Contains, slice_get_within, slice_get_there, map_from, append_from}
+use Rattle.wasm_tree_spec.specs.Prelude.{Export, ElemMode, ElemSeg, DataMode, DataSeg, ConstExpr, Func, GlobalDef, Module, IsBounded, local_count, param_count, declared_count}
 use Rattle.wasm_tree.specs.declared.module.ElemMode.TheVariants as elem
-use Rattle.wasm_tree.specs.declared.module.ElemSeg.{ElemSeg}
-use Rattle.wasm_tree.specs.declared.module.DataMode.{DataMode}
 use Rattle.wasm_tree.specs.declared.module.DataMode.TheVariants as «data»
-use Rattle.wasm_tree.specs.declared.module.DataSeg.{DataSeg}
-use Rattle.wasm_tree.specs.declared.module.ConstExpr.{ConstExpr}
-use Rattle.wasm_tree.specs.declared.module.Func.{Func}
-use Rattle.wasm_tree.specs.declared.module.GlobalDef.{GlobalDef}
-use Rattle.wasm_tree.specs.declared.module.Module.{Module}
-use Rattle.wasm_tree.specs.Bounds.{IsBounded, local_count, param_count, declared_count}
 use Rattle.wasm_valid.specs.declared.kinds.ItemKind.{ItemKind}
 use Rattle.wasm_valid.specs.declared.kinds.ItemKind.TheVariants as kind
-use Rattle.wasm_valid.specs.Validity.{HoldsAt, count_of}
-use Rattle.wasm_meaning.specs.State.{Text}
-use Rattle.wasm_meaning.specs.Laws.{EndsArePaths}
-use Rattle.wasm_meaning.specs.Linking.{Part, module_at}
+use Rattle.wasm_valid.specs.Prelude.{HoldsAt, count_of}
+use Rattle.wasm_meaning.specs.Prelude.{Text, EndsArePaths, Part, module_at}
 use Rattle.index_remap.specs.declared.remap.Remap.{Remap}
-use Rattle.index_remap.specs.Renumbered.{new_func}
+use Rattle.index_remap.specs.Prelude.{new_func}
 use Rattle.index_remap_proof.specs.Indices.{Indices, with_entry, ElemModeNamesOnly, DataModeNamesOnly, TreeNamesOnly}
 use Rattle.index_remap_proof.specs.Trees.{TreesAgree, Covers, ConstComesFrom, ElemModeComesFrom, DataModeComesFrom, ItemsComeFrom, ItemComesFrom, active, passive, declarative}
 use Rattle.index_remap_proof.specs.ButForReferences.{HoldsButForReferences, IsValidButForReferences}
-use Rattle.merge_spec.specs.Merged.{merged, map_of, merged_const, merged_global, merged_elem, merged_elem_mode, merged_data, merged_data_mode, by_part, defined_funcs, start_calls, starts}
+use Rattle.merge_spec.specs.Prelude.{map_of, merged_const, merged_global, merged_elem, merged_elem_mode, merged_data, merged_data_mode, by_part, start_calls, starts}
+use Rattle.merge_spec.specs.Merged.{merged, defined_funcs}
 use Rattle.merge_valid_proof.proofs.ByPart.{by_part_back, by_part_flat}
 use Rattle.merge_valid_proof.proofs.MergedSpaces.{types_are}
 use Rattle.merge_valid_proof.proofs.TypePlaces.{type_stands}
@@ -33,8 +22,6 @@ use Rattle.merge_valid_proof.proofs.Agree.{ItemsHold, map_covers, trees_agree, e
 use Rattle.merge_valid_proof.proofs.Imports.{imports_hold}
 use Rattle.merge_valid_proof.proofs.Starts.{funcs_are, start_holds, calls_are, calls_typed_at, calls_body}
 use Rattle.merge_valid_proof.proofs.Exports.{export_from}
-use Rattle.std.proofs.lemmas.Option.{slice_get_within}
-use Rattle.base_lists.proofs.Places.{slice_get_there, map_from, append_from}
 
 pub globals_are : (parts : List Part) (names : List (Option Text)) → (merged parts names).globals ≡ by_part (λ p m. map (merged_global parts p) m.globals) parts
 unfolding merged

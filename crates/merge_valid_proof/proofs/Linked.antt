@@ -1,20 +1,12 @@
 -- What it says that parts have no fault of linking: of each import, of the memories, and of each global that a part defines.
-use Rattle.std.proofs.Common.{◌≡◌, ◌∙◌, ap, ap₂, sym, subst, refl, ℕ, zero, suc, ◌+◌, ◌<◌, List, [], ◌∷◌, ◌++◌, length, Option, Some, None, Bool, true, false, cond, arith, option_and_then}
-use Rattle.wasm_tree.specs.declared.space.Space.TheVariants.{Globals}
-use Rattle.std.specs.Prelude.{slice_get}
-use Rattle.wasm_tree.specs.declared.module.Import.{Import}
-use Rattle.wasm_tree.specs.declared.module.GlobalDef.{GlobalDef}
-use Rattle.wasm_tree.specs.declared.module.Module.{Module}
-use Rattle.wasm_meaning.specs.Linking.{Part, Site, End, Defined, Outside, Read, module_at, import_at, imports_of, sites_in, sites_from, sites, end_of, read_of}
+use Rattle.base_lists.proofs.Common.{◌≡◌, ◌∙◌, ap, ap₂, sym, subst, refl, ℕ, zero, suc, ◌+◌, ◌<◌, List, [], ◌∷◌, ◌++◌, length, Option, Some, None, Bool, true, false, cond, arith, option_and_then, slice_get, slice_get_within, has_left, has_right, Has, and_then_is, unwrap_or_false_is, and_parts}
+use Rattle.wasm_tree_spec.specs.Prelude.{Globals, Import, GlobalDef, Module}
+use Rattle.wasm_meaning.specs.Prelude.{Part, Site, End, Defined, Outside, Read, module_at, import_at, imports_of, sites_in, sites_from, sites, end_of, read_of}
 use Rattle.merge_spec.specs.declared.faults.LinkFault.{LinkFault}
 use Rattle.merge_spec.specs.declared.faults.LinkFault.TheVariants.{ImportMismatch}
-use Rattle.merge_spec.specs.Faults.{External, asked_at, found, suits, same_but_limits, meets_limits, is_suited, or_else, first_fault, end_fault, import_fault, clash_fault, memory_fault, DefinedGlobal, defined_globals_in, defined_globals_from, defined_globals, value_fault, global_fault, link_fault}
-use Rattle.merge_spec.specs.Merged.{by_part_from}
+use Rattle.merge_spec.specs.Prelude.{External, asked_at, found, suits, same_but_limits, meets_limits, is_suited, or_else, first_fault, end_fault, clash_fault, memory_fault, defined_globals_in, defined_globals_from, by_part_from}
+use Rattle.merge_spec.specs.Faults.{import_fault, DefinedGlobal, defined_globals, value_fault, global_fault, link_fault}
 use Rattle.merge_valid_proof.proofs.Entities.{bare, bare_is}
-use Rattle.std.proofs.lemmas.Option.{slice_get_within}
-use Rattle.base_lists.proofs.Places.{has_left, has_right, Has}
-use Rattle.base_lists.proofs.Options.{and_then_is, unwrap_or_false_is}
-use Rattle.std.proofs.lemmas.Bool.{and_parts}
 
 -- ---- what stands in lists that are joined by part ----
 

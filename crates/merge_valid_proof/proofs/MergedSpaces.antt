@@ -1,26 +1,16 @@
 -- The index spaces of the merged module: an import that stays and an entity that a part defines stand there at their places, with their types.
-use Rattle.std.proofs.Common.{◌≡◌, ◌∙◌, ap, sym, subst, refl, ℕ, ◌+◌, List, [], ◌++◌, map, length, Option, Some, None, true, false, arith, option_and_then, unwrap_or, is_some, append-nil}
-use Rattle.wasm_tree.specs.declared.space.Space.{Space}
-use Rattle.wasm_tree.specs.declared.space.Space.TheVariants.{Types, Functions, Tables, Memories, Globals, ElementSegments, DataSegments}
-use Rattle.std.specs.Prelude.{slice_get, slice_index}
-use Rattle.std.specs.List.{filter_map}
-use Rattle.std.proofs.lemmas.List.{length-map, map-append}
-use Rattle.wasm_tree.specs.declared.module.Import.{Import}
-use Rattle.wasm_tree.specs.declared.module.ImportDesc.{ImportDesc}
+use Rattle.base_lists.proofs.Common.{◌≡◌, ◌∙◌, ap, sym, subst, refl, ℕ, ◌+◌, List, [], ◌++◌, map, length, Option, Some, None, true, false, arith, option_and_then, unwrap_or, is_some, append-nil, slice_get, slice_index, filter_map, length-map, map-append, map_twice, map_at, append_at_left, append_right, and_then_is}
+use Rattle.wasm_tree_spec.specs.Prelude.{Space, Types, Functions, Tables, Memories, Globals, ElementSegments, DataSegments, Import, ImportDesc, Module}
 use Rattle.wasm_tree.specs.declared.module.ImportDesc.TheVariants as im
-use Rattle.wasm_tree.specs.declared.module.Module.{Module}
-use Rattle.wasm_meaning.specs.State.{Text}
-use Rattle.wasm_meaning.specs.World.{defined_count, defined_before}
-use Rattle.wasm_meaning.specs.Linking.{Part, Site, has_kind, module_at, import_at}
-use Rattle.index_remap.specs.Renumbered.{new_func}
-use Rattle.merge_spec.specs.Merged.{merged, merged_types, map_of, merged_import, merged_desc, merged_global, staying, staying_of, imports_kind, defined_funcs, start_calls, starts, by_part}
+use Rattle.wasm_meaning.specs.Prelude.{Text, defined_count, defined_before, Part, Site, has_kind, module_at, import_at}
+use Rattle.index_remap.specs.Prelude.{new_func}
+use Rattle.merge_spec.specs.Prelude.{merged_types, map_of, merged_desc, merged_global, staying, imports_kind, start_calls, starts, by_part}
+use Rattle.merge_spec.specs.Merged.{merged, merged_import, staying_of, defined_funcs}
 use Rattle.merge_valid_proof.specs.Ended.{is_external}
 use Rattle.merge_valid_proof.proofs.Entities.{Entry, of_desc, of_import, own, imported, space, import_kind, own_many, entry_external, Ty, FuncTy, type_of, type_at}
 use Rattle.merge_valid_proof.proofs.ByPart.{before, defined_is, by_part_at, by_part_map, by_part_same, by_part_flat, by_part_many, map_self}
 use Rattle.merge_valid_proof.proofs.TypePlaces.{type_stands}
-use Rattle.base_lists.proofs.Places.{map_twice, map_at, append_at_left, append_right}
 use Rattle.base_lists.proofs.Filtered.{chosen_at, as_many, chosen_twice}
-use Rattle.base_lists.proofs.Options.{and_then_is}
 
 -- ---- the lists of the merged module ----
 

@@ -1,8 +1,7 @@
 -- What the law of merged modules asks for is needed: two parts with a memory each have a fault of linking, and what their merge would be has two.
-use Rattle.std.proofs.Common.{◌≡◌, false, refl, [], ◌∷◌, List, Some, None, length}
-use Rattle.wasm_tree.specs.declared.module.Module.{Module}
-use Rattle.wasm_tree.specs.Spaces.{memories_of}
-use Rattle.wasm_meaning.specs.Linking.{Part}
+use Rattle.base_lists.proofs.Common.{◌≡◌, false, refl, [], ◌∷◌, List, Some, None, length}
+use Rattle.wasm_tree_spec.specs.Prelude.{Module, memories_of}
+use Rattle.wasm_meaning.specs.Prelude.{Part}
 use Rattle.merge_names.specs.declared.mode.Mode.TheVariants.{Refuse}
 use Rattle.merge_spec.specs.declared.faults.LinkFault.TheVariants.{TooManyMemories}
 use Rattle.merge_spec.specs.Faults.{link_fault, import_fault, clash_fault, memory_fault, memory_count, global_fault, defined_globals, stays, kept_limits}

@@ -1,15 +1,8 @@
 -- The tests of sameness: what passes them is equal, and each passes with itself.
-use Rattle.std.proofs.Common.{◌≡◌, ap₂, refl, Bool, true, nat_eq, eq-eqb, arith}
-use Rattle.wasm_tree.specs.declared.space.Space.{Space}
-use Rattle.wasm_tree.specs.Operands.{same_space}
-use Rattle.base_lists.proofs.Same.{each_same_is, each_same_self}
-use Rattle.std.proofs.lemmas.Bool.{eqb-true, and_parts, and_from}
-use Rattle.wasm_tree.specs.declared.types.RefType.{RefType}
-use Rattle.wasm_tree.specs.declared.types.ValType.{ValType}
-use Rattle.wasm_meaning.specs.State.{Text, Pair}
-use Rattle.wasm_meaning.specs.Values.{same_ref, same_type}
-use Rattle.wasm_meaning.specs.World.{same_bool}
-use Rattle.wasm_meaning.specs.Linking.{Site, same_text, same_pair, same_site}
+use Rattle.base_lists.proofs.Common.{◌≡◌, ap₂, refl, Bool, true, nat_eq, arith, each_same_is, each_same_self, eqb-true, and_parts, and_from}
+use Rattle.std.proofs.Common.{eq-eqb}
+use Rattle.wasm_tree_spec.specs.Prelude.{Space, same_space, RefType, ValType}
+use Rattle.wasm_meaning.specs.Prelude.{Text, Pair, same_ref, same_type, same_bool, Site, same_text, same_pair, same_site}
 use Rattle.index_remap_proof.proofs.Lists.{text_is, text_self}
 
 pub ref_is : (r s : RefType) → same_ref r s ≡ true → r ≡ s

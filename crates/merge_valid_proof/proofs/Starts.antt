@@ -1,21 +1,13 @@
 -- The start of the merged module: the start functions of the parts take and give nothing, and so does the function that calls several of them.
-use Rattle.std.proofs.Common.{◌≡◌, ◌∙◌, ap, ap₂, sym, subst, refl, ℕ, zero, suc, ◌+◌, ◌<◌, List, [], ◌∷◌, ◌++◌, map, length, Option, Some, None, arith}
-use Rattle.wasm_tree.specs.declared.space.Space.TheVariants.{Functions}
-use Rattle.std.specs.Prelude.{slice_get, option_and_then}
-use Rattle.wasm_tree.specs.declared.types.FuncType.{FuncType}
-use Rattle.wasm_tree.specs.declared.module.Func.{Func}
-use Rattle.wasm_tree.specs.declared.module.Module.{Module}
-use Rattle.wasm_tree.specs.declared.instr.Instr.TheVariants.{Call}
-use Rattle.wasm_tree.specs.Spaces.{funcs_of, type_of_func}
+use Rattle.base_lists.proofs.Common.{◌≡◌, ◌∙◌, ap, ap₂, sym, subst, refl, ℕ, zero, suc, ◌+◌, ◌<◌, List, [], ◌∷◌, ◌++◌, map, length, Option, Some, None, arith, slice_get, option_and_then, append_right, Has}
+use Rattle.wasm_tree_spec.specs.Prelude.{Functions, FuncType, Func, Module, Call, funcs_of, type_of_func}
 use Rattle.wasm_valid_bodies.specs.Typing.{Context, Gives, LeadsAll, WellTyped, effect_of, gives_of, signature_in}
 use Rattle.wasm_valid.specs.declared.kinds.ItemKind.TheVariants as kind
-use Rattle.wasm_valid.specs.Validity.{IsValid, HoldsAt, start_count, body_context}
-use Rattle.wasm_meaning.specs.State.{Text}
-use Rattle.wasm_meaning.specs.Laws.{EndsArePaths}
-use Rattle.wasm_meaning.specs.World.{defined_before}
-use Rattle.wasm_meaning.specs.Linking.{Part, module_at}
+use Rattle.wasm_valid.specs.Prelude.{IsValid, HoldsAt, start_count, body_context}
+use Rattle.wasm_meaning.specs.Prelude.{Text, EndsArePaths, defined_before, Part, module_at}
 use Rattle.index_remap_proof.specs.ButForReferences.{any_named, HoldsButForReferences}
-use Rattle.merge_spec.specs.Merged.{merged, staying_of, new_index, by_part, start_of, starts, start_among, start_calls, nullary, place_of_type, defined_funcs}
+use Rattle.merge_spec.specs.Prelude.{staying_of, new_index, by_part, start_of, start_among, start_calls, nullary, place_of_type, defined_funcs}
+use Rattle.merge_spec.specs.Merged.{merged, starts}
 use Rattle.merge_valid_proof.specs.Started.{StartsTakeNothing}
 use Rattle.merge_valid_proof.proofs.Entities.{FuncTy, type_at, own, imported, space}
 use Rattle.merge_valid_proof.proofs.ByPart.{by_part_back}
@@ -24,7 +16,6 @@ use Rattle.merge_valid_proof.proofs.MergedSpaces.{types_are, own_is, moved_own, 
 use Rattle.merge_valid_proof.proofs.Linked.{AllAreSuited, are_linked}
 use Rattle.merge_valid_proof.proofs.Entries.{entry_kept}
 use Rattle.merge_valid_proof.proofs.Agree.{ItemsHold, func_to, func_back}
-use Rattle.base_lists.proofs.Places.{append_right, Has}
 
 pub start_is : (parts : List Part) (names : List (Option Text)) → (merged parts names).start ≡ start_among (length (staying_of parts Functions) + defined_before Functions parts (length parts)) (starts parts)
 unfolding merged

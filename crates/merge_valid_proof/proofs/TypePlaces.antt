@@ -1,16 +1,10 @@
 -- Each type of a part stands among the merged types, at the entry that the part's map has for it.
-use Rattle.std.proofs.Common.{◌≡◌, ◌∙◌, ap, sym, subst, refl, ℕ, zero, suc, ◌+◌, List, [], ◌∷◌, ◌++◌, map, Some, Bool, true, false, cond, arith, unwrap_or}
-use Rattle.std.specs.Prelude.{slice_get, slice_index}
-use Rattle.std.specs.List.{flat_map, list_any}
-use Rattle.wasm_tree.specs.declared.types.FuncType.{FuncType}
-use Rattle.wasm_tree.specs.declared.module.Module.{Module}
-use Rattle.wasm_meaning.specs.Values.{same_func_type}
-use Rattle.wasm_meaning.specs.Linking.{Part, module_at, first_place}
-use Rattle.merge_spec.specs.Merged.{with_type, with_types, merged_types, place_of_type, map_of}
+use Rattle.base_lists.proofs.Common.{◌≡◌, ◌∙◌, ap, sym, subst, refl, ℕ, zero, suc, ◌+◌, List, [], ◌∷◌, ◌++◌, map, Some, Bool, true, false, cond, arith, unwrap_or, slice_get, slice_index, flat_map, list_any, slice_index_is, map_at, has_left, has_right, Has, first_at, list_any_there}
+use Rattle.wasm_tree_spec.specs.Prelude.{FuncType, Module}
+use Rattle.wasm_meaning.specs.Prelude.{same_func_type, Part, module_at, first_place}
+use Rattle.merge_spec.specs.Prelude.{with_type, with_types}
+use Rattle.merge_spec.specs.Merged.{merged_types, place_of_type, map_of}
 use Rattle.index_remap.proofs.SlotCalls.{func_type_is, func_type_self}
-use Rattle.base_lists.proofs.Places.{slice_index_is, map_at, has_left, has_right, Has}
-use Rattle.base_lists.proofs.Filtered.{first_at}
-use Rattle.base_lists.proofs.Each.{list_any_there}
 
 type_kept : (ts : List FuncType) (t x : FuncType) → Has ts x → Has (with_type ts t) x
 type_kept ts t x h = by (list_any (same_func_type t) ts)

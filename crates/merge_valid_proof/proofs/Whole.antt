@@ -1,25 +1,20 @@
 -- The merged module with its references declared is valid, a u32 can count what it has, and it has at most one memory.
-use Rattle.std.proofs.Common.{◌≡◌, ◌∙◌, ap, sym, subst, refl, ℕ, ◌+◌, ◌^◌, ◌<◌, List, length, Option, Some, None, ◌↔◌, IsTrue, false}
-use Rattle.wasm_tree.specs.declared.module.ConstExpr.{ConstExpr}
-use Rattle.wasm_tree.specs.declared.module.Module.{Module}
-use Rattle.wasm_tree.specs.Bounds.{IsBounded}
-use Rattle.wasm_valid.specs.Validity.{IsValid, IsSingle}
-use Rattle.wasm_meaning.specs.State.{Text}
-use Rattle.wasm_meaning.specs.Laws.{EndsArePaths, ReadsArePaths}
-use Rattle.wasm_meaning.specs.Linking.{Part, module_at}
+use Rattle.base_lists.proofs.Common.{◌≡◌, ◌∙◌, ap, sym, subst, refl, ℕ, ◌+◌, ◌^◌, ◌<◌, List, length, Option, Some, None, ◌↔◌, IsTrue, false}
+use Rattle.wasm_tree_spec.specs.Prelude.{ConstExpr, Module, IsBounded}
+use Rattle.wasm_valid.specs.Prelude.{IsValid, IsSingle}
+use Rattle.wasm_meaning.specs.Prelude.{Text, EndsArePaths, Part, module_at}
+use Rattle.wasm_meaning.specs.Laws.{ReadsArePaths}
 use Rattle.index_remap.specs.declared.remap.Remap.{Remap}
-use Rattle.index_remap.specs.Renumbered.{fits_tree, new_const}
-use Rattle.index_remap.specs.References.{declared}
+use Rattle.index_remap.specs.Prelude.{fits_tree, new_const, declared}
 use Rattle.index_remap_proof.specs.Indices.{Indices, with_entry, ConstNamesOnly, TreeNamesOnly}
 use Rattle.index_remap_proof.specs.Trees.{TreesAgree, Covers, ReadsImport, ConstComesFrom}
 use Rattle.index_remap_proof.specs.ButForReferences.{IsValidButForReferences}
 use Rattle.merge_names.specs.declared.mode.Mode.{Mode}
 use Rattle.merge_names.specs.Names.{new_names}
 use Rattle.merge_names.specs.Laws.{GivenNamesDiffer, ConflictsAreFirst}
-use Rattle.merge_spec.specs.Faults.{link_fault}
+use Rattle.merge_spec.specs.Prelude.{link_fault, merged, merged_const, export_names}
 use Rattle.merge_spec.specs.Joined.{joined_module}
 use Rattle.module_limits.specs.Counts.{over_limit, CountsAreWithinWhereNoneIsOver}
-use Rattle.merge_spec.specs.Merged.{merged, merged_const, export_names}
 use Rattle.merge_valid_proof.specs.Joinable.{CanBeJoined}
 use Rattle.merge_valid_proof.proofs.Linked.{memories_are_few, AllAreSuited, are_linked}
 use Rattle.merge_valid_proof.proofs.Agree.{ItemsHold}

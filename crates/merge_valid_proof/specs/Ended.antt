@@ -1,17 +1,8 @@
 -- Where the imports of linked parts end, and where the types and entities of the parts stand in the merged module.
 use Rattle.std.specs.Prelude.{◌≡◌, ℕ, ◌+◌, ◌-◌, ◌<◌, ◌≤◌, List, length, Option, Some, None, true, slice_index, slice_get, Bool, false}
-use Rattle.wasm_tree.specs.declared.space.Space.{Space}
-use Rattle.wasm_tree.specs.declared.space.Space.TheVariants.{Types, Functions, Tables, Memories, Globals, ElementSegments, DataSegments}
-use Rattle.wasm_tree.specs.declared.types.FuncType.{FuncType}
-use Rattle.wasm_tree.specs.declared.module.Import.{Import}
-use Rattle.wasm_tree.specs.declared.module.Module.{Module}
-use Rattle.wasm_meaning.specs.State.{Text}
-use Rattle.wasm_meaning.specs.Linking.{Part, Site, End, Defined, Outside, Entity, module_at, import_at, imports_of, pair_of, sites, end_of, linked_end}
-use Rattle.wasm_tree.specs.Spaces.{index_of_export, space_of_export, space_of_import}
-use Rattle.wasm_meaning.specs.Environment.{Owned}
-use Rattle.wasm_meaning.specs.World.{defined_count, defined_before, outside_external_value}
-use Rattle.merge_spec.specs.Faults.{External, asked_at, external_of, same_but_limits, meets_limits, link_fault, stays}
-use Rattle.merge_spec.specs.Merged.{merged, merged_types, map_of, staying_of, place_of_end, new_index, starts, start_calls}
+use Rattle.wasm_tree_spec.specs.Prelude.{Space, Types, Functions, Tables, Memories, Globals, ElementSegments, DataSegments, FuncType, Import, Module, index_of_export, space_of_export, space_of_import}
+use Rattle.wasm_meaning.specs.Prelude.{Text, Part, Site, End, Defined, Outside, Entity, module_at, import_at, imports_of, pair_of, sites, end_of, linked_end, Owned, defined_count, defined_before, outside_external_value}
+use Rattle.merge_spec.specs.Prelude.{External, asked_at, external_of, same_but_limits, meets_limits, link_fault, stays, merged, merged_types, map_of, staying_of, place_of_end, new_index, starts, start_calls}
 
 -- An import ends with an entity that a part defines, which is what it asks for.
 pub record EndsInside (parts : List Part) (s : Site) (i : Import) : Type 0 where

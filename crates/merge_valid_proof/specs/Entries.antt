@@ -1,9 +1,9 @@
 -- That the maps of parts have entries for what is read through joined globals.
 use Rattle.std.specs.Prelude.{◌≡◌, IsTrue, List, Some}
-use Rattle.wasm_tree.specs.declared.module.Module.{Module}
-use Rattle.wasm_meaning.specs.Linking.{Part, Read, module_at}
-use Rattle.index_remap.specs.Renumbered.{fits_const}
-use Rattle.merge_spec.specs.Merged.{map_of}
+use Rattle.wasm_tree_spec.specs.Prelude.{Module}
+use Rattle.wasm_meaning.specs.Prelude.{Part, Read, module_at}
+use Rattle.index_remap.specs.Prelude.{fits_const}
+use Rattle.merge_spec.specs.Prelude.{map_of}
 
 -- what is read stands in a part whose map has an entry for the index that it names
 pub record HasEntry (parts : List Part) (r : Read) : Type 0 where

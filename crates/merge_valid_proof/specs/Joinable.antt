@@ -1,12 +1,10 @@
 -- What parts and a mode are that can be joined.
 use Rattle.std.specs.Prelude.{◌≡◌, ℕ, true, List, Some, None}
-use Rattle.wasm_tree.specs.declared.module.Module.{Module}
-use Rattle.wasm_tree.specs.Bounds.{IsBounded}
-use Rattle.wasm_valid.specs.Validity.{IsValid}
-use Rattle.wasm_meaning.specs.Linking.{Part, module_at}
+use Rattle.wasm_tree_spec.specs.Prelude.{Module, IsBounded}
+use Rattle.wasm_valid.specs.Prelude.{IsValid}
+use Rattle.wasm_meaning.specs.Prelude.{Part, module_at}
 use Rattle.merge_names.specs.declared.mode.Mode.{Mode}
-use Rattle.merge_spec.specs.Faults.{link_fault}
-use Rattle.merge_spec.specs.Joined.{joined_module, repeated_name}
+use Rattle.merge_spec.specs.Prelude.{link_fault, joined_module, repeated_name}
 use Rattle.module_limits.specs.Counts.{over_limit}
 
 -- the module of each part

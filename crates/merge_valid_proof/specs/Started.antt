@@ -1,11 +1,9 @@
 -- The functions that parts start.
 use Rattle.std.specs.Prelude.{◌≡◌, ℕ, true, List, Option, Some, None, slice_get}
-use Rattle.wasm_tree.specs.Spaces.{type_of_func}
-use Rattle.wasm_valid.specs.Validity.{IsValid}
-use Rattle.wasm_meaning.specs.State.{Text}
-use Rattle.wasm_meaning.specs.Linking.{Part}
-use Rattle.merge_spec.specs.Faults.{link_fault}
-use Rattle.merge_spec.specs.Merged.{merged, merged_types, place_of_type, nullary, starts}
+use Rattle.wasm_tree_spec.specs.Prelude.{type_of_func}
+use Rattle.wasm_valid.specs.Prelude.{IsValid}
+use Rattle.wasm_meaning.specs.Prelude.{Text, Part}
+use Rattle.merge_spec.specs.Prelude.{link_fault, merged, merged_types, place_of_type, nullary, starts}
 use Rattle.merge_valid_proof.specs.Joinable.{EachPart}
 
 -- in the merged module each takes and gives nothing, which is one of its types

@@ -1,10 +1,7 @@
 -- A module none of whose counts is above its limit.
-use Rattle.std.proofs.Common.{◌≡◌, ℕ, ◌≤◌, length, Option, Some, None, Bool, true, false, cond, nat_lt, refl}
-use Rattle.std.proofs.lemmas.Bool.{ltb-false}
-use Rattle.wasm_tree.specs.declared.which.Which.{Which}
+use Rattle.base_lists.proofs.Common.{◌≡◌, ℕ, ◌≤◌, length, Option, Some, None, Bool, true, false, cond, nat_lt, refl, ltb-false}
+use Rattle.wasm_tree_spec.specs.Prelude.{Which, Module, limit}
 use Rattle.wasm_tree.specs.declared.which.Which.TheVariants as which
-use Rattle.wasm_tree.specs.declared.module.Module.{Module}
-use Rattle.wasm_tree.specs.Limits.{limit}
 use Rattle.module_limits.specs.Counts.{or_above, over_limit, CountsAreWithin}
 
 not_above : (count : ℕ) (w : Which) (rest : Option Which) → or_above count w rest ≡ None → count ≤ limit w

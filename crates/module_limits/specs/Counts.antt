@@ -1,9 +1,7 @@
 -- How much of each quantity that is counted a module has, against the most that it may have.
 use Rattle.std.specs.Prelude.{◌≡◌, ℕ, ◌≤◌, length, Option, Some, None, cond, nat_lt}
-use Rattle.wasm_tree.specs.declared.which.Which.{Which}
+use Rattle.wasm_tree_spec.specs.Prelude.{Which, limit, Module}
 use Rattle.wasm_tree.specs.declared.which.Which.TheVariants as which
-use Rattle.wasm_tree.specs.Limits.{limit}
-use Rattle.wasm_tree.specs.declared.module.Module.{Module}
 
 -- the quantity, where its count is above its limit, or what comes after it
 abbrev pub or_above : (count : ℕ) → Which → Option Which → Option Which

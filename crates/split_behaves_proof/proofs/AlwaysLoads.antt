@@ -1,30 +1,19 @@
 -- In each run of a split module under its loader, each secondary module can be loaded wherever it is: once it is instantiated, the indices of the primary module's instance go on
 -- to name what the primary module says.
-use Rattle.std.proofs.Common.{◌≡◌, ◌↔◌, ◌∙◌, ap, sym, subst, refl, ℕ, zero, suc, ◌^◌, ◌<◌, List, [], ◌∷◌, length, Option, Some, None, Bool, true, false, cond, arith}
-use Rattle.std.proofs.lemmas.Option.{same_Some}
+use Rattle.base_lists.proofs.Common.{◌≡◌, ◌↔◌, ◌∙◌, ap, sym, subst, refl, ℕ, zero, suc, ◌^◌, ◌<◌, List, [], ◌∷◌, length, Option, Some, None, Bool, true, false, cond, arith, same_Some, and_then_is}
 use Rattle.base_lists.specs.Options.{◌>>=◌, all_there}
-use Rattle.base_lists.proofs.Options.{and_then_is}
-use Rattle.wasm_tree.specs.declared.module.Module.{Module}
-use Rattle.wasm_tree.specs.Bounds.{IsBounded}
-use Rattle.wasm_valid.specs.Validity.{IsValid}
+use Rattle.wasm_tree_spec.specs.Prelude.{Module, IsBounded}
+use Rattle.wasm_valid.specs.Prelude.{IsValid}
 use Rattle.base_simulation.specs.Machines.{state_after}
-use Rattle.wasm_meaning.specs.Outcomes.{Gives}
-use Rattle.wasm_meaning.specs.State.{Inst, Store, Opening, CallsPlaceholder}
-use Rattle.wasm_meaning.specs.Environment.{Environment}
-use Rattle.wasm_meaning.specs.World.{Begun, address_in}
-use Rattle.wasm_meaning.specs.Sequential.{Added, added}
-use Rattle.wasm_meaning.specs.Run.{Move, InstanceTrapped, Out, Steps, Makes, Pending, Closed, began, fresh_run}
-use Rattle.wasm_meaning.specs.Loader.{LoaderWorld, LoaderRun, secondary_of, store_under, supplied, primary_added, begun_of, loader_made, tick_loader, fresh_loader}
-use Rattle.index_remap.specs.RelatedRuns.{IsBegun}
+use Rattle.wasm_meaning.specs.Prelude.{Gives, Inst, Store, Opening, CallsPlaceholder, Environment, Begun, address_in, Added, added, Move, InstanceTrapped, Out, Steps, Makes, Pending, Closed, began, fresh_run, LoaderWorld, LoaderRun, secondary_of, store_under, supplied, primary_added, begun_of, loader_made, tick_loader, fresh_loader}
+use Rattle.index_remap.specs.Prelude.{IsBegun}
 use Rattle.world_simulation.specs.Leaves.{AddedModulesLeave}
 use Rattle.world_extension_proof.specs.Extends.{CallsExtend, LoadersExtend}
 use Rattle.world_extension_proof.specs.Typed.{IsTyped, AddedModulesAreTyped, InstancesStayTyped}
 use Rattle.world_extension_proof.specs.Over.{IsOver, RunsThatAreOverStaySo}
 use Rattle.world_extension_proof.proofs.LoadExtends.{stays_in}
 use Rattle.split_spec.specs.declared.names.SplitNames.{SplitNames}
-use Rattle.split_spec.specs.Faults.{prefix_taken}
-use Rattle.split_spec.specs.Primary.{primary_with}
-use Rattle.split_spec.specs.Secondary.{secondary_with}
+use Rattle.split_spec.specs.Prelude.{prefix_taken, primary_with, secondary_with}
 use Rattle.split_proof.specs.Premises.{CanMove}
 use Rattle.split_proof.proofs.Spaces.{ItemsHold}
 use Rattle.split_behaves_proof.specs.Worlds.{placeholders_for, split_world}

@@ -1,25 +1,17 @@
 -- The runs stand at the same place again where a function that moves was entered: in its slot already, or loaded first.
-use Rattle.std.proofs.Common.{◌≡◌, ◌∙◌, sym, ap, ap₂, subst, ℕ, zero, suc, ◌+◌, ◌^◌, ◌<◌, ◌≤◌, List, [], ◌∷◌, ◌++◌, Some, None, Bool, true, false, arith, slice_get, slice_set}
-use Rattle.std.specs.Prelude.{pos, decimal}
-use Rattle.std.proofs.lemmas.Option.{slice_get_within, same_Some}
-use Rattle.base_lists.proofs.Places.{set_at}
+use Rattle.base_lists.proofs.Common.{◌≡◌, ◌∙◌, sym, ap, ap₂, subst, ℕ, zero, suc, ◌+◌, ◌^◌, ◌<◌, ◌≤◌, List, [], ◌∷◌, ◌++◌, Some, None, Bool, true, false, arith, slice_get, slice_set, pos, decimal, slice_get_within, same_Some, set_at}
 use Rattle.base_lists.specs.Options.{◌>>=◌}
 use Rattle.base_simulation.specs.Machines.{events_of, noted}
-use Rattle.wasm_tree.specs.declared.types.FuncType.{FuncType}
-use Rattle.wasm_tree.specs.declared.module.Module.{Module}
-use Rattle.wasm_meaning.specs.Outcomes.{Gives}
-use Rattle.wasm_meaning.specs.State.{FuncRef, Val, Inst, Func, Store, Entry, Running, Ended, CallsPlaceholder}
+use Rattle.wasm_tree_spec.specs.Prelude.{FuncType, Module}
+use Rattle.wasm_meaning.specs.Prelude.{Gives, FuncRef, Val, Inst, Func, Store, Entry, Running, Ended, CallsPlaceholder, enter_at, step, Environment, Run, Out, Move, Steps, run_after, transition, tick, LoaderWorld, LoaderRun, tick_loader}
 use Rattle.wasm_meaning.specs.Control.{type_of_func as type_of}
-use Rattle.wasm_meaning.specs.Step.{enter_at, step}
-use Rattle.wasm_meaning.specs.Environment.{Environment}
-use Rattle.wasm_meaning.specs.Run.{Run, Out, Move, Steps, run_after, transition, tick}
-use Rattle.wasm_meaning.specs.Loader.{LoaderWorld, LoaderRun, with_loaded, tick_loader}
-use Rattle.index_remap.specs.Related.{Pairing, ListRel, ValRel, ended}
-use Rattle.index_remap.specs.Trampolines.{CodeAt, InSlot, WithPassing}
+use Rattle.wasm_meaning.specs.Loader.{with_loaded}
+use Rattle.index_remap.specs.Prelude.{Pairing, ListRel, ValRel, ended, CodeAt, InSlot, WithPassing}
 use Rattle.index_remap.specs.Trampolines as between
-use Rattle.world_simulation.specs.LoaderSteps.{IsAnswered, PlaceholdersAreAnswered}
+use Rattle.world_simulation.specs.Prelude.{PlaceholdersAreAnswered}
+use Rattle.world_simulation.specs.LoaderSteps.{IsAnswered}
 use Rattle.split_spec.specs.declared.names.SplitNames.{SplitNames}
-use Rattle.split_spec.specs.Slots.{slot_table, type_index}
+use Rattle.split_spec.specs.Prelude.{slot_table, type_index}
 use Rattle.split_behaves_proof.specs.Worlds.{placeholders_for, type_in}
 use Rattle.split_behaves_proof.specs.Addresses.{defined_address, slot_table_address, split_pairing}
 use Rattle.split_behaves_proof.specs.Answered.{StepAnswered}

@@ -1,35 +1,19 @@
 -- What functions stand in the stores in which a module and its split begin.
-use Rattle.std.proofs.Common.{◌≡◌, ◌∙◌, ap, ap₂, sym, subst, refl, ℕ, zero, suc, ◌+◌, ◌-◌, ◌⊎◌, inl, inr, List, [], ◌∷◌, ◌++◌, map, length, Option, Some, None, true, arith, append-nil, option_and_then, slice_get, slice_index}
-use Rattle.std.specs.Prelude.{pos}
-use Rattle.std.specs.Option.{option_map_or}
-use Rattle.std.proofs.lemmas.List.{length-append}
-use Rattle.std.proofs.lemmas.Option.{slice_get_within, same_Some}
-use Rattle.base_lists.proofs.Numbers.{numbers_index}
-use Rattle.base_lists.proofs.Options.{and_then_is, all_there_at, all_there_length}
-use Rattle.base_lists.proofs.Places.{append_at_left, append_from, append_right, map_from, map_twice, slice_get_there, slice_index_is}
-use Rattle.wasm_tree.specs.declared.types.FuncType.{FuncType}
+use Rattle.base_lists.proofs.Common.{◌≡◌, ◌∙◌, ap, ap₂, sym, subst, refl, ℕ, zero, suc, ◌+◌, ◌-◌, ◌⊎◌, inl, inr, List, [], ◌∷◌, ◌++◌, map, length, Option, Some, None, true, arith, append-nil, option_and_then, slice_get, slice_index, pos, option_map_or, length-append, slice_get_within, same_Some, numbers_index, and_then_is, all_there_at, all_there_length, append_at_left, append_from, append_right, map_from, map_twice, slice_get_there, slice_index_is}
+use Rattle.wasm_tree_spec.specs.Prelude.{FuncType, Module, funcs_of, tables_of, type_of_func, Functions}
 use Rattle.wasm_tree.specs.declared.module.Func as tree
-use Rattle.wasm_tree.specs.declared.module.Module.{Module}
-use Rattle.wasm_tree.specs.Spaces.{funcs_of, tables_of, type_of_func}
-use Rattle.wasm_meaning.specs.State.{Code, Func, Own, Pair, Placeholder, Store}
-use Rattle.wasm_meaning.specs.Environment.{Environment, own_funcs}
-use Rattle.wasm_meaning.specs.Sequential.{Added, added, next_inst}
-use Rattle.wasm_meaning.specs.Loader.{LoaderWorld, begun_of, begun_under, placeholders_from, placeholders_of, primary_added, store_under, supplied}
-use Rattle.wasm_meaning.specs.World.{Begun, all_there, alone, const_value, insts_from, instantiate, joined_stores, new_func, own_count}
-use Rattle.wasm_tree.specs.declared.space.Space.TheVariants.{Functions}
+use Rattle.wasm_meaning.specs.Prelude.{Code, Func, Own, Pair, Placeholder, Store, Environment, own_funcs, Added, added, next_inst, LoaderWorld, begun_of, begun_under, placeholders_from, placeholders_of, primary_added, store_under, supplied, Begun, all_there, alone, const_value, insts_from, instantiate, joined_stores, new_func, own_count}
 use Rattle.index_remap.specs.declared.remap.Remap.{Remap}
-use Rattle.index_remap.specs.Renumbered.{renumbered_all}
+use Rattle.index_remap.specs.Prelude.{renumbered_all, gets, slot_call, trampoline}
 use Rattle.index_remap.specs.Renumbered as tree_with
-use Rattle.index_remap.specs.Trampolines.{gets, slot_call, trampoline}
-use Rattle.world_simulation.specs.Alone.{one}
+use Rattle.world_simulation.specs.Prelude.{one}
 use Rattle.world_simulation.proofs.Added.{added_is}
 use Rattle.world_simulation.proofs.Allocated.{adds_with}
 use Rattle.world_simulation.proofs.FuncsAside.{segments_funcs}
 use Rattle.world_simulation.proofs.Instancing.{IsInst}
 use Rattle.world_simulation.proofs.Single.{one_inst}
 use Rattle.split_spec.specs.declared.names.SplitNames.{SplitNames}
-use Rattle.split_spec.specs.Primary.{primary_func}
-use Rattle.split_spec.specs.Slots.{params_of, place_among, slot_table, trampoline_body, type_index}
+use Rattle.split_spec.specs.Prelude.{primary_func, params_of, place_among, slot_table, trampoline_body, type_index}
 use Rattle.split_proof.proofs.Lists.{place_is, no_place, there_among}
 use Rattle.split_proof.proofs.PrimarySpaces as spaces
 use Rattle.split_proof.proofs.Spaces.{ItemsHold, func_holds}

@@ -1,48 +1,21 @@
 -- A module alone, and its primary module with stubs in place of its placeholders: what they define, their segments, views and starts correspond.
-use Rattle.std.proofs.Common.{◌≡◌, ◌∙◌, ap, sym, subst, refl, ℕ, zero, suc, ◌+◌, ◌<◌, List, [], ◌∷◌, ◌++◌, map, take, length, Option, Some, Bool, true, false, cond, arith, filter_map, option_map, append-nil, ⊎_elim, slice_get, slice_index}
-use Rattle.std.specs.List.{cons_option}
-use Rattle.std.proofs.lemmas.List.{length-append, length-map, map-id}
-use Rattle.std.proofs.lemmas.Option.{slice_get_within, same_Some}
+use Rattle.base_lists.proofs.Common.{◌≡◌, ◌∙◌, ap, sym, subst, refl, ℕ, zero, suc, ◌+◌, ◌<◌, List, [], ◌∷◌, ◌++◌, map, take, length, Option, Some, Bool, true, false, cond, arith, option_map, append-nil, ⊎_elim, slice_get, slice_index, cons_option, length-append, length-map, map-id, slice_get_within, same_Some, length-numbers, numbers_index, append_at_left, append_left, map_at, push_last, slice_get_there}
+use Rattle.std.proofs.Common.{filter_map}
 use Rattle.base_lists.specs.Places.{numbers}
-use Rattle.base_lists.proofs.Numbers.{length-numbers, numbers_index}
-use Rattle.base_lists.proofs.Places.{append_at_left, append_left, map_at, push_last, slice_get_there}
 use Rattle.wasm_num.specs.Operations.{wrapped}
-use Rattle.wasm_tree.specs.declared.space.Space.{Space}
-use Rattle.wasm_tree.specs.declared.space.Space.TheVariants.{Functions, Tables, Memories, Globals, ElementSegments, DataSegments}
-use Rattle.wasm_tree.specs.declared.module.ConstExpr.{ConstExpr}
+use Rattle.wasm_tree_spec.specs.Prelude.{Space, Functions, Tables, Memories, Globals, ElementSegments, DataSegments, ConstExpr, DataSeg, DataMode, ElemMode, ElemSeg, Export, ExportDesc, Module, funcs_of, tables_of}
 use Rattle.wasm_tree.specs.declared.module.ConstExpr.TheVariants as const
-use Rattle.wasm_tree.specs.declared.module.DataSeg.{DataSeg}
-use Rattle.wasm_tree.specs.declared.module.DataMode.{DataMode}
-use Rattle.wasm_tree.specs.declared.module.ElemMode.{ElemMode}
-use Rattle.wasm_tree.specs.declared.module.ElemSeg.{ElemSeg}
-use Rattle.wasm_tree.specs.declared.module.Export.{Export}
-use Rattle.wasm_tree.specs.declared.module.ExportDesc.{ExportDesc}
 use Rattle.wasm_tree.specs.declared.module.Func as tree
-use Rattle.wasm_tree.specs.declared.module.Module.{Module}
-use Rattle.wasm_tree.specs.Spaces.{funcs_of, tables_of}
 use Rattle.wasm_valid.specs.declared.kinds.ItemKind.TheVariants as kind
-use Rattle.wasm_meaning.specs.State.{Inst, Text, Val}
-use Rattle.wasm_meaning.specs.Environment.{Environment, ExternalValue}
-use Rattle.wasm_meaning.specs.Linking.{export_named, same_text}
-use Rattle.wasm_meaning.specs.Loader.{LoaderWorld}
-use Rattle.wasm_meaning.specs.World.{PlacedSegment, segments_in, own_count, defined_count, starts_of, seen_as, alone}
+use Rattle.wasm_meaning.specs.Prelude.{Inst, Text, Val, Environment, ExternalValue, export_named, same_text, LoaderWorld, PlacedSegment, segments_in, own_count, defined_count, starts_of, seen_as, alone}
 use Rattle.index_remap.specs.declared.remap.Remap.{Remap}
-use Rattle.index_remap.specs.References.{declared_refs}
-use Rattle.index_remap.specs.Related.{Pairing, OptRel, none, some, ListRel, nil, cons, ValRel, number, reference, func, extern}
-use Rattle.index_remap.specs.RelatedRuns.{ExternalValueRel, a_func, a_table, a_memory, a_global, KeyRel, HasNoPartner, turned}
-use Rattle.index_remap.specs.Renumbered.{new_const, new_data, new_elem, new_export_desc, new_func, new_global}
+use Rattle.index_remap.specs.Prelude.{declared_refs, Pairing, OptRel, none, some, ListRel, nil, cons, ValRel, number, reference, func, extern, ExternalValueRel, a_func, a_table, a_memory, a_global, KeyRel, HasNoPartner, turned, new_const, new_data, new_elem, new_export_desc, new_func, new_global}
 use Rattle.index_remap.proofs.Rel.{append_rel}
 use Rattle.index_remap_proof.specs.Indices.{Indices, ConstNamesOnly, ExportNamesOnly, TreeNamesOnly}
 use Rattle.index_remap_proof.proofs.Lists.{two_cases}
-use Rattle.world_simulation.specs.Alone.{one}
-use Rattle.world_simulation.specs.Definitions.{FuncsAt, GlobalsCorrespond, ElemsCorrespond, Partners, DefinitionsCorrespond, Instantiated, values_in}
+use Rattle.world_simulation.specs.Prelude.{one, FuncsAt, GlobalsCorrespond, ElemsCorrespond, Partners, DefinitionsCorrespond, Instantiated, values_in, primary_world, EntriesName, InOrder, ends, both, only_second, ElemsPartner, ElemAlone, DatasPartner, DataAlone, ElemsInOrder, DatasInOrder, WorldsCorrespond, stubbed}
 use Rattle.world_simulation.specs.Definitions as partners
-use Rattle.world_simulation.specs.Loaded.{primary_world}
-use Rattle.world_simulation.specs.Named.{EntriesName}
-use Rattle.world_simulation.specs.Segments.{InOrder, ends, both, only_second, ElemsPartner, ElemAlone, DatasPartner, DataAlone, ElemsInOrder, DatasInOrder}
 use Rattle.world_simulation.specs.Segments as order
-use Rattle.world_simulation.specs.Simulation.{WorldsCorrespond}
-use Rattle.world_simulation.specs.Stubbed.{stubbed}
 use Rattle.world_simulation.proofs.Declared.{last_segments}
 use Rattle.world_simulation.proofs.Holes.{all_in_step, kept_place, placed}
 use Rattle.world_simulation.proofs.Holes as holes
@@ -52,8 +25,7 @@ use Rattle.world_simulation.proofs.Renamed.{elems_alike, elem_mode_named, data_m
 use Rattle.world_simulation.proofs.Renamed as renamed
 use Rattle.world_simulation.proofs.Stored.{alike_correspond}
 use Rattle.split_spec.specs.declared.names.SplitNames.{SplitNames}
-use Rattle.split_spec.specs.Primary.{added_exports, primary_func}
-use Rattle.split_spec.specs.Slots.{in_slots, place_among, slot_segment, slot_table, slot_table_type}
+use Rattle.split_spec.specs.Prelude.{added_exports, primary_func, in_slots, place_among, slot_segment, slot_table, slot_table_type}
 use Rattle.split_proof.proofs.Lists.{there_contains}
 use Rattle.split_proof.proofs.Spaces.{ItemsHold}
 use Rattle.split_behaves_proof.specs.Addresses.{is_partner, slot_table_address, split_pairing}

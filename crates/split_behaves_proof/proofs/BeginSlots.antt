@@ -1,46 +1,25 @@
 -- When a split module begins, each slot holds its placeholder.
-use Rattle.std.proofs.Common.{◌≡◌, ◌∙◌, ap, ap₂, sym, refl, ℕ, zero, suc, ◌+◌, ◌-◌, ◌<◌, ◌≤◌, List, [], ◌∷◌, ◌++◌, map, length, Option, Some, None, Bool, true, false, cond, arith, append-nil, eq-eqb, slice_get, slice_index, nat_lt}
-use Rattle.std.specs.List.{flat_map}
-use Rattle.std.proofs.lemmas.Bool.Decides.{nat_tests}
-use Rattle.std.proofs.lemmas.List.{length-append, length-map, map-append}
-use Rattle.std.proofs.lemmas.Option.{slice_get_within, same_Some}
+use Rattle.base_lists.proofs.Common.{◌≡◌, ◌∙◌, ap, ap₂, sym, refl, ℕ, zero, suc, ◌+◌, ◌-◌, ◌<◌, ◌≤◌, List, [], ◌∷◌, ◌++◌, map, length, Option, Some, None, Bool, true, false, cond, arith, append-nil, slice_get, slice_index, nat_lt, flat_map, nat_tests, length-append, length-map, map-append, slice_get_within, same_Some, length-numbers, numbers_at, numbers_index, append_right, map_at, push_last}
+use Rattle.std.proofs.Common.{eq-eqb}
 use Rattle.base_lists.specs.Options.{◌>>=◌}
 use Rattle.base_lists.specs.Places.{numbers}
-use Rattle.base_lists.proofs.Numbers.{length-numbers, numbers_at, numbers_index}
-use Rattle.base_lists.proofs.Places.{append_right, map_at, push_last}
 use Rattle.wasm_num.specs.Operations.{wrapped}
-use Rattle.wasm_tree.specs.declared.space.Space.TheVariants.{Functions, Tables}
+use Rattle.wasm_tree_spec.specs.Prelude.{Functions, Tables, ConstExpr, ElemMode, ElemSeg, Module, funcs_of, tables_of}
 use Rattle.wasm_tree.specs.declared.types.RefType.TheVariants.{Func as func_ref}
-use Rattle.wasm_tree.specs.declared.module.ConstExpr.{ConstExpr}
 use Rattle.wasm_tree.specs.declared.module.ConstExpr.TheVariants as const
-use Rattle.wasm_tree.specs.declared.module.ElemMode.{ElemMode}
 use Rattle.wasm_tree.specs.declared.module.ElemMode.TheVariants as elem
-use Rattle.wasm_tree.specs.declared.module.ElemSeg.{ElemSeg}
-use Rattle.wasm_tree.specs.declared.module.Module.{Module}
-use Rattle.wasm_tree.specs.Spaces.{funcs_of, tables_of}
-use Rattle.wasm_meaning.specs.Outcomes.{overwrite, split_at}
-use Rattle.wasm_meaning.specs.State.{FuncRef, Inst, Ref, RefVal, Table, Val}
-use Rattle.wasm_meaning.specs.Values.{null_of, ref_of}
-use Rattle.wasm_meaning.specs.Environment.{Environment}
-use Rattle.wasm_meaning.specs.Sequential.{Added}
-use Rattle.wasm_meaning.specs.Loader.{LoaderWorld, begun_under, secondary_of, store_under}
-use Rattle.wasm_meaning.specs.World.{Begun, all_there, alone, const_value, instantiate, own_count}
+use Rattle.wasm_meaning.specs.Prelude.{overwrite, split_at, FuncRef, Inst, Ref, RefVal, Table, Val, null_of, ref_of, Environment, Added, LoaderWorld, begun_under, secondary_of, store_under, Begun, all_there, alone, const_value, instantiate, own_count}
 use Rattle.wasm_meaning.proofs.Slices.{copies_length}
 use Rattle.index_remap.specs.declared.remap.Remap.{Remap}
-use Rattle.index_remap.specs.References.{declared_refs}
-use Rattle.index_remap.specs.Related.{OptRel, none, some}
-use Rattle.index_remap.specs.Renumbered.{new_const, new_elem, new_elem_mode}
+use Rattle.index_remap.specs.Prelude.{declared_refs, OptRel, none, some, new_const, new_elem, new_elem_mode}
 use Rattle.index_remap_proof.specs.Indices.{ElemModeNamesOnly}
-use Rattle.world_simulation.specs.Alone.{one}
-use Rattle.world_simulation.specs.Leaves.{all_over, elem_copies, elem_copy, is_address, new_table, over, table_left}
-use Rattle.world_simulation.specs.Segments.{offset_in}
-use Rattle.world_simulation.specs.Stubbed.{stub}
+use Rattle.world_simulation.specs.Prelude.{one, all_over, elem_copies, elem_copy, is_address, new_table, over, table_left, offset_in, stub}
 use Rattle.world_simulation.proofs.Alone.{funcs_counted}
 use Rattle.world_simulation.proofs.Declared.{last_segments}
 use Rattle.world_simulation.proofs.Instancing.{IsInst}
 use Rattle.world_simulation.proofs.Single.{space_at}
 use Rattle.split_spec.specs.declared.names.SplitNames.{SplitNames}
-use Rattle.split_spec.specs.Slots.{in_slots, slot_segment, slot_table, slot_table_type}
+use Rattle.split_spec.specs.Prelude.{in_slots, slot_segment, slot_table, slot_table_type}
 use Rattle.split_proof.proofs.PrimarySpaces as spaces
 use Rattle.split_proof.proofs.Spaces.{ItemsHold}
 use Rattle.split_behaves_proof.specs.Worlds.{placeholders_for, secondaries_for}

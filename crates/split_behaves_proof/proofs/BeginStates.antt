@@ -1,17 +1,8 @@
 -- Where neither traps, a module and its split stand at the same place after their first steps.
-use Rattle.std.proofs.Common.{◌≡◌, ◌∙◌, ap, sym, subst, refl, ℕ, List, [], length, Option, Some, None, false, cond, ◌∷◌, ◌+◌, ◌<◌, option_and_then, slice_get}
-use Rattle.std.proofs.lemmas.Option.{slice_get_within}
-use Rattle.wasm_tree.specs.declared.module.Module.{Module}
-use Rattle.wasm_meaning.specs.State.{Inst, Opening, Store}
-use Rattle.wasm_meaning.specs.Environment.{Environment}
-use Rattle.wasm_meaning.specs.Loader.{LoaderRun, LoaderWorld, begun_under, fresh_loader, store_under, tick_loader}
-use Rattle.wasm_meaning.specs.Sequential.{Added}
-use Rattle.wasm_tree.specs.declared.space.Space.TheVariants.{Functions}
-use Rattle.wasm_meaning.specs.Run.{Closed, InstanceTrapped, Move, Pending, Run, Out, began, fresh_run, tick}
-use Rattle.wasm_meaning.specs.World.{Begun, alone, instantiate, own_count}
-use Rattle.index_remap.specs.Related.{nil}
-use Rattle.index_remap.specs.RelatedRuns.{BegunRel, pending}
-use Rattle.index_remap.specs.Trampolines.{FramesBetween}
+use Rattle.base_lists.proofs.Common.{◌≡◌, ◌∙◌, ap, sym, subst, refl, ℕ, List, [], length, Option, Some, None, false, cond, ◌∷◌, ◌+◌, ◌<◌, option_and_then, slice_get, slice_get_within}
+use Rattle.wasm_tree_spec.specs.Prelude.{Module, Functions}
+use Rattle.wasm_meaning.specs.Prelude.{Inst, Opening, Store, Environment, LoaderRun, LoaderWorld, begun_under, fresh_loader, store_under, tick_loader, Added, Closed, InstanceTrapped, Move, Pending, Run, Out, began, fresh_run, tick, Begun, alone, instantiate, own_count}
+use Rattle.index_remap.specs.Prelude.{nil, BegunRel, pending, FramesBetween}
 use Rattle.world_extension_proof.specs.Typed.{IsTyped}
 use Rattle.world_simulation.proofs.Places.{opt_both}
 use Rattle.split_spec.specs.declared.names.SplitNames.{SplitNames}

@@ -1,24 +1,12 @@
 -- A split module begins under its loader as the module does alone.
-use Rattle.std.proofs.Common.{◌≡◌, ◌∙◌, ap, sym, subst, refl, ℕ, suc, ◌+◌, ◌-◌, ◌<◌, ◌≤◌, ◌⊎◌, inl, inr, List, [], ◌∷◌, ◌++◌, drop, length, Option, Some, None, Bool, true, false, arith, slice_get}
-use Rattle.std.proofs.lemmas.Option.{same_Some}
+use Rattle.base_lists.proofs.Common.{◌≡◌, ◌∙◌, ap, sym, subst, refl, ℕ, suc, ◌+◌, ◌-◌, ◌<◌, ◌≤◌, ◌⊎◌, inl, inr, List, [], ◌∷◌, ◌++◌, drop, length, Option, Some, None, Bool, true, false, arith, slice_get, same_Some, and_then_is, append_at_left, append_right, drop_at, slice_get_there}
 use Rattle.base_lists.specs.Options.{◌>>=◌}
-use Rattle.base_lists.proofs.Options.{and_then_is}
-use Rattle.base_lists.proofs.Places.{append_at_left, append_right, drop_at, slice_get_there}
-use Rattle.wasm_tree.specs.declared.space.Space.TheVariants.{Functions}
-use Rattle.wasm_tree.specs.declared.types.FuncType.{FuncType}
-use Rattle.wasm_tree.specs.declared.module.Module.{Module}
-use Rattle.wasm_meaning.specs.State.{Entry, Func, Pair, Store, Text}
-use Rattle.wasm_meaning.specs.Environment.{Environment, ExternalValue, own_funcs, owned_of}
-use Rattle.wasm_meaning.specs.Sequential.{Added, added, next_inst}
-use Rattle.wasm_meaning.specs.Loader.{LoaderWorld, begun_of, begun_under, placeholders_from, placeholders_of, primary_added, store_under, supplied}
-use Rattle.wasm_meaning.specs.Run.{Move, began, fresh_run, tick}
-use Rattle.wasm_meaning.specs.World.{Begun, address_in, all_there, alone, const_value, instantiate, joined_stores, own_count, start_in}
-use Rattle.index_remap.specs.Related.{Pairing, OptRel, none, some, ListRel, nil, cons, EntryRel, StoreRel}
-use Rattle.index_remap.specs.RelatedRuns.{BegunRel, closed, pending}
-use Rattle.index_remap.specs.Laws.{EntryByEntry}
-use Rattle.index_remap.specs.Trampolines.{FramesBetween, WithPassing}
+use Rattle.wasm_tree_spec.specs.Prelude.{Functions, FuncType, Module}
+use Rattle.wasm_meaning.specs.Prelude.{Entry, Func, Pair, Store, Text, Environment, ExternalValue, own_funcs, owned_of, Added, added, next_inst, LoaderWorld, begun_of, begun_under, placeholders_from, placeholders_of, primary_added, store_under, supplied, Move, began, fresh_run, tick, Begun, address_in, all_there, alone, const_value, instantiate, joined_stores, own_count, start_in}
+use Rattle.index_remap.specs.Prelude.{Pairing, OptRel, none, some, ListRel, nil, cons, EntryRel, StoreRel, BegunRel, closed, pending, EntryByEntry, FramesBetween, WithPassing}
 use Rattle.index_remap.specs.Trampolines as between
-use Rattle.world_simulation.specs.Stubbed.{placeholders_begun, with_placeholders}
+use Rattle.world_simulation.specs.Prelude.{placeholders_begun}
+use Rattle.world_simulation.specs.Stubbed.{with_placeholders}
 use Rattle.world_simulation.proofs.Added.{added_is}
 use Rattle.world_simulation.proofs.FuncsAside.{segments_funcs}
 use Rattle.split_spec.specs.declared.names.SplitNames.{SplitNames}

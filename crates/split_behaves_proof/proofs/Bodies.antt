@@ -1,55 +1,29 @@
 -- The code of functions that stay in the primary module is related to theirs in the module, where what stands in place of calls of functions that move calls these through
 -- their slots.
-use Rattle.std.proofs.Common.{◌≡◌, ◌∙◌, ap, sym, subst, refl, ℕ, suc, ◌+◌, ◌-◌, ◌<◌, ◌≤◌, ◌&&◌, ◌||◌, List, [], ◌∷◌, ◌++◌, map, length, not, Option, Some, None, Bool, true, false, cond, nat_eq, arith, eq-eqb, true≢false, ⊎_elim, slice_get, slice_index}
-use Rattle.std.specs.Prelude.{pos, nat_le, nat_lt}
-use Rattle.std.specs.List.{cons_option}
-use Rattle.std.proofs.lemmas.Bool.{leb-true}
-use Rattle.std.proofs.lemmas.List.{length-append}
-use Rattle.std.proofs.lemmas.Option.{slice_get_within, same_Some}
+use Rattle.base_lists.proofs.Common.{◌≡◌, ◌∙◌, ap, sym, subst, refl, ℕ, suc, ◌+◌, ◌-◌, ◌<◌, ◌≤◌, ◌&&◌, ◌||◌, List, [], ◌∷◌, ◌++◌, map, length, not, Option, Some, None, Bool, true, false, cond, nat_eq, arith, true≢false, ⊎_elim, slice_get, slice_index, pos, nat_le, nat_lt, cons_option, leb-true, length-append, slice_get_within, same_Some, left_true, right_true, same_tests, every_at, numbers_at, numbers_index, append_right}
+use Rattle.std.proofs.Common.{eq-eqb}
 use Rattle.base_lists.specs.Places.{first_place, numbers}
-use Rattle.base_lists.proofs.Bools.{left_true, right_true, same_tests}
-use Rattle.base_lists.proofs.Each.{every_at}
-use Rattle.base_lists.proofs.Numbers.{numbers_at, numbers_index}
-use Rattle.base_lists.proofs.Places.{append_right}
-use Rattle.wasm_tree.specs.declared.space.Operand.{Operand}
-use Rattle.wasm_tree.specs.declared.space.Space.{Space}
-use Rattle.wasm_tree.specs.declared.space.Space.TheVariants.{Types, Functions, Tables, Memories, Globals, ElementSegments, DataSegments}
-use Rattle.wasm_tree.specs.declared.instr.Instr.{Instr, out-Instr}
-use Rattle.wasm_tree.specs.declared.instr.Instr.TheVariants.{Call}
+use Rattle.wasm_tree_spec.specs.Prelude.{Operand, Space, Types, Functions, Tables, Memories, Globals, ElementSegments, DataSegments, Instr, Call, Module, ListLayers, all_operands_pass, any_operand_passes, same_space, funcs_of, tables_of, imported_tables}
+use Rattle.wasm_tree.specs.declared.instr.Instr.{out-Instr}
 use Rattle.wasm_tree.specs.declared.module.Func as tree
-use Rattle.wasm_tree.specs.declared.module.Module.{Module}
-use Rattle.wasm_tree.specs.Layers.{ListLayers}
-use Rattle.wasm_tree.specs.Operands.{all_operands_pass, any_operand_passes, same_space}
-use Rattle.wasm_tree.specs.Spaces.{funcs_of, tables_of, imported_tables}
 use Rattle.wasm_tree.proofs.OperandLaws.{passes_both}
-use Rattle.wasm_valid.specs.Named.{refs_of}
-use Rattle.wasm_meaning.specs.State.{Inst}
-use Rattle.wasm_meaning.specs.Environment.{Environment}
-use Rattle.wasm_meaning.specs.World.{own_count}
+use Rattle.wasm_valid.specs.Prelude.{refs_of}
+use Rattle.wasm_meaning.specs.Prelude.{Inst, Environment, own_count}
 use Rattle.index_remap.specs.declared.remap.Remap.{Remap}
 use Rattle.index_remap_proof.specs.Indices.{Indices}
-use Rattle.index_remap.specs.References.{body_refs, is_among, refs_all}
-use Rattle.index_remap.specs.Related.{Pairing, CodeRel}
-use Rattle.index_remap.specs.Renumbered.{has_entry, new_func, renumbered_all}
-use Rattle.index_remap.specs.Replaced.{ReplacementCodesFit, OtherNamed, OthersNamed, is_opaque_call}
-use Rattle.index_remap.specs.Trampolines.{slot_call}
+use Rattle.index_remap.specs.Prelude.{body_refs, is_among, refs_all, Pairing, CodeRel, has_entry, new_func, renumbered_all, ReplacementCodesFit, OtherNamed, OthersNamed, is_opaque_call, slot_call}
 use Rattle.index_remap.proofs.SlotCalls.{func_type_self}
 use Rattle.index_remap.proofs.NotOpaque.{operands_follow}
 use Rattle.index_remap_proof.proofs.Lists.{among_joined, among_map, among_right, both_true, either_true, left_either, right_either, same_number, two_cases}
-use Rattle.world_simulation.specs.Alone.{one}
-use Rattle.world_simulation.specs.Definitions.{FuncsAt, alike, set_apart}
-use Rattle.world_simulation.specs.Named.{EntriesName}
+use Rattle.world_simulation.specs.Prelude.{one, FuncsAt, EntriesName}
+use Rattle.world_simulation.specs.Definitions.{alike, set_apart}
 use Rattle.world_simulation.proofs.Alone.{tables_counted}
 use Rattle.world_simulation.proofs.Instancing.{IsInst}
 use Rattle.world_simulation.proofs.Single.{space_at}
 use Rattle.split_plan.specs.Plans.{body_uses_segment}
 use Rattle.split_plan.specs.Words.{is_defined}
 use Rattle.split_spec.specs.declared.names.SplitNames.{SplitNames}
-use Rattle.split_spec.specs.Calls.{with_calls}
-use Rattle.split_spec.specs.FromPrimary.{is_named_from_primary}
-use Rattle.split_spec.specs.Needed.{is_needed}
-use Rattle.split_spec.specs.Primary.{primary_func}
-use Rattle.split_spec.specs.Slots.{call_by_slot, call_through_slot, place_among, slot_table, slot_table_type, type_index}
+use Rattle.split_spec.specs.Prelude.{with_calls, is_named_from_primary, is_needed, primary_func, call_by_slot, call_through_slot, place_among, slot_table, slot_table_type, type_index}
 use Rattle.split_proof.specs.Calls.{renumbered_codes}
 use Rattle.split_proof.proofs.Bodies.{the_one}
 use Rattle.split_proof.proofs.Fits.{body_exact}

@@ -1,20 +1,8 @@
 -- Functions that are entered, in both stores, over related stacks; and what such a step leaves of where the runs stand.
-use Rattle.std.proofs.Common.{◌≡◌, ◌∙◌, refl, ap, sym, ℕ, List, [], ◌∷◌, ◌+◌, ◌++◌, length, Some, None, Bool, slice_get}
-use Rattle.wasm_tree.specs.declared.types.FuncType.{FuncType}
-use Rattle.wasm_tree.specs.declared.types.ValType.{ValType}
-use Rattle.wasm_tree.specs.declared.instr.Instr.{Instr}
-use Rattle.wasm_tree.specs.declared.module.Module.{Module}
-use Rattle.wasm_meaning.specs.Outcomes.{Gives, bind, or_ill_typed}
-use Rattle.wasm_meaning.specs.State.{Code, Entry, Frame, Inst, Ran, Running, Store, Val}
-use Rattle.wasm_meaning.specs.Values.{zeros}
-use Rattle.wasm_meaning.specs.Step.{enter, enter_at}
-use Rattle.wasm_tree.specs.declared.space.Space.TheVariants.{Functions}
-use Rattle.wasm_meaning.specs.World.{own_count}
-use Rattle.wasm_meaning.specs.Environment.{Environment}
-use Rattle.wasm_meaning.specs.Loader.{LoaderRun, LoaderWorld}
-use Rattle.wasm_meaning.specs.Run.{Move, Run, Steps, made, tick, transition}
-use Rattle.index_remap.specs.Related.{FrameRel, ListRel, Pairing, ValRel, cons, nil, running, end}
-use Rattle.index_remap.specs.Trampolines.{CodeAt, WithPassing, passing, through}
+use Rattle.base_lists.proofs.Common.{◌≡◌, ◌∙◌, refl, ap, sym, ℕ, List, [], ◌∷◌, ◌+◌, ◌++◌, length, Some, None, Bool, slice_get}
+use Rattle.wasm_tree_spec.specs.Prelude.{FuncType, ValType, Instr, Module, Functions}
+use Rattle.wasm_meaning.specs.Prelude.{Gives, bind, or_ill_typed, Code, Entry, Frame, Inst, Ran, Running, Store, Val, zeros, enter, enter_at, own_count, Environment, LoaderRun, LoaderWorld, Move, Run, Steps, made, tick, transition}
+use Rattle.index_remap.specs.Prelude.{FrameRel, ListRel, Pairing, ValRel, cons, nil, running, end, CodeAt, WithPassing, passing, through}
 use Rattle.index_remap.specs.Trampolines as between
 use Rattle.index_remap.proofs.Rel.{append_rel}
 use Rattle.index_remap.proofs.ValueSteps.{zeros_rel}

@@ -1,28 +1,14 @@
 -- Both enter functions, the first one that moves and the second its trampoline: the steps of the trampoline, and a load if there is one, answer the step.
-use Rattle.std.proofs.Common.{◌≡◌, ◌∙◌, refl, sym, ap, subst, ℕ, zero, suc, ◌+◌, ◌≤◌, List, [], ◌∷◌, ◌++◌, length, nat_eq, Option, Some, None, Bool, true, false, arith, slice_get, unwrap_or}
-use Rattle.std.specs.Prelude.{pos, IsTrue}
-use Rattle.std.specs.List.{list_any}
-use Rattle.std.specs.Option.{option_map_or}
-use Rattle.std.proofs.lemmas.Option.{same_Some}
+use Rattle.base_lists.proofs.Common.{◌≡◌, ◌∙◌, refl, sym, ap, subst, ℕ, zero, suc, ◌+◌, ◌≤◌, List, [], ◌∷◌, ◌++◌, length, nat_eq, Option, Some, None, Bool, true, false, arith, slice_get, unwrap_or, pos, IsTrue, list_any, option_map_or, same_Some, map_from}
 use Rattle.base_lists.specs.Options.{◌>>=◌}
-use Rattle.base_lists.proofs.Places.{map_from}
-use Rattle.wasm_tree.specs.declared.space.Space.TheVariants.{Functions}
-use Rattle.wasm_tree.specs.declared.types.FuncType.{FuncType}
-use Rattle.wasm_tree.specs.declared.module.Module.{Module}
-use Rattle.wasm_tree.specs.Spaces.{type_of_func}
-use Rattle.wasm_meaning.specs.Outcomes.{Gives, bind, or_ill_typed}
-use Rattle.wasm_meaning.specs.State.{FuncRef, Inst, Code, Placeholder, Store, Entry, Running, Ran, CallsPlaceholder}
-use Rattle.wasm_meaning.specs.Control.{type_of_func as type_of, type_at}
-use Rattle.wasm_meaning.specs.Step.{enter, enter_at}
-use Rattle.wasm_meaning.specs.Environment.{Environment}
-use Rattle.wasm_meaning.specs.World.{own_count}
-use Rattle.wasm_meaning.specs.Run.{Run, Steps, transition}
-use Rattle.wasm_meaning.specs.Loader.{LoaderWorld, LoaderRun, tick_loader}
-use Rattle.index_remap.specs.Related.{Pairing}
-use Rattle.index_remap.specs.Trampolines.{CodeAt, InSlot, HaveTypes, passing, trampoline, gets, slot_call, go_on, TrampolinesEnterSlots}
-use Rattle.world_simulation.specs.LoaderSteps.{PlaceholdersAreAnswered}
+use Rattle.wasm_tree_spec.specs.Prelude.{Functions, FuncType, Module, type_of_func}
+use Rattle.wasm_meaning.specs.Prelude.{Gives, bind, or_ill_typed, FuncRef, Inst, Code, Placeholder, Store, Entry, Running, Ran, CallsPlaceholder, type_at, enter, enter_at, Environment, own_count, Run, Steps, transition, LoaderWorld, LoaderRun, tick_loader}
+use Rattle.wasm_meaning.specs.Control.{type_of_func as type_of}
+use Rattle.index_remap.specs.Prelude.{Pairing, CodeAt, InSlot, HaveTypes, passing, trampoline, gets, slot_call, go_on}
+use Rattle.index_remap.specs.Trampolines.{TrampolinesEnterSlots}
+use Rattle.world_simulation.specs.Prelude.{PlaceholdersAreAnswered}
 use Rattle.split_spec.specs.declared.names.SplitNames.{SplitNames}
-use Rattle.split_spec.specs.Slots.{params_of, slot_table, type_index}
+use Rattle.split_spec.specs.Prelude.{params_of, slot_table, type_index}
 use Rattle.split_proof.proofs.Lists.{among_there}
 use Rattle.split_behaves_proof.specs.Worlds.{type_in}
 use Rattle.split_behaves_proof.specs.Addresses.{defined_address, is_left_at, moved_addresses, split_pairing}

@@ -1,62 +1,30 @@
 -- What the indices of the module name, and what their entries name in the primary module with stubs in place of its placeholders.
-use Rattle.std.proofs.Common.{◌≡◌, ◌↔◌, ◌∙◌, ap, sym, subst, refl, ℕ, zero, suc, ◌+◌, ◌-◌, ◌<◌, ◌≤◌, ◌&&◌, ◌⊎◌, inl, inr, List, [], ◌∷◌, ◌++◌, map, length, drop, Option, Some, Bool, true, arith, option_and_then, slice_get, slice_index}
-use Rattle.std.specs.Prelude.{IsTrue}
-use Rattle.std.proofs.lemmas.Bool.{cases_lt}
-use Rattle.std.proofs.lemmas.List.{length-append, length-map, map-append}
-use Rattle.std.proofs.lemmas.Option.{slice_get_within, same_Some}
+use Rattle.base_lists.proofs.Common.{◌≡◌, ◌↔◌, ◌∙◌, ap, sym, subst, refl, ℕ, zero, suc, ◌+◌, ◌-◌, ◌<◌, ◌≤◌, ◌&&◌, ◌⊎◌, inl, inr, List, [], ◌∷◌, ◌++◌, map, length, drop, Option, Some, Bool, true, arith, option_and_then, slice_get, slice_index, IsTrue, cases_lt, length-append, length-map, map-append, slice_get_within, same_Some, left_true, right_true, has_chosen, numbers_at, numbers_index, append_left, append_right, map_at, slice_get_there}
 use Rattle.base_lists.specs.Places.{numbers}
-use Rattle.base_lists.proofs.Bools.{left_true, right_true}
-use Rattle.base_lists.proofs.Filtered.{has_chosen}
-use Rattle.base_lists.proofs.Numbers.{numbers_at, numbers_index}
-use Rattle.base_lists.proofs.Places.{append_left, append_right, map_at, slice_get_there}
 use Rattle.base_kept.specs.Kept.{kept}
 use Rattle.base_kept.proofs.Laws.{kept_at}
-use Rattle.wasm_tree.specs.declared.space.Space.{Space}
-use Rattle.wasm_tree.specs.declared.space.Space.TheVariants.{Types, Functions, Tables, Memories, Globals, ElementSegments, DataSegments}
-use Rattle.wasm_tree.specs.declared.module.ConstExpr.{ConstExpr}
+use Rattle.wasm_tree_spec.specs.Prelude.{Space, Types, Functions, Tables, Memories, Globals, ElementSegments, DataSegments, ConstExpr, DataMode, ElemMode, ElemSeg, DataSeg, Export, ExportDesc, Module, ImportDesc, RefType, I32, imported_funcs, imported_tables, imported_memories, imported_globals, funcs_of, tables_of, memories_of, globals_of}
 use Rattle.wasm_tree.specs.declared.module.ConstExpr.TheVariants as const
-use Rattle.wasm_tree.specs.declared.module.DataMode.{DataMode}
 use Rattle.wasm_tree.specs.declared.module.DataMode.TheVariants as «data»
-use Rattle.wasm_tree.specs.declared.module.ElemMode.{ElemMode}
 use Rattle.wasm_tree.specs.declared.module.ElemMode.TheVariants as elem
-use Rattle.wasm_tree.specs.declared.module.ElemSeg.{ElemSeg}
-use Rattle.wasm_tree.specs.declared.module.DataSeg.{DataSeg}
-use Rattle.wasm_tree.specs.declared.module.Export.{Export}
-use Rattle.wasm_tree.specs.declared.module.ExportDesc.{ExportDesc}
 use Rattle.wasm_tree.specs.declared.module.ExportDesc.TheVariants as ex
 use Rattle.wasm_tree.specs.declared.module.Func as tree
-use Rattle.wasm_tree.specs.declared.module.Module.{Module}
-use Rattle.wasm_tree.specs.declared.module.ImportDesc.{ImportDesc}
 use Rattle.wasm_tree.specs.declared.module.ImportDesc.TheVariants as im
-use Rattle.wasm_tree.specs.declared.types.RefType.{RefType}
-use Rattle.wasm_tree.specs.declared.types.ValType.TheVariants.{I32}
-use Rattle.wasm_tree.specs.Spaces.{imported_funcs, imported_tables, imported_memories, imported_globals, funcs_of, tables_of, memories_of, globals_of}
 use Rattle.wasm_valid.specs.declared.kinds.ItemKind.TheVariants as kind
-use Rattle.wasm_valid.specs.Constants.{const_type}
-use Rattle.wasm_valid.specs.Named.{elem_refs, export_func, export_refs, global_refs, const_func}
-use Rattle.wasm_valid.specs.Validity.{IsValid, ElemModeHolds, DataModeHolds}
-use Rattle.wasm_meaning.specs.State.{Inst, Val}
-use Rattle.wasm_meaning.specs.Environment.{Environment, own_globals}
-use Rattle.wasm_meaning.specs.Linking.{imports_of}
-use Rattle.wasm_meaning.specs.Loader.{LoaderWorld}
-use Rattle.wasm_meaning.specs.World.{own_count, defined_count}
+use Rattle.wasm_valid.specs.Prelude.{const_type, elem_refs, export_func, export_refs, global_refs, const_func, IsValid, ElemModeHolds, DataModeHolds}
+use Rattle.wasm_meaning.specs.Prelude.{Inst, Val, Environment, own_globals, imports_of, LoaderWorld, own_count, defined_count}
 use Rattle.wasm_meaning.specs.World as world
 use Rattle.index_remap.specs.declared.remap.Remap.{Remap}
-use Rattle.index_remap.specs.References.{declared_refs}
-use Rattle.index_remap.specs.Renumbered.{fits_tree, has, new_const, new_data, new_elem, new_func, new_global, new_start}
-use Rattle.index_remap.specs.Related.{Pairing, OptRel, some, ValRel, number, reference, func}
-use Rattle.index_remap.specs.Laws.{passed, ReplacedCodeIsRelated}
+use Rattle.index_remap.specs.Prelude.{declared_refs, fits_tree, has, new_const, new_data, new_elem, new_func, new_global, new_start, Pairing, OptRel, some, ValRel, number, reference, func, passed}
+use Rattle.index_remap.specs.Laws.{ReplacedCodeIsRelated}
 use Rattle.index_remap.proofs.Rel.{get_rel}
 use Rattle.index_remap_proof.specs.Indices.{Indices, with_entry, ConstNamesOnly, ImportNamesOnly, ExportNamesOnly, ElemModeNamesOnly, DataModeNamesOnly, TreeNamesOnly}
 use Rattle.index_remap_proof.proofs.Lists.{among_right, both_true}
-use Rattle.world_simulation.specs.Alone.{one, addresses}
-use Rattle.world_simulation.specs.Definitions.{Instantiated, values_in}
+use Rattle.world_simulation.specs.Prelude.{one, addresses, Instantiated, values_in, LoadersHaveTheirPrimarysInstance, EntriesName, SharesOwn, stub, stubbed, LoadersAddAsStubbed}
 use Rattle.world_extension_proof.specs.Typed.{AddedModulesAreTyped}
 use Rattle.world_simulation.specs.Leaves.{PrimaryModulesLeave}
-use Rattle.world_simulation.specs.Loaded.{LoadersBeginAsTheirPrimary, LoadersHaveTheirPrimarysInstance}
-use Rattle.world_simulation.specs.Named.{EntriesName}
-use Rattle.world_simulation.specs.Owned.{SharesOwn}
-use Rattle.world_simulation.specs.Stubbed.{stub, stubbed, LoadersAddAsStubbed, LoadersBeginAsStubbed}
+use Rattle.world_simulation.specs.Loaded.{LoadersBeginAsTheirPrimary}
+use Rattle.world_simulation.specs.Stubbed.{LoadersBeginAsStubbed}
 use Rattle.world_simulation.proofs.Alone.{funcs_counted, tables_counted, memories_counted, globals_counted}
 use Rattle.world_simulation.proofs.Declared.{Keeps, last_segments}
 use Rattle.world_simulation.proofs.Holes.{Down, Moved, stays, space_moves, stays_at}
@@ -68,8 +36,7 @@ use Rattle.world_simulation.proofs.Places.{opt_at, then_rel}
 use Rattle.world_simulation.proofs.Renamed.{func_named}
 use Rattle.world_simulation.proofs.Single.{space_at}
 use Rattle.split_spec.specs.declared.names.SplitNames.{SplitNames}
-use Rattle.split_spec.specs.Primary.{is_left, left_marks, primary_func, primary_funcs, primary_map}
-use Rattle.split_spec.specs.Slots.{in_slots, place_among, slot_segment, slot_table, slot_table_type, type_index}
+use Rattle.split_spec.specs.Prelude.{is_left, left_marks, primary_func, primary_funcs, primary_map, in_slots, place_among, slot_segment, slot_table, slot_table_type, type_index}
 use Rattle.split_proof.proofs.Bodies.{BodyLaws}
 use Rattle.split_proof.proofs.Fits.{EntriesAreThere, exact, covers_exact}
 use Rattle.split_proof.proofs.Lists.{there_among}

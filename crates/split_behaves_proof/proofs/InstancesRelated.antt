@@ -1,27 +1,16 @@
 -- The instances of a module alone and of the primary module of its split name partners, index by index.
-use Rattle.std.proofs.Common.{◌≡◌, ◌∙◌, ap, sym, subst, refl, ℕ, suc, ◌<◌, List, [], ◌∷◌, length, Some, true, arith, slice_get}
-use Rattle.std.proofs.lemmas.Bool.{lt-ltb}
-use Rattle.std.proofs.lemmas.Option.{same_Some}
+use Rattle.base_lists.proofs.Common.{◌≡◌, ◌∙◌, ap, sym, subst, refl, ℕ, suc, ◌<◌, List, [], ◌∷◌, length, Some, true, arith, slice_get, lt-ltb, same_Some, length-numbers, numbers_index, and_then_is}
 use Rattle.base_lists.specs.Places.{numbers}
-use Rattle.base_lists.proofs.Numbers.{length-numbers, numbers_index}
-use Rattle.base_lists.proofs.Options.{and_then_is}
-use Rattle.wasm_tree.specs.declared.space.Space.TheVariants.{Functions, Tables, Memories, Globals}
-use Rattle.wasm_tree.specs.declared.module.Module.{Module}
-use Rattle.wasm_tree.specs.Spaces.{funcs_of, tables_of, memories_of, globals_of}
-use Rattle.wasm_meaning.specs.State.{Inst}
-use Rattle.wasm_meaning.specs.Environment.{Environment}
-use Rattle.wasm_meaning.specs.Sequential.{Added}
-use Rattle.wasm_meaning.specs.Loader.{primary_added}
-use Rattle.index_remap.specs.Related.{OptRel}
-use Rattle.index_remap.specs.Renumbered.{has}
+use Rattle.wasm_tree_spec.specs.Prelude.{Functions, Tables, Memories, Globals, Module, funcs_of, tables_of, memories_of, globals_of}
+use Rattle.wasm_meaning.specs.Prelude.{Inst, Environment, Added, primary_added}
+use Rattle.index_remap.specs.Prelude.{OptRel, has}
 use Rattle.index_remap_proof.proofs.Lists.{both_true}
-use Rattle.world_simulation.specs.Alone.{one}
-use Rattle.world_simulation.specs.Loaded.{LoadersHaveTheirPrimarysInstance}
-use Rattle.world_simulation.specs.Stubbed.{stubbed, placeholders_in, LoadersAddAsStubbed}
+use Rattle.world_simulation.specs.Prelude.{one, LoadersHaveTheirPrimarysInstance, stubbed, LoadersAddAsStubbed}
+use Rattle.world_simulation.specs.Stubbed.{placeholders_in}
 use Rattle.world_simulation.proofs.Instancing.{IsInst}
 use Rattle.world_simulation.proofs.Single.{one_inst}
 use Rattle.split_spec.specs.declared.names.SplitNames.{SplitNames}
-use Rattle.split_spec.specs.Primary.{is_left}
+use Rattle.split_spec.specs.Prelude.{is_left}
 use Rattle.split_behaves_proof.specs.LoadedCode.{InstancesAreRelated, Partnered, InstancesOfSplitsAreRelated}
 use Rattle.split_behaves_proof.specs.Laws.{CanBeSplit}
 use Rattle.split_behaves_proof.proofs.Bodies.{entries_named, moved_there, slots_there}

@@ -1,38 +1,14 @@
 -- An environment links a module exactly where it links the primary module of its split with stubs in place of the placeholders.
-use Rattle.std.proofs.Common.{◌≡◌, ◌∙◌, ap, ap₂, sym, subst, refl, ℕ, zero, suc, ◌+◌, ◌<◌, ◌⊎◌, inl, inr, List, [], ◌∷◌, ◌++◌, map, length, Option, Some, None, Bool, true, false, cond, arith, option_and_then, slice_get, slice_index}
-use Rattle.std.proofs.lemmas.List.{length-append, length-map}
-use Rattle.std.proofs.lemmas.Option.{slice_get_within, same_Some}
-use Rattle.base_lists.proofs.Numbers.{length-numbers, numbers_at}
-use Rattle.base_lists.proofs.Options.{and_then_is, all_there_at, all_there_from}
-use Rattle.base_lists.proofs.Places.{append_at_left, append_from, map_at, map_from, slice_get_there}
-use Rattle.wasm_tree.specs.declared.space.Space.{Space}
-use Rattle.wasm_tree.specs.declared.space.Space.TheVariants.{Functions, Tables, Memories, Globals}
-use Rattle.wasm_tree.specs.declared.types.FuncType.{FuncType}
-use Rattle.wasm_tree.specs.declared.module.ConstExpr.{ConstExpr}
+use Rattle.base_lists.proofs.Common.{◌≡◌, ◌∙◌, ap, ap₂, sym, subst, refl, ℕ, zero, suc, ◌+◌, ◌<◌, ◌⊎◌, inl, inr, List, [], ◌∷◌, ◌++◌, map, length, Option, Some, None, Bool, true, false, cond, arith, option_and_then, slice_get, slice_index, length-append, length-map, slice_get_within, same_Some, length-numbers, numbers_at, and_then_is, all_there_at, all_there_from, append_at_left, append_from, map_at, map_from, slice_get_there}
+use Rattle.wasm_tree_spec.specs.Prelude.{Space, Functions, Tables, Memories, Globals, FuncType, ConstExpr, ElemSeg, GlobalDef, Module, imported_funcs, funcs_of}
 use Rattle.wasm_tree.specs.declared.module.ConstExpr.TheVariants as const
-use Rattle.wasm_tree.specs.declared.module.ElemSeg.{ElemSeg}
 use Rattle.wasm_tree.specs.declared.module.Func as tree
-use Rattle.wasm_tree.specs.declared.module.GlobalDef.{GlobalDef}
-use Rattle.wasm_tree.specs.declared.module.Module.{Module}
-use Rattle.wasm_tree.specs.Spaces.{imported_funcs, funcs_of}
-use Rattle.wasm_meaning.specs.State.{Code, Elem, Func, Global, Inst, RefVal, FuncRef, Store, Text}
-use Rattle.wasm_meaning.specs.Values.{declared}
-use Rattle.wasm_meaning.specs.Environment.{Environment, ExternalValue, all_of}
-use Rattle.wasm_meaning.specs.Linking.{sites}
-use Rattle.wasm_meaning.specs.World.{Begun, World, alone, all_there, defined_count, insts_from, instantiate, is_matched, is_there, joined_stores, links, numbers, own_count, own_store, part_store, seen_as, starts_of, stores_from, value_of}
+use Rattle.wasm_meaning.specs.Prelude.{Code, Elem, Func, Global, Inst, RefVal, FuncRef, Store, Text, declared, Environment, ExternalValue, all_of, sites, Begun, World, alone, all_there, defined_count, insts_from, instantiate, is_matched, is_there, joined_stores, links, numbers, own_count, own_store, part_store, seen_as, starts_of, stores_from, value_of}
 use Rattle.wasm_meaning.specs.World as world
 use Rattle.index_remap.specs.declared.remap.Remap.{Remap}
-use Rattle.index_remap.specs.References.{declared_refs}
-use Rattle.index_remap.specs.Related.{Pairing, OptRel, none, some, ListRel, GlobalRel, ElemRel}
-use Rattle.index_remap.specs.RelatedRuns.{KeyRel, BegunRel}
-use Rattle.index_remap.specs.Renumbered.{new_const, new_elem, new_func, new_global}
-use Rattle.index_remap.specs.Laws.{EntryByEntry}
+use Rattle.index_remap.specs.Prelude.{declared_refs, Pairing, OptRel, none, some, ListRel, GlobalRel, ElemRel, KeyRel, BegunRel, new_const, new_elem, new_func, new_global, EntryByEntry}
 use Rattle.index_remap_proof.specs.Indices.{Indices, TreeNamesOnly}
-use Rattle.world_simulation.specs.Alone.{one, addresses}
-use Rattle.world_simulation.specs.Definitions.{Instantiated, values_in}
-use Rattle.world_simulation.specs.Loaded.{primary_world}
-use Rattle.world_simulation.specs.Simulation.{AreSimilar, StartsCorrespond, WorldsCorrespond}
-use Rattle.world_simulation.specs.Stubbed.{stub}
+use Rattle.world_simulation.specs.Prelude.{one, addresses, Instantiated, values_in, primary_world, AreSimilar, StartsCorrespond, WorldsCorrespond, stub}
 use Rattle.world_simulation.proofs.Alone.{funcs_counted, space_is}
 use Rattle.world_simulation.proofs.Allocated.{Adds, adds, part_there}
 use Rattle.world_simulation.proofs.Declared.{last_elems, last_segments}
@@ -43,8 +19,7 @@ use Rattle.world_simulation.proofs.Simulated.{instances_rel}
 use Rattle.world_simulation.proofs.Single.{all_matched, one_inst}
 use Rattle.world_simulation.proofs.Stored.{elem_rel, global_rel, stores_rel}
 use Rattle.split_spec.specs.declared.names.SplitNames.{SplitNames}
-use Rattle.split_spec.specs.Primary.{primary_func}
-use Rattle.split_spec.specs.Slots.{in_slots, place_among, slot_segment, slot_table, type_index}
+use Rattle.split_spec.specs.Prelude.{primary_func, in_slots, place_among, slot_segment, slot_table, type_index}
 use Rattle.split_proof.proofs.PrimaryItems as items
 use Rattle.split_proof.proofs.PrimarySpaces as spaces
 use Rattle.split_proof.proofs.Spaces.{ItemsHold, func_holds}

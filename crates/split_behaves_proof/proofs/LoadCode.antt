@@ -1,44 +1,21 @@
 -- The code of functions that are loaded is related to theirs in the module alone.
-use Rattle.std.proofs.Common.{◌≡◌, ◌∙◌, ap, ap₂, sym, subst, refl, ℕ, zero, suc, ◌+◌, ◌-◌, ◌<◌, ◌&&◌, ◌||◌, List, [], ◌∷◌, ◌++◌, length, not, Option, Some, None, Bool, true, false, nat_eq, arith, eq-eqb, true≢false, ⊎_elim, slice_get, slice_index, unwrap_or}
-use Rattle.std.specs.Prelude.{pos, nat_lt}
-use Rattle.std.specs.List.{list_any}
-use Rattle.std.proofs.lemmas.Bool.{ltb-true}
-use Rattle.std.proofs.lemmas.Option.{slice_get_within, same_Some}
+use Rattle.base_lists.proofs.Common.{◌≡◌, ◌∙◌, ap, ap₂, sym, subst, refl, ℕ, zero, suc, ◌+◌, ◌-◌, ◌<◌, ◌&&◌, ◌||◌, List, [], ◌∷◌, ◌++◌, length, not, Option, Some, None, Bool, true, false, nat_eq, arith, true≢false, ⊎_elim, slice_get, slice_index, unwrap_or, pos, nat_lt, list_any, ltb-true, slice_get_within, same_Some, left_true, right_true, length-numbers, numbers_index, append_at_left, append_right, Has}
+use Rattle.std.proofs.Common.{eq-eqb}
 use Rattle.base_lists.specs.Options.{◌>>=◌}
 use Rattle.base_lists.specs.Places.{numbers}
-use Rattle.base_lists.proofs.Bools.{left_true, right_true}
-use Rattle.base_lists.proofs.Numbers.{length-numbers, numbers_index}
-use Rattle.base_lists.proofs.Places.{append_at_left, append_right, Has}
-use Rattle.wasm_tree.specs.declared.space.Operand.{Operand}
-use Rattle.wasm_tree.specs.declared.space.Space.{Space}
-use Rattle.wasm_tree.specs.declared.space.Space.TheVariants.{Types, Functions, Tables, Memories, Globals, ElementSegments, DataSegments}
-use Rattle.wasm_tree.specs.declared.instr.Instr.{Instr, out-Instr}
-use Rattle.wasm_tree.specs.declared.instr.Instr.TheVariants.{Call}
+use Rattle.wasm_tree_spec.specs.Prelude.{Operand, Space, Types, Functions, Tables, Memories, Globals, ElementSegments, DataSegments, Instr, Call, Module, ListLayers, all_operands_pass, any_operand_passes, same_space, imported_funcs, funcs_of, tables_of, memories_of, globals_of}
+use Rattle.wasm_tree.specs.declared.instr.Instr.{out-Instr}
 use Rattle.wasm_tree.specs.declared.module.Func as tree
-use Rattle.wasm_tree.specs.declared.module.Module.{Module}
-use Rattle.wasm_tree.specs.Layers.{ListLayers}
-use Rattle.wasm_tree.specs.Operands.{all_operands_pass, any_operand_passes, same_space}
-use Rattle.wasm_tree.specs.Spaces.{imported_funcs, funcs_of, tables_of, memories_of, globals_of}
 use Rattle.wasm_tree.proofs.OperandLaws.{passes_both}
-use Rattle.wasm_meaning.specs.State.{Inst}
-use Rattle.wasm_meaning.specs.Environment.{Environment}
+use Rattle.wasm_meaning.specs.Prelude.{Inst, Environment}
 use Rattle.index_remap.specs.declared.remap.Remap.{Remap}
-use Rattle.index_remap.specs.CodeNames.{EntryNames}
-use Rattle.index_remap.specs.References.{is_among}
-use Rattle.index_remap.specs.Related.{Pairing, CodeRel, OptRel, Names}
-use Rattle.index_remap.specs.Renumbered.{has_entry, renumbered_all}
-use Rattle.index_remap.specs.Replaced.{ReplacementCodesFit, OtherNamed, OthersNamed, is_opaque_call}
-use Rattle.index_remap.specs.Trampolines.{slot_call}
+use Rattle.index_remap.specs.Prelude.{EntryNames, is_among, Pairing, CodeRel, OptRel, Names, has_entry, renumbered_all, ReplacementCodesFit, OtherNamed, OthersNamed, is_opaque_call, slot_call}
 use Rattle.index_remap.proofs.SlotCalls.{func_type_self}
 use Rattle.index_remap.proofs.NotOpaque.{operands_follow}
 use Rattle.index_remap_proof.proofs.Lists.{both_true, either_true, left_either, right_either, two_cases}
 use Rattle.split_plan.specs.Segments.{names_segment}
 use Rattle.split_spec.specs.declared.names.SplitNames.{SplitNames}
-use Rattle.split_spec.specs.Calls.{with_calls}
-use Rattle.split_spec.specs.FromPrimary.{is_from_primary, is_named_from_primary}
-use Rattle.split_spec.specs.Primary.{primary_map}
-use Rattle.split_spec.specs.Secondary.{HasSlots, secondary_call, secondary_call_by_place, secondary_map}
-use Rattle.split_spec.specs.Slots.{call_by_slot, defined_at, place_among, slot_table, type_index}
+use Rattle.split_spec.specs.Prelude.{with_calls, is_from_primary, is_named_from_primary, primary_map, HasSlots, secondary_call, secondary_call_by_place, secondary_map, call_by_slot, defined_at, place_among, slot_table, type_index}
 use Rattle.split_proof.specs.Calls.{renumbered_codes}
 use Rattle.split_proof.specs.Premises.{CanMove}
 use Rattle.split_proof.proofs.Bodies.{the_one}

@@ -1,41 +1,17 @@
 -- Each import of a secondary module is there and matches, in each store in which the primary module's instance is typed.
-use Rattle.std.proofs.Common.{◌≡◌, ◌∙◌, ap, ap₂, sym, subst, refl, ℕ, zero, suc, List, [], ◌∷◌, ◌++◌, map, length, Option, Some, true, false, ⊎_elim, slice_get, slice_index, unwrap_or, arith}
-use Rattle.std.specs.Prelude.{option_map}
-use Rattle.std.proofs.lemmas.Bool.{and_from}
-use Rattle.std.proofs.lemmas.Option.{slice_get_within, same_Some}
+use Rattle.base_lists.proofs.Common.{◌≡◌, ◌∙◌, ap, ap₂, sym, subst, refl, ℕ, zero, suc, List, [], ◌∷◌, ◌++◌, map, length, Option, Some, true, false, ⊎_elim, slice_get, slice_index, unwrap_or, arith, option_map, and_from, slice_get_within, same_Some, chosen_from, numbers_index, option_map_is, append_at_left, append_from, map_from, push_last, Has}
 use Rattle.base_lists.specs.Options.{◌>>=◌, all_there}
-use Rattle.base_lists.proofs.Filtered.{chosen_from}
-use Rattle.base_lists.proofs.Numbers.{numbers_index}
-use Rattle.base_lists.proofs.Options.{option_map_is}
-use Rattle.base_lists.proofs.Places.{append_at_left, append_from, map_from, push_last, Has}
-use Rattle.wasm_tree.specs.declared.space.Space.{Space}
-use Rattle.wasm_tree.specs.declared.space.Space.TheVariants.{Functions, Tables, Memories, Globals}
-use Rattle.wasm_tree.specs.declared.types.Limits.{Limits}
-use Rattle.wasm_tree.specs.declared.types.TableType.{TableType}
-use Rattle.wasm_tree.specs.declared.types.GlobalType.{GlobalType}
-use Rattle.wasm_tree.specs.declared.module.Import.{Import}
-use Rattle.wasm_tree.specs.declared.module.ImportDesc.{ImportDesc}
+use Rattle.wasm_tree_spec.specs.Prelude.{Space, Functions, Tables, Memories, Globals, Limits, TableType, GlobalType, Import, ImportDesc, Module, same_func_type, imported_tables, imported_memories, imported_globals, funcs_of, tables_of, memories_of, globals_of}
 use Rattle.wasm_tree.specs.declared.module.ImportDesc.TheVariants as im
 use Rattle.wasm_tree.specs.declared.module.ExportDesc.TheVariants as ex
-use Rattle.wasm_tree.specs.declared.module.Module.{Module}
-use Rattle.wasm_tree.specs.SameTypes.{same_func_type}
-use Rattle.wasm_tree.specs.Spaces.{imported_tables, imported_memories, imported_globals, funcs_of, tables_of, memories_of, globals_of}
-use Rattle.wasm_meaning.specs.State.{Inst, Store}
-use Rattle.wasm_meaning.specs.Control.{type_at}
-use Rattle.wasm_meaning.specs.Linking.{export_named}
-use Rattle.wasm_meaning.specs.Environment.{ExternalValue, FuncAt}
-use Rattle.wasm_meaning.specs.World.{address_in, is_match}
-use Rattle.wasm_meaning.specs.Sequential.{all_match}
+use Rattle.wasm_meaning.specs.Prelude.{Inst, Store, type_at, export_named, ExternalValue, FuncAt, address_in, is_match, all_match}
 use Rattle.index_remap.specs.declared.remap.Remap.{Remap}
-use Rattle.index_remap.specs.References.{declared_refs}
-use Rattle.index_remap.specs.Renumbered.{new_import, new_import_desc, renumbered_tree}
+use Rattle.index_remap.specs.Prelude.{declared_refs, new_import, new_import_desc, renumbered_tree}
 use Rattle.world_simulation.proofs.Declared.{Keeps, keeps}
 use Rattle.world_extension_proof.specs.Typed.{Offers, IsTyped}
 use Rattle.split_spec.specs.declared.names.SplitNames.{SplitNames}
-use Rattle.split_spec.specs.Slots.{defined_at, slot_table, slot_table_type}
-use Rattle.split_spec.specs.FromPrimary.{entities, from_primary, imports_from_primary, is_from_primary, name_from_primary, slots_name}
-use Rattle.split_spec.specs.Primary.{primary_map, primary_tree, primary_with}
-use Rattle.split_spec.specs.Secondary.{HasSlots, secondary_imports, secondary_map, secondary_tree, secondary_with}
+use Rattle.split_spec.specs.Prelude.{defined_at, slot_table, slot_table_type, entities, from_primary, imports_from_primary, is_from_primary, name_from_primary, slots_name, primary_map, primary_tree, primary_with, HasSlots, secondary_imports, secondary_map, secondary_tree}
+use Rattle.split_spec.specs.Secondary.{secondary_with}
 use Rattle.split_proof.specs.Premises.{CanMove}
 use Rattle.split_proof.proofs.PrimarySpaces as spaces
 use Rattle.split_proof.proofs.SharedFuncs.{shared_left, shared_within}

@@ -1,33 +1,14 @@
 -- Where a secondary module is loaded stores stay related, and its functions are related to those that moved.
-use Rattle.std.proofs.Common.{◌≡◌, ◌∙◌, ap, sym, subst, refl, ℕ, ◌+◌, ◌-◌, List, [], ◌∷◌, ◌++◌, length, Option, Some, None, Bool, true, false, ◌&&◌, nat_eq, arith, slice_get, slice_index, option_and_then}
-use Rattle.std.specs.Prelude.{IsTrue, unwrap_or}
-use Rattle.std.specs.List.{list_any}
-use Rattle.std.proofs.lemmas.Bool.{eqb-true, ltb-true}
-use Rattle.std.proofs.lemmas.List.Folds.{list_any-append}
-use Rattle.std.proofs.lemmas.Option.{same_Some}
+use Rattle.base_lists.proofs.Common.{◌≡◌, ◌∙◌, ap, sym, subst, refl, ℕ, ◌+◌, ◌-◌, List, [], ◌∷◌, ◌++◌, length, Option, Some, None, Bool, true, false, ◌&&◌, nat_eq, arith, slice_get, slice_index, option_and_then, IsTrue, list_any, eqb-true, ltb-true, list_any-append, same_Some, left_true, right_true, numbers_index, and_then_is, append_at_left, append_right, slice_get_there, has_right}
+use Rattle.std.specs.Prelude.{unwrap_or}
 use Rattle.base_lists.specs.Options.{◌>>=◌}
-use Rattle.base_lists.proofs.Bools.{left_true, right_true}
-use Rattle.base_lists.proofs.Numbers.{numbers_index}
-use Rattle.base_lists.proofs.Options.{and_then_is}
-use Rattle.base_lists.proofs.Places.{append_at_left, append_right, slice_get_there, has_right}
-use Rattle.wasm_tree.specs.declared.space.Space.TheVariants.{Tables}
-use Rattle.wasm_tree.specs.declared.types.FuncType.{FuncType}
-use Rattle.wasm_tree.specs.declared.instr.Instr.TheVariants.{Call, I32Const, CallIndirect}
-use Rattle.wasm_tree.specs.declared.module.Module.{Module}
-use Rattle.wasm_tree.specs.Spaces.{imported_funcs}
-use Rattle.wasm_meaning.specs.State.{Inst, Func, Code, Store}
-use Rattle.wasm_meaning.specs.Values.{declared}
-use Rattle.wasm_meaning.specs.Control.{type_of_func, own_of, type_at}
-use Rattle.wasm_meaning.specs.Environment.{Environment}
-use Rattle.wasm_meaning.specs.World.{own_count}
-use Rattle.index_remap.specs.Related.{Pairing, BothRel, both, StoreRel}
+use Rattle.wasm_tree_spec.specs.Prelude.{Tables, FuncType, Call, I32Const, CallIndirect, Module, imported_funcs}
+use Rattle.wasm_meaning.specs.Prelude.{Inst, Func, Code, Store, declared, type_of_func, own_of, type_at, Environment, own_count}
+use Rattle.index_remap.specs.Prelude.{Pairing, BothRel, both, StoreRel, CodeAt}
 use Rattle.index_remap.specs.Renumbered as renumbered
-use Rattle.index_remap.specs.Trampolines.{CodeAt}
 use Rattle.index_remap.specs.Wider.{Allows, StoresStayRelated}
 use Rattle.index_remap_proof.proofs.Lists.{left_either}
-use Rattle.split_spec.specs.Calls.{with_calls}
-use Rattle.split_spec.specs.Secondary.{secondary_call, secondary_map}
-use Rattle.split_spec.specs.Slots.{slot_table}
+use Rattle.split_spec.specs.Prelude.{with_calls, secondary_call, secondary_map, slot_table}
 use Rattle.split_proof.proofs.SecondarySpaces.{own_at as own_stands_at}
 use Rattle.split_proof.proofs.Spaces.{func_holds}
 use Rattle.split_behaves_proof.specs.Worlds.{type_in}

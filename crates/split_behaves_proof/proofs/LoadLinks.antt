@@ -1,48 +1,28 @@
 -- A secondary module links and traps nowhere, in each store in which the primary module's instance is typed, and what it leaves.
-use Rattle.std.proofs.Common.{◌≡◌, ◌∙◌, ap, sym, refl, ℕ, zero, suc, ◌+◌, ◌^◌, ◌<◌, ◌≤◌, List, [], ◌∷◌, ◌++◌, map, length, Option, Some, None, Bool, true, false, cond, nat_eq, eq-eqb, slice_get, slice_index, arith}
-use Rattle.std.specs.Prelude.{pos, nat_le, nat_lt}
-use Rattle.std.proofs.lemmas.Bool.{eqb-true, and_parts, leb-true, ltb-true}
-use Rattle.std.proofs.lemmas.List.{length-append, length-map}
-use Rattle.std.proofs.lemmas.Option.{slice_get_within, same_Some}
+use Rattle.base_lists.proofs.Common.{◌≡◌, ◌∙◌, ap, sym, refl, ℕ, zero, suc, ◌+◌, ◌^◌, ◌<◌, ◌≤◌, List, [], ◌∷◌, ◌++◌, map, length, Option, Some, None, Bool, true, false, cond, nat_eq, slice_get, slice_index, arith, pos, nat_le, nat_lt, eqb-true, and_parts, leb-true, ltb-true, length-append, length-map, slice_get_within, same_Some, length-numbers, numbers_index, and_then_is, all_there_from, append_at_left, append_right, map_at, slice_get_there}
+use Rattle.std.proofs.Common.{eq-eqb}
 use Rattle.base_lists.specs.Options.{◌>>=◌, all_there}
 use Rattle.base_lists.specs.Places.{numbers}
-use Rattle.base_lists.proofs.Numbers.{length-numbers, numbers_index}
-use Rattle.base_lists.proofs.Options.{and_then_is, all_there_from}
-use Rattle.base_lists.proofs.Places.{append_at_left, append_right, map_at, slice_get_there}
 use Rattle.wasm_num.specs.Operations.{W32, wrapped}
-use Rattle.wasm_tree.specs.declared.types.TableType.{TableType}
-use Rattle.wasm_tree.specs.declared.module.ConstExpr.{ConstExpr}
+use Rattle.wasm_tree_spec.specs.Prelude.{TableType, ConstExpr, ElemSeg, DataSeg, Module, same_ref, funcs_of}
 use Rattle.wasm_tree.specs.declared.module.ConstExpr.TheVariants as const
 use Rattle.wasm_tree.specs.declared.module.ElemMode.TheVariants as elem
-use Rattle.wasm_tree.specs.declared.module.ElemSeg.{ElemSeg}
-use Rattle.wasm_tree.specs.declared.module.DataSeg.{DataSeg}
 use Rattle.wasm_tree.specs.declared.module.ImportDesc.TheVariants as im
-use Rattle.wasm_tree.specs.declared.module.Module.{Module}
-use Rattle.wasm_tree.specs.SameTypes.{same_ref}
-use Rattle.wasm_tree.specs.Spaces.{funcs_of}
 use Rattle.wasm_valid_bodies.specs.Typing.{only}
 use Rattle.wasm_valid.specs.declared.kinds.ItemKind.TheVariants as kind
-use Rattle.wasm_meaning.specs.Outcomes.{overwrite}
-use Rattle.wasm_meaning.specs.State.{RefVal, FuncRef, Val, Inst, Func, Code, Table, Memory, Global, Elem, Store, SetTable, DropElem}
-use Rattle.wasm_meaning.specs.Values.{declared, ref_of, num_of}
-use Rattle.wasm_meaning.specs.Step.{changed}
-use Rattle.wasm_meaning.specs.Environment.{ExternalValue, TableAt}
-use Rattle.wasm_meaning.specs.World.{Filled, PlacedSegment, new_elem, global_with, elem_with, store_with, const_value, joined_stores, is_match, meets, meets_most, segments_in, run_elem_with, run_data_with, one_by_one, and_then}
+use Rattle.wasm_meaning.specs.Prelude.{overwrite, RefVal, FuncRef, Val, Inst, Func, Code, Table, Memory, Global, Elem, Store, SetTable, DropElem, declared, ref_of, num_of, changed, ExternalValue, TableAt, Filled, PlacedSegment, new_elem, global_with, elem_with, store_with, const_value, joined_stores, is_match, meets, meets_most, segments_in, run_elem_with, run_data_with, one_by_one, and_then, Added, added, all_match, own_segments}
 use Rattle.wasm_meaning.specs.World as world
-use Rattle.wasm_meaning.specs.Sequential.{Added, added, all_match, own_segments}
 use Rattle.index_remap.specs.declared.remap.Remap.{Remap}
-use Rattle.index_remap.specs.References.{declared_refs, declaring}
-use Rattle.index_remap.specs.Renumbered.{new_const, new_func}
+use Rattle.index_remap.specs.Prelude.{declared_refs, declaring, new_const, new_func}
 use Rattle.index_remap.specs.Renumbered as renumbered
-use Rattle.world_simulation.specs.Leaves.{Leaves, AddedModulesLeave, contents, over, all_over, elem_copies, data_copies, table_left, memory_left}
+use Rattle.world_simulation.specs.Prelude.{Leaves, contents, over, all_over, elem_copies, data_copies, table_left, memory_left}
+use Rattle.world_simulation.specs.Leaves.{AddedModulesLeave}
 use Rattle.world_simulation.proofs.Allocated.{with_elems}
 use Rattle.world_simulation.proofs.Copied.{overwrite_fits}
 use Rattle.world_simulation.proofs.Declared.{Keeps, last_segments}
 use Rattle.world_extension_proof.specs.Typed.{IsTyped}
 use Rattle.split_spec.specs.declared.names.SplitNames.{SplitNames}
-use Rattle.split_spec.specs.Slots.{defined_at, in_slots, slot_segment, slot_table, slot_table_type}
-use Rattle.split_spec.specs.Primary.{primary_map, primary_with}
-use Rattle.split_spec.specs.Secondary.{HasSlots, secondary_func, secondary_map, secondary_with}
+use Rattle.split_spec.specs.Prelude.{defined_at, in_slots, slot_segment, slot_table, slot_table_type, primary_map, primary_with, HasSlots, secondary_func, secondary_map, secondary_with}
 use Rattle.split_proof.specs.Premises.{CanMove}
 use Rattle.split_proof.proofs.Spaces.{ItemsHold, func_holds}
 use Rattle.split_behaves_proof.specs.Loads.{IsLoaded, Loads, references}

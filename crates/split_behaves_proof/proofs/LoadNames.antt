@@ -1,41 +1,22 @@
 -- The indices of a secondary module's instance name what the primary module's instance has, and its own functions.
-use Rattle.std.proofs.Common.{◌≡◌, ◌∙◌, ap, ap₂, sym, refl, ℕ, zero, suc, ◌+◌, ◌<◌, List, [], ◌∷◌, ◌++◌, map, length, Option, Some, None, Bool, true, false, filter_map, slice_get, slice_index, arith}
-use Rattle.std.specs.Prelude.{option_map}
-use Rattle.std.specs.List.{cons_option}
-use Rattle.std.proofs.lemmas.List.{append-nil, length-append, length-map}
-use Rattle.std.proofs.lemmas.List.Elements.{filter_map-append}
-use Rattle.std.proofs.lemmas.Option.{same_Some}
+use Rattle.base_lists.proofs.Common.{◌≡◌, ◌∙◌, ap, ap₂, sym, refl, ℕ, zero, suc, ◌+◌, ◌<◌, List, [], ◌∷◌, ◌++◌, map, length, Option, Some, None, Bool, true, false, slice_get, slice_index, arith, option_map, cons_option, length-append, length-map, filter_map-append, same_Some, every_at, length-numbers, numbers_at, numbers_index, and_then_is, append_at_left, append_right, slice_get_there}
+use Rattle.std.proofs.Common.{filter_map}
+use Rattle.std.proofs.lemmas.List.{append-nil}
 use Rattle.base_lists.specs.Options.{◌>>=◌, all_there}
 use Rattle.base_lists.specs.Places.{numbers, places}
-use Rattle.base_lists.proofs.Each.{every_at}
-use Rattle.base_lists.proofs.Numbers.{length-numbers, numbers_at, numbers_index}
-use Rattle.base_lists.proofs.Options.{and_then_is}
-use Rattle.base_lists.proofs.Places.{append_at_left, append_right, slice_get_there}
 use Rattle.base_kept.specs.Kept.{kept_before, new_places}
 use Rattle.base_kept.proofs.Laws.{new_place}
-use Rattle.wasm_tree.specs.declared.space.Space.{Space}
-use Rattle.wasm_tree.specs.declared.space.Space.TheVariants.{Functions, Tables, Memories, Globals}
-use Rattle.wasm_tree.specs.declared.module.Import.{Import}
+use Rattle.wasm_tree_spec.specs.Prelude.{Space, Functions, Tables, Memories, Globals, Import, Module, imported_funcs, funcs_of, tables_of, memories_of, globals_of}
 use Rattle.wasm_tree.specs.declared.module.ImportDesc.TheVariants as im
-use Rattle.wasm_tree.specs.declared.module.Module.{Module}
-use Rattle.wasm_tree.specs.Spaces.{imported_funcs, funcs_of, tables_of, memories_of, globals_of}
-use Rattle.wasm_meaning.specs.State.{Inst, Store}
-use Rattle.wasm_meaning.specs.Linking.{export_named}
-use Rattle.wasm_meaning.specs.Environment.{ExternalValue, FuncAt, TableAt, MemoryAt, GlobalAt}
-use Rattle.wasm_meaning.specs.World.{address_in, address_of}
-use Rattle.wasm_meaning.specs.Sequential.{addresses_of, next_inst}
+use Rattle.wasm_meaning.specs.Prelude.{Inst, Store, export_named, ExternalValue, FuncAt, TableAt, MemoryAt, GlobalAt, address_in, address_of, addresses_of, next_inst}
 use Rattle.index_remap.specs.declared.remap.Remap.{Remap}
-use Rattle.index_remap.specs.Renumbered.{new_func, new_import}
-use Rattle.index_remap.specs.References.{declared_refs}
+use Rattle.index_remap.specs.Prelude.{new_func, new_import, declared_refs}
 use Rattle.world_simulation.proofs.Declared.{Keeps}
 use Rattle.world_extension_proof.specs.Typed.{IsTyped}
 use Rattle.split_plan.specs.Words.{is_defined}
 use Rattle.split_plan.specs.Plans.{body_uses_segment}
 use Rattle.split_spec.specs.declared.names.SplitNames.{SplitNames}
-use Rattle.split_spec.specs.Slots.{defined_at, slot_table}
-use Rattle.split_spec.specs.FromPrimary.{entities, from_primary, imports_from_primary, is_from_primary, marks_from_primary, name_from_primary}
-use Rattle.split_spec.specs.Primary.{primary_map, primary_with}
-use Rattle.split_spec.specs.Secondary.{HasSlots, secondary_func, secondary_imports, secondary_map}
+use Rattle.split_spec.specs.Prelude.{defined_at, slot_table, entities, from_primary, imports_from_primary, is_from_primary, marks_from_primary, name_from_primary, primary_map, primary_with, HasSlots, secondary_func, secondary_imports, secondary_map}
 use Rattle.split_proof.specs.Premises.{CanMove}
 use Rattle.split_proof.proofs.Lists.{all_chosen, all_counted, index_left, index_right, kept_counted}
 use Rattle.split_proof.proofs.SecondarySpaces as second_spaces

@@ -1,31 +1,15 @@
 -- A step of the first of two related runs begins no call of a function that is opaque, or both enter functions, or other code stands there, or both go wrong alike.
-use Rattle.std.proofs.Common.{◌≡◌, ◌∙◌, refl, sym, ap, subst, ℕ, List, [], ◌∷◌, ◌++◌, Option, Some, None, Bool, true, false, ◌⊎◌, inl, inr, ⊎_elim, slice_get, option_and_then, nat_eq, true≢false}
-use Rattle.std.specs.List.{list_any}
-use Rattle.wasm_tree.specs.declared.space.Space.{Space}
-use Rattle.wasm_tree.specs.declared.space.Space.TheVariants.{Functions}
-use Rattle.wasm_tree.specs.declared.types.ValType.{ValType}
-use Rattle.wasm_tree.specs.declared.types.FuncType.{FuncType}
-use Rattle.wasm_tree.specs.declared.instr.Instr.{Instr, out-Instr}
+use Rattle.base_lists.proofs.Common.{◌≡◌, ◌∙◌, refl, sym, ap, subst, ℕ, List, [], ◌∷◌, ◌++◌, Option, Some, None, Bool, true, false, ◌⊎◌, inl, inr, ⊎_elim, slice_get, option_and_then, nat_eq, true≢false, list_any}
+use Rattle.wasm_tree_spec.specs.Prelude.{Space, Functions, ValType, FuncType, Instr, Call}
+use Rattle.wasm_tree.specs.declared.instr.Instr.{out-Instr}
 use Rattle.wasm_tree.specs.declared.instr.Instr.TheOpen.{Instr-F}
-use Rattle.wasm_tree.specs.declared.instr.Instr.TheVariants.{Call}
-use Rattle.wasm_meaning.specs.Outcomes.{Outcome, Gives, Traps, IllTyped, bind, or_ill_typed, split_at}
-use Rattle.wasm_meaning.specs.State.{RefVal, Val, Inst, Store, Level, Frame, Entry, Running, Caller, Host, Starter, Mark, Opening, Env, Body, Act, Goes, Calls, AsksGrow, Ends}
-use Rattle.wasm_meaning.specs.Values.{pop_typed, with_values}
-use Rattle.wasm_meaning.specs.Control.{type_at, end_level, resume}
-use Rattle.wasm_meaning.specs.Step.{exec, step_code, step_levels, act, frame_of, enter_at, perform, step, to_mark}
-use Rattle.wasm_meaning.specs.Linking.{same_text}
-use Rattle.wasm_meaning.specs.Environment.{Shown, func_of, look_up, received_all}
+use Rattle.wasm_meaning.specs.Prelude.{Outcome, Gives, Traps, IllTyped, bind, or_ill_typed, split_at, RefVal, Val, Inst, Store, Level, Frame, Entry, Running, Caller, Host, Starter, Mark, Opening, Env, Body, Act, Goes, Calls, AsksGrow, Ends, pop_typed, with_values, type_at, end_level, resume, exec, step_code, step_levels, act, frame_of, enter_at, perform, step, to_mark, same_text, Shown, func_of, look_up, received_all, Run, Move, Out, Transition, Steps, Makes, Phase, Fresh, Pending, Opened, Closed, Trapped, InstanceTrapped, BadMove, viewed_at, trapped_to, run_after, made, called, moved, at_entries, or_bad, next_move, nothing_in, started, or_closed, open_next, in_phase, transition_at, transition, tick}
 use Rattle.wasm_meaning.specs.Run as run
-use Rattle.wasm_meaning.specs.Run.{Run, Move, Out, Transition, Steps, Makes, Phase, Fresh, Pending, Opened, Closed, Trapped, InstanceTrapped, BadMove, viewed_at, trapped_to, trapped_at, run_after, made, called, moved, at_entries, or_bad, next_move, nothing_in, started, or_closed, open_next, in_phase, transition_at, transition, tick}
-use Rattle.index_remap.specs.Related.{Pairing, OneToOne, OptRel, none, some, ResRel, done, trap, wrong, BothRel, both, ListRel, nil, cons, ValRel, OpRel, CodeRel, end, then, instead, StoreRel, LevelRel, FrameRel, EntryRel, BodyRel, ActRel, calls, NotOpaque, TopSkips}
+use Rattle.wasm_meaning.specs.Run.{trapped_at}
+use Rattle.index_remap.specs.Prelude.{Pairing, OneToOne, OptRel, none, some, ResRel, done, trap, wrong, BothRel, both, ListRel, nil, cons, ValRel, OpRel, CodeRel, end, then, instead, StoreRel, LevelRel, FrameRel, EntryRel, BodyRel, ActRel, calls, NotOpaque, TopSkips, PhaseRel, fresh, pending, opened, closed, IsBegun, passed_with, MoveSkips, NextMoveSkips, TickSkips, calls_placeholder, WithPassing, FramesBetween, HaveTypes, at_code, Values, Memories, Control, GroupAgrees, none_unknown, RefsOff, StoreRelOff, ReadPlace, ReadsNothing, ReadsGlobal, ReadsSlots, ReadsItems, IsKnown, ActOff}
 use Rattle.index_remap.specs.Related as to
-use Rattle.index_remap.specs.RelatedRuns.{PhaseRel, fresh, pending, opened, closed, IsBegun}
-use Rattle.index_remap.specs.Laws.{passed_with}
-use Rattle.index_remap.specs.OpaqueRuns.{MoveSkips, NextMoveSkips, TickSkips, calls_placeholder}
-use Rattle.index_remap.specs.Trampolines.{WithPassing, FramesBetween, HaveTypes, at_code}
 use Rattle.index_remap.specs.Trampolines as with_frames
-use Rattle.index_remap.specs.Groups.{Group, Values, Memories, Control, group_of, GroupAgrees}
-use Rattle.index_remap.specs.Unknown.{none_unknown, RefsOff, StoreRelOff, ReadPlace, ReadsNothing, ReadsGlobal, ReadsSlots, ReadsItems, IsKnown, ActOff}
+use Rattle.index_remap.specs.Groups.{Group, group_of}
 use Rattle.index_remap.proofs.Rel.{PairRel, written, then_rel, get_rel, length_rel, all_there}
 use Rattle.index_remap.proofs.ValueSteps.{pop_typed_all, pop_typed_rel}
 use Rattle.index_remap.proofs.ValueGroup.{values_agree}

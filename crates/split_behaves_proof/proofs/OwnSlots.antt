@@ -1,19 +1,10 @@
 -- The slots of one secondary module, and what references over them leave of a table.
-use Rattle.std.proofs.Common.{◌≡◌, ◌∙◌, ap, sym, subst, refl, ℕ, zero, suc, ◌+◌, ◌-◌, ◌<◌, ◌≤◌, ◌⊎◌, inl, inr, List, [], ◌∷◌, ◌++◌, length, Some, false, cond, arith, append_assoc, slice_get, nat_lt, ⊎_elim}
-use Rattle.std.specs.List.{flat_map}
-use Rattle.std.proofs.lemmas.Bool.{lt-ltb, ltb-true}
-use Rattle.std.proofs.lemmas.Bool.Decides.{nat_tests}
-use Rattle.std.proofs.lemmas.List.{length-append}
-use Rattle.std.proofs.lemmas.Option.{same_Some}
+use Rattle.base_lists.proofs.Common.{◌≡◌, ◌∙◌, ap, sym, subst, refl, ℕ, zero, suc, ◌+◌, ◌-◌, ◌<◌, ◌≤◌, ◌⊎◌, inl, inr, List, [], ◌∷◌, ◌++◌, length, Some, false, cond, arith, append_assoc, slice_get, nat_lt, ⊎_elim, flat_map, lt-ltb, ltb-true, nat_tests, length-append, same_Some, cond_is, and_then_is, append_left, append_right}
 use Rattle.base_lists.specs.Options.{◌>>=◌}
-use Rattle.base_lists.proofs.Bools.{cond_is}
-use Rattle.base_lists.proofs.Options.{and_then_is}
-use Rattle.base_lists.proofs.Places.{append_left, append_right}
-use Rattle.wasm_tree.specs.declared.module.Module.{Module}
-use Rattle.wasm_meaning.specs.Outcomes.{overwrite, split_at}
-use Rattle.wasm_meaning.specs.Loader.{Secondary, secondary_of}
+use Rattle.wasm_tree_spec.specs.Prelude.{Module}
+use Rattle.wasm_meaning.specs.Prelude.{overwrite, split_at, Secondary, secondary_of}
 use Rattle.split_spec.specs.declared.names.SplitNames.{SplitNames}
-use Rattle.split_spec.specs.Secondary.{HasSlots, secondary_with}
+use Rattle.split_spec.specs.Prelude.{HasSlots, secondary_with}
 use Rattle.split_behaves_proof.specs.Worlds.{placeholders_for, secondaries_for}
 use Rattle.split_behaves_proof.proofs.Begins.{slots_many}
 

@@ -1,14 +1,10 @@
 -- A pair: a split with one secondary module.
-use Rattle.std.proofs.Common.{◌≡◌, ℕ, ◌<◌, List, [], ◌∷◌, Some, None, arith, append-nil, slice_get, ⊎_elim}
-use Rattle.std.specs.List.Sorted.{IsStrictlyIncreasing}
-use Rattle.std.proofs.lemmas.Bool.{cases_lt}
+use Rattle.base_lists.proofs.Common.{◌≡◌, ℕ, ◌<◌, List, [], ◌∷◌, Some, None, arith, append-nil, slice_get, ⊎_elim, IsStrictlyIncreasing, cases_lt, get_or_from_slice_get, slice_get_within}
 use Rattle.std.proofs.lemmas.List.Kept.{AllPairs-from_increasing}
-use Rattle.std.proofs.lemmas.Option.{get_or_from_slice_get, slice_get_within}
-use Rattle.wasm_tree.specs.declared.module.Module.{Module}
-use Rattle.wasm_tree.specs.Bounds.{IsBounded}
-use Rattle.wasm_valid.specs.Validity.{IsValid}
+use Rattle.wasm_tree_spec.specs.Prelude.{Module, IsBounded}
+use Rattle.wasm_valid.specs.Prelude.{IsValid}
 use Rattle.split_spec.specs.declared.names.SplitNames.{SplitNames}
-use Rattle.split_spec.specs.Faults.{namespace_taken, prefix_taken}
+use Rattle.split_spec.specs.Prelude.{namespace_taken, prefix_taken}
 use Rattle.split_proof.specs.Premises.{CanMove}
 use Rattle.split_behaves_proof.specs.Laws.{CanBeSplit}
 

@@ -1,23 +1,15 @@
 -- The relation of addresses is one to one, and relates each of the environment's own entities to itself.
-use Rattle.std.proofs.Common.{◌≡◌, ◌∙◌, ap, sym, refl, ℕ, suc, ◌+◌, ◌-◌, ◌<◌, ◌≤◌, ◌&&◌, List, length, drop, Some, Bool, true, false, cond, nat_eq, nat_lt, arith, eq-eqb, slice_get, slice_index, map}
-use Rattle.std.proofs.lemmas.Bool.{lt-ltb, ltb-true, eqb-true}
-use Rattle.std.proofs.lemmas.Bool.Decides.{nat_tests}
-use Rattle.std.proofs.lemmas.List.{length-append, length-map}
+use Rattle.base_lists.proofs.Common.{◌≡◌, ◌∙◌, ap, sym, refl, ℕ, suc, ◌+◌, ◌-◌, ◌<◌, ◌≤◌, ◌&&◌, List, length, drop, Some, Bool, true, false, cond, nat_eq, nat_lt, arith, slice_get, slice_index, map, lt-ltb, ltb-true, eqb-true, nat_tests, length-append, length-map, left_true, right_true, numbers_at}
+use Rattle.std.proofs.Common.{eq-eqb}
 use Rattle.base_lists.specs.Places.{numbers}
-use Rattle.base_lists.proofs.Bools.{left_true, right_true}
-use Rattle.base_lists.proofs.Numbers.{numbers_at}
 use Rattle.base_kept.specs.Kept.{kept, is_marked, kept_before}
 use Rattle.base_kept.proofs.Laws.{kept_at}
-use Rattle.wasm_tree.specs.declared.space.Space.{Space}
-use Rattle.wasm_tree.specs.declared.space.Space.TheVariants.{Types, Functions, Tables, Memories, Globals, ElementSegments, DataSegments}
-use Rattle.wasm_tree.specs.declared.module.Module.{Module}
-use Rattle.wasm_tree.specs.Spaces.{imported_funcs, funcs_of}
-use Rattle.wasm_meaning.specs.Environment.{Environment}
-use Rattle.wasm_meaning.specs.World.{own_count, defined_count}
-use Rattle.index_remap.specs.Related.{OneToOne}
+use Rattle.wasm_tree_spec.specs.Prelude.{Space, Types, Functions, Tables, Memories, Globals, ElementSegments, DataSegments, Module, imported_funcs, funcs_of}
+use Rattle.wasm_meaning.specs.Prelude.{Environment, own_count, defined_count}
+use Rattle.index_remap.specs.Prelude.{OneToOne}
 use Rattle.index_remap_proof.proofs.Lists.{both_true}
-use Rattle.world_simulation.specs.Owned.{SharesOwn}
-use Rattle.split_spec.specs.Primary.{is_left, left_marks, primary_map}
+use Rattle.world_simulation.specs.Prelude.{SharesOwn}
+use Rattle.split_spec.specs.Prelude.{is_left, left_marks, primary_map}
 use Rattle.split_proof.specs.Premises.{CanMove}
 use Rattle.split_proof.proofs.PrimarySpaces as spaces
 use Rattle.split_proof.proofs.Spaces.{ItemsHold}

@@ -1,35 +1,20 @@
 -- The primary module of a split imports its placeholders behind all that the module imports, in the order of their slots.
-use Rattle.std.proofs.Common.{◌≡◌, ◌≢◌, ◌∙◌, ap, sym, subst, refl, ℕ, zero, suc, ◌+◌, ◌^◌, ◌<◌, ◌≤◌, List, [], ◌∷◌, ◌++◌, length, map, Some, None, Bool, true, false, cond, nat_eq, arith, eq-eqb, true≢false, ⊎_elim, slice_get, slice_index, unwrap_or, option_and_then}
-use Rattle.std.specs.Prelude.{decimal, pos}
-use Rattle.std.specs.List.{flat_map}
-use Rattle.std.specs.Str.{bytes_eq}
-use Rattle.std.proofs.lemmas.Fmt.{decimal_injective}
-use Rattle.std.proofs.lemmas.Option.{slice_get_within}
-use Rattle.std.proofs.lemmas.Slice.Eq.{bytes_eq-Decides}
+use Rattle.base_lists.proofs.Common.{◌≡◌, ◌≢◌, ◌∙◌, ap, sym, subst, refl, ℕ, zero, suc, ◌+◌, ◌^◌, ◌<◌, ◌≤◌, List, [], ◌∷◌, ◌++◌, length, map, Some, None, Bool, true, false, cond, nat_eq, arith, true≢false, ⊎_elim, slice_get, slice_index, unwrap_or, option_and_then, decimal, pos, flat_map, bytes_eq, decimal_injective, slice_get_within, bytes_eq-Decides, cond_is, left_true, right_true, length-numbers, numbers_at, pigeons, slice_get_there, slice_index_is, each_same_is, each_same_self}
+use Rattle.std.proofs.Common.{eq-eqb}
 use Rattle.base_lists.specs.Every.{Every}
 use Rattle.base_lists.specs.Places.{first_place, numbers}
-use Rattle.base_lists.proofs.Bools.{cond_is, left_true, right_true}
-use Rattle.base_lists.proofs.Numbers.{length-numbers, numbers_at}
-use Rattle.base_lists.proofs.Pigeons.{pigeons}
-use Rattle.base_lists.proofs.Places.{slice_get_there, slice_index_is}
-use Rattle.base_lists.proofs.Same.{each_same_is, each_same_self}
 use Rattle.wasm_num.specs.Operations.{wrapped}
-use Rattle.wasm_tree.specs.declared.types.FuncType.{FuncType}
-use Rattle.wasm_tree.specs.declared.module.Import.{Import}
+use Rattle.wasm_tree_spec.specs.Prelude.{FuncType, Import, Module, funcs_of, type_of_func}
 use Rattle.wasm_tree.specs.declared.module.ImportDesc.TheVariants as im
-use Rattle.wasm_tree.specs.declared.module.Module.{Module}
-use Rattle.wasm_tree.specs.Spaces.{funcs_of, type_of_func}
-use Rattle.wasm_meaning.specs.State.{Text, Pair}
-use Rattle.wasm_meaning.specs.Linking.{same_pair, same_text, pair_of}
-use Rattle.wasm_meaning.specs.Environment.{flat}
-use Rattle.wasm_meaning.specs.Loader.{LoaderWorld, placeholders_of, slot_of}
-use Rattle.index_remap.specs.References.{declared_refs}
+use Rattle.wasm_meaning.specs.Prelude.{Text, Pair, same_pair, same_text, pair_of, flat, LoaderWorld, placeholders_of, slot_of}
+use Rattle.index_remap.specs.Prelude.{declared_refs}
 use Rattle.index_remap_proof.proofs.Lists.{both_true, same_number, two_cases}
-use Rattle.world_simulation.specs.Stubbed.{ArePlaceholders, ImportsThemLast}
+use Rattle.world_simulation.specs.Prelude.{ImportsThemLast}
+use Rattle.world_simulation.specs.Stubbed.{ArePlaceholders}
 use Rattle.world_simulation.proofs.Declared.{Keeps, keeps}
 use Rattle.split_spec.specs.declared.names.SplitNames.{SplitNames}
-use Rattle.split_spec.specs.Primary.{placeholder_imports, primary_with}
-use Rattle.split_spec.specs.Slots.{type_index}
+use Rattle.split_spec.specs.Prelude.{placeholder_imports, type_index}
+use Rattle.split_spec.specs.Primary.{primary_with}
 use Rattle.split_proof.proofs.PrimarySpaces as spaces
 use Rattle.split_proof.proofs.Spaces.{ItemsHold, type_there}
 use Rattle.split_behaves_proof.specs.Worlds.{placeholders_for, secondaries_for, split_world, type_in}

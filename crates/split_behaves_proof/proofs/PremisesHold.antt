@@ -1,19 +1,16 @@
 -- The premises of the law hold of small modules, so that it speaks of them: a split that gives a wrong pair for one of these breaks it.
-use Rattle.std.proofs.Common.{◌≡◌, refl, ap, subst, ℕ, zero, suc, ◌<◌, ◌+◌, ◌^◌, arith, List, [], ◌∷◌, length, Option, Some, None, slice_get, false, rules}
-use Rattle.std.specs.Prelude.{pos, Contains, unwrap_or}
-use Rattle.std.proofs.lemmas.Option.{same_Some, slice_get_within}
-use Rattle.wasm_tree.specs.declared.instr.Instr.{out-Instr, the_lemmas}
+use Rattle.base_lists.proofs.Common.{◌≡◌, refl, ap, subst, ℕ, zero, suc, ◌<◌, ◌+◌, ◌^◌, arith, List, [], ◌∷◌, length, Option, Some, None, slice_get, false, rules, pos, Contains, same_Some, slice_get_within}
+use Rattle.std.specs.Prelude.{unwrap_or}
+use Rattle.wasm_tree_spec.specs.Prelude.{the_lemmas, Func, Module, IsBounded, local_count}
+use Rattle.wasm_tree.specs.declared.instr.Instr.{out-Instr}
 use Rattle.wasm_tree.specs.declared.instr.Instr.TheVariants as i
 use Rattle.wasm_tree.specs.declared.types.ValType.TheVariants as valt
 use Rattle.wasm_tree.specs.declared.module.ExportDesc.TheVariants as ex
-use Rattle.wasm_tree.specs.declared.module.Func.{Func}
-use Rattle.wasm_tree.specs.declared.module.Module.{Module}
-use Rattle.wasm_tree.specs.Bounds.{IsBounded, local_count}
 use Rattle.wasm_valid_bodies.specs.Typing.{WellTyped, Gives}
-use Rattle.wasm_valid.specs.Validity.{IsValid, body_context}
-use Rattle.wasm_meaning.specs.Loader.{LoaderWorld}
+use Rattle.wasm_valid.specs.Prelude.{IsValid, body_context}
+use Rattle.wasm_meaning.specs.Prelude.{LoaderWorld}
 use Rattle.split_plan.specs.Plans.{body_uses_segment}
-use Rattle.split_spec.specs.Faults.{prefix_taken}
+use Rattle.split_spec.specs.Prelude.{prefix_taken}
 use Rattle.split_spec.proofs.Rows.{names, placeholder_word, func, export, table, gives_number}
 use Rattle.split_behaves_proof.specs.Laws.{ObservationallyEquivalent, CanBeSplit, most_params}
 use Rattle.split_behaves_proof.proofs.SmallRuns.{f, g}

@@ -1,42 +1,22 @@
 -- A call of a function that moves in the first run, where other code stands in place of it in the second: it calls what is in the function's slot, or the function that is
 -- loaded for it.
-use Rattle.std.proofs.Common.{◌≡◌, ◌∙◌, refl, sym, ap, ap₂, subst, ℕ, suc, ◌+◌, ◌≤◌, ◌&&◌, List, [], ◌∷◌, ◌++◌, Option, Some, None, Bool, true, false, arith, slice_get, nat_eq, option_and_then}
-use Rattle.std.specs.Prelude.{ℤ, unwrap_or}
-use Rattle.std.proofs.lemmas.Bool.{and_parts, eqb-true}
-use Rattle.std.proofs.lemmas.Option.{same_Some}
+use Rattle.base_lists.proofs.Common.{◌≡◌, ◌∙◌, refl, sym, ap, ap₂, subst, ℕ, suc, ◌+◌, ◌≤◌, ◌&&◌, List, [], ◌∷◌, ◌++◌, Option, Some, None, Bool, true, false, arith, slice_get, nat_eq, option_and_then, ℤ, and_parts, eqb-true, same_Some, and_then_is, map_from, each_same_is, unwrap_or_false_is}
+use Rattle.std.specs.Prelude.{unwrap_or}
 use Rattle.base_lists.specs.Options.{◌>>=◌}
-use Rattle.base_lists.proofs.Options.{and_then_is}
-use Rattle.base_lists.proofs.Places.{map_from}
-use Rattle.base_lists.proofs.Same.{each_same_is}
 use Rattle.base_simulation.specs.Machines.{Machine, noted}
 use Rattle.wasm_num.specs.Operations.{W32, wrapped}
-use Rattle.wasm_tree.specs.declared.space.Space.TheVariants.{Functions}
-use Rattle.wasm_tree.specs.declared.types.ValType.{ValType}
-use Rattle.wasm_tree.specs.declared.types.FuncType.{FuncType}
-use Rattle.wasm_tree.specs.declared.instr.Instr.{Instr, out-Instr}
-use Rattle.wasm_tree.specs.declared.instr.Instr.TheVariants.{Call, CallIndirect, I32Const}
-use Rattle.wasm_tree.specs.declared.module.Module.{Module}
-use Rattle.wasm_tree.specs.SameTypes.{same_func_type, same_type, same_types}
-use Rattle.wasm_meaning.specs.Outcomes.{Outcome, Gives, bind, or_ill_typed}
-use Rattle.wasm_meaning.specs.State.{Caller, Calls, Entry, Frame, Func, FuncRef, Host, Inst, Level, Num, Placeholder, Ran, Running, Starter, Store, Val}
-use Rattle.wasm_meaning.specs.Values.{pop_typed}
-use Rattle.wasm_meaning.specs.Control.{type_at, type_of_func}
-use Rattle.wasm_meaning.specs.Step.{act, enter, enter_at, perform, step, to_mark}
-use Rattle.wasm_meaning.specs.Environment.{Environment}
-use Rattle.wasm_meaning.specs.World.{own_count}
-use Rattle.wasm_meaning.specs.Loader.{LoaderRun, LoaderWorld, tick_loader}
-use Rattle.wasm_meaning.specs.Run.{Out, Run, Steps, made, tick, transition, transition_at, trapped_to}
-use Rattle.index_remap.specs.Related.{FrameRel, LevelRel, ListRel, OneToOne, Pairing, ResRel, ValRel, cons, done, nil, trap, wrong}
-use Rattle.index_remap.specs.RelatedRuns.{IsBegun, closed}
-use Rattle.index_remap.specs.Trampolines.{CodeAt, InSlot, WithPassing, at_code}
+use Rattle.wasm_tree_spec.specs.Prelude.{Functions, ValType, FuncType, Instr, Call, CallIndirect, I32Const, Module, same_func_type, same_type, same_types}
+use Rattle.wasm_tree.specs.declared.instr.Instr.{out-Instr}
+use Rattle.wasm_meaning.specs.Prelude.{Outcome, Gives, bind, or_ill_typed, Caller, Calls, Entry, Frame, Func, FuncRef, Host, Inst, Level, Num, Placeholder, Ran, Running, Starter, Store, Val, pop_typed, type_at, type_of_func, act, enter, enter_at, perform, step, to_mark, Environment, own_count, LoaderRun, LoaderWorld, tick_loader, Out, Run, Steps, made, tick, transition, transition_at, trapped_to}
+use Rattle.index_remap.specs.Prelude.{FrameRel, LevelRel, ListRel, OneToOne, Pairing, ResRel, ValRel, cons, done, nil, trap, wrong, IsBegun, closed, CodeAt, InSlot, WithPassing, at_code}
 use Rattle.index_remap.specs.Trampolines as with_frames
 use Rattle.index_remap.proofs.Rel.{PairRel}
 use Rattle.index_remap.proofs.ValueSteps.{pop_typed_rel}
 use Rattle.index_remap.proofs.SlotCalls.{func_type_is, slot_act}
 use Rattle.index_remap.proofs.FramesBetween.{again, between, frames}
-use Rattle.world_simulation.specs.LoaderSteps.{PlaceholdersAreAnswered}
+use Rattle.world_simulation.specs.Prelude.{PlaceholdersAreAnswered}
 use Rattle.split_spec.specs.declared.names.SplitNames.{SplitNames}
-use Rattle.split_spec.specs.Slots.{place_among}
+use Rattle.split_spec.specs.Prelude.{place_among}
 use Rattle.split_proof.proofs.Lists.{place_is}
 use Rattle.split_behaves_proof.specs.Worlds.{type_in}
 use Rattle.split_behaves_proof.specs.Addresses.{calls_its_slot, calls_loaded, defined_address, may_stand, moved_addresses, slot_table_address, split_pairing}
@@ -52,7 +32,6 @@ use Rattle.split_behaves_proof.proofs.Entries.{holds}
 use Rattle.split_behaves_proof.proofs.Partners.{one_to_one}
 use Rattle.split_behaves_proof.proofs.Settled.{SettleLaws}
 use Rattle.split_behaves_proof.proofs.Stuttering.{StutteringSteps, at, before, here, last_events, last_state, ran_is, step_is}
-use Rattle.base_lists.proofs.Options.{unwrap_or_false_is}
 
 -- ---- what stands there ----
 

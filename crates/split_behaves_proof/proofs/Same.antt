@@ -1,10 +1,10 @@
 -- A module that is split shows what it shows alone: each call of a function that moves is answered, and so each step.
-use Rattle.wasm_tree.specs.declared.module.Module.{Module}
-use Rattle.wasm_meaning.specs.Environment.{Environment}
+use Rattle.wasm_tree_spec.specs.Prelude.{Module}
+use Rattle.wasm_meaning.specs.Prelude.{Environment}
 use Rattle.index_remap.specs.Trampolines.{TrampolinesEnterSlots}
-use Rattle.world_simulation.specs.LoaderSteps.{PlaceholdersAreAnswered}
+use Rattle.world_simulation.specs.Prelude.{PlaceholdersAreAnswered}
 use Rattle.split_spec.specs.declared.names.SplitNames.{SplitNames}
-use Rattle.std.specs.Prelude.{ℕ, List}
+use Rattle.base_lists.proofs.Common.{ℕ, List}
 use Rattle.split_behaves_proof.specs.Laws.{CanBeSplit, SplitModuleEquivalent, most_params}
 use Rattle.split_behaves_proof.specs.LoadedCode.{InstancesOfSplitsAreRelated}
 use Rattle.split_behaves_proof.proofs.Enters.{enters_answered}

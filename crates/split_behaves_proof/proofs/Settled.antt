@@ -1,36 +1,15 @@
 -- Where a secondary module is loaded the runs stand at the same place still, with its functions in their slots.
-use Rattle.std.proofs.Common.{◌≡◌, ◌∙◌, refl, sym, ap, ap₂, subst, ℕ, suc, ◌+◌, ◌-◌, ◌<◌, ◌≤◌, ◌⊎◌, inl, inr, ⊎_elim, List, [], ◌∷◌, ◌++◌, length, Some, Bool, true, false, ◌&&◌, nat_eq, arith, slice_get, slice_set}
-use Rattle.std.specs.Prelude.{decimal}
-use Rattle.std.specs.List.{list_any}
-use Rattle.std.proofs.lemmas.Bool.{and_parts, cases_lt, eqb-true}
-use Rattle.std.proofs.lemmas.Fmt.{decimal_injective}
-use Rattle.std.proofs.lemmas.List.{length-append, length-map}
-use Rattle.std.proofs.lemmas.List.Folds.{list_any-append}
-use Rattle.std.proofs.lemmas.Option.{slice_get_within, same_Some}
+use Rattle.base_lists.proofs.Common.{◌≡◌, ◌∙◌, refl, sym, ap, ap₂, subst, ℕ, suc, ◌+◌, ◌-◌, ◌<◌, ◌≤◌, ◌⊎◌, inl, inr, ⊎_elim, List, [], ◌∷◌, ◌++◌, length, Some, Bool, true, false, ◌&&◌, nat_eq, arith, slice_get, slice_set, decimal, list_any, and_parts, cases_lt, eqb-true, decimal_injective, length-append, length-map, list_any-append, slice_get_within, same_Some, length-numbers, numbers_at, and_then_is, append_at_left, append_left, append_right, map_at, set_at, set_other}
 use Rattle.base_lists.specs.Options.{◌>>=◌, all_there}
 use Rattle.base_lists.specs.Places.{numbers}
-use Rattle.base_lists.proofs.Numbers.{length-numbers, numbers_at}
-use Rattle.base_lists.proofs.Options.{and_then_is}
-use Rattle.base_lists.proofs.Places.{append_at_left, append_left, append_right, map_at, set_at, set_other}
-use Rattle.wasm_tree.specs.declared.space.Space.TheVariants.{Functions}
-use Rattle.wasm_tree.specs.declared.types.FuncType.{FuncType}
-use Rattle.wasm_tree.specs.declared.module.Module.{Module}
-use Rattle.wasm_meaning.specs.Outcomes.{overwrite}
-use Rattle.wasm_meaning.specs.State.{Pair, FuncRef, RefVal, Inst, Store}
-use Rattle.wasm_meaning.specs.Environment.{Environment}
-use Rattle.wasm_meaning.specs.Linking.{export_named}
-use Rattle.wasm_meaning.specs.World.{address_in, own_count}
-use Rattle.wasm_meaning.specs.Sequential.{added}
-use Rattle.wasm_meaning.specs.Run.{Run}
-use Rattle.wasm_meaning.specs.Loader.{Secondary, LoaderWorld, LoaderRun, secondary_of, store_loaded}
-use Rattle.index_remap.specs.Related.{Pairing}
-use Rattle.index_remap.specs.Trampolines.{CodeAt}
+use Rattle.wasm_tree_spec.specs.Prelude.{Functions, FuncType, Module}
+use Rattle.wasm_meaning.specs.Prelude.{overwrite, Pair, FuncRef, RefVal, Inst, Store, Environment, export_named, address_in, own_count, added, Run, Secondary, LoaderWorld, LoaderRun, secondary_of, store_loaded}
+use Rattle.index_remap.specs.Prelude.{Pairing, CodeAt}
 use Rattle.index_remap.specs.Wider.{CodeStaysRelated, StoresStayRelated, RunsStayRelated}
 use Rattle.index_remap_proof.proofs.Lists.{either_true}
 use Rattle.world_extension_proof.specs.Extends.{StaysIn, AddedModulesExtend}
 use Rattle.split_spec.specs.declared.names.SplitNames.{SplitNames}
-use Rattle.split_spec.specs.Primary.{primary_with}
-use Rattle.split_spec.specs.Secondary.{HasSlots, secondary_with}
+use Rattle.split_spec.specs.Prelude.{primary_with, HasSlots, secondary_with}
 use Rattle.split_behaves_proof.specs.Worlds.{placeholders_for, split_world, type_in}
 use Rattle.split_behaves_proof.specs.Addresses.{defined_address, is_partner, may_stand, moved_addresses, slot_table_address, split_pairing}
 use Rattle.split_behaves_proof.specs.Begins.{RunsRelated}

@@ -1,22 +1,15 @@
 -- Small modules that are split, and what is seen of them and under the loader, computed: a load in a call, in a start, while another call waits, and never.
-use Rattle.std.proofs.Common.{◌≡◌, refl, ap, ◌∙◌, ℕ, ◌+◌, List, [], ◌∷◌, Some, None, rules}
-use Rattle.std.specs.Prelude.{pos}
+use Rattle.base_lists.proofs.Common.{◌≡◌, refl, ap, ◌∙◌, ℕ, ◌+◌, List, [], ◌∷◌, Some, None, rules, pos}
 use Rattle.std.specs.Fmt.{digits}
 use Rattle.wasm_num.specs.declared.BinOp.TheVariants.{I32Sub}
-use Rattle.wasm_tree.specs.declared.instr.Instr.{out-Instr, the_lemmas}
+use Rattle.wasm_tree_spec.specs.Prelude.{the_lemmas, FuncType, Import, Module}
+use Rattle.wasm_tree.specs.declared.instr.Instr.{out-Instr}
 use Rattle.wasm_tree.specs.declared.instr.Instr.TheVariants as i
-use Rattle.wasm_tree.specs.declared.types.FuncType.{FuncType}
 use Rattle.wasm_tree.specs.declared.module.ConstExpr.TheVariants as const
 use Rattle.wasm_tree.specs.declared.module.ExportDesc.TheVariants as ex
-use Rattle.wasm_tree.specs.declared.module.Import.{Import}
 use Rattle.wasm_tree.specs.declared.module.ImportDesc.TheVariants as im
-use Rattle.wasm_tree.specs.declared.module.Module.{Module}
 use Rattle.wasm_num.specs.Operations.{wrapped, un_from, un_to, un_value, bin_from, bin_to, bin_value}
-use Rattle.wasm_meaning.specs.State.{Text}
-use Rattle.wasm_meaning.specs.Environment.{Environment, Number, Function}
-use Rattle.wasm_meaning.specs.World.{alone}
-use Rattle.wasm_meaning.specs.Run.{Event, Linked, LinkFault, Asked, Returned, Trapped, Got, BadMove, Move, Call, Invoke, Take, Answer, Size, Named, events}
-use Rattle.wasm_meaning.specs.Loader.{Secondary, LoaderWorld, events_loaded}
+use Rattle.wasm_meaning.specs.Prelude.{Text, Environment, Number, Function, alone, Event, Linked, LinkFault, Asked, Returned, Trapped, Got, BadMove, Move, Call, Invoke, Take, Answer, Size, Named, events, Secondary, LoaderWorld, events_loaded}
 use Rattle.split_spec.specs.Primary.{primary_with}
 use Rattle.split_spec.specs.Secondary.{secondary_with}
 use Rattle.split_spec.proofs.Rows.{names, primary_word, placeholder_word, slots_word, empty, func, import, export, table, segment, nothing, gives_number, takes_two, slots_import, calling, calling_primary, calling_secondary, numbered_placeholder}

@@ -1,18 +1,11 @@
 -- A split module shows under its loader what the module shows alone, where each call of a function that moves is answered.
-use Rattle.std.proofs.Common.{◌≡◌, ◌∙◌, refl, ap, sym, subst, ℕ, ◌+◌, ◌*◌, List, [], Option, Some, None, Bool, true, false, arith}
+use Rattle.base_lists.proofs.Common.{◌≡◌, ◌∙◌, refl, ap, sym, subst, ℕ, ◌+◌, ◌*◌, List, [], Option, Some, None, Bool, true, false, arith}
 use Rattle.base_simulation.specs.Machines.{IsPrefix, events_of, noted}
 use Rattle.base_simulation.proofs.LedRuns.{LeadsSome, stuttering_simulation}
 use Rattle.base_simulation.proofs.Prefixes.{is_prefix, more_events, prefix_trans}
-use Rattle.wasm_tree.specs.declared.module.Module.{Module}
-use Rattle.wasm_meaning.specs.State.{Inst}
-use Rattle.wasm_meaning.specs.Environment.{Environment}
-use Rattle.wasm_meaning.specs.Loader.{LoaderRun, LoaderWorld, begun_under, events_loaded, fresh_loader, loader_made, tick_loader}
-use Rattle.wasm_meaning.specs.Run.{Closed, Move, Opened, Out, Run, events, fresh_run, made, tick, transition}
-use Rattle.wasm_meaning.specs.World.{Begun, alone, instantiate}
-use Rattle.index_remap.specs.Related.{OptRel, none, some, nil}
-use Rattle.index_remap.specs.RelatedRuns.{BegunRel, closed}
-use Rattle.index_remap.specs.OpaqueRuns.{TickSkips, calls_placeholder}
-use Rattle.index_remap.specs.Trampolines.{FramesBetween}
+use Rattle.wasm_tree_spec.specs.Prelude.{Module}
+use Rattle.wasm_meaning.specs.Prelude.{Inst, Environment, LoaderRun, LoaderWorld, begun_under, events_loaded, fresh_loader, loader_made, tick_loader, Closed, Move, Opened, Out, Run, events, fresh_run, made, tick, transition, Begun, alone, instantiate}
+use Rattle.index_remap.specs.Prelude.{OptRel, none, some, nil, BegunRel, closed, TickSkips, calls_placeholder, FramesBetween}
 use Rattle.world_extension_proof.specs.Over.{IsOver}
 use Rattle.split_spec.specs.declared.names.SplitNames.{SplitNames}
 use Rattle.split_proof.proofs.Spaces.{ItemsHold}

@@ -1,16 +1,10 @@
 -- Steps that begin no call of a function that moves, and steps in which both go wrong, are answered; and runs that are over.
-use Rattle.std.proofs.Common.{◌≡◌, ◌∙◌, refl, ap, sym, subst, ℕ, zero, suc, List, [], ◌∷◌, false, arith, slice_get}
+use Rattle.base_lists.proofs.Common.{◌≡◌, ◌∙◌, refl, ap, sym, subst, ℕ, zero, suc, List, [], ◌∷◌, false, arith, slice_get}
 use Rattle.base_simulation.specs.Machines.{noted, state_after}
-use Rattle.wasm_tree.specs.declared.module.Module.{Module}
-use Rattle.wasm_meaning.specs.State.{Entry, Inst, Running, Store}
-use Rattle.wasm_meaning.specs.Environment.{Environment}
-use Rattle.wasm_meaning.specs.Loader.{LoaderRun, LoaderWorld, tick_loader}
-use Rattle.wasm_meaning.specs.Run.{Phase, Run, tick, transition}
-use Rattle.index_remap.specs.Related.{OneToOne, Pairing}
-use Rattle.index_remap.specs.RelatedRuns.{IsBegun, PhaseRel, closed, fresh, opened, pending}
-use Rattle.index_remap.specs.Laws.{EntriesKnown}
-use Rattle.index_remap.specs.OpaqueRuns.{TickSkips, calls_placeholder}
-use Rattle.index_remap.specs.Trampolines.{AnsweredInTwo, PassingFramesStutter}
+use Rattle.wasm_tree_spec.specs.Prelude.{Module}
+use Rattle.wasm_meaning.specs.Prelude.{Entry, Inst, Running, Store, Environment, LoaderRun, LoaderWorld, tick_loader, Phase, Run, tick, transition}
+use Rattle.index_remap.specs.Prelude.{OneToOne, Pairing, IsBegun, PhaseRel, closed, fresh, opened, pending, EntriesKnown, TickSkips, calls_placeholder, AnsweredInTwo}
+use Rattle.index_remap.specs.Trampolines.{PassingFramesStutter}
 use Rattle.index_remap.proofs.Known.{top_known}
 use Rattle.world_extension_proof.specs.Extends.{LoadersExtend, StepsExtend}
 use Rattle.world_extension_proof.specs.Over.{RunsThatAreOverStaySo}

@@ -1,12 +1,8 @@
 -- Stuttering steps of a run under a loader, and what so many steps of the machine are as steps of it.
-use Rattle.std.proofs.Common.{◌≡◌, ◌∙◌, refl, ap, sym, ℕ, zero, suc, ◌≤◌, List, [], ◌∷◌, None, Option, arith}
+use Rattle.base_lists.proofs.Common.{◌≡◌, ◌∙◌, refl, ap, sym, ℕ, zero, suc, ◌≤◌, List, [], ◌∷◌, None, Option, arith}
 use Rattle.base_simulation.specs.Machines.{Machine, events_of, noted, state_after}
-use Rattle.wasm_meaning.specs.Outcomes.{Outcome, Gives, Traps, IllTyped}
-use Rattle.wasm_meaning.specs.State.{CallsOwn, CallsPlaceholder, Ended, EndsCall, Entry, Growing, Mark, Next, Opening, Ran, Running, Store, WaitsGrowth, Waiting}
-use Rattle.wasm_meaning.specs.Loader.{LoaderRun, LoaderWorld, loader_made, tick_loader}
-use Rattle.wasm_meaning.specs.Run.{Run, Steps, transition}
-use Rattle.wasm_meaning.specs.Step.{step}
-use Rattle.index_remap.specs.Trampolines.{go_on}
+use Rattle.wasm_meaning.specs.Prelude.{Outcome, Gives, Traps, IllTyped, CallsOwn, CallsPlaceholder, Ended, EndsCall, Entry, Growing, Mark, Next, Opening, Ran, Running, Store, WaitsGrowth, Waiting, LoaderRun, LoaderWorld, loader_made, tick_loader, Run, Steps, transition, step}
+use Rattle.index_remap.specs.Prelude.{go_on}
 
 -- ---- stuttering steps ----
 

@@ -1,21 +1,16 @@
 -- Splits that are wrong, and a view that is: a trace of one is no trace of the module, by computation.
-use Rattle.std.proofs.Common.{◌≡◌, refl, sym, ap, subst, ℕ, zero, ◌+◌, ◌*◌, arith, List, [], ◌∷◌, Bool, true, false}
-use Rattle.std.specs.Prelude.{pos, nat_eq}
+use Rattle.base_lists.proofs.Common.{◌≡◌, refl, sym, ap, subst, ℕ, zero, ◌+◌, ◌*◌, arith, List, [], ◌∷◌, Bool, true, false, pos, nat_eq}
 use Rattle.wasm_tree.specs.declared.instr.Instr.{out-Instr}
 use Rattle.wasm_tree.specs.declared.instr.Instr.TheVariants as i
 use Rattle.wasm_tree.specs.declared.types.RefType.TheVariants.{Func as func_ref}
 use Rattle.wasm_tree.specs.declared.types.ValType.TheVariants as valt
-use Rattle.wasm_tree.specs.declared.types.FuncType.{FuncType}
+use Rattle.wasm_tree_spec.specs.Prelude.{FuncType, Module}
 use Rattle.wasm_tree.specs.declared.module.ConstExpr.TheVariants as const
 use Rattle.wasm_tree.specs.declared.module.ExportDesc.TheVariants as ex
 use Rattle.wasm_tree.specs.declared.module.ImportDesc.TheVariants as im
-use Rattle.wasm_tree.specs.declared.module.Module.{Module}
 use Rattle.wasm_num.specs.Operations.{wrapped, un_from, un_to, un_value, bin_from, bin_to, bin_value}
-use Rattle.index_remap.specs.References.{declaring}
-use Rattle.wasm_meaning.specs.Environment.{Null, Number, Function}
-use Rattle.wasm_meaning.specs.World.{alone}
-use Rattle.wasm_meaning.specs.Run.{Event, Linked, Returned, Got, BadMove, Move, Call, Take, Get, Size, Named, IsPrefix, events}
-use Rattle.wasm_meaning.specs.Loader.{LoaderWorld, events_loaded}
+use Rattle.index_remap.specs.Prelude.{declaring}
+use Rattle.wasm_meaning.specs.Prelude.{Null, Number, Function, alone, Event, Linked, Returned, Got, BadMove, Move, Call, Take, Get, Size, Named, IsPrefix, events, LoaderWorld, events_loaded}
 use Rattle.split_spec.proofs.Rows.{placeholder_word, primary_word, slots_word, shared_word, empty, func, import, export, table, segment, gives_number, takes_two, slots_import}
 use Rattle.split_behaves_proof.specs.Worlds.{in_place_of}
 use Rattle.split_behaves_proof.specs.Laws.{ObservationallyEquivalent}

@@ -5,19 +5,11 @@ use Rattle.std.specs.Prelude.{ℕ, ℤ, ◌+◌, ◌-◌, Bool, false, ◌&&◌,
 use Rattle.std.specs.List.{list_any}
 use Rattle.base_lists.specs.Options.{◌>>=◌}
 use Rattle.wasm_num.specs.Operations.{wrapped}
-use Rattle.wasm_tree.specs.declared.space.Space.{Space}
-use Rattle.wasm_tree.specs.declared.space.Space.TheVariants.{Functions, Tables}
-use Rattle.wasm_tree.specs.declared.instr.Instr.TheVariants.{Call, I32Const, CallIndirect}
-use Rattle.wasm_tree.specs.declared.module.Module.{Module}
-use Rattle.wasm_tree.specs.SameTypes.{same_func_type}
-use Rattle.wasm_tree.specs.Spaces.{imported_funcs}
-use Rattle.wasm_meaning.specs.State.{Inst}
-use Rattle.wasm_meaning.specs.Environment.{Environment}
-use Rattle.wasm_meaning.specs.World.{own_count, defined_count}
-use Rattle.index_remap.specs.Related.{Pairing}
-use Rattle.index_remap.specs.Laws.{Test, passed_with}
-use Rattle.split_spec.specs.Slots.{place_among}
-use Rattle.split_spec.specs.Primary.{is_left, primary_map}
+use Rattle.wasm_tree_spec.specs.Prelude.{Space, Functions, Tables, Call, I32Const, CallIndirect, Module, same_func_type, imported_funcs}
+use Rattle.wasm_meaning.specs.Prelude.{Inst, Environment, own_count, defined_count}
+use Rattle.index_remap.specs.Prelude.{Pairing, passed_with}
+use Rattle.index_remap.specs.Laws.{Test}
+use Rattle.split_spec.specs.Prelude.{place_among, is_left, primary_map}
 use Rattle.split_behaves_proof.specs.Worlds.{type_in}
 
 -- ---- addresses ----

@@ -1,11 +1,8 @@
 -- Steps of a split module under its loader answer one step of the module alone.
 use Rattle.std.specs.Prelude.{◌≡◌, ℕ, suc, ◌+◌, ◌≤◌, List}
-use Rattle.wasm_tree.specs.declared.module.Module.{Module}
+use Rattle.wasm_tree_spec.specs.Prelude.{Module}
 use Rattle.base_simulation.specs.Machines.{events_of, state_after}
-use Rattle.wasm_meaning.specs.State.{Inst}
-use Rattle.wasm_meaning.specs.Environment.{Environment}
-use Rattle.wasm_meaning.specs.Run.{Run, tick}
-use Rattle.wasm_meaning.specs.Loader.{LoaderWorld, LoaderRun, tick_loader}
+use Rattle.wasm_meaning.specs.Prelude.{Inst, Environment, Run, tick, LoaderWorld, LoaderRun, tick_loader}
 use Rattle.split_behaves_proof.specs.States.{Corresponds}
 
 -- They show what it shows, and lead to the same place; they are one for the step, and at most so many more where a call passes a trampoline: one for each parameter, and two.

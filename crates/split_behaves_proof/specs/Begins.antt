@@ -1,13 +1,8 @@
 -- How a split module begins under its loader, against the module alone: both link or neither, both trap or neither, and what they are instantiated to corresponds.
 use Rattle.std.specs.Prelude.{◌≡◌, ℕ, List, [], Some, None}
-use Rattle.wasm_tree.specs.declared.module.Module.{Module}
-use Rattle.wasm_meaning.specs.Environment.{Environment}
-use Rattle.wasm_meaning.specs.World.{alone, instantiate}
-use Rattle.wasm_meaning.specs.Run.{Run, Closed, LinkFault, InstanceTrapped, Move, Out, fresh_run, tick}
-use Rattle.wasm_meaning.specs.Loader.{begun_under}
-use Rattle.index_remap.specs.Related.{Pairing, OneToOne, OptRel}
-use Rattle.index_remap.specs.RelatedRuns.{BegunRel, RunRel, IsBegun}
-use Rattle.index_remap.specs.Trampolines.{FramesBetween}
+use Rattle.wasm_tree_spec.specs.Prelude.{Module}
+use Rattle.wasm_meaning.specs.Prelude.{Environment, alone, instantiate, Run, Closed, LinkFault, InstanceTrapped, Move, Out, fresh_run, tick, begun_under}
+use Rattle.index_remap.specs.Prelude.{Pairing, OneToOne, OptRel, BegunRel, RunRel, IsBegun, FramesBetween}
 use Rattle.split_spec.specs.declared.names.SplitNames.{SplitNames}
 use Rattle.split_behaves_proof.specs.Worlds.{split_world}
 use Rattle.split_behaves_proof.specs.Addresses.{split_pairing}

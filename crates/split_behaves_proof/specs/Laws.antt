@@ -1,21 +1,14 @@
 -- That a split module behaves as the module that is split, and that its secondary modules can be loaded.
 use Rattle.std.specs.Prelude.{◌≡◌, ℕ, ◌+◌, ◌*◌, ◌<◌, max, false, List, [], ◌∷◌, length, Some, None, slice_get}
 use Rattle.std.specs.List.{flat_map}
-use Rattle.wasm_tree.specs.declared.module.Module.{Module}
-use Rattle.wasm_tree.specs.Bounds.{IsBounded}
-use Rattle.wasm_valid.specs.Validity.{IsValid}
+use Rattle.wasm_tree_spec.specs.Prelude.{Module, IsBounded}
+use Rattle.wasm_valid.specs.Prelude.{IsValid}
 use Rattle.base_simulation.specs.Machines.{state_after}
-use Rattle.wasm_meaning.specs.Outcomes.{Gives}
-use Rattle.wasm_meaning.specs.State.{Val, Inst, Store, Entry, CallsPlaceholder}
-use Rattle.wasm_meaning.specs.Environment.{Environment, is_environment}
-use Rattle.wasm_meaning.specs.World.{alone}
-use Rattle.wasm_meaning.specs.Sequential.{Added}
-use Rattle.wasm_meaning.specs.Run.{Run, Move, Steps, transition, Same, events}
-use Rattle.wasm_meaning.specs.Loader.{Secondary, LoaderWorld, LoaderRun, secondary_of, secondary_added, tick_loader, fresh_loader, events_loaded}
+use Rattle.wasm_meaning.specs.Prelude.{Gives, Val, Inst, Store, Entry, CallsPlaceholder, Environment, is_environment, alone, Added, Run, Move, Steps, transition, Same, events, Secondary, LoaderWorld, LoaderRun, secondary_of, tick_loader, fresh_loader, events_loaded}
+use Rattle.wasm_meaning.specs.Loader.{secondary_added}
 use Rattle.std.specs.Prelude.{IsTrue}
 use Rattle.split_spec.specs.declared.names.SplitNames.{SplitNames}
-use Rattle.split_spec.specs.Slots.{params_of}
-use Rattle.split_spec.specs.Faults.{namespace_taken, prefix_taken}
+use Rattle.split_spec.specs.Prelude.{params_of, namespace_taken, prefix_taken}
 use Rattle.split_proof.specs.Premises.{CanMove}
 use Rattle.split_behaves_proof.specs.Worlds.{split_world}
 

@@ -1,22 +1,12 @@
 -- What a load keeps of the relation between a module alone and its split: stores stay related, and the functions that are loaded are related to those that moved.
 use Rattle.std.specs.Prelude.{◌≡◌, ℕ, suc, ◌+◌, ◌-◌, ◌<◌, true, List, [], ◌∷◌, ◌++◌, length, Some, IsTrue, slice_get, slice_index}
-use Rattle.wasm_tree.specs.declared.space.Space.{Space}
-use Rattle.wasm_tree.specs.declared.space.Space.TheVariants.{Functions, Tables, Memories, Globals}
+use Rattle.wasm_tree_spec.specs.Prelude.{Space, Functions, Tables, Memories, Globals, Module, imported_funcs, funcs_of, tables_of, memories_of, globals_of}
 use Rattle.wasm_tree.specs.declared.module.Func as tree
-use Rattle.wasm_tree.specs.declared.module.Module.{Module}
-use Rattle.wasm_tree.specs.Spaces.{imported_funcs, funcs_of, tables_of, memories_of, globals_of}
-use Rattle.wasm_meaning.specs.State.{Inst, Store}
-use Rattle.wasm_meaning.specs.Environment.{Environment}
-use Rattle.wasm_meaning.specs.World.{new_func, insts_from}
-use Rattle.wasm_meaning.specs.Sequential.{Added}
-use Rattle.wasm_meaning.specs.Loader.{primary_added}
-use Rattle.index_remap.specs.Related.{Names, StoreRel}
-use Rattle.index_remap.specs.Trampolines.{CodeAt}
-use Rattle.world_simulation.specs.Alone.{one}
+use Rattle.wasm_meaning.specs.Prelude.{Inst, Store, Environment, new_func, insts_from, Added, primary_added}
+use Rattle.index_remap.specs.Prelude.{Names, StoreRel, CodeAt}
+use Rattle.world_simulation.specs.Prelude.{one}
 use Rattle.split_spec.specs.declared.names.SplitNames.{SplitNames}
-use Rattle.split_spec.specs.Slots.{slot_table}
-use Rattle.split_spec.specs.Primary.{is_left, primary_map}
-use Rattle.split_spec.specs.Secondary.{HasSlots}
+use Rattle.split_spec.specs.Prelude.{slot_table, is_left, primary_map, HasSlots}
 use Rattle.split_behaves_proof.specs.Worlds.{type_in, split_world}
 use Rattle.split_behaves_proof.specs.Addresses.{defined_address, is_partner, slot_table_address, split_pairing}
 use Rattle.split_behaves_proof.specs.Loads.{IsLoaded}

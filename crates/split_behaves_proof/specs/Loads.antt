@@ -3,27 +3,17 @@
 use Rattle.std.specs.Prelude.{◌≡◌, ℕ, ◌+◌, ◌^◌, ◌<◌, true, false, None, List, length, map, Some, slice_get, slice_index}
 use Rattle.base_lists.specs.Options.{◌>>=◌}
 use Rattle.base_lists.specs.Places.{numbers}
-use Rattle.wasm_tree.specs.declared.space.Space.TheVariants.{Functions, Tables, Memories, Globals}
+use Rattle.wasm_tree_spec.specs.Prelude.{Functions, Tables, Memories, Globals, Module, IsBounded, funcs_of, tables_of, memories_of, globals_of}
 use Rattle.wasm_tree.specs.declared.module.Func as tree
-use Rattle.wasm_tree.specs.declared.module.Module.{Module}
-use Rattle.wasm_tree.specs.Bounds.{IsBounded}
-use Rattle.wasm_tree.specs.Spaces.{funcs_of, tables_of, memories_of, globals_of}
-use Rattle.wasm_valid.specs.Validity.{IsValid}
-use Rattle.wasm_meaning.specs.Outcomes.{overwrite}
-use Rattle.wasm_meaning.specs.State.{RefVal, FuncRef, Inst, Func, Table, Memory, Global, Elem, Data, Store}
-use Rattle.wasm_meaning.specs.Linking.{export_named}
-use Rattle.wasm_meaning.specs.World.{address_in}
+use Rattle.wasm_valid.specs.Prelude.{IsValid}
+use Rattle.wasm_meaning.specs.Prelude.{overwrite, RefVal, FuncRef, Inst, Func, Table, Memory, Global, Elem, Data, Store, export_named, address_in, Added}
 use Rattle.wasm_meaning.specs.World as world
-use Rattle.wasm_meaning.specs.Sequential.{Added, added_with}
-use Rattle.index_remap.specs.Renumbered.{new_func}
-use Rattle.world_simulation.specs.Leaves.{Stands}
+use Rattle.wasm_meaning.specs.Sequential.{added_with}
+use Rattle.index_remap.specs.Prelude.{new_func}
+use Rattle.world_simulation.specs.Prelude.{Stands}
 use Rattle.world_extension_proof.specs.Typed.{IsTyped}
 use Rattle.split_spec.specs.declared.names.SplitNames.{SplitNames}
-use Rattle.split_spec.specs.Slots.{defined_at, slot_table}
-use Rattle.split_spec.specs.FromPrimary.{is_from_primary}
-use Rattle.split_spec.specs.Faults.{prefix_taken}
-use Rattle.split_spec.specs.Primary.{primary_map, primary_with}
-use Rattle.split_spec.specs.Secondary.{HasSlots, secondary_func, secondary_map, secondary_with}
+use Rattle.split_spec.specs.Prelude.{defined_at, slot_table, is_from_primary, prefix_taken, primary_map, primary_with, HasSlots, secondary_func, secondary_map, secondary_with}
 use Rattle.split_proof.specs.Premises.{CanMove}
 
 -- ---- what its indices name ----

@@ -1,19 +1,9 @@
 -- Which way a step of the first of two related runs begins a call of a function that is opaque, where the second may have frames of trampolines between.
 use Rattle.std.proofs.Common.{◌≡◌, ℕ, List, ◌∷◌, ◌++◌, Bool, false, Some, slice_get}
-use Rattle.wasm_tree.specs.declared.space.Space.{Space}
-use Rattle.wasm_tree.specs.declared.space.Space.TheVariants.{Functions}
-use Rattle.wasm_tree.specs.declared.types.FuncType.{FuncType}
-use Rattle.wasm_tree.specs.declared.instr.Instr.{Instr}
-use Rattle.wasm_tree.specs.declared.instr.Instr.TheVariants.{Call}
-use Rattle.wasm_meaning.specs.State.{Val, Level, Frame, Entry, Running}
-use Rattle.wasm_meaning.specs.Control.{type_at}
-use Rattle.wasm_meaning.specs.Step.{enter_at, step}
-use Rattle.wasm_meaning.specs.Run.{Move, Run, Steps, transition, tick}
-use Rattle.index_remap.specs.Related.{Pairing, OneToOne, ListRel, ValRel}
-use Rattle.index_remap.specs.RelatedRuns.{IsBegun}
-use Rattle.index_remap.specs.Laws.{Test, passed_with}
-use Rattle.index_remap.specs.OpaqueRuns.{TickSkips, calls_placeholder}
-use Rattle.index_remap.specs.Trampolines.{WithPassing, HaveTypes, at_code}
+use Rattle.wasm_tree_spec.specs.Prelude.{Space, Functions, FuncType, Instr, Call}
+use Rattle.wasm_meaning.specs.Prelude.{Val, Level, Frame, Entry, Running, type_at, enter_at, step, Move, Run, Steps, transition, tick}
+use Rattle.index_remap.specs.Prelude.{Pairing, OneToOne, ListRel, ValRel, IsBegun, passed_with, TickSkips, calls_placeholder, WithPassing, HaveTypes, at_code}
+use Rattle.index_remap.specs.Laws.{Test}
 use Rattle.split_behaves_proof.specs.Begins.{RunsRelated}
 
 -- Both enter functions that are related, the first's being opaque, with related values of its type, over related stacks; these moves are left.

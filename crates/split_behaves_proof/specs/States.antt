@@ -1,20 +1,12 @@
 -- When a run of a module alone and one of its split under the loader stand at the same place, once both are instantiated.
 use Rattle.std.specs.Prelude.{◌≡◌, ℕ, ◌+◌, ◌-◌, ◌&&◌, Bool, true, false, nat_eq, List, length, pos, Some, slice_get}
 use Rattle.std.specs.List.{list_any}
-use Rattle.wasm_tree.specs.declared.space.Space.TheVariants.{Functions}
-use Rattle.wasm_tree.specs.declared.types.FuncType.{FuncType}
+use Rattle.wasm_tree_spec.specs.Prelude.{Functions, FuncType, Module, imported_funcs}
 use Rattle.wasm_tree.specs.declared.module.Func as tree
-use Rattle.wasm_tree.specs.declared.module.Module.{Module}
-use Rattle.wasm_tree.specs.Spaces.{imported_funcs}
-use Rattle.wasm_meaning.specs.State.{FuncRef, Inst, Placeholder, Store, Table}
-use Rattle.wasm_meaning.specs.Environment.{Environment}
-use Rattle.wasm_meaning.specs.Loader.{LoaderRun, LoaderWorld, secondary_of}
-use Rattle.wasm_meaning.specs.Run.{Run}
-use Rattle.wasm_meaning.specs.World.{new_func, own_count}
-use Rattle.index_remap.specs.RelatedRuns.{IsBegun}
-use Rattle.index_remap.specs.Trampolines.{CodeAt, trampoline}
+use Rattle.wasm_meaning.specs.Prelude.{FuncRef, Inst, Placeholder, Store, Table, Environment, LoaderRun, LoaderWorld, secondary_of, Run, new_func, own_count}
+use Rattle.index_remap.specs.Prelude.{IsBegun, CodeAt, trampoline}
 use Rattle.world_extension_proof.specs.Typed.{IsTyped}
-use Rattle.split_spec.specs.Slots.{slot_table, type_index}
+use Rattle.split_spec.specs.Prelude.{slot_table, type_index}
 use Rattle.split_behaves_proof.specs.Worlds.{type_in}
 use Rattle.split_behaves_proof.specs.Addresses.{defined_address, is_left_at, slot_table_address, split_pairing}
 use Rattle.split_behaves_proof.specs.Begins.{RunsRelated}

@@ -2,17 +2,10 @@
 -- placeholder of one of its slots (WebAssembly Core 2.0, section 4.5.4).
 use Rattle.std.specs.Prelude.{ℕ, suc, ◌+◌, List, [], ◌∷◌, length, option_map, unwrap_or, decimal}
 use Rattle.std.specs.List.{filter_map}
-use Rattle.wasm_tree.specs.declared.types.FuncType.{FuncType}
-use Rattle.wasm_tree.specs.declared.module.ExportDesc.{ExportDesc}
-use Rattle.wasm_tree.specs.declared.module.Module.{Module}
-use Rattle.wasm_tree.specs.Spaces.{type_of_func}
-use Rattle.wasm_meaning.specs.State.{Text, Pair}
-use Rattle.wasm_meaning.specs.Linking.{export_named}
-use Rattle.wasm_meaning.specs.Loader.{Secondary, LoaderWorld}
+use Rattle.wasm_tree_spec.specs.Prelude.{FuncType, ExportDesc, Module, type_of_func}
+use Rattle.wasm_meaning.specs.Prelude.{Text, Pair, export_named, Secondary, LoaderWorld}
 use Rattle.split_spec.specs.declared.names.SplitNames.{SplitNames}
-use Rattle.split_spec.specs.Slots.{slot_table}
-use Rattle.split_spec.specs.Primary.{primary_with}
-use Rattle.split_spec.specs.Secondary.{secondary_with}
+use Rattle.split_spec.specs.Prelude.{slot_table, primary_with, secondary_with}
 
 -- ---- any modules in place of one ----
 

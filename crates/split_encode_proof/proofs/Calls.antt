@@ -1,22 +1,12 @@
 -- Code in which other code stands in place of calls has its numbers that are no operands in range where the code and what stands in it have.
-use Rattle.std.proofs.Common.{◌≡◌, ◌∙◌, ap, sym, refl, ℕ, suc, ◌+◌, ◌≤◌, ◌<◌, ◌^◌, List, [], ◌∷◌, length, Option, Some, None, true, ◌&&◌, arith}
-use Rattle.std.specs.Prelude.{pos}
-use Rattle.std.proofs.lemmas.Bool.{and_from, lt-ltb}
-use Rattle.std.proofs.lemmas.List.Folds.{list_all-append}
-use Rattle.std.proofs.lemmas.Option.{slice_get_within}
-use Rattle.base_lists.proofs.Bools.{left_true, right_true}
-use Rattle.wasm_tree.specs.declared.types.BlockType.{BlockType}
-use Rattle.wasm_tree.specs.declared.types.ValType.{ValType}
-use Rattle.wasm_tree.specs.declared.instr.Instr.{Instr, fold_out-Instr, out-Instr, Row_of-Instr, items-the_row-Instr, end_of-Instr, more_of-Instr}
-use Rattle.wasm_tree.specs.declared.instr.Instr.TheVariants.{Block, Block', Loop, Loop', If, If', Call, CallIndirect, I32Const, LocalGet, outs-Block, outs-Loop, outs-If}
-use Rattle.wasm_tree.specs.declared.module.Module.{Module}
-use Rattle.wasm_tree.specs.Operands.{held}
+use Rattle.base_lists.proofs.Common.{◌≡◌, ◌∙◌, ap, sym, refl, ℕ, suc, ◌+◌, ◌≤◌, ◌<◌, ◌^◌, List, [], ◌∷◌, length, Option, Some, None, true, ◌&&◌, arith, pos, and_from, lt-ltb, list_all-append, slice_get_within, left_true, right_true}
+use Rattle.wasm_tree_spec.specs.Prelude.{BlockType, ValType, Instr, fold_out-Instr, Row_of-Instr, items-the_row-Instr, end_of-Instr, more_of-Instr, Block, Block', Loop, Loop', If, If', Call, CallIndirect, I32Const, LocalGet, outs-Block, outs-Loop, outs-If, Module, held}
+use Rattle.wasm_tree.specs.declared.instr.Instr.{out-Instr}
 use Rattle.index_remap.proofs.Rows.{block_is, loop_is, if_is}
-use Rattle.index_remap.specs.Trampolines.{gets, slot_call}
+use Rattle.index_remap.specs.Prelude.{gets, slot_call}
 use Rattle.wasm_write_proof.specs.Ranges.{small, small_numbers, numbers_in, all_numbers_in}
 use Rattle.wasm_write_proof.proofs.Inside.{numbers_inside}
-use Rattle.split_spec.specs.Calls.{calls_in, calls_step, with_calls}
-use Rattle.split_spec.specs.Slots.{call_by_slot, call_through_slot, params_of, place_among, slot_table, trampoline_body, type_index}
+use Rattle.split_spec.specs.Prelude.{calls_in, calls_step, with_calls, call_by_slot, call_through_slot, params_of, place_among, slot_table, trampoline_body, type_index}
 use Rattle.split_proof.proofs.Blocks.{block_calls, if_calls, loop_calls}
 use Rattle.split_proof.proofs.Lists.{place_is}
 

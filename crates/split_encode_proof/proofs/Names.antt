@@ -1,13 +1,10 @@
 -- The names that a split adds are UTF-8 where those that it is given are: letters and decimals are ASCII.
-use Rattle.std.proofs.Common.{ℕ, ◌<◌, ◌^◌, List, [], ◌∷◌, ◌++◌, arith}
-use Rattle.std.specs.Prelude.{IsUtf8, decimal}
-use Rattle.std.specs.Str.{IsAscii}
+use Rattle.base_lists.proofs.Common.{ℕ, ◌<◌, ◌^◌, List, [], ◌∷◌, ◌++◌, arith, IsUtf8, decimal, IsAscii, IsUtf8-from_ascii, IsAscii-cons, IsAscii-nil}
 use Rattle.std.proofs.lemmas.Fmt.{IsAscii-decimal}
-use Rattle.std.proofs.lemmas.Str.{IsAscii-append, IsUtf8-append, IsUtf8-from_ascii}
-use Rattle.std.proofs.lemmas.Str.Ascii.{IsAscii-cons, IsAscii-nil}
-use Rattle.wasm_tree.specs.declared.space.Space.{Space}
-use Rattle.wasm_tree.specs.declared.space.Space.TheVariants.{Types, Functions, Tables, Memories, Globals, ElementSegments, DataSegments}
-use Rattle.split_spec.specs.FromPrimary.{kind_letter, name_from_primary, slots_name}
+use Rattle.std.proofs.lemmas.Str.{IsAscii-append, IsUtf8-append}
+use Rattle.wasm_tree_spec.specs.Prelude.{Space, Types, Functions, Tables, Memories, Globals, ElementSegments, DataSegments}
+use Rattle.split_spec.specs.Prelude.{name_from_primary, slots_name}
+use Rattle.split_spec.specs.FromPrimary.{kind_letter}
 
 decimal_ascii : (n : ℕ) → n < 2 ^ 32 → IsAscii (decimal n)
 decimal_ascii n few = IsAscii-decimal n (omega (arith, few))

@@ -1,36 +1,20 @@
 -- The primary module keeps the numbers of the module, and those that it adds are small.
-use Rattle.std.proofs.Common.{◌≡◌, ◌∙◌, ap, sym, subst, refl, ℕ, suc, ◌+◌, ◌≤◌, ◌<◌, ◌^◌, Bool, List, [], ◌∷◌, ◌++◌, drop, map, length, Option, Some, None, option_and_then, slice_get, arith}
-use Rattle.std.specs.Prelude.{IsUtf8}
-use Rattle.std.specs.Option.{option_map_or}
-use Rattle.std.proofs.lemmas.List.{length-append, length-map}
+use Rattle.base_lists.proofs.Common.{◌≡◌, ◌∙◌, ap, sym, subst, refl, ℕ, suc, ◌+◌, ◌≤◌, ◌<◌, ◌^◌, Bool, List, [], ◌∷◌, ◌++◌, drop, map, length, Option, Some, None, option_and_then, slice_get, arith, IsUtf8, option_map_or, length-append, length-map, every_at, append_right, map_at}
 use Rattle.base_lists.specs.Every.{Every}
-use Rattle.base_lists.proofs.Each.{every_at}
-use Rattle.base_lists.proofs.Places.{append_right, map_at}
 use Rattle.base_kept.specs.Kept.{kept}
 use Rattle.base_kept.proofs.Laws.{kept_from}
-use Rattle.wasm_tree.specs.declared.space.Space.{Space}
-use Rattle.wasm_tree.specs.declared.space.Space.TheVariants.{Functions, Tables, Memories, Globals}
-use Rattle.wasm_tree.specs.declared.types.FuncType.{FuncType}
-use Rattle.wasm_tree.specs.declared.types.TableType.{TableType}
-use Rattle.wasm_tree.specs.declared.module.Export.{Export}
-use Rattle.wasm_tree.specs.declared.module.ExportDesc.{ExportDesc}
+use Rattle.wasm_tree_spec.specs.Prelude.{Space, Functions, Tables, Memories, Globals, FuncType, TableType, Export, ExportDesc, Func, Module, IsBounded, param_count, funcs_of, imported_funcs, type_of_func}
 use Rattle.wasm_tree.specs.declared.module.ExportDesc.TheVariants as ex
-use Rattle.wasm_tree.specs.declared.module.Func.{Func}
-use Rattle.wasm_tree.specs.declared.module.Module.{Module}
-use Rattle.wasm_tree.specs.Bounds.{IsBounded, param_count}
-use Rattle.wasm_tree.specs.Spaces.{funcs_of, imported_funcs, type_of_func}
 use Rattle.module_limits.specs.Counts.{CountsAreWithinWhereNoneIsOver, over_limit}
-use Rattle.index_remap.specs.References.{declared, declared_refs}
-use Rattle.index_remap.specs.Renumbered.{new_import, renumbered_tree}
+use Rattle.index_remap.specs.Prelude.{declared, declared_refs, new_import, renumbered_tree}
 use Rattle.wasm_write_proof.specs.Ranges.{InRange, LimitsInRange}
 use Rattle.merge_spec.proofs.FaultParts.{every_append}
 use Rattle.merge_encode_proof.proofs.Bodies.{NumbersStay}
 use Rattle.merge_encode_proof.proofs.Lists.{every_map}
 use Rattle.merge_encode_proof.proofs.Modules.{declared_numbers}
 use Rattle.merge_encode_proof.proofs.Numbers.{ElemNumbersInRange, FuncNumbersInRange, ImportNumbersInRange, NumbersInRange}
-use Rattle.split_spec.specs.Slots.{call_through_slot, in_slots, params_of, place_among, slot_segment, slot_table, slot_table_type}
-use Rattle.split_spec.specs.FromPrimary.{exports_for_secondary, from_primary, name_from_primary}
-use Rattle.split_spec.specs.Primary.{added_exports, left_marks, placeholder_imports, primary_func, primary_funcs, primary_map, primary_tree, primary_with}
+use Rattle.split_spec.specs.Prelude.{call_through_slot, in_slots, params_of, place_among, slot_segment, slot_table, slot_table_type, exports_for_secondary, from_primary, name_from_primary, added_exports, left_marks, placeholder_imports, primary_func, primary_funcs, primary_map, primary_tree}
+use Rattle.split_spec.specs.Primary.{primary_with}
 use Rattle.split_proof.proofs.ImportCounts.{placeholders_many, same_imports}
 use Rattle.split_proof.proofs.SharedFuncs.{shared_within}
 use Rattle.split_encode_proof.proofs.Calls.{calls_numbers, slot_below, through_slot_numbers, trampoline_numbers}

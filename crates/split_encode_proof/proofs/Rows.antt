@@ -1,12 +1,11 @@
 -- A call through the greatest slot that the law lets there be is in range, and one through the next slot, or a segment from there on, is not.
-use Rattle.std.proofs.Common.{◌≡◌, refl, [], Bool, true, false, arith}
-use Rattle.std.specs.Prelude.{pos}
-use Rattle.std.proofs.lemmas.Int.{ints}
-use Rattle.wasm_tree.specs.declared.instr.Instr.{fold_out-Instr, out-Instr}
-use Rattle.index_remap.specs.Trampolines.{slot_call}
+use Rattle.base_lists.proofs.Common.{◌≡◌, refl, [], Bool, true, false, arith, pos, ints}
+use Rattle.wasm_tree_spec.specs.Prelude.{fold_out-Instr}
+use Rattle.wasm_tree.specs.declared.instr.Instr.{out-Instr}
+use Rattle.index_remap.specs.Prelude.{slot_call}
 use Rattle.wasm_write_proof.specs.Ranges.{all_numbers_in, number_step}
 use Rattle.merge_encode_proof.proofs.Numbers.{ElemNumbersInRange}
-use Rattle.split_spec.specs.Slots.{slot_segment}
+use Rattle.split_spec.specs.Prelude.{slot_segment}
 
 greatest_slot : all_numbers_in (slot_call 0 0 (pos 2147483647)) ≡ true
 unfolding out-Instr denote.Hole.Carrier.out

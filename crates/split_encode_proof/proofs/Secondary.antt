@@ -1,23 +1,9 @@
 -- A secondary module has numbers of the module, and those that it adds are small.
-use Rattle.std.proofs.Common.{◌≡◌, ℕ, ◌+◌, ◌-◌, ◌≤◌, ◌<◌, ◌^◌, List, length, Option, Some, None, true, slice_get, subst, arith}
-use Rattle.std.specs.Prelude.{IsUtf8, option_map}
-use Rattle.std.proofs.lemmas.Option.{slice_get_within}
+use Rattle.base_lists.proofs.Common.{◌≡◌, ℕ, ◌+◌, ◌-◌, ◌≤◌, ◌<◌, ◌^◌, List, length, Option, Some, None, true, slice_get, subst, arith, IsUtf8, option_map, slice_get_within, every_at, option_map_is}
 use Rattle.base_lists.specs.Every.{Every}
-use Rattle.base_lists.proofs.Each.{every_at}
-use Rattle.base_lists.proofs.Options.{option_map_is}
-use Rattle.wasm_tree.specs.declared.space.Space.{Space}
-use Rattle.wasm_tree.specs.declared.space.Space.TheVariants.{Types, Functions, Tables, Memories, Globals, ElementSegments, DataSegments}
-use Rattle.wasm_tree.specs.declared.types.Limits.{Limits}
-use Rattle.wasm_tree.specs.declared.types.TableType.{TableType}
-use Rattle.wasm_tree.specs.declared.module.Import.{Import}
-use Rattle.wasm_tree.specs.declared.module.ImportDesc.{ImportDesc}
+use Rattle.wasm_tree_spec.specs.Prelude.{Space, Types, Functions, Tables, Memories, Globals, ElementSegments, DataSegments, Limits, TableType, Import, ImportDesc, Func, Module, IsBounded, funcs_of, globals_of, imported_funcs, imported_memories, imported_tables, memories_of, memory_of, table_of, tables_of}
 use Rattle.wasm_tree.specs.declared.module.ImportDesc.TheVariants as im
-use Rattle.wasm_tree.specs.declared.module.Func.{Func}
-use Rattle.wasm_tree.specs.declared.module.Module.{Module}
-use Rattle.wasm_tree.specs.Bounds.{IsBounded}
-use Rattle.wasm_tree.specs.Spaces.{funcs_of, globals_of, imported_funcs, imported_memories, imported_tables, memories_of, memory_of, table_of, tables_of}
-use Rattle.index_remap.specs.References.{declared_refs}
-use Rattle.index_remap.specs.Renumbered.{renumbered_tree}
+use Rattle.index_remap.specs.Prelude.{declared_refs, renumbered_tree}
 use Rattle.wasm_write_proof.specs.Ranges.{all_numbers_in, InRange, LimitsInRange}
 use Rattle.wasm_write_proof.proofs.Parts.{every_of}
 use Rattle.merge_spec.proofs.FaultParts.{every_append}
@@ -26,9 +12,8 @@ use Rattle.merge_encode_proof.proofs.Lists.{every_map, every_some}
 use Rattle.merge_encode_proof.proofs.Modules.{declared_numbers}
 use Rattle.merge_encode_proof.proofs.Numbers.{FuncNumbersInRange, ImportLimitsInRange, ImportNumbersInRange, NumbersInRange}
 use Rattle.split_spec.specs.declared.names.SplitNames.{SplitNames}
-use Rattle.split_spec.specs.Slots.{defined_at, in_slots, place_among, slot_table, slot_table_type}
-use Rattle.split_spec.specs.FromPrimary.{entities, from_primary, imports_from_primary, name_from_primary, slots_name}
-use Rattle.split_spec.specs.Secondary.{secondary_call, secondary_call_by_place, secondary_func, secondary_imports, secondary_map, secondary_tree, secondary_with}
+use Rattle.split_spec.specs.Prelude.{defined_at, in_slots, place_among, slot_table, slot_table_type, entities, from_primary, imports_from_primary, name_from_primary, slots_name, secondary_call, secondary_call_by_place, secondary_func, secondary_imports, secondary_map, secondary_tree}
+use Rattle.split_spec.specs.Secondary.{secondary_with}
 use Rattle.split_encode_proof.proofs.Calls.{call_numbers, calls_numbers, through_slot_numbers}
 use Rattle.split_encode_proof.proofs.Names.{name_in, slots_name_in}
 use Rattle.split_encode_proof.proofs.Shared.{entities_few, slot_limits_in, slots_from}

@@ -1,26 +1,13 @@
 -- A module in range has its other numbers in range, and keeps them with other indices.
-use Rattle.std.proofs.Common.{◌≡◌, ℕ, List, Option, Some, filter_map, slice_get}
-use Rattle.std.specs.Prelude.{IsUtf8}
+use Rattle.base_lists.proofs.Common.{◌≡◌, ℕ, List, Option, Some, slice_get, IsUtf8, every_at, chosen_from, right_true, ◌∙◌}
+use Rattle.std.proofs.Common.{filter_map}
 use Rattle.base_lists.specs.Every.{Every}
-use Rattle.base_lists.proofs.Each.{every_at}
-use Rattle.base_lists.proofs.Filtered.{chosen_from}
-use Rattle.wasm_tree.specs.declared.module.ImportDesc.{ImportDesc}
+use Rattle.wasm_tree_spec.specs.Prelude.{ImportDesc, Import, Export, Func, GlobalDef, ElemMode, ElemSeg, DataMode, DataSeg, Module, all_operands_pass}
 use Rattle.wasm_tree.specs.declared.module.ImportDesc.TheVariants as im
-use Rattle.wasm_tree.specs.declared.module.Import.{Import}
-use Rattle.wasm_tree.specs.declared.module.Export.{Export}
-use Rattle.wasm_tree.specs.declared.module.Func.{Func}
-use Rattle.wasm_tree.specs.declared.module.GlobalDef.{GlobalDef}
-use Rattle.wasm_tree.specs.declared.module.ElemMode.{ElemMode}
 use Rattle.wasm_tree.specs.declared.module.ElemMode.TheVariants as elem
-use Rattle.wasm_tree.specs.declared.module.ElemSeg.{ElemSeg}
-use Rattle.wasm_tree.specs.declared.module.DataMode.{DataMode}
 use Rattle.wasm_tree.specs.declared.module.DataMode.TheVariants as segment
-use Rattle.wasm_tree.specs.declared.module.DataSeg.{DataSeg}
-use Rattle.wasm_tree.specs.declared.module.Module.{Module}
-use Rattle.wasm_tree.specs.Operands.{all_operands_pass}
 use Rattle.index_remap.specs.declared.remap.Remap.{Remap}
-use Rattle.index_remap.specs.Renumbered.{entry, new_const, new_data, new_data_mode, new_elem, new_elem_mode, new_export, new_func, new_global, new_import, new_import_desc, renumbered_tree}
-use Rattle.base_lists.proofs.Bools.{right_true}
+use Rattle.index_remap.specs.Prelude.{entry, new_const, new_data, new_data_mode, new_elem, new_elem_mode, new_export, new_func, new_global, new_import, new_import_desc, renumbered_tree}
 use Rattle.wasm_write_proof.specs.Ranges.{small_operand, all_numbers_in, ConstInRange, DataModeInRange, ElemInRange, ElemModeInRange, ExportInRange, FuncInRange, ImportDescInRange, ImportInRange, InRange}
 use Rattle.wasm_write_proof.proofs.Parts.{every_of, every_with}
 use Rattle.merge_encode_proof.proofs.Numbers.{ConstNumberInRange, DataOffsetInRange, ElemNumbersInRange, ElemOffsetInRange, FuncNumbersInRange, ImportLimitsInRange, ImportNumbersInRange, NumbersInRange}
@@ -28,7 +15,6 @@ use Rattle.merge_encode_proof.proofs.Bodies.{NumbersStay}
 use Rattle.merge_encode_proof.proofs.Consts.{new_number, number_of}
 use Rattle.split_proof.proofs.Lists.{every_from}
 use Rattle.merge_encode_proof.proofs.Lists.{every_map}
-use Rattle.std.proofs.Common.{◌∙◌}
 
 -- ---- lists ----
 

@@ -1,20 +1,10 @@
 -- The functions that are chosen, one by one.
-use Rattle.std.proofs.Common.{◌≡◌, ℕ, ◌+◌, ◌-◌, ◌<◌, List, [], ◌∷◌, ◌++◌, length, filter, Bool, true, false, ◌&&◌, cond, refl, sym, ap, ◌∙◌, arith, get_or, ◌≤◌, zero, suc, slice_index, map, length-append, Result, Ok, Err, IfOk, subst}
-use Rattle.std.specs.Prelude.{not}
-use Rattle.std.specs.List.Sorted.{IsStrictlyIncreasing}
-use Rattle.std.proofs.lemmas.Option.{slice_get-get_or}
-use Rattle.std.proofs.lemmas.Bool.{lt-ltb, le-leb, not-true}
-use Rattle.std.proofs.lemmas.List.{length-map}
+use Rattle.base_lists.proofs.Common.{◌≡◌, ℕ, ◌+◌, ◌-◌, ◌<◌, List, [], ◌∷◌, ◌++◌, length, Bool, true, false, ◌&&◌, cond, refl, sym, ap, ◌∙◌, arith, get_or, ◌≤◌, zero, suc, slice_index, map, Result, Ok, Err, IfOk, subst, not, IsStrictlyIncreasing, slice_get-get_or, lt-ltb, le-leb, not-true, length-map, right_true, filter-append, numbers_more, numbers_at, length-numbers, slice_index_is}
+use Rattle.std.proofs.Common.{filter, length-append}
 use Rattle.std.proofs.lemmas.List.Kept.{IsStrictlyIncreasing-filter}
-use Rattle.base_lists.proofs.Bools.{right_true}
-use Rattle.std.proofs.lemmas.List.Elements.{filter-append}
 use Rattle.base_lists.specs.Places.{numbers}
 use Rattle.base_lists.specs.Every.{Every}
-use Rattle.base_lists.proofs.Numbers.{numbers_more, numbers_at, length-numbers}
-use Rattle.base_lists.proofs.Places.{slice_index_is}
-use Rattle.wasm_tree.specs.declared.module.Func.{Func}
-use Rattle.wasm_tree.specs.declared.module.Module.{Module}
-use Rattle.wasm_tree.specs.Spaces.{imported_funcs, funcs_of}
+use Rattle.wasm_tree_spec.specs.Prelude.{Func, Module, imported_funcs, funcs_of}
 use Rattle.split_plan.specs.Segments.{uses_segment}
 use Rattle.split_plan.specs.declared.plans.Plan.{Plan}
 use Rattle.split_plan.specs.Words.{is_defined}

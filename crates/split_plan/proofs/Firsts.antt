@@ -1,6 +1,5 @@
 -- The first that a function gives of a list, looked for from the left.
-use Rattle.std.proofs.Common.{◌≡◌, ℕ, ◌+◌, ◌<◌, ◌≤◌, length, drop, get_or, List, Option, Some, None, refl, ◌∙◌}
-use Rattle.std.proofs.lemmas.List.{drop_all, at_drop_more}
+use Rattle.base_lists.proofs.Common.{◌≡◌, ℕ, ◌+◌, ◌<◌, ◌≤◌, length, drop, get_or, List, Option, Some, None, refl, ◌∙◌, drop_all, at_drop_more}
 use Rattle.split_plan.specs.Plans.{first_given}
 
 module _ {A B : Type 0} (f : A → Option B) (xs : List A) where

@@ -1,12 +1,7 @@
 -- Marks of the functions that words name.
-use Rattle.std.proofs.Common.{◌≡◌, ◌≢◌, ℕ, ◌<◌, List, [], ◌∷◌, ◌++◌, length, replicate, Bool, true, false, ◌||◌, Option, Some, None, refl, sym, ap, ◌∙◌, arith, slice_set, slice_get, length-set}
-use Rattle.std.specs.Prelude.{◌==◌}
-use Rattle.std.specs.List.{list_any}
-use Rattle.std.proofs.Math.Bool.{or-false, or-true}
-use Rattle.std.proofs.lemmas.List.{length-replicate}
-use Rattle.std.proofs.lemmas.Bool.{eqb-true, eq-eqb}
-use Rattle.std.proofs.lemmas.List.Folds.{list_any-append}
-use Rattle.base_lists.proofs.Places.{set_at, set_other, replicate_at}
+use Rattle.base_lists.proofs.Common.{◌≡◌, ◌≢◌, ℕ, ◌<◌, List, [], ◌∷◌, ◌++◌, length, replicate, Bool, true, false, ◌||◌, Option, Some, None, refl, sym, ap, ◌∙◌, arith, slice_set, slice_get, ◌==◌, list_any, or-false, length-replicate, eqb-true, eq-eqb, list_any-append, set_at, set_other, replicate_at}
+use Rattle.std.proofs.Common.{length-set}
+use Rattle.std.proofs.Math.Bool.{or-true}
 use Rattle.split_plan.specs.declared.named.Named.{Named}
 use Rattle.split_plan.specs.declared.fault.PlanFault.TheVariants.{KeptAndSplit}
 use Rattle.split_plan.specs.Plans.{kept_fault}

@@ -1,19 +1,8 @@
 -- From what is looked up to the plan and its first fault.
-use Rattle.std.proofs.Common.{◌≡◌, ℕ, ◌<◌, List, [], ◌∷◌, length, map, filter, Bool, true, false, ◌&&◌, ◌⊎◌, inl, inr, ⊎_elim, Option, Some, None, refl, sym, ap, ◌∙◌, arith, slice_get, length-append}
-use Rattle.std.specs.Prelude.{◌==◌, not, unwrap_or, find}
-use Rattle.std.specs.List.{list_any}
-use Rattle.std.specs.Option.{option_map_or}
-use Rattle.std.specs.Str.{bytes_eq}
-use Rattle.std.proofs.lemmas.Bool.{ltb-true}
-use Rattle.std.proofs.lemmas.List.{length-map}
-use Rattle.base_lists.proofs.Bools.{cond_is, right_true}
-use Rattle.base_lists.proofs.Filtered.{kept_is}
-use Rattle.base_lists.proofs.Options.{option_map_is}
-use Rattle.base_lists.proofs.Places.{map_from}
-use Rattle.wasm_tree.specs.declared.module.Export.{Export}
-use Rattle.wasm_tree.specs.declared.module.Func.{Func}
-use Rattle.wasm_tree.specs.declared.module.Module.{Module}
-use Rattle.wasm_tree.specs.Spaces.{imported_funcs, funcs_of, index_of_export}
+use Rattle.base_lists.proofs.Common.{◌≡◌, ℕ, ◌<◌, List, [], ◌∷◌, length, map, Bool, true, false, ◌&&◌, ◌⊎◌, inl, inr, ⊎_elim, Option, Some, None, refl, sym, ap, ◌∙◌, arith, slice_get, ◌==◌, not, find, list_any, option_map_or, bytes_eq, ltb-true, length-map, cond_is, right_true, kept_is, option_map_is, map_from}
+use Rattle.std.proofs.Common.{filter, length-append}
+use Rattle.std.specs.Prelude.{unwrap_or}
+use Rattle.wasm_tree_spec.specs.Prelude.{Export, Func, Module, imported_funcs, funcs_of, index_of_export}
 use Rattle.wasm_names.specs.declared.func_name.FuncName.{FuncName}
 use Rattle.wasm_names.specs.Reading.{or_else}
 use Rattle.split_plan.specs.declared.fault.PlanFault.{PlanFault}

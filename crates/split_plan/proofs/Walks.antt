@@ -1,14 +1,8 @@
 -- A block, a loop or an if names no segment itself.
-use Rattle.std.proofs.Common.{◌≡◌, Bool, false, ◌||◌, List, refl, ap, ◌∙◌}
-use Rattle.std.specs.List.{list_any}
-use Rattle.std.proofs.lemmas.List.Folds.{list_any-append}
-use Rattle.wasm_tree.specs.declared.types.BlockType.{BlockType}
+use Rattle.base_lists.proofs.Common.{◌≡◌, Bool, false, ◌||◌, List, refl, ap, ◌∙◌, list_any, list_any-append}
+use Rattle.wasm_tree_spec.specs.Prelude.{BlockType, Instr, Block, Loop, If, outs-Block, outs-Loop, outs-If, AnyInside, operands, block_operands, held}
 use Rattle.wasm_tree.specs.declared.types.BlockType.TheVariants as block
-use Rattle.wasm_tree.specs.declared.instr.Instr.{Instr}
 use Rattle.wasm_tree.specs.declared.instr.Instr.TheOpen.{Instr-F}
-use Rattle.wasm_tree.specs.declared.instr.Instr.TheVariants.{Block, Loop, If, outs-Block, outs-Loop, outs-If}
-use Rattle.wasm_tree.specs.OperandLaws.{AnyInside}
-use Rattle.wasm_tree.specs.Operands.{operands, block_operands, held}
 use Rattle.split_plan.specs.Segments.{names_segment, uses_segment_in, uses_segment}
 
 no_segment : (ty : BlockType) → list_any names_segment (block_operands ty) ≡ false

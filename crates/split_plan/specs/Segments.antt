@@ -1,9 +1,6 @@
 -- Code that names segments: by `memory.init` and `data.drop`, by `table.init` and `elem.drop` (WebAssembly Core 2.0, sections 2.4.6 and 2.4.7).
 use Rattle.std.specs.Prelude.{Bool, List, ◌||◌}
-use Rattle.wasm_tree.specs.declared.space.Space.TheVariants.{DataSegments, ElementSegments}
-use Rattle.wasm_tree.specs.declared.space.Operand.{Operand}
-use Rattle.wasm_tree.specs.declared.instr.Instr.{Instr}
-use Rattle.wasm_tree.specs.Operands.{same_space, operand_passes, any_operand_passes}
+use Rattle.wasm_tree_spec.specs.Prelude.{DataSegments, ElementSegments, Operand, Instr, same_space, operand_passes, any_operand_passes}
 
 abbrev pub names_segment : Operand → Bool
 names_segment o = same_space o.space DataSegments || same_space o.space ElementSegments

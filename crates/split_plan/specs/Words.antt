@@ -2,11 +2,7 @@
 use Rattle.std.specs.Prelude.{ℕ, ◌==◌, ◌&&◌, List, [], ◌∷◌, length, map, filter, Bool, false, Option, Some, None, option_map, nat_le, nat_lt, find}
 use Rattle.std.specs.Option.{option_map_or}
 use Rattle.std.specs.Str.{bytes_eq}
-use Rattle.wasm_tree.specs.declared.space.Space.TheVariants.{Functions}
-use Rattle.wasm_tree.specs.declared.module.Export.{Export}
-use Rattle.wasm_tree.specs.declared.module.Module.{Module}
-use Rattle.wasm_tree.specs.Operands.{same_space}
-use Rattle.wasm_tree.specs.Spaces.{space_of_export, index_of_export, imported_funcs, funcs_of}
+use Rattle.wasm_tree_spec.specs.Prelude.{Functions, Export, Module, same_space, space_of_export, index_of_export, imported_funcs, funcs_of}
 use Rattle.wasm_names.specs.declared.func_name.FuncName.{FuncName}
 use Rattle.split_plan.specs.declared.fault.PlanFault.{PlanFault}
 use Rattle.split_plan.specs.declared.fault.PlanFault.TheVariants.{NoSuchFunction, AmbiguousFunction}

@@ -1,11 +1,8 @@
 -- What replaces a block, a loop or an if where other code stands in place of calls: the same, with what replaces what it holds.
-use Rattle.std.proofs.Common.{◌≡◌, ◌∙◌, ℕ, List, [], ◌∷◌, ◌++◌, refl, ap, ap₂, rules, map}
-use Rattle.std.specs.List.{flat_map}
-use Rattle.wasm_tree.specs.declared.types.BlockType.{BlockType}
-use Rattle.wasm_tree.specs.declared.instr.Instr.{Instr, Row_of-Instr, items-the_row-Instr, the_lemmas}
-use Rattle.wasm_tree.specs.declared.instr.Instr.TheVariants.{Block, Block', Loop, Loop', If, If'}
+use Rattle.base_lists.proofs.Common.{◌≡◌, ◌∙◌, ℕ, List, [], ◌∷◌, ◌++◌, refl, ap, ap₂, rules, map, flat_map}
+use Rattle.wasm_tree_spec.specs.Prelude.{BlockType, Instr, Row_of-Instr, items-the_row-Instr, the_lemmas, Block, Block', Loop, Loop', If, If'}
 use Rattle.index_remap.proofs.Rows.{block_is, loop_is, if_is}
-use Rattle.split_spec.specs.Calls.{calls_in, with_calls}
+use Rattle.split_spec.specs.Prelude.{calls_in, with_calls}
 
 joined_is : {A B : Type 0} (f : A → List B) (xs : List A) → flat_map (λ ys. ys) (map f xs) ≡ flat_map f xs
 joined_is f [] = refl

@@ -1,38 +1,18 @@
 -- Bodies in which other code stands in place of calls of some functions, and then with other indices, stay well typed.
-use Rattle.std.proofs.Common.{◌≡◌, subst, refl, ℕ, List, [], ◌∷◌, Bool, true, false, Some, slice_get, slice_index, length, zero, suc, arith}
-use Rattle.std.specs.Prelude.{Contains}
-use Rattle.std.specs.List.{list_any}
+use Rattle.base_lists.proofs.Common.{◌≡◌, subst, refl, ℕ, List, [], ◌∷◌, Bool, true, false, Some, slice_get, slice_index, length, zero, suc, arith, Contains, list_any, and_then_is, replicate_at}
 use Rattle.base_lists.specs.Every.{Every}
-use Rattle.base_lists.proofs.Options.{and_then_is}
-use Rattle.base_lists.proofs.Places.{replicate_at}
-use Rattle.wasm_tree.specs.declared.space.Operand.{Operand}
-use Rattle.wasm_tree.specs.declared.space.Space.{Space}
-use Rattle.wasm_tree.specs.declared.space.Space.TheVariants.{Types, Functions, Tables, Memories, Globals, ElementSegments, DataSegments}
-use Rattle.wasm_tree.specs.declared.types.FuncType.{FuncType}
-use Rattle.wasm_tree.specs.declared.instr.Instr.{Instr}
-use Rattle.wasm_tree.specs.declared.instr.Instr.TheVariants.{Call}
-use Rattle.wasm_tree.specs.declared.module.Func.{Func}
-use Rattle.wasm_tree.specs.declared.module.Module.{Module}
-use Rattle.wasm_tree.specs.Layers.{ListLayers}
-use Rattle.wasm_tree.specs.Operands.{any_operand_passes, operands}
-use Rattle.wasm_tree.specs.OperandLaws.{AnyInside, PassesInside, PassesLayerByLayer}
-use Rattle.wasm_tree.specs.Spaces.{funcs_of}
+use Rattle.wasm_tree_spec.specs.Prelude.{Operand, Space, Types, Functions, Tables, Memories, Globals, ElementSegments, DataSegments, FuncType, Instr, Call, Func, Module, ListLayers, any_operand_passes, operands, AnyInside, PassesInside, PassesLayerByLayer, funcs_of}
 use Rattle.wasm_valid_bodies.specs.Typing.{Context, WellTyped}
-use Rattle.wasm_valid.specs.Named.{refs_of}
-use Rattle.wasm_valid.specs.SpaceTypes.{table_types}
-use Rattle.wasm_valid.specs.Validity.{body_context}
+use Rattle.wasm_valid.specs.Prelude.{refs_of, table_types, body_context}
 use Rattle.index_remap.specs.declared.remap.Remap.{Remap}
-use Rattle.index_remap.specs.Agreement.{OperandAgrees, labelled}
+use Rattle.index_remap.specs.Prelude.{OperandAgrees, labelled, is_among, renumbered_all, CodesHaveTypes, OthersAgree, is_opaque_call}
 use Rattle.index_remap.specs.Laws.{TypingIsKept}
-use Rattle.index_remap.specs.References.{is_among}
-use Rattle.index_remap.specs.Renumbered.{renumbered_all}
-use Rattle.index_remap.specs.Replaced.{CodesHaveTypes, OthersAgree, is_opaque_call}
 use Rattle.index_remap.proofs.NotOpaque.{all_follow}
 use Rattle.index_remap_proof.specs.ButForReferences.{any_named}
 use Rattle.index_remap_proof.specs.Indices.{Indices}
 use Rattle.index_remap_proof.specs.Trees.{TreesAgree}
 use Rattle.index_remap_proof.proofs.Lists.{named_within}
-use Rattle.split_spec.specs.Calls.{with_calls}
+use Rattle.split_spec.specs.Prelude.{with_calls}
 use Rattle.split_proof.specs.Calls.{CallsAreReplaced, renumbered_codes}
 use Rattle.split_proof.proofs.Lists.{left_false, right_false}
 use Rattle.split_proof.proofs.Operands.{Met, all_wanted}

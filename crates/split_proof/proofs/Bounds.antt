@@ -1,20 +1,10 @@
 -- A u32 can count what a module of a split has, where none of its counts is above its limit.
-use Rattle.std.proofs.Common.{◌≡◌, ◌∙◌, sym, subst, ℕ, ◌+◌, ◌-◌, ◌^◌, ◌<◌, List, [], ◌∷◌, map, length, Option, Some, None, slice_get, arith}
-use Rattle.std.proofs.lemmas.List.{length-append, length-map}
-use Rattle.std.proofs.lemmas.Option.{slice_get_within}
-use Rattle.base_lists.proofs.Filtered.{filter_map_most}
-use Rattle.base_lists.proofs.Numbers.{numbers_index}
-use Rattle.wasm_tree.specs.declared.module.Func.{Func}
-use Rattle.wasm_tree.specs.declared.module.Module.{Module}
-use Rattle.wasm_tree.specs.Bounds.{IsBounded, declared_count, local_count, param_count}
-use Rattle.wasm_tree.specs.Spaces.{func_of, table_of, memory_of, global_of, imported_funcs, imported_globals, imported_memories, imported_tables}
+use Rattle.base_lists.proofs.Common.{◌≡◌, ◌∙◌, sym, subst, ℕ, ◌+◌, ◌-◌, ◌^◌, ◌<◌, List, [], ◌∷◌, map, length, Option, Some, None, slice_get, arith, length-append, length-map, slice_get_within, filter_map_most, numbers_index}
+use Rattle.wasm_tree_spec.specs.Prelude.{Func, Module, IsBounded, declared_count, local_count, param_count, func_of, table_of, memory_of, global_of, imported_funcs, imported_globals, imported_memories, imported_tables}
 use Rattle.module_limits.specs.Counts.{CountsAreWithin}
-use Rattle.index_remap.specs.References.{declared, declared_refs, with_declared}
-use Rattle.index_remap.specs.Renumbered.{new_func}
+use Rattle.index_remap.specs.Prelude.{declared, declared_refs, with_declared, new_func}
 use Rattle.split_spec.specs.declared.names.SplitNames.{SplitNames}
-use Rattle.split_spec.specs.Primary.{primary_func}
-use Rattle.split_spec.specs.Secondary.{secondary_func}
-use Rattle.split_spec.specs.Slots.{place_among}
+use Rattle.split_spec.specs.Prelude.{primary_func, secondary_func, place_among}
 use Rattle.split_proof.specs.Premises.{CanMove}
 use Rattle.split_proof.proofs.Bodies.{BodyLaws}
 use Rattle.split_proof.proofs.PrimaryItems as primary

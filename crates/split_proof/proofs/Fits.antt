@@ -1,35 +1,18 @@
 -- The maps of a split have an entry for each index that is named in the trees that they renumber.
-use Rattle.std.proofs.lemmas.Option.{slice_get_within}
-use Rattle.std.proofs.Common.{◌≡◌, ◌∙◌, ap, sym, subst, refl, ℕ, suc, ◌<◌, ◌≤◌, List, [], ◌∷◌, ◌++◌, length, Bool, true, ◌&&◌, Some, slice_get, arith, map, ◌+◌}
-use Rattle.std.specs.Prelude.{IsTrue, ℤ, pos}
-use Rattle.std.specs.List.{list_all}
-use Rattle.std.proofs.lemmas.Bool.{lt-ltb, ltb-true}
-use Rattle.std.proofs.lemmas.List.Folds.{list_all-append}
+use Rattle.base_lists.proofs.Common.{slice_get_within, ◌≡◌, ◌∙◌, ap, sym, subst, refl, ℕ, suc, ◌<◌, ◌≤◌, List, [], ◌∷◌, ◌++◌, length, Bool, true, ◌&&◌, Some, slice_get, arith, map, ◌+◌, IsTrue, ℤ, pos, list_all, lt-ltb, ltb-true, list_all-append, left_true, right_true, list_all_each, list_all_from, length-numbers, numbers_at, slice_get_there, slice_index_is, map_from}
 use Rattle.base_lists.specs.Places.{numbers}
-use Rattle.base_lists.proofs.Bools.{left_true, right_true}
-use Rattle.base_lists.proofs.Each.{list_all_each, list_all_from}
-use Rattle.base_lists.proofs.Numbers.{length-numbers, numbers_at}
-use Rattle.base_lists.proofs.Places.{slice_get_there, slice_index_is, map_from}
-use Rattle.wasm_tree.specs.declared.space.Operand.{Operand}
-use Rattle.wasm_tree.specs.declared.space.Space.TheVariants.{Types, Tables}
-use Rattle.wasm_tree.specs.declared.types.ValType.{ValType}
+use Rattle.wasm_tree_spec.specs.Prelude.{Operand, Types, Tables, ValType, Call, CallIndirect, I32Const, LocalGet, Func, ImportDesc, Module, all_operands_pass, called, operands_pass, funcs_of, tables_of, memories_of, globals_of}
 use Rattle.wasm_tree.specs.declared.instr.Instr.{out-Instr}
-use Rattle.wasm_tree.specs.declared.instr.Instr.TheVariants.{Call, CallIndirect, I32Const, LocalGet}
 use Rattle.wasm_tree.specs.declared.module.ConstExpr.TheVariants as const
-use Rattle.wasm_tree.specs.declared.module.Func.{Func}
-use Rattle.wasm_tree.specs.declared.module.ImportDesc.{ImportDesc}
 use Rattle.wasm_tree.specs.declared.module.ImportDesc.TheVariants as im
-use Rattle.wasm_tree.specs.declared.module.Module.{Module}
-use Rattle.wasm_tree.specs.Operands.{all_operands_pass, called, named, operands_pass}
-use Rattle.wasm_tree.specs.Spaces.{funcs_of, tables_of, memories_of, globals_of}
+use Rattle.wasm_tree.specs.Operands.{named}
 use Rattle.wasm_tree.proofs.OperandLaws.{passes_inside}
-use Rattle.wasm_valid.specs.Validity.{IsValid, ImportHolds}
+use Rattle.wasm_valid.specs.Prelude.{IsValid, ImportHolds}
 use Rattle.index_remap.specs.declared.remap.Remap.{Remap}
-use Rattle.index_remap.specs.Renumbered.{fits_func, fits_import, fits_tree, has, has_entry, fits_const, fits_import_desc}
-use Rattle.index_remap.specs.Trampolines.{gets, slot_call}
+use Rattle.index_remap.specs.Prelude.{fits_func, fits_import, fits_tree, has, has_entry, fits_const, fits_import_desc, gets, slot_call}
 use Rattle.index_remap_proof.specs.Trees.{Covers}
 use Rattle.index_remap_proof.proofs.Lists.{both_true}
-use Rattle.split_spec.specs.Slots.{call_by_slot, slot_table, type_index, in_slots}
+use Rattle.split_spec.specs.Prelude.{call_by_slot, slot_table, type_index, in_slots}
 use Rattle.split_proof.proofs.Spaces.{ItemsHold, type_there}
 
 -- a map that is as long as each index space has an entry for each index that a valid module names

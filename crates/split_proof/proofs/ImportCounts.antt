@@ -1,8 +1,8 @@
 -- How many imports the primary module has: those of the module that is split, and a placeholder for each function that moves.
-use Rattle.std.proofs.Common.{◌≡◌, ℕ, suc, List, [], ◌∷◌, length, refl, ap}
-use Rattle.wasm_tree.specs.declared.module.Module.{Module}
-use Rattle.index_remap.specs.References.{with_declared}
-use Rattle.split_spec.specs.Primary.{placeholder_imports}
+use Rattle.base_lists.proofs.Common.{◌≡◌, ℕ, suc, List, [], ◌∷◌, length, refl, ap}
+use Rattle.wasm_tree_spec.specs.Prelude.{Module}
+use Rattle.index_remap.specs.Prelude.{with_declared}
+use Rattle.split_spec.specs.Prelude.{placeholder_imports}
 
 pub same_imports : (t : Module) (fs : List ℕ) → (with_declared t fs).imports ≡ t.imports
 same_imports t [] = refl

@@ -1,15 +1,10 @@
 -- Lists: what is chosen at marked places, indices into two lists in a row, and the first place of a number.
-use Rattle.std.proofs.Common.{◌≡◌, ◌∙◌, ap, ap₂, sym, refl, ℕ, zero, suc, ◌+◌, ◌<◌, List, [], ◌∷◌, ◌++◌, drop, eq-eqb, map, length, nat_eq, true≢false, Bool, true, false, cond, ◌||◌, Option, Some, None, option_and_then, filter_map, slice_get, slice_index, arith, ⊎_elim}
-use Rattle.std.specs.Prelude.{Contains}
-use Rattle.std.specs.List.{cons_option, list_any}
-use Rattle.std.proofs.lemmas.Option.{get_or_from_slice_get, slice_get_within}
+use Rattle.base_lists.proofs.Common.{◌≡◌, ◌∙◌, ap, ap₂, sym, refl, ℕ, zero, suc, ◌+◌, ◌<◌, List, [], ◌∷◌, ◌++◌, drop, map, length, nat_eq, true≢false, Bool, true, false, cond, ◌||◌, Option, Some, None, option_and_then, slice_get, slice_index, arith, ⊎_elim, Contains, cons_option, list_any, get_or_from_slice_get, slice_get_within, cond_is, list_any_there, append_at_left, append_right, slice_get_there, slice_index_is}
+use Rattle.std.proofs.Common.{eq-eqb, filter_map}
 use Rattle.base_lists.specs.Places.{first_place, places}
-use Rattle.base_lists.proofs.Bools.{cond_is}
-use Rattle.base_lists.proofs.Each.{list_any_there}
-use Rattle.base_lists.proofs.Places.{append_at_left, append_right, slice_get_there, slice_index_is}
 use Rattle.base_kept.specs.Kept.{is_marked, kept, kept_before}
 use Rattle.base_kept.proofs.Laws.{kept_map}
-use Rattle.index_remap.specs.References.{is_among}
+use Rattle.index_remap.specs.Prelude.{is_among}
 use Rattle.index_remap_proof.proofs.Lists.{left_either, right_either, same_number}
 use Rattle.base_lists.specs.Every.{Every}
 

@@ -1,12 +1,6 @@
 -- The names of the exports that the primary module has for a secondary one differ from one another.
-use Rattle.std.proofs.Common.{◌≡◌, ◌∙◌, ap, sym, ℕ, zero, suc, ◌^◌, ◌<◌, ◌≤◌, List, [], ◌∷◌, ◌++◌, map, length, Bool, true, false, Some, ⊎_elim, slice_get, arith}
-use Rattle.std.specs.Prelude.{decimal}
-use Rattle.std.proofs.lemmas.Fmt.{decimal_injective}
-use Rattle.std.proofs.lemmas.List.{append_cancel_left}
-use Rattle.std.proofs.lemmas.Option.{slice_get_within}
+use Rattle.base_lists.proofs.Common.{◌≡◌, ◌∙◌, ap, sym, ℕ, zero, suc, ◌^◌, ◌<◌, ◌≤◌, List, [], ◌∷◌, ◌++◌, map, length, Bool, true, false, Some, ⊎_elim, slice_get, arith, decimal, decimal_injective, append_cancel_left, slice_get_within, append_from, map_from, place_back}
 use Rattle.base_lists.specs.Places.{places}
-use Rattle.base_lists.proofs.Places.{append_from, map_from}
-use Rattle.base_lists.proofs.Filtered.{place_back}
 
 -- no two are the same
 abbrev pub Distinct : {A : Type 0} → List A → Type 0

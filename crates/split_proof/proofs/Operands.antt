@@ -1,11 +1,7 @@
 -- What code names: each operand of it passes where each test that it passes is one that some operand of the code passes.
-use Rattle.std.proofs.Common.{◌≡◌, ◌∙◌, List, [], ◌∷◌, Bool, true, refl}
-use Rattle.std.specs.List.{list_all, list_any}
+use Rattle.base_lists.proofs.Common.{◌≡◌, ◌∙◌, List, [], ◌∷◌, Bool, true, refl, list_all, list_any}
 use Rattle.base_lists.specs.Every.{Every}
-use Rattle.wasm_tree.specs.declared.space.Operand.{Operand}
-use Rattle.wasm_tree.specs.declared.instr.Instr.{Instr, out-Instr}
-use Rattle.wasm_tree.specs.Operands.{all_operands_pass, any_operand_passes, held, operand_passes, operands_of, operands_pass}
-use Rattle.wasm_tree.specs.OperandLaws.{AnyInside, PassesInside}
+use Rattle.wasm_tree_spec.specs.Prelude.{Operand, Instr, out-Instr, all_operands_pass, any_operand_passes, held, operand_passes, operands_of, operands_pass, AnyInside, PassesInside}
 use Rattle.wasm_tree.proofs.OperandLaws.{by_held}
 use Rattle.index_remap_proof.proofs.Lists.{both_true, left_either, right_either}
 

@@ -1,18 +1,12 @@
 -- Code in which other code stands in place of calls passes a test of operands where the code and what stands in it do.
-use Rattle.std.proofs.Common.{◌≡◌, ◌∙◌, ap, sym, refl, ℕ, List, [], ◌∷◌, Bool, true, not}
-use Rattle.std.specs.List.{list_all}
-use Rattle.std.proofs.lemmas.List.Folds.{list_all-append}
-use Rattle.base_lists.proofs.Bools.{left_true, right_true}
-use Rattle.wasm_tree.specs.declared.space.Operand.{Operand}
-use Rattle.wasm_tree.specs.declared.types.BlockType.{BlockType}
+use Rattle.base_lists.proofs.Common.{◌≡◌, ◌∙◌, ap, sym, refl, ℕ, List, [], ◌∷◌, Bool, true, not, list_all, list_all-append, left_true, right_true}
+use Rattle.wasm_tree_spec.specs.Prelude.{Operand, BlockType, Instr, fold_out-Instr, Row_of-Instr, items-the_row-Instr, end_of-Instr, more_of-Instr, Block, Block', Loop, Loop', If, If', Call, all_operands_pass, block_operands, called, held, operands_of, operands_pass}
 use Rattle.wasm_tree.specs.declared.types.BlockType.TheVariants as block
-use Rattle.wasm_tree.specs.declared.instr.Instr.{Instr, fold_out-Instr, out-Instr, Row_of-Instr, items-the_row-Instr, end_of-Instr, more_of-Instr}
-use Rattle.wasm_tree.specs.declared.instr.Instr.TheVariants.{Block, Block', Loop, Loop', If, If', Call}
-use Rattle.wasm_tree.specs.Operands.{all_operands_pass, block_operands, called, held, operands_of, operands_pass}
+use Rattle.wasm_tree.specs.declared.instr.Instr.{out-Instr}
 use Rattle.wasm_tree.proofs.OperandLaws.{block_passes, if_passes, loop_passes, passes_inside}
 use Rattle.index_remap.proofs.Rows.{block_is, loop_is, if_is}
 use Rattle.index_remap_proof.proofs.Lists.{both_true}
-use Rattle.split_spec.specs.Calls.{calls_in, calls_step, with_calls}
+use Rattle.split_spec.specs.Prelude.{calls_in, calls_step, with_calls}
 use Rattle.split_proof.proofs.Blocks.{block_calls, if_calls, loop_calls}
 
 module _ (old new : Operand → Bool) (code : ℕ → List Instr) (others : (o : Operand) → not o.called ≡ true → old o ≡ true → new o ≡ true) (codes : (f : ℕ) → old (called f) ≡ true → all_operands_pass new (code f) ≡ true) where

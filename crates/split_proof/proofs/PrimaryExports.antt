@@ -1,37 +1,17 @@
 -- Each export of the primary module holds: it is in its space, and none before it has its name.
-use Rattle.std.proofs.Common.{◌≡◌, ◌∙◌, ap, ap₂, sym, subst, refl, ℕ, zero, suc, ◌+◌, ◌^◌, ◌<◌, ◌≤◌, List, [], ◌∷◌, ◌++◌, map, take, length, Bool, true, false, Some, None, ⊎_elim, slice_get, slice_index, arith, true≢false}
-use Rattle.std.specs.Prelude.{Contains}
-use Rattle.std.specs.List.{list_any}
-use Rattle.std.specs.Str.{bytes_eq}
-use Rattle.std.proofs.lemmas.List.{length-map, length-append, map-append, take-map}
-use Rattle.std.proofs.lemmas.Option.{slice_get_within}
-use Rattle.std.proofs.lemmas.Slice.Eq.{bytes_eq-Decides}
+use Rattle.base_lists.proofs.Common.{◌≡◌, ◌∙◌, ap, ap₂, sym, subst, refl, ℕ, zero, suc, ◌+◌, ◌^◌, ◌<◌, ◌≤◌, List, [], ◌∷◌, ◌++◌, map, take, length, Bool, true, false, Some, None, ⊎_elim, slice_get, slice_index, arith, true≢false, Contains, list_any, bytes_eq, length-map, length-append, map-append, take-map, slice_get_within, bytes_eq-Decides, cond_is, has_chosen, length-numbers, numbers_index, append_from, map_at, map_from, map_twice, slice_get_there}
 use Rattle.base_lists.specs.Places.{numbers}
-use Rattle.base_lists.proofs.Bools.{cond_is}
-use Rattle.base_lists.proofs.Filtered.{has_chosen}
-use Rattle.base_lists.proofs.Numbers.{length-numbers, numbers_index}
-use Rattle.base_lists.proofs.Places.{append_from, map_at, map_from, map_twice, slice_get_there}
-use Rattle.wasm_tree.specs.declared.space.Space.{Space}
-use Rattle.wasm_tree.specs.declared.space.Space.TheVariants.{Functions, Tables, Memories, Globals}
-use Rattle.wasm_tree.specs.declared.module.Export.{Export}
-use Rattle.wasm_tree.specs.declared.module.ExportDesc.{ExportDesc}
+use Rattle.wasm_tree_spec.specs.Prelude.{Space, Functions, Tables, Memories, Globals, Export, ExportDesc, Module, IsBounded, funcs_of, globals_of, memories_of, tables_of}
 use Rattle.wasm_tree.specs.declared.module.ExportDesc.TheVariants as ex
 use Rattle.wasm_tree.specs.declared.module.ImportDesc.TheVariants as im
-use Rattle.wasm_tree.specs.declared.module.Module.{Module}
-use Rattle.wasm_tree.specs.Bounds.{IsBounded}
-use Rattle.wasm_tree.specs.Spaces.{funcs_of, globals_of, memories_of, tables_of}
 use Rattle.wasm_valid.specs.declared.kinds.ItemKind.TheVariants as kind
-use Rattle.wasm_valid.specs.Named.{elem_refs, export_func, export_refs, global_refs}
-use Rattle.wasm_valid.specs.Validity.{HoldsAt, InSpace}
+use Rattle.wasm_valid.specs.Prelude.{elem_refs, export_func, export_refs, global_refs, HoldsAt, InSpace}
 use Rattle.index_remap.specs.declared.remap.Remap.{Remap}
-use Rattle.index_remap.specs.References.{is_among}
-use Rattle.index_remap.specs.Renumbered.{new_export, new_export_desc}
+use Rattle.index_remap.specs.Prelude.{is_among, new_export, new_export_desc}
 use Rattle.index_remap_proof.specs.Trees.{TreesAgree}
 use Rattle.index_remap_proof.proofs.Lists.{among_right}
-use Rattle.split_spec.specs.Slots.{defined_at, slot_table}
-use Rattle.split_spec.specs.FromPrimary.{entities, exports_for_secondary, from_primary, is_from_primary, marks_from_primary, name_from_primary, slots_name}
-use Rattle.split_spec.specs.Primary.{added_exports, is_left}
-use Rattle.split_spec.specs.Faults.{name_taken, prefix_taken}
+use Rattle.split_spec.specs.Prelude.{defined_at, slot_table, entities, exports_for_secondary, from_primary, is_from_primary, marks_from_primary, name_from_primary, slots_name, added_exports, is_left, prefix_taken}
+use Rattle.split_spec.specs.Faults.{name_taken}
 use Rattle.split_proof.specs.Premises.{CanMove}
 use Rattle.split_proof.proofs.Lists.{contains_there, list_any_at, there_among, there_contains}
 use Rattle.split_proof.proofs.Names.{Distinct, HasLetter, distinct_append, letters_apart, named, named_distinct, named_letter}

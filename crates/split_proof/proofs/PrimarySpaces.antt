@@ -1,40 +1,22 @@
 -- The index spaces of the primary module: what the module imports, the placeholders, and what is left of what it defines; and where each index goes.
-use Rattle.std.proofs.Common.{◌≡◌, ◌∙◌, ap, ap₂, sym, subst, refl, ℕ, zero, suc, ◌+◌, ◌<◌, ◌≤◌, List, [], ◌∷◌, ◌++◌, drop, map, length, Option, Some, None, Bool, true, false, not, ⊎_elim, filter_map, option_and_then, slice_get, slice_index, arith, append_assoc}
-use Rattle.std.specs.Prelude.{decimal, nat_le, nat_lt}
-use Rattle.std.specs.List.{cons_option}
-use Rattle.std.proofs.lemmas.Bool.{leb-true}
-use Rattle.std.proofs.lemmas.List.{append-nil, length-append, length-drop, length-map}
-use Rattle.std.proofs.lemmas.List.Elements.{filter_map-append}
-use Rattle.std.proofs.lemmas.Option.{get_or_from_slice_get, slice_get_within}
+use Rattle.base_lists.proofs.Common.{◌≡◌, ◌∙◌, ap, ap₂, sym, subst, refl, ℕ, zero, suc, ◌+◌, ◌<◌, ◌≤◌, List, [], ◌∷◌, ◌++◌, drop, map, length, Option, Some, None, Bool, true, false, not, ⊎_elim, option_and_then, slice_get, slice_index, arith, append_assoc, decimal, nat_le, nat_lt, cons_option, leb-true, length-append, length-drop, length-map, filter_map-append, get_or_from_slice_get, slice_get_within, left_true, every_at, length-numbers, numbers_at, numbers_index, and_then_is, append_at_left, append_from, append_right, drop_at, map_at, map_from, map_twice, push_last, slice_get_there, slice_index_is}
+use Rattle.std.proofs.Common.{filter_map}
+use Rattle.std.proofs.lemmas.List.{append-nil}
 use Rattle.base_lists.specs.Places.{numbers}
-use Rattle.base_lists.proofs.Bools.{left_true}
-use Rattle.base_lists.proofs.Each.{every_at}
-use Rattle.base_lists.proofs.Numbers.{length-numbers, numbers_at, numbers_index}
-use Rattle.base_lists.proofs.Options.{and_then_is}
-use Rattle.base_lists.proofs.Places.{append_at_left, append_from, append_right, drop_at, map_at, map_from, map_twice, push_last, slice_get_there, slice_index_is}
 use Rattle.base_kept.specs.Kept.{is_marked, kept, kept_before, new_places}
 use Rattle.base_kept.proofs.Laws.{kept_at, kept_from, kept_map}
-use Rattle.wasm_tree.specs.declared.space.Space.TheVariants.{Types, Functions, Tables, Memories, Globals, ElementSegments, DataSegments}
+use Rattle.wasm_tree_spec.specs.Prelude.{Types, Functions, Tables, Memories, Globals, ElementSegments, DataSegments, Func, Import, ImportDesc, Module, func_of, table_of, memory_of, global_of, imported_funcs, imported_tables, imported_globals, funcs_of, tables_of, memories_of, globals_of}
 use Rattle.wasm_tree.specs.declared.types.RefType.TheVariants.{Func as func_ref}
-use Rattle.wasm_tree.specs.declared.module.Func.{Func}
-use Rattle.wasm_tree.specs.declared.module.Import.{Import}
-use Rattle.wasm_tree.specs.declared.module.ImportDesc.{ImportDesc}
 use Rattle.wasm_tree.specs.declared.module.ImportDesc.TheVariants as im
-use Rattle.wasm_tree.specs.declared.module.Module.{Module}
-use Rattle.wasm_tree.specs.Spaces.{func_of, table_of, memory_of, global_of, imported_funcs, imported_tables, imported_globals, funcs_of, tables_of, memories_of, globals_of}
-use Rattle.wasm_valid.specs.SpaceTypes.{elem_types, table_types}
-use Rattle.wasm_valid.specs.Validity.{ImportHolds}
+use Rattle.wasm_valid.specs.Prelude.{elem_types, table_types, ImportHolds}
 use Rattle.index_remap.specs.declared.remap.Remap.{Remap}
-use Rattle.index_remap.specs.References.{is_among}
-use Rattle.index_remap.specs.Renumbered.{new_data, new_elem, new_func, new_global, new_import, new_import_desc, renumbered_tree}
+use Rattle.index_remap.specs.Prelude.{is_among, new_data, new_elem, new_func, new_global, new_import, new_import_desc, renumbered_tree}
 use Rattle.index_remap_proof.specs.Indices.{Indices}
 use Rattle.index_remap_proof.specs.Trees.{TreesAgree}
 use Rattle.index_remap_proof.proofs.Lists.{left_either, two_cases}
 use Rattle.split_plan.specs.Words.{is_defined}
 use Rattle.split_plan.specs.Plans.{body_uses_segment}
-use Rattle.split_spec.specs.Slots.{in_slots, place_among, slot_segment, slot_table, slot_table_type, type_index}
-use Rattle.split_spec.specs.Needed.{is_needed}
-use Rattle.split_spec.specs.Primary.{is_left, left_marks, placeholder_imports, primary_func, primary_funcs, primary_map, primary_tree}
+use Rattle.split_spec.specs.Prelude.{in_slots, place_among, slot_segment, slot_table, slot_table_type, type_index, is_needed, is_left, left_marks, placeholder_imports, primary_func, primary_funcs, primary_map, primary_tree}
 use Rattle.split_proof.specs.Premises.{CanMove}
 use Rattle.split_proof.proofs.Lists.{among_there, before_drop, index_left, index_right, map_stays}
 use Rattle.split_proof.proofs.Spaces.{ItemsHold, Moves, moves, func_holds, import_holds, type_there}

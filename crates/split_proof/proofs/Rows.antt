@@ -1,24 +1,18 @@
 -- What the laws ask for is met by a small module; and the tree of a secondary module whose references are not declared yet is not always valid, nor is a primary
 -- module that calls through a slot by another type.
-use Rattle.std.proofs.Common.{◌≡◌, refl, sym, subst, ℕ, zero, suc, ◌^◌, ◌<◌, [], ◌∷◌, Some, None, slice_get, arith, rules, ◌∙◌, ◌++◌}
+use Rattle.base_lists.proofs.Common.{◌≡◌, refl, sym, subst, ℕ, zero, suc, ◌^◌, ◌<◌, [], ◌∷◌, Some, None, slice_get, arith, rules, ◌∙◌, ◌++◌, pos}
 use Rattle.std.specs.Fmt.{digits}
-use Rattle.std.specs.Prelude.{pos}
 use Rattle.wasm_tree.specs.declared.types.ValType.TheVariants as valt
-use Rattle.wasm_tree.specs.declared.types.FuncType.{FuncType}
-use Rattle.wasm_tree.specs.declared.instr.Instr.{the_lemmas}
+use Rattle.wasm_tree_spec.specs.Prelude.{FuncType, the_lemmas, Func, Module, IsBounded, local_count}
 use Rattle.wasm_tree.specs.declared.instr.Instr.TheVariants as i
 use Rattle.wasm_tree.specs.declared.module.ConstExpr.TheVariants as const
 use Rattle.wasm_tree.specs.declared.module.ExportDesc.TheVariants as ex
-use Rattle.wasm_tree.specs.declared.module.Func.{Func}
 use Rattle.wasm_tree.specs.declared.module.ImportDesc.TheVariants as im
-use Rattle.wasm_tree.specs.declared.module.Module.{Module}
-use Rattle.wasm_tree.specs.Bounds.{IsBounded, local_count}
 use Rattle.wasm_valid_bodies.specs.Typing.{Acts, AllMatch, Gives, Stack, WellTyped}
-use Rattle.wasm_valid.specs.Validity.{IsValid, body_context}
-use Rattle.index_remap.specs.References.{declaring}
-use Rattle.index_remap.specs.Renumbered.{renumbered_tree}
-use Rattle.split_spec.specs.Faults.{prefix_taken}
-use Rattle.split_spec.specs.Secondary.{secondary, secondary_map, secondary_tree, secondary_with}
+use Rattle.wasm_valid.specs.Prelude.{IsValid, body_context}
+use Rattle.index_remap.specs.Prelude.{declaring, renumbered_tree}
+use Rattle.split_spec.specs.Prelude.{prefix_taken, secondary, secondary_map, secondary_tree}
+use Rattle.split_spec.specs.Secondary.{secondary_with}
 use Rattle.split_spec.proofs.Rows.{calling as calls_next, calling_primary, empty, export, func, gives_number, import, names, nothing, primary_word, segment, slots_import}
 use Rattle.split_proof.specs.Premises.{CanMove}
 

@@ -1,34 +1,17 @@
 -- The map of a secondary module has an entry for each index that is named in its tree.
-use Rattle.std.proofs.Common.{◌≡◌, ◌∙◌, ap, sym, refl, ℕ, ◌+◌, ◌-◌, ◌<◌, List, [], ◌∷◌, map, length, Bool, true, false, ◌&&◌, not, Option, Some, None, ⊎_elim, slice_get, arith, true≢false}
-use Rattle.std.specs.Prelude.{IsTrue}
-use Rattle.std.specs.List.{list_all}
-use Rattle.std.proofs.lemmas.List.{length-append, length-map}
-use Rattle.std.proofs.lemmas.Option.{slice_get_within}
+use Rattle.base_lists.proofs.Common.{◌≡◌, ◌∙◌, ap, sym, refl, ℕ, ◌+◌, ◌-◌, ◌<◌, List, [], ◌∷◌, map, length, Bool, true, false, ◌&&◌, not, Option, Some, None, ⊎_elim, slice_get, arith, true≢false, IsTrue, list_all, length-append, length-map, slice_get_within, left_true, right_true, list_all_from, length-numbers, map_from, slice_get_there}
 use Rattle.base_lists.specs.Places.{numbers}
-use Rattle.base_lists.proofs.Bools.{left_true, right_true}
-use Rattle.base_lists.proofs.Each.{list_all_from}
-use Rattle.base_lists.proofs.Numbers.{length-numbers}
-use Rattle.base_lists.proofs.Places.{map_from, slice_get_there}
 use Rattle.base_kept.specs.Kept.{new_places}
-use Rattle.wasm_tree.specs.declared.space.Operand.{Operand}
-use Rattle.wasm_tree.specs.declared.space.Space.{Space}
-use Rattle.wasm_tree.specs.declared.space.Space.TheVariants.{Types, Functions, Tables, Memories, Globals, ElementSegments, DataSegments}
-use Rattle.wasm_tree.specs.declared.module.Func.{Func}
+use Rattle.wasm_tree_spec.specs.Prelude.{Operand, Space, Types, Functions, Tables, Memories, Globals, ElementSegments, DataSegments, Func, Module, all_operands_pass, called, imported_funcs, funcs_of, tables_of, memories_of, globals_of}
 use Rattle.wasm_tree.specs.declared.module.ImportDesc.TheVariants as im
-use Rattle.wasm_tree.specs.declared.module.Module.{Module}
-use Rattle.wasm_tree.specs.Operands.{all_operands_pass, called}
-use Rattle.wasm_tree.specs.Spaces.{imported_funcs, funcs_of, tables_of, memories_of, globals_of}
 use Rattle.wasm_tree.proofs.OperandLaws.{passes_both}
-use Rattle.wasm_valid.specs.Validity.{IsValid}
+use Rattle.wasm_valid.specs.Prelude.{IsValid}
 use Rattle.index_remap.specs.declared.remap.Remap.{Remap}
-use Rattle.index_remap.specs.Renumbered.{entries, fits_func, fits_import, fits_tree, has, has_entry}
+use Rattle.index_remap.specs.Prelude.{entries, fits_func, fits_import, fits_tree, has, has_entry}
 use Rattle.index_remap_proof.proofs.Lists.{both_true, two_cases}
 use Rattle.split_plan.specs.Segments.{names_segment}
 use Rattle.split_spec.specs.declared.names.SplitNames.{SplitNames}
-use Rattle.split_spec.specs.Calls.{with_calls}
-use Rattle.split_spec.specs.Slots.{call_by_slot, defined_at, place_among, slot_table}
-use Rattle.split_spec.specs.FromPrimary.{from_primary, marks_from_primary}
-use Rattle.split_spec.specs.Secondary.{secondary_call, secondary_call_by_place, secondary_func, secondary_imports, secondary_tree}
+use Rattle.split_spec.specs.Prelude.{with_calls, call_by_slot, defined_at, place_among, slot_table, from_primary, marks_from_primary, secondary_call, secondary_call_by_place, secondary_func, secondary_imports, secondary_tree}
 use Rattle.split_proof.specs.Premises.{CanMove}
 use Rattle.split_proof.proofs.Bodies.{BodyLaws}
 use Rattle.split_proof.proofs.Fits.{EntriesAreThere, body_exact, call_passes, called_below, exact, desc_fits, has_below, longer, slots_fit, through_slot_passes}

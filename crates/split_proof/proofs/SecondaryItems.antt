@@ -1,39 +1,18 @@
 -- Each item of a secondary module holds, but for references.
-use Rattle.std.proofs.Common.{◌≡◌, ◌∙◌, ap, ap₂, sym, subst, refl, ℕ, zero, suc, ◌+◌, ◌-◌, ◌<◌, List, [], ◌∷◌, ◌++◌, map, length, Option, Some, None, Bool, true, false, ◌&&◌, ◌||◌, not, eq-eqb, ⊎_elim, option_and_then, slice_get, slice_index, arith, true≢false}
-use Rattle.std.specs.Prelude.{option_map}
-use Rattle.std.proofs.lemmas.List.{length-map}
-use Rattle.std.proofs.lemmas.Option.{slice_get_within}
-use Rattle.base_lists.proofs.Filtered.{chosen_from}
-use Rattle.base_lists.proofs.Numbers.{numbers_index}
-use Rattle.base_lists.proofs.Options.{option_map_is}
-use Rattle.base_lists.proofs.Places.{append_from, map_at, map_from, slice_get_there}
-use Rattle.wasm_tree.specs.declared.space.Operand.{Operand}
-use Rattle.wasm_tree.specs.declared.space.Space.{Space}
-use Rattle.wasm_tree.specs.declared.space.Space.TheVariants.{Types, Functions, Tables, Memories, Globals, ElementSegments, DataSegments}
-use Rattle.wasm_tree.specs.declared.types.FuncType.{FuncType}
-use Rattle.wasm_tree.specs.declared.instr.Instr.TheVariants.{Call}
-use Rattle.wasm_tree.specs.declared.module.Func.{Func}
-use Rattle.wasm_tree.specs.declared.module.Import.{Import}
-use Rattle.wasm_tree.specs.declared.module.ImportDesc.{ImportDesc}
+use Rattle.base_lists.proofs.Common.{◌≡◌, ◌∙◌, ap, ap₂, sym, subst, refl, ℕ, zero, suc, ◌+◌, ◌-◌, ◌<◌, List, [], ◌∷◌, ◌++◌, map, length, Option, Some, None, Bool, true, false, ◌&&◌, ◌||◌, not, ⊎_elim, option_and_then, slice_get, slice_index, arith, true≢false, option_map, length-map, slice_get_within, chosen_from, numbers_index, option_map_is, append_from, map_at, map_from, slice_get_there}
+use Rattle.std.proofs.Common.{eq-eqb}
+use Rattle.wasm_tree_spec.specs.Prelude.{Operand, Space, Types, Functions, Tables, Memories, Globals, ElementSegments, DataSegments, FuncType, Call, Func, Import, ImportDesc, Module, any_operand_passes, same_space, imported_funcs, funcs_of}
 use Rattle.wasm_tree.specs.declared.module.ImportDesc.TheVariants as im
-use Rattle.wasm_tree.specs.declared.module.Module.{Module}
-use Rattle.wasm_tree.specs.Operands.{any_operand_passes, same_space}
-use Rattle.wasm_tree.specs.Spaces.{imported_funcs, funcs_of}
 use Rattle.wasm_valid_bodies.specs.Typing.{WellTyped}
 use Rattle.wasm_valid.specs.declared.kinds.ItemKind.TheVariants as kind
-use Rattle.wasm_valid.specs.Validity.{ImportHolds, body_context}
+use Rattle.wasm_valid.specs.Prelude.{ImportHolds, body_context}
 use Rattle.index_remap.specs.declared.remap.Remap.{Remap}
-use Rattle.index_remap.specs.Agreement.{func_type}
-use Rattle.index_remap.specs.References.{is_among}
-use Rattle.index_remap.specs.Renumbered.{new_func, new_import, new_import_desc, renumbered_all}
-use Rattle.index_remap.specs.Replaced.{is_opaque_call}
+use Rattle.index_remap.specs.Prelude.{func_type, is_among, new_func, new_import, new_import_desc, renumbered_all, is_opaque_call}
 use Rattle.index_remap_proof.specs.ButForReferences.{IsValidButForReferences}
 use Rattle.index_remap_proof.proofs.Lists.{among_append, left_either, right_either}
 use Rattle.split_plan.specs.Segments.{names_segment}
 use Rattle.split_spec.specs.declared.names.SplitNames.{SplitNames}
-use Rattle.split_spec.specs.Slots.{call_by_slot, defined_at, place_among, slot_table_type}
-use Rattle.split_spec.specs.FromPrimary.{entities, from_primary, imports_from_primary, is_from_primary, is_named_from_primary, name_from_primary, slots_name}
-use Rattle.split_spec.specs.Secondary.{secondary_call, secondary_call_by_place, secondary_func, secondary_imports}
+use Rattle.split_spec.specs.Prelude.{call_by_slot, defined_at, place_among, slot_table_type, entities, from_primary, imports_from_primary, is_from_primary, is_named_from_primary, name_from_primary, slots_name, secondary_call, secondary_call_by_place, secondary_func, secondary_imports}
 use Rattle.split_proof.specs.Premises.{CanMove}
 use Rattle.split_proof.proofs.Bodies.{BodyLaws, CodeIsTyped, MetAgrees, body_typed, entry_agrees}
 use Rattle.split_proof.proofs.Lists.{left_false, list_any_at, right_false, no_place, none_among, place_is}

@@ -1,40 +1,22 @@
 -- The index spaces of a secondary module: what it imports from the primary one and then the functions of its own, and where each index of the module goes.
-use Rattle.std.proofs.Common.{◌≡◌, ◌∙◌, ap, ap₂, sym, refl, ℕ, ◌+◌, ◌-◌, ◌<◌, List, [], ◌∷◌, ◌++◌, map, length, Option, Some, None, Bool, true, false, filter_map, option_and_then, slice_get, slice_index, arith, true≢false}
-use Rattle.std.specs.Prelude.{option_map}
-use Rattle.std.specs.List.{cons_option}
-use Rattle.std.proofs.lemmas.List.{append-nil, length-append, length-map, map-append}
-use Rattle.std.proofs.lemmas.List.Elements.{filter_map-append}
-use Rattle.std.proofs.lemmas.Option.{get_or_from_slice_get, slice_get_within}
+use Rattle.base_lists.proofs.Common.{◌≡◌, ◌∙◌, ap, ap₂, sym, refl, ℕ, ◌+◌, ◌-◌, ◌<◌, List, [], ◌∷◌, ◌++◌, map, length, Option, Some, None, Bool, true, false, option_and_then, slice_get, slice_index, arith, true≢false, option_map, cons_option, length-append, length-map, map-append, filter_map-append, get_or_from_slice_get, slice_get_within, every_at, length-numbers, numbers_at, numbers_index, and_then_is, append_at_left, append_right, map_at, map_from, push_last, slice_get_there}
+use Rattle.std.proofs.Common.{filter_map}
+use Rattle.std.proofs.lemmas.List.{append-nil}
 use Rattle.base_lists.specs.Places.{numbers}
-use Rattle.base_lists.proofs.Each.{every_at}
-use Rattle.base_lists.proofs.Numbers.{length-numbers, numbers_at, numbers_index}
-use Rattle.base_lists.proofs.Options.{and_then_is}
-use Rattle.base_lists.proofs.Places.{append_at_left, append_right, map_at, map_from, push_last, slice_get_there}
 use Rattle.base_kept.specs.Kept.{is_marked, kept, new_places, kept_before}
 use Rattle.base_kept.proofs.Laws.{kept_from, moved as kept_moved}
-use Rattle.wasm_tree.specs.declared.space.Space.{Space}
-use Rattle.wasm_tree.specs.declared.space.Space.TheVariants.{Types, Functions, Tables, Memories, Globals, ElementSegments, DataSegments}
+use Rattle.wasm_tree_spec.specs.Prelude.{Space, Types, Functions, Tables, Memories, Globals, ElementSegments, DataSegments, Limits, TableType, GlobalType, Func, Import, ImportDesc, Module, func_of, table_of, memory_of, global_of, imported_funcs, imported_tables, imported_memories, imported_globals, funcs_of, tables_of, memories_of, globals_of}
 use Rattle.wasm_tree.specs.declared.types.RefType.TheVariants.{Func as func_ref}
-use Rattle.wasm_tree.specs.declared.types.Limits.{Limits}
-use Rattle.wasm_tree.specs.declared.types.TableType.{TableType}
-use Rattle.wasm_tree.specs.declared.types.GlobalType.{GlobalType}
-use Rattle.wasm_tree.specs.declared.module.Func.{Func}
-use Rattle.wasm_tree.specs.declared.module.Import.{Import}
-use Rattle.wasm_tree.specs.declared.module.ImportDesc.{ImportDesc}
 use Rattle.wasm_tree.specs.declared.module.ImportDesc.TheVariants as im
-use Rattle.wasm_tree.specs.declared.module.Module.{Module}
-use Rattle.wasm_tree.specs.Spaces.{func_of, table_of, memory_of, global_of, imported_funcs, imported_tables, imported_memories, imported_globals, funcs_of, tables_of, memories_of, globals_of}
-use Rattle.wasm_valid.specs.SpaceTypes.{table_types}
+use Rattle.wasm_valid.specs.Prelude.{table_types}
 use Rattle.index_remap.specs.declared.remap.Remap.{Remap}
-use Rattle.index_remap.specs.Renumbered.{new_func, new_import, new_import_desc, renumbered_tree}
+use Rattle.index_remap.specs.Prelude.{new_func, new_import, new_import_desc, renumbered_tree}
 use Rattle.index_remap_proof.specs.Indices.{Indices}
 use Rattle.index_remap_proof.specs.Trees.{TreesAgree}
 use Rattle.split_plan.specs.Words.{is_defined}
 use Rattle.split_plan.specs.Plans.{body_uses_segment}
 use Rattle.split_spec.specs.declared.names.SplitNames.{SplitNames}
-use Rattle.split_spec.specs.Slots.{defined_at, slot_table, slot_table_type}
-use Rattle.split_spec.specs.FromPrimary.{entities, from_primary, imports_from_primary, is_from_primary, marks_from_primary, name_from_primary}
-use Rattle.split_spec.specs.Secondary.{secondary_func, secondary_map, secondary_tree}
+use Rattle.split_spec.specs.Prelude.{defined_at, slot_table, slot_table_type, entities, from_primary, imports_from_primary, is_from_primary, marks_from_primary, name_from_primary, secondary_func, secondary_map, secondary_tree}
 use Rattle.split_proof.specs.Premises.{CanMove}
 use Rattle.split_proof.proofs.Lists.{all_chosen, all_counted, chosen_kept, index_left, index_right, kept_counted, kept_given, kept_none, kept_themselves, map_stays}
 use Rattle.split_proof.proofs.Spaces.{ItemsHold, Moves, moves, func_holds, type_there}

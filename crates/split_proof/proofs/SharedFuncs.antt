@@ -1,32 +1,16 @@
 -- A function that a secondary module imports is left in the primary one: one that moves is imported only where a body names it by `ref.func`.
-use Rattle.std.proofs.Common.{◌≡◌, ◌∙◌, ap, sym, refl, ℕ, ◌-◌, ◌<◌, Some, arith, eq-eqb, length, List, [], ◌∷◌, ◌++◌, map, Bool, true, false, ◌&&◌, ◌||◌, not, nat_eq, ⊎_elim, slice_get, true≢false}
-use Rattle.std.specs.List.{cons_option, flat_map, list_any}
-use Rattle.std.proofs.lemmas.Grind.{flat_map-append}
-use Rattle.std.proofs.lemmas.List.{map-append}
+use Rattle.base_lists.proofs.Common.{◌≡◌, ◌∙◌, ap, sym, refl, ℕ, ◌-◌, ◌<◌, Some, arith, length, List, [], ◌∷◌, ◌++◌, map, Bool, true, false, ◌&&◌, ◌||◌, not, nat_eq, ⊎_elim, slice_get, true≢false, cons_option, flat_map, list_any, flat_map-append, map-append, list_any_there, chosen_from, place_back, numbers_is, map_from}
+use Rattle.std.proofs.Common.{eq-eqb}
 use Rattle.base_lists.specs.Every.{Every}
-use Rattle.base_lists.proofs.Each.{list_any_there}
 use Rattle.base_lists.specs.Places.{numbers}
-use Rattle.base_lists.proofs.Filtered.{chosen_from, place_back}
-use Rattle.base_lists.proofs.Numbers.{numbers_is}
-use Rattle.base_lists.proofs.Places.{map_from}
-use Rattle.wasm_tree.specs.declared.space.Operand.{Operand}
-use Rattle.wasm_tree.specs.declared.space.Space.{Space}
-use Rattle.wasm_tree.specs.declared.space.Space.TheVariants.{Functions}
-use Rattle.wasm_tree.specs.declared.types.BlockType.{BlockType}
+use Rattle.wasm_tree_spec.specs.Prelude.{Operand, Space, Functions, BlockType, Instr, fold_out-Instr, map-Instr, out-Instr, Module, any_operand_passes, block_operands, held, operand_passes, operands, imported_funcs}
 use Rattle.wasm_tree.specs.declared.types.BlockType.TheVariants as block
-use Rattle.wasm_tree.specs.declared.instr.Instr.{Instr, fold_out-Instr, map-Instr, out-Instr}
 use Rattle.wasm_tree.specs.declared.instr.Instr.TheOpen.{Instr-F}
-use Rattle.wasm_tree.specs.declared.module.Module.{Module}
-use Rattle.wasm_tree.specs.Operands.{any_operand_passes, block_operands, held, operand_passes, operands}
-use Rattle.wasm_tree.specs.Spaces.{imported_funcs}
 use Rattle.wasm_tree.proofs.OperandLaws.{any_inside, by_held}
-use Rattle.wasm_valid.specs.Named.{refs_of}
-use Rattle.index_remap.specs.References.{body_refs, is_among, refs, refs_all, refs_step}
+use Rattle.wasm_valid.specs.Prelude.{refs_of}
+use Rattle.index_remap.specs.Prelude.{body_refs, is_among, refs, refs_all, refs_step}
 use Rattle.index_remap_proof.proofs.Lists.{among_joined, among_left, among_right, either_true, left_either, right_either, same_number, two_cases}
-use Rattle.split_spec.specs.Slots.{defined_at}
-use Rattle.split_spec.specs.Needed.{is_needed}
-use Rattle.split_spec.specs.FromPrimary.{entities, from_primary, is_from_primary, is_named_from_primary, marks_from_primary}
-use Rattle.split_spec.specs.Primary.{is_left}
+use Rattle.split_spec.specs.Prelude.{defined_at, is_needed, entities, from_primary, is_from_primary, is_named_from_primary, marks_from_primary, is_left}
 
 module _ (moved : List ℕ) (x : ℕ) (moves : is_among moved x ≡ true) where
   abbrev test : Operand → Bool

@@ -1,24 +1,14 @@
 -- A call through a slot, with other indices, has the type of the function; and what is put into the slots is a function reference.
-use Rattle.std.proofs.lemmas.Bool.{lt-ltb}
-use Rattle.std.proofs.Common.{◌≡◌, ◌∙◌, ap, ap₂, sym, subst, ℕ, length, Some, slice_get, slice_index, map, ◌+◌, ◌<◌, arith}
-use Rattle.std.specs.Prelude.{pos}
-use Rattle.std.proofs.lemmas.Option.{slice_get_within}
+use Rattle.base_lists.proofs.Common.{lt-ltb, ◌≡◌, ◌∙◌, ap, ap₂, sym, subst, ℕ, length, Some, slice_get, slice_index, map, ◌+◌, ◌<◌, arith, pos, slice_get_within, numbers_index, length-numbers, numbers_at, slice_index_is, map_from}
 use Rattle.base_lists.specs.Places.{numbers}
-use Rattle.base_lists.proofs.Numbers.{numbers_index, length-numbers, numbers_at}
-use Rattle.base_lists.proofs.Places.{slice_index_is, map_from}
 use Rattle.wasm_tree.specs.declared.types.RefType.TheVariants.{Func as func_ref}
-use Rattle.wasm_tree.specs.declared.types.FuncType.{FuncType}
-use Rattle.wasm_tree.specs.declared.types.ValType.TheVariants.{Ref}
-use Rattle.wasm_tree.specs.declared.module.ConstExpr.{ConstExpr}
+use Rattle.wasm_tree_spec.specs.Prelude.{FuncType, Ref, ConstExpr, Module, funcs_of}
 use Rattle.wasm_tree.specs.declared.module.ConstExpr.TheVariants as const
-use Rattle.wasm_tree.specs.declared.module.Module.{Module}
-use Rattle.wasm_valid.specs.Constants.{const_type}
-use Rattle.wasm_tree.specs.Spaces.{funcs_of}
+use Rattle.wasm_valid.specs.Prelude.{const_type, table_types}
 use Rattle.wasm_valid_bodies.specs.Typing.{Context, WellTyped, only}
-use Rattle.wasm_valid.specs.SpaceTypes.{table_types}
 use Rattle.index_remap.specs.declared.remap.Remap.{Remap}
-use Rattle.index_remap.specs.Renumbered.{renumbered_all, new_const}
-use Rattle.split_spec.specs.Slots.{call_by_slot, slot_table, type_index, in_slots}
+use Rattle.index_remap.specs.Prelude.{renumbered_all, new_const}
+use Rattle.split_spec.specs.Prelude.{call_by_slot, slot_table, type_index, in_slots}
 use Rattle.split_proof.proofs.Typed.{slot_call_renumbered, slot_call_typed}
 
 module _ (r : Remap) (m u : Module) (f ty slot : ℕ) (t : FuncType) (types_stay : r.types ≡ numbers 0 (length m.types)) (types_same : u.types ≡ m.types)

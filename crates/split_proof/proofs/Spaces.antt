@@ -1,28 +1,13 @@
 -- What the items of a valid module say of its index spaces: each entity is such as an import of it may describe (WebAssembly Core 2.0, section 3.4.9).
-use Rattle.std.proofs.Common.{◌≡◌, ◌∙◌, ap, sym, subst, ℕ, ◌<◌, List, ◌++◌, map, length, Option, Some, true, ⊎_elim, filter_map, slice_get, ◌+◌, ◌-◌, ◌≤◌, false, arith}
-use Rattle.std.proofs.lemmas.Option.{slice_get_within}
-use Rattle.base_lists.proofs.Filtered.{chosen_from}
-use Rattle.wasm_tree.specs.declared.space.Space.{Space}
-use Rattle.wasm_tree.specs.declared.space.Space.TheVariants.{Types, Functions, Tables, Memories, Globals, ElementSegments, DataSegments}
-use Rattle.wasm_tree.specs.declared.types.Limits.{Limits}
-use Rattle.wasm_tree.specs.declared.types.TableType.{TableType}
-use Rattle.wasm_tree.specs.declared.module.Func.{Func}
-use Rattle.wasm_tree.specs.declared.module.Import.{Import}
-use Rattle.wasm_tree.specs.declared.module.ImportDesc.{ImportDesc}
+use Rattle.base_lists.proofs.Common.{◌≡◌, ◌∙◌, ap, sym, subst, ℕ, ◌<◌, List, ◌++◌, map, length, Option, Some, true, ⊎_elim, slice_get, ◌+◌, ◌-◌, ◌≤◌, false, arith, slice_get_within, chosen_from, nat_le, nat_lt, option_map_or, leb-true, ltb-true, length-append, length-map, left_true, right_true, append_right, map_at, slice_get_there, append_from, map_from}
+use Rattle.std.proofs.Common.{filter_map}
+use Rattle.wasm_tree_spec.specs.Prelude.{Space, Types, Functions, Tables, Memories, Globals, ElementSegments, DataSegments, Limits, TableType, Func, Import, ImportDesc, Module, func_of, table_of, memory_of, imported_funcs, funcs_of, any_operand_passes}
 use Rattle.wasm_tree.specs.declared.module.ImportDesc.TheVariants as im
-use Rattle.wasm_tree.specs.declared.module.Module.{Module}
-use Rattle.wasm_tree.specs.Spaces.{func_of, table_of, memory_of, imported_funcs, funcs_of}
 use Rattle.wasm_valid.specs.declared.kinds.ItemKind.{ItemKind}
 use Rattle.wasm_valid.specs.declared.kinds.ItemKind.TheVariants as kind
-use Rattle.wasm_valid.specs.Validity.{HoldsAt, ImportHolds, LimitsHold, PagesHold, count_of}
-use Rattle.split_spec.specs.FromPrimary.{entities}
-use Rattle.std.specs.Prelude.{nat_le, nat_lt}
-use Rattle.std.specs.Option.{option_map_or}
-use Rattle.std.proofs.lemmas.Bool.{leb-true, ltb-true}
-use Rattle.std.proofs.lemmas.List.{length-append, length-map}
-use Rattle.base_lists.proofs.Bools.{left_true, right_true}
-use Rattle.base_lists.proofs.Places.{append_right, map_at, slice_get_there, append_from, map_from}
-use Rattle.wasm_tree.specs.Operands.{any_operand_passes}
+use Rattle.wasm_valid.specs.Prelude.{HoldsAt, ImportHolds, LimitsHold, count_of}
+use Rattle.wasm_valid.specs.Validity.{PagesHold}
+use Rattle.split_spec.specs.Prelude.{entities}
 use Rattle.split_plan.specs.Segments.{names_segment, uses_segment}
 use Rattle.split_plan.specs.Words.{is_defined}
 use Rattle.split_plan.specs.Plans.{body_uses_segment}

@@ -1,19 +1,11 @@
 -- The types of a call, of a call through a slot and of a trampoline's body (WebAssembly Core 2.0, sections 3.3.8 and 3.3.9).
-use Rattle.std.proofs.Common.{◌≡◌, ◌∙◌, ap, ap₂, sym, subst, refl, ℕ, suc, ◌+◌, List, [], ◌∷◌, ◌++◌, map, reverse, Option, Some, None, option_and_then, slice_get, arith, rules, append_assoc}
-use Rattle.std.specs.Prelude.{ℤ, option_map, slice_index}
-use Rattle.std.proofs.lemmas.List.{append-nil, map-append, reverse-append}
-use Rattle.wasm_tree.specs.declared.types.RefType.{RefType}
+use Rattle.base_lists.proofs.Common.{◌≡◌, ◌∙◌, ap, ap₂, sym, subst, refl, ℕ, suc, ◌+◌, List, [], ◌∷◌, ◌++◌, map, reverse, Option, Some, None, option_and_then, slice_get, arith, rules, append_assoc, ℤ, option_map, slice_index, map-append, reverse-append}
+use Rattle.std.proofs.lemmas.List.{append-nil}
+use Rattle.wasm_tree_spec.specs.Prelude.{RefType, ValType, I32, FuncType, Instr, the_lemmas, Call, CallIndirect, LocalGet}
 use Rattle.wasm_tree.specs.declared.types.RefType.TheVariants.{Func as func_ref}
-use Rattle.wasm_tree.specs.declared.types.ValType.{ValType}
-use Rattle.wasm_tree.specs.declared.types.ValType.TheVariants.{I32}
-use Rattle.wasm_tree.specs.declared.types.FuncType.{FuncType}
-use Rattle.wasm_tree.specs.declared.instr.Instr.{Instr, the_lemmas}
-use Rattle.wasm_tree.specs.declared.instr.Instr.TheVariants.{Call, CallIndirect, LocalGet}
 use Rattle.wasm_valid_bodies.specs.Typing.{Acts, AllMatch, Context, Gives, LeadsAll, Stack, WellTyped, effect_of, gives_of, is_func, only, operands, signature_in}
 use Rattle.index_remap.specs.declared.remap.Remap.{Remap}
-use Rattle.index_remap.specs.Agreement.{func_type}
-use Rattle.index_remap.specs.Renumbered.{renumbered_all}
-use Rattle.index_remap.specs.Trampolines.{gets, slot_call}
+use Rattle.index_remap.specs.Prelude.{func_type, renumbered_all, gets, slot_call}
 use Rattle.index_remap.proofs.Lower.{leads_on}
 
 match_operands : (ts : List ValType) → AllMatch (map Some ts) ts

@@ -1,20 +1,16 @@
 -- Both modules of a split are valid, have no memory more than the module, and what they have can be counted.
-use Rattle.std.proofs.Common.{◌≡◌, ◌↔◌, ap, sym, subst, ℕ, ◌<◌, ◌≤◌, List, length, None, true, arith}
+use Rattle.base_lists.proofs.Common.{◌≡◌, ◌↔◌, ap, sym, subst, ℕ, ◌<◌, ◌≤◌, List, length, None, true, arith}
 use Rattle.std.proofs.lemmas.List.{append-nil}
 use Rattle.base_kept.proofs.Laws.{kept_most}
-use Rattle.wasm_tree.specs.declared.space.Space.TheVariants.{Memories}
-use Rattle.wasm_tree.specs.declared.module.Module.{Module}
-use Rattle.wasm_tree.specs.Bounds.{IsBounded}
-use Rattle.wasm_tree.specs.Spaces.{imported_memories, memories_of}
+use Rattle.wasm_tree_spec.specs.Prelude.{Memories, Module, IsBounded, imported_memories, memories_of}
 use Rattle.wasm_valid.specs.declared.kinds.ItemKind.{ItemKind}
 use Rattle.wasm_valid.specs.declared.kinds.ItemKind.TheVariants as kind
-use Rattle.wasm_valid.specs.Validity.{IsSingle, IsValid, count_of}
+use Rattle.wasm_valid.specs.Prelude.{IsSingle, IsValid, count_of}
 use Rattle.module_limits.specs.Counts.{CountsAreWithinWhereNoneIsOver, over_limit}
-use Rattle.index_remap.specs.References.{declared}
+use Rattle.index_remap.specs.Prelude.{declared}
 use Rattle.index_remap_proof.specs.ButForReferences.{HoldsButForReferences, IsValidButForReferences}
 use Rattle.split_spec.specs.declared.names.SplitNames.{SplitNames}
-use Rattle.split_spec.specs.Faults.{prefix_taken}
-use Rattle.split_spec.specs.FromPrimary.{marks_from_primary}
+use Rattle.split_spec.specs.Prelude.{prefix_taken, marks_from_primary}
 use Rattle.split_spec.specs.Primary.{primary_with}
 use Rattle.split_spec.specs.Secondary.{secondary_with}
 use Rattle.split_proof.specs.Premises.{CanMove}

@@ -1,14 +1,10 @@
 -- That code in which other code stands in place of calls, with its indices replaced, is code with the entries of its indices, in which that code, with its indices
 -- replaced, stands in place of calls.
 use Rattle.std.specs.Prelude.{◌≡◌, ℕ, List, [], ◌∷◌, false}
-use Rattle.wasm_tree.specs.declared.types.FuncType.{FuncType}
-use Rattle.wasm_tree.specs.declared.instr.Instr.{Instr}
-use Rattle.wasm_tree.specs.declared.instr.Instr.TheVariants.{Call}
+use Rattle.wasm_tree_spec.specs.Prelude.{FuncType, Instr, Call}
 use Rattle.index_remap.specs.declared.remap.Remap.{Remap}
-use Rattle.index_remap.specs.References.{is_among}
-use Rattle.index_remap.specs.Renumbered.{renumbered_all}
-use Rattle.index_remap.specs.Replaced.{Codes, Labels, Replaced}
-use Rattle.split_spec.specs.Calls.{with_calls}
+use Rattle.index_remap.specs.Prelude.{is_among, renumbered_all, Codes, Labels, Replaced}
+use Rattle.split_spec.specs.Prelude.{with_calls}
 
 -- what stands in place of a call, whatever labels are around it
 abbrev pub renumbered_codes : Remap → (ℕ → List Instr) → Codes

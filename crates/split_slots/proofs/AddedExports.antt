@@ -1,10 +1,8 @@
 -- Exports that are added one after the other.
-use Rattle.std.proofs.Common.{◌≡◌, ℕ, zero, suc, ◌+◌, ◌<◌, arith, Bool, true, false, cond, List, [], ◌∷◌, ◌++◌, append_assoc, map, take, length, Some, refl, sym, ap, ◌∙◌, slice_get, get_or}
-use Rattle.std.proofs.lemmas.List.{map-append}
+use Rattle.base_lists.proofs.Common.{◌≡◌, ℕ, zero, suc, ◌+◌, ◌<◌, arith, Bool, true, false, cond, List, [], ◌∷◌, ◌++◌, append_assoc, map, take, length, Some, refl, sym, ap, ◌∙◌, slice_get, get_or, map-append}
 use Rattle.base_lists.specs.Places.{places}
-use Rattle.wasm_tree.specs.declared.space.Space.{Space}
-use Rattle.wasm_tree.specs.declared.module.Export.{Export}
-use Rattle.split_spec.specs.FromPrimary.{exports_for_secondary}
+use Rattle.wasm_tree_spec.specs.Prelude.{Space, Export}
+use Rattle.split_spec.specs.Prelude.{exports_for_secondary}
 use Rattle.split_slots.specs.ExportList.{desc_of, exported}
 
 places_push : (xs : List Bool) (b : Bool) (n : ℕ) → places (λ named. named) (xs ++ b ∷ []) n ≡ places (λ named. named) xs n ++ cond b ((n + length xs) ∷ []) []

@@ -1,23 +1,10 @@
 -- What is made of calls and functions is what the definitions of a split say, where the table of slots is that of the functions that move.
-use Rattle.std.proofs.Common.{◌≡◌, ℕ, suc, ◌+◌, ◌-◌, ◌<◌, arith, Bool, true, false, ◌&&◌, cond, List, [], ◌∷◌, ◌++◌, map, length, nat_eq, Option, Some, None, refl, sym, ap, ap₂, ◌∙◌, slice_get, slice_index}
-use Rattle.std.specs.Prelude.{nat_le, nat_lt, pos, option_and_then}
-use Rattle.std.specs.Option.{option_map_or}
-use Rattle.std.proofs.Math.Bool.{and-false}
-use Rattle.std.proofs.Math.Path.{fun_ext}
-use Rattle.std.proofs.lemmas.Bool.{le-leb, le-ltb, lt-ltb}
+use Rattle.base_lists.proofs.Common.{◌≡◌, ℕ, suc, ◌+◌, ◌-◌, ◌<◌, arith, Bool, true, false, ◌&&◌, cond, List, [], ◌∷◌, ◌++◌, map, length, nat_eq, Option, Some, None, refl, sym, ap, ap₂, ◌∙◌, slice_get, slice_index, nat_le, nat_lt, pos, option_and_then, option_map_or, and-false, fun_ext, le-leb, le-ltb, lt-ltb, slice_index_is}
 use Rattle.base_lists.specs.Every.{Every}
 use Rattle.base_lists.specs.Places.{first_place, numbers}
-use Rattle.base_lists.proofs.Places.{slice_index_is}
-use Rattle.wasm_tree.specs.declared.module.Func.{Func}
-use Rattle.wasm_tree.specs.declared.module.Module.{Module}
-use Rattle.wasm_tree.specs.declared.instr.Instr.{Instr}
-use Rattle.wasm_tree.specs.declared.instr.Instr.TheVariants.{Call}
-use Rattle.wasm_tree.specs.Spaces.{funcs_of, type_of_func}
-use Rattle.index_remap.specs.Trampolines.{gets, slot_call}
-use Rattle.split_spec.specs.Calls.{with_calls}
-use Rattle.split_spec.specs.Slots.{call_by_slot, call_through_slot, place_among, slot_table, type_index}
-use Rattle.split_spec.specs.Primary.{primary_func, primary_funcs}
-use Rattle.split_spec.specs.Secondary.{secondary_call, secondary_call_by_place, secondary_func}
+use Rattle.wasm_tree_spec.specs.Prelude.{Func, Module, Instr, Call, funcs_of, type_of_func}
+use Rattle.index_remap.specs.Prelude.{gets, slot_call}
+use Rattle.split_spec.specs.Prelude.{with_calls, call_by_slot, call_through_slot, place_among, slot_table, type_index, primary_func, primary_funcs, secondary_call, secondary_call_by_place, secondary_func}
 use Rattle.split_slots.specs.declared.calls.Calls.{Calls}
 use Rattle.split_slots.specs.declared.calls.Target.TheVariants as target
 use Rattle.split_slots.specs.Looking.{slot_at}

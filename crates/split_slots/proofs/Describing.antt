@@ -1,18 +1,8 @@
 -- What a module has in an index space is what its imports add to it, and then what it defines.
-use Rattle.std.proofs.Common.{◌≡◌, ℕ, ◌+◌, ◌<◌, List, [], ◌∷◌, ◌++◌, map, take, length, get_or, None, refl, sym, ap, ap₂, ◌∙◌}
-use Rattle.std.specs.List.{cons_option}
-use Rattle.std.proofs.lemmas.List.{map-append, take_more}
-use Rattle.std.proofs.lemmas.List.Elements.{filter_map-append}
-use Rattle.wasm_tree.specs.declared.space.Space.{Space}
-use Rattle.wasm_tree.specs.declared.space.Space.TheVariants.{Types, Functions, Tables, Memories, Globals, ElementSegments, DataSegments}
-use Rattle.wasm_tree.specs.declared.module.Func.{Func}
-use Rattle.wasm_tree.specs.declared.module.GlobalDef.{GlobalDef}
-use Rattle.wasm_tree.specs.declared.module.Import.{Import}
-use Rattle.wasm_tree.specs.declared.module.ImportDesc.{ImportDesc}
+use Rattle.base_lists.proofs.Common.{◌≡◌, ℕ, ◌+◌, ◌<◌, List, [], ◌∷◌, ◌++◌, map, take, length, get_or, None, refl, sym, ap, ap₂, ◌∙◌, cons_option, map-append, take_more, filter_map-append}
+use Rattle.wasm_tree_spec.specs.Prelude.{Space, Types, Functions, Tables, Memories, Globals, ElementSegments, DataSegments, Func, GlobalDef, Import, ImportDesc, Module, func_of, global_of, imported_funcs, imported_globals, imported_memories, imported_tables, memory_of, table_of}
 use Rattle.wasm_tree.specs.declared.module.ImportDesc.TheVariants as im
-use Rattle.wasm_tree.specs.declared.module.Module.{Module}
-use Rattle.wasm_tree.specs.Spaces.{func_of, global_of, imported_funcs, imported_globals, imported_memories, imported_tables, memory_of, table_of}
-use Rattle.split_spec.specs.FromPrimary.{entities}
+use Rattle.split_spec.specs.Prelude.{entities}
 use Rattle.split_slots.specs.Described.{defined_in, desc_in, imported_in}
 
 pub described_more : (space : Space) (imports : List Import) (k : ℕ) (x : Import) → k < length imports → x ≡ get_or imports k x → imported_in space (take (k + 1) imports) ≡ imported_in space (take k imports) ++ cons_option (desc_in space x.desc) []

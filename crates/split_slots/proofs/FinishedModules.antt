@@ -1,26 +1,19 @@
 -- Both modules of a split with their own indices.
-use Rattle.std.proofs.Common.{◌≡◌, ℕ, ◌<◌, ◌^◌, arith, List, ◌++◌, drop, map, length, None, sym, ap, ap₂, ◌∙◌, subst}
-use Rattle.std.specs.Prelude.{IsTrue}
-use Rattle.std.proofs.lemmas.List.{length-append, length-map}
+use Rattle.base_lists.proofs.Common.{◌≡◌, ℕ, ◌<◌, ◌^◌, arith, List, ◌++◌, drop, map, length, None, sym, ap, ap₂, ◌∙◌, subst, IsTrue, length-append, length-map}
 use Rattle.base_kept.specs.Kept.{kept}
 use Rattle.base_kept.proofs.Laws.{kept_most}
-use Rattle.wasm_tree.specs.declared.space.Space.TheVariants.{Functions}
-use Rattle.wasm_tree.specs.Bounds.{IsBounded}
-use Rattle.wasm_tree.specs.declared.module.Module.{Module}
-use Rattle.wasm_tree.specs.Spaces.{funcs_of, imported_funcs}
-use Rattle.wasm_valid.specs.Validity.{IsValid}
-use Rattle.index_remap.specs.References.{declared}
-use Rattle.index_remap.specs.Renumbered.{fits_tree, renumbered_tree}
+use Rattle.wasm_tree_spec.specs.Prelude.{Functions, IsBounded, Module, funcs_of, imported_funcs}
+use Rattle.wasm_valid.specs.Prelude.{IsValid}
+use Rattle.index_remap.specs.Prelude.{declared, fits_tree, renumbered_tree}
 use Rattle.module_limits.specs.Counts.{over_limit}
 use Rattle.split_proof.specs.Premises.{CanMove}
 use Rattle.split_proof.proofs.PrimarySpaces as primary_spaces
 use Rattle.split_proof.proofs.SecondarySpaces as secondary_spaces
 use Rattle.split_proof.proofs.Spaces.{ItemsHold}
 use Rattle.split_spec.specs.declared.names.SplitNames.{SplitNames}
-use Rattle.split_spec.specs.FromPrimary.{marks_from_primary}
-use Rattle.split_spec.specs.Primary.{left_marks, primary, primary_map, primary_tree, primary_with}
-use Rattle.split_spec.specs.Secondary.{secondary, secondary_map, secondary_tree, secondary_with}
-use Rattle.split_spec.specs.Slots.{type_index}
+use Rattle.split_spec.specs.Prelude.{marks_from_primary, left_marks, primary, primary_map, primary_tree, secondary, secondary_map, secondary_tree, type_index}
+use Rattle.split_spec.specs.Primary.{primary_with}
+use Rattle.split_spec.specs.Secondary.{secondary_with}
 use Rattle.split_slots.specs.declared.drafting.Drafts.{Drafts}
 use Rattle.split_slots.specs.Surveyed.{AreDrafts, CanFinish, FewFuncs, made}
 

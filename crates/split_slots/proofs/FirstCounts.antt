@@ -1,22 +1,13 @@
 -- What the first counts of the primary module tell before it is built: no more defined functions are left out than move.
-use Rattle.std.proofs.Common.{◌≡◌, ℕ, zero, suc, ◌+◌, ◌<◌, ◌≤◌, arith, Bool, true, false, ◌||◌, not, cond, List, [], ◌∷◌, ◌++◌, drop, map, length, nat_eq, nat_lt, Option, Some, None, refl, sym, ap, ap₂, ◌∙◌}
-use Rattle.std.proofs.lemmas.Bool.{eqb-true, ltb-true, ltb-false, lt-ltb}
-use Rattle.std.proofs.lemmas.List.{length-append, length-drop, length-map}
+use Rattle.base_lists.proofs.Common.{◌≡◌, ℕ, zero, suc, ◌+◌, ◌<◌, ◌≤◌, arith, Bool, true, false, ◌||◌, not, cond, List, [], ◌∷◌, ◌++◌, drop, map, length, nat_eq, nat_lt, Option, Some, None, refl, sym, ap, ap₂, ◌∙◌, eqb-true, ltb-true, ltb-false, lt-ltb, length-append, length-drop, length-map, filter_map_most, length-numbers}
 use Rattle.base_lists.specs.Places.{count_of, numbers}
-use Rattle.base_lists.proofs.Filtered.{filter_map_most}
-use Rattle.base_lists.proofs.Numbers.{length-numbers}
 use Rattle.base_kept.specs.Kept.{kept}
-use Rattle.wasm_tree.specs.declared.module.Func.{Func}
-use Rattle.wasm_tree.specs.declared.module.Module.{Module}
-use Rattle.wasm_tree.specs.declared.which.Which.{Which}
+use Rattle.wasm_tree_spec.specs.Prelude.{Func, Module, Which, limit, func_of, funcs_of, imported_funcs}
 use Rattle.wasm_tree.specs.declared.which.Which.TheVariants as which
-use Rattle.wasm_tree.specs.Limits.{limit}
-use Rattle.wasm_tree.specs.Spaces.{func_of, funcs_of, imported_funcs}
-use Rattle.index_remap.specs.References.{declared, declared_refs, is_among, with_declared}
-use Rattle.index_remap.specs.Renumbered.{new_func, new_import, renumbered_tree}
+use Rattle.index_remap.specs.Prelude.{declared, declared_refs, is_among, with_declared, new_func, new_import, renumbered_tree}
 use Rattle.module_limits.specs.Counts.{or_above, over_limit}
-use Rattle.split_spec.specs.Needed.{is_needed}
-use Rattle.split_spec.specs.Primary.{is_left, left_marks, placeholder_imports, primary_funcs, primary_map, primary_tree, primary_with}
+use Rattle.split_spec.specs.Prelude.{is_needed, is_left, left_marks, placeholder_imports, primary_funcs, primary_map, primary_tree}
+use Rattle.split_spec.specs.Primary.{primary_with}
 use Rattle.split_proof.proofs.ImportCounts.{placeholders_many, same_imports}
 use Rattle.split_slots.specs.Surveyed.{FewFuncs, first_counts}
 

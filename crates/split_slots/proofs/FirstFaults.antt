@@ -1,18 +1,12 @@
 -- The faults of a split that are told before anything is built, and those that are told of what is built.
-use Rattle.std.proofs.Common.{◌≡◌, ℕ, Bool, true, false, List, cond, length, nat_lt, Option, Some, None, refl, ap, ◌∙◌}
-use Rattle.std.specs.Prelude.{option_map}
-use Rattle.std.specs.Option.{option_or}
-use Rattle.wasm_tree.specs.declared.which.Which.{Which}
+use Rattle.base_lists.proofs.Common.{◌≡◌, ℕ, Bool, true, false, List, cond, length, nat_lt, Option, Some, None, refl, ap, ◌∙◌, option_map, option_or}
+use Rattle.wasm_tree_spec.specs.Prelude.{Which, Module, limit}
 use Rattle.wasm_tree.specs.declared.which.Which.TheVariants as which
-use Rattle.wasm_tree.specs.declared.module.Module.{Module}
-use Rattle.wasm_tree.specs.Limits.{limit}
 use Rattle.module_limits.specs.Counts.{over_limit}
 use Rattle.split_spec.specs.declared.names.SplitNames.{SplitNames}
 use Rattle.split_spec.specs.declared.faults.SplitFault.{SplitFault}
 use Rattle.split_spec.specs.declared.faults.SplitFault.TheVariants.{NamespaceTaken, PrefixTaken, TooMany}
-use Rattle.split_spec.specs.Faults.{moved_params, namespace_taken, prefix_taken, split_fault, too_many}
-use Rattle.split_spec.specs.Primary.{primary}
-use Rattle.split_spec.specs.Secondary.{secondary}
+use Rattle.split_spec.specs.Prelude.{moved_params, namespace_taken, prefix_taken, split_fault, too_many, primary, secondary}
 use Rattle.split_slots.specs.Surveyed.{MaySplit, first_counts, first_too_many}
 use Rattle.split_slots.proofs.FirstCounts.{few_where_none, first_tells}
 

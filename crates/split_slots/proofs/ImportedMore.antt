@@ -1,7 +1,5 @@
 -- Imports that are added one after the other.
-use Rattle.std.proofs.Common.{◌≡◌, ℕ, ◌+◌, Bool, true, false, cond, List, [], ◌∷◌, ◌++◌, append_assoc, take, Option, Some, refl, sym, ap, ◌∙◌, slice_get}
-use Rattle.std.specs.List.{cons_option, filter_map}
-use Rattle.std.proofs.lemmas.List.Elements.{filter_map-append}
+use Rattle.base_lists.proofs.Common.{◌≡◌, ℕ, ◌+◌, Bool, true, false, cond, List, [], ◌∷◌, ◌++◌, append_assoc, take, Option, Some, refl, sym, ap, ◌∙◌, slice_get, cons_option, filter_map, filter_map-append}
 use Rattle.base_lists.specs.Places.{places}
 use Rattle.split_slots.proofs.AddedExports.{places_more}
 

@@ -1,10 +1,6 @@
 -- The types of imported functions, one import after the other.
-use Rattle.std.proofs.Common.{◌≡◌, ℕ, ◌+◌, ◌<◌, List, [], ◌∷◌, ◌++◌, take, length, get_or, sym, ap, ◌∙◌}
-use Rattle.std.specs.List.{cons_option}
-use Rattle.std.proofs.lemmas.List.{take_more}
-use Rattle.std.proofs.lemmas.List.Elements.{filter_map-append}
-use Rattle.wasm_tree.specs.declared.module.Import.{Import}
-use Rattle.wasm_tree.specs.Spaces.{func_of, imported_funcs}
+use Rattle.base_lists.proofs.Common.{◌≡◌, ℕ, ◌+◌, ◌<◌, List, [], ◌∷◌, ◌++◌, take, length, get_or, sym, ap, ◌∙◌, cons_option, take_more, filter_map-append}
+use Rattle.wasm_tree_spec.specs.Prelude.{Import, func_of, imported_funcs}
 
 pub imported_more : (imports : List Import) (k : ℕ) (x : Import) → k < length imports → x ≡ get_or imports k x → imported_funcs (take (k + 1) imports) ≡ imported_funcs (take k imports) ++ cons_option (func_of x.desc) []
 imported_more imports k x lt is =

@@ -1,17 +1,11 @@
 -- What is known of a module is what the definitions of a split say.
-use Rattle.std.proofs.Common.{◌≡◌, ℕ, zero, suc, ◌+◌, ◌<◌, arith, Bool, false, ◌||◌, not, List, [], ◌∷◌, ◌++◌, map, length, is_some, unwrap_or, Option, refl, ap, ap₂, ◌∙◌, slice_get}
-use Rattle.std.specs.List.{cons_option}
+use Rattle.base_lists.proofs.Common.{◌≡◌, ℕ, zero, suc, ◌+◌, ◌<◌, arith, Bool, false, ◌||◌, not, List, [], ◌∷◌, ◌++◌, map, length, is_some, unwrap_or, Option, refl, ap, ap₂, ◌∙◌, slice_get, cons_option, length-numbers, length-map}
 use Rattle.base_lists.specs.Every.{Every}
 use Rattle.base_lists.specs.Places.{numbers}
-use Rattle.base_lists.proofs.Numbers.{length-numbers}
-use Rattle.std.proofs.lemmas.List.{length-map}
-use Rattle.wasm_tree.specs.declared.module.Module.{Module}
-use Rattle.wasm_tree.specs.Spaces.{funcs_of}
+use Rattle.wasm_tree_spec.specs.Prelude.{Module, funcs_of}
 use Rattle.wasm_valid.specs.declared.kinds.ItemKind.TheVariants as kind
-use Rattle.wasm_valid.specs.Named.{named_from, refs_of}
-use Rattle.wasm_valid.specs.Validity.{HoldsAt}
-use Rattle.split_spec.specs.Primary.{is_left, left_marks}
-use Rattle.split_spec.specs.Slots.{place_among}
+use Rattle.wasm_valid.specs.Prelude.{named_from, refs_of, HoldsAt}
+use Rattle.split_spec.specs.Prelude.{is_left, left_marks, place_among}
 use Rattle.split_slots.specs.Looking.{slot_at}
 use Rattle.split_slots.proofs.NamedOutside.{marks_tell}
 use Rattle.split_slots.proofs.SharedParts.{slots_for}

@@ -1,6 +1,5 @@
 -- How many places are marked, counted one after the other.
-use Rattle.std.proofs.Common.{◌≡◌, ℕ, ◌+◌, ◌<◌, Bool, true, false, cond, List, [], ◌∷◌, take, length, get_or, Some, refl, ap, ◌∙◌}
-use Rattle.std.proofs.lemmas.List.{length-append}
+use Rattle.base_lists.proofs.Common.{◌≡◌, ℕ, ◌+◌, ◌<◌, Bool, true, false, cond, List, [], ◌∷◌, take, length, get_or, Some, refl, ap, ◌∙◌, length-append}
 use Rattle.base_lists.specs.Places.{places}
 use Rattle.split_slots.proofs.AddedExports.{mark_there, places_more}
 

@@ -1,23 +1,19 @@
 -- In a valid module what `ref.func` names in a body is named outside the bodies too, so that marks of that tell of which functions a trampoline is needed.
-use Rattle.std.proofs.Common.{◌≡◌, ℕ, ◌<◌, Bool, true, false, ◌||◌, List, [], ◌∷◌, ◌++◌, length, filter, cond, unwrap_or, Option, Some, None, refl, sym, ap, ap₂, ◌∙◌, subst, slice_get, zero-add, append-nil}
-use Rattle.std.specs.List.{cons_option}
-use Rattle.std.specs.Prelude.{nat_le, nat_lt}
-use Rattle.std.proofs.lemmas.Bool.{ltb-true}
-use Rattle.std.proofs.lemmas.Option.{slice_get_within}
+use Rattle.base_lists.proofs.Common.{◌≡◌, ℕ, ◌<◌, Bool, true, false, ◌||◌, List, [], ◌∷◌, ◌++◌, length, cond, unwrap_or, Option, Some, None, refl, sym, ap, ap₂, ◌∙◌, subst, slice_get, zero-add, append-nil, cons_option, nat_le, nat_lt, ltb-true, slice_get_within}
+use Rattle.std.proofs.Common.{filter}
 use Rattle.base_lists.specs.Every.{Every}
-use Rattle.wasm_tree.specs.declared.module.Func.{Func}
-use Rattle.wasm_tree.specs.declared.module.Module.{Module}
-use Rattle.wasm_tree.specs.Spaces.{funcs_of, imported_funcs}
+use Rattle.wasm_tree_spec.specs.Prelude.{Func, Module, funcs_of, imported_funcs}
 use Rattle.wasm_valid.specs.declared.kinds.ItemKind.TheVariants as kind
-use Rattle.wasm_valid.specs.Named.{marked_at, named_from, named_of, refs_of}
-use Rattle.wasm_valid.specs.Validity.{HoldsAt, body_context}
-use Rattle.index_remap.specs.References.{body_refs, is_among, refs_all}
+use Rattle.wasm_valid.specs.Prelude.{named_from, named_of, refs_of, HoldsAt, body_context}
+use Rattle.wasm_valid.specs.Named.{marked_at}
+use Rattle.index_remap.specs.Prelude.{body_refs, is_among, refs_all}
 use Rattle.index_remap.proofs.Marks.{more_marks}
 use Rattle.split_plan.specs.Words.{is_defined}
 use Rattle.split_plan.specs.Plans.{body_uses_segment}
 use Rattle.index_remap_proof.proofs.Lists.{right_true, among_append, is_marked, joined_among, named_get}
 use Rattle.index_remap_proof.proofs.NamedFuncs.{typed_named}
-use Rattle.split_spec.specs.Needed.{is_needed, needed}
+use Rattle.split_spec.specs.Prelude.{is_needed}
+use Rattle.split_spec.specs.Needed.{needed}
 
 -- the marks of what is named outside the bodies, with the start
 pub with_start : (m : Module) (start : Option ℕ) → marked_at (named_of m) start ≡ named_from (refs_of m ++ cons_option start []) 0 (length (funcs_of m))

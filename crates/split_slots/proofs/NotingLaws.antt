@@ -1,23 +1,13 @@
 -- Marks that are set one after the other.
-use Rattle.std.proofs.Common.{◌≡◌, ℕ, zero, suc, ◌+◌, ◌-◌, ◌≤◌, arith, map, take, replicate, Bool, true, false, ◌&&◌, ◌||◌, not, List, [], ◌∷◌, ◌++◌, length, Option, Some, None, is_some, option_map, refl, sym, ap, ap₂, ◌∙◌, nat_eq, slice_get, slice_set}
-use Rattle.std.specs.List.{cons_option, list_any}
-use Rattle.std.proofs.lemmas.List.Elements.{filter_map-append}
+use Rattle.base_lists.proofs.Common.{◌≡◌, ℕ, zero, suc, ◌+◌, ◌-◌, ◌≤◌, arith, map, take, replicate, Bool, true, false, ◌&&◌, ◌||◌, not, List, [], ◌∷◌, ◌++◌, length, Option, Some, None, is_some, option_map, refl, sym, ap, ap₂, ◌∙◌, nat_eq, slice_get, slice_set, cons_option, list_any, filter_map-append, or_assoc, or-false, and-false, eqb-suc-zero, list_any-append}
 use Rattle.base_lists.specs.Places.{numbers}
-use Rattle.wasm_tree.specs.declared.module.Func.{Func}
-use Rattle.wasm_tree.specs.declared.module.Module.{Module}
-use Rattle.wasm_tree.specs.Spaces.{imported_funcs}
-use Rattle.split_spec.specs.Slots.{defined_at}
+use Rattle.wasm_tree_spec.specs.Prelude.{Func, Module, imported_funcs, Space, Operand, Instr, AnyInside, listed, operand_passes, operands_of, same_space}
+use Rattle.split_spec.specs.Prelude.{defined_at}
 use Rattle.split_slots.proofs.SlotTables.{take_one}
-use Rattle.std.proofs.Math.Bool.{or_assoc, or-false, or-true, and-false}
-use Rattle.std.proofs.Math.Dec.{eqb-suc-suc, eqb-suc-zero, eqb-zero-suc}
-use Rattle.std.proofs.lemmas.List.Folds.{list_any-append}
+use Rattle.std.proofs.Math.Bool.{or-true}
+use Rattle.std.proofs.Math.Dec.{eqb-suc-suc, eqb-zero-suc}
 use Rattle.index_remap_proof.proofs.Lists.{same_number}
-use Rattle.wasm_tree.specs.declared.space.Space.{Space}
-use Rattle.wasm_tree.specs.declared.space.Operand.{Operand}
 use Rattle.wasm_tree.specs.declared.space.Operands.{Operands}
-use Rattle.wasm_tree.specs.declared.instr.Instr.{Instr}
-use Rattle.wasm_tree.specs.OperandLaws.{AnyInside}
-use Rattle.wasm_tree.specs.Operands.{listed, operand_passes, operands_of, same_space}
 use Rattle.split_slots.specs.declared.sharing.Marks.{Marks}
 use Rattle.split_slots.specs.Looking.{slot_at}
 use Rattle.split_slots.specs.Noting.{Notes, body_names, held_in, marks_in, named_by}

@@ -1,10 +1,7 @@
 -- The functions that are taken out are the definitions of those that move, in the order of their slots.
-use Rattle.std.proofs.Common.{◌≡◌, ◌≢◌, ℕ, zero, suc, ◌+◌, ◌-◌, ◌<◌, ◌≤◌, arith, Bool, true, false, ◌||◌, cond, List, [], ◌∷◌, nat_eq, nat_lt, is_some, refl, sym, ap, ap₂, ◌∙◌, subst, slice_get, slice_index}
-use Rattle.std.specs.List.{cons_option, filter_map}
-use Rattle.std.specs.List.Sorted.{IsStrictlyIncreasing}
-use Rattle.std.proofs.lemmas.Bool.{eq-eqb, eqb-false, ltb-false, ltb-true}
-use Rattle.wasm_tree.specs.declared.module.Func.{Func}
-use Rattle.index_remap.specs.References.{is_among}
+use Rattle.base_lists.proofs.Common.{◌≡◌, ◌≢◌, ℕ, zero, suc, ◌+◌, ◌-◌, ◌<◌, ◌≤◌, arith, Bool, true, false, ◌||◌, cond, List, [], ◌∷◌, nat_eq, nat_lt, is_some, refl, sym, ap, ap₂, ◌∙◌, subst, slice_get, slice_index, cons_option, filter_map, IsStrictlyIncreasing, eq-eqb, eqb-false, ltb-false, ltb-true}
+use Rattle.wasm_tree_spec.specs.Prelude.{Func}
+use Rattle.index_remap.specs.Prelude.{is_among}
 use Rattle.split_slots.specs.declared.calls.Calls.{Calls}
 use Rattle.split_slots.specs.Looking.{slot_at}
 use Rattle.split_slots.specs.PartedTrees.{own_funcs}

@@ -1,22 +1,11 @@
 -- The secondary module is what the definitions of a split say.
-use Rattle.std.proofs.Common.{◌≡◌, ℕ, ◌<◌, ◌^◌, ◌+◌, ◌-◌, true, false, slice_get, arith, List, [], ◌∷◌, map, length, None, ap, ap₂, ◌∙◌}
-use Rattle.std.proofs.Math.Path.{fun_ext}
-use Rattle.std.proofs.lemmas.List.{length-map}
+use Rattle.base_lists.proofs.Common.{◌≡◌, ℕ, ◌<◌, ◌^◌, ◌+◌, ◌-◌, true, false, slice_get, arith, List, [], ◌∷◌, map, length, None, ap, ap₂, ◌∙◌, fun_ext, length-map, every_at}
 use Rattle.base_lists.specs.Every.{Every}
 use Rattle.base_lists.specs.Places.{numbers}
-use Rattle.base_lists.proofs.Each.{every_at}
-use Rattle.wasm_tree.specs.Bounds.{IsBounded}
-use Rattle.wasm_tree.specs.Spaces.{funcs_of, imported_funcs, globals_of, memories_of, tables_of}
-use Rattle.wasm_tree.specs.declared.module.ElemSeg.{ElemSeg}
-use Rattle.wasm_tree.specs.declared.module.Func.{Func}
-use Rattle.wasm_tree.specs.declared.module.Import.{Import}
+use Rattle.wasm_tree_spec.specs.Prelude.{IsBounded, funcs_of, imported_funcs, globals_of, memories_of, tables_of, ElemSeg, Func, Import, Module, Functions, Tables, Memories, Globals, FuncType}
 use Rattle.wasm_tree.specs.declared.module.ImportDesc.TheVariants as im
-use Rattle.wasm_tree.specs.declared.module.Module.{Module}
-use Rattle.wasm_tree.specs.declared.space.Space.TheVariants.{Functions, Tables, Memories, Globals}
-use Rattle.wasm_tree.specs.declared.types.FuncType.{FuncType}
 use Rattle.split_spec.specs.declared.names.SplitNames.{SplitNames}
-use Rattle.split_spec.specs.Secondary.{secondary_func, secondary_imports, secondary_tree}
-use Rattle.split_spec.specs.Slots.{defined_at, slot_segment, slot_table}
+use Rattle.split_spec.specs.Prelude.{secondary_func, secondary_imports, secondary_tree, defined_at, slot_segment, slot_table}
 use Rattle.split_plan.specs.Plans.{body_uses_segment}
 use Rattle.split_plan.specs.Words.{is_defined}
 use Rattle.split_proof.specs.Premises.{CanMove}

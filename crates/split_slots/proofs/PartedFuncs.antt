@@ -1,7 +1,6 @@
 -- Functions that are parted one after the other.
-use Rattle.std.proofs.Common.{◌≡◌, ℕ, zero, suc, ◌+◌, ◌≤◌, arith, Bool, true, false, cond, List, [], ◌∷◌, ◌++◌, take, drop, set, length, Some, is_some, refl, ap, ◌∙◌, slice_get}
-use Rattle.wasm_tree.specs.declared.types.FuncType.{FuncType}
-use Rattle.wasm_tree.specs.declared.module.Func.{Func}
+use Rattle.base_lists.proofs.Common.{◌≡◌, ℕ, zero, suc, ◌+◌, ◌≤◌, arith, Bool, true, false, cond, List, [], ◌∷◌, ◌++◌, take, drop, set, length, Some, is_some, refl, ap, ◌∙◌, slice_get}
+use Rattle.wasm_tree_spec.specs.Prelude.{FuncType, Func}
 use Rattle.split_slots.specs.declared.calls.Calls.{Calls}
 use Rattle.split_slots.specs.Looking.{slot_at}
 use Rattle.split_slots.specs.PartedTrees.{own_funcs, parted_func, parted_funcs}

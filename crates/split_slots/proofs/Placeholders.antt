@@ -1,10 +1,7 @@
 -- Placeholders that are added one after the other, and the definition that they are an instance of.
-use Rattle.std.proofs.Common.{◌≡◌, ℕ, zero, suc, ◌+◌, ◌<◌, arith, List, [], ◌∷◌, ◌++◌, append_assoc, take, length, Some, refl, sym, ap, ◌∙◌, slice_get, slice_index}
-use Rattle.base_lists.proofs.Places.{slice_get_there, slice_index_is}
-use Rattle.wasm_tree.specs.declared.module.Import.{Import}
-use Rattle.wasm_tree.specs.declared.module.Module.{Module}
-use Rattle.wasm_tree.specs.Spaces.{funcs_of}
-use Rattle.split_spec.specs.Primary.{placeholder_imports}
+use Rattle.base_lists.proofs.Common.{◌≡◌, ℕ, zero, suc, ◌+◌, ◌<◌, arith, List, [], ◌∷◌, ◌++◌, append_assoc, take, length, Some, refl, sym, ap, ◌∙◌, slice_get, slice_index, slice_get_there, slice_index_is}
+use Rattle.wasm_tree_spec.specs.Prelude.{Import, Module, funcs_of}
+use Rattle.split_spec.specs.Prelude.{placeholder_imports}
 use Rattle.split_slots.specs.PlaceholderList.{placeholder_of, placeholders_of}
 
 module _ (namespace types : List ℕ) where

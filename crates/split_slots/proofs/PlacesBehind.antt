@@ -1,10 +1,6 @@
 -- Where what is kept goes, behind so many others.
-use Rattle.std.proofs.Common.{◌≡◌, ℕ, zero, suc, ◌+◌, ◌-◌, ◌^◌, ◌<◌, arith, Bool, List, [], ◌∷◌, take, refl, drop, length, Some, sym, ap, ◌∙◌, slice_get}
-use Rattle.std.proofs.lemmas.Option.{slice_get_within}
-use Rattle.std.proofs.lemmas.List.{length-map}
+use Rattle.base_lists.proofs.Common.{◌≡◌, ℕ, zero, suc, ◌+◌, ◌-◌, ◌^◌, ◌<◌, arith, Bool, List, [], ◌∷◌, take, refl, drop, length, Some, sym, ap, ◌∙◌, slice_get, slice_get_within, length-map, length-numbers, drop_at, slice_index_is}
 use Rattle.base_lists.specs.Places.{numbers}
-use Rattle.base_lists.proofs.Numbers.{length-numbers}
-use Rattle.base_lists.proofs.Places.{drop_at, slice_index_is}
 use Rattle.base_kept.specs.Kept.{kept_before, new_places}
 use Rattle.base_kept.proofs.Laws.{before_most, new_place}
 

@@ -1,18 +1,10 @@
 -- What follows for the functions of a plan.
-use Rattle.std.proofs.Common.{◌≡◌, ℕ, suc, ◌+◌, ◌<◌, ◌≤◌, arith, List, [], ◌∷◌, length, ◌∙◌}
-use Rattle.std.specs.Prelude.{nat_le, nat_lt}
-use Rattle.std.specs.List.Sorted.{IsStrictlyIncreasing}
-use Rattle.std.proofs.lemmas.Bool.{leb-true}
-use Rattle.std.proofs.lemmas.List.{length-map}
+use Rattle.base_lists.proofs.Common.{◌≡◌, ℕ, suc, ◌+◌, ◌<◌, ◌≤◌, arith, List, [], ◌∷◌, length, ◌∙◌, nat_le, nat_lt, IsStrictlyIncreasing, leb-true, length-map, length-numbers}
 use Rattle.base_lists.specs.Every.{Every}
-use Rattle.base_lists.proofs.Numbers.{length-numbers}
-use Rattle.wasm_tree.specs.declared.space.Space.{Space}
-use Rattle.wasm_tree.specs.declared.module.Module.{Module}
-use Rattle.wasm_tree.specs.Spaces.{funcs_of, imported_funcs}
+use Rattle.wasm_tree_spec.specs.Prelude.{Space, Module, funcs_of, imported_funcs}
 use Rattle.index_remap_proof.proofs.Lists.{left_true}
 use Rattle.split_proof.specs.Premises.{CanMove}
-use Rattle.split_spec.specs.FromPrimary.{entities, is_from_primary, marks_from_primary}
-use Rattle.split_spec.specs.Slots.{defined_at}
+use Rattle.split_spec.specs.Prelude.{entities, is_from_primary, marks_from_primary, defined_at}
 use Rattle.split_slots.proofs.OwnFuncs.{Ascends, ascends}
 
 -- they are defined ones

@@ -1,15 +1,10 @@
 -- Code in which other code stands in place of calls, made instruction by instruction.
-use Rattle.std.proofs.Common.{◌≡◌, ℕ, zero, suc, ◌+◌, ◌-◌, ◌<◌, ◌≤◌, arith, length, Bool, true, false, ◌&&◌, cond, List, [], ◌∷◌, ◌++◌, map, take, drop, Option, Some, None, ◌⊎◌, inl, inr, refl, sym, ap, ap₂, ◌∙◌, subst, slice_get, slice_index, append_assoc, add-one, rules}
-use Rattle.std.specs.Prelude.{nat_le, nat_lt}
-use Rattle.std.specs.List.{flat_map}
-use Rattle.wasm_tree.specs.declared.types.BlockType.{BlockType}
-use Rattle.wasm_tree.specs.declared.instr.Instr.{Instr, out-Instr, fold_out-Instr, items-the_row-Instr, the_lemmas}
-use Rattle.wasm_tree.specs.declared.instr.Instr.TheVariants.{Block, Block', Loop, Loop', If, If', Call, outs-Block, outs-Loop, outs-If}
-use Rattle.base_lists.proofs.Walk.{part, part_at}
-use Rattle.std.proofs.lemmas.Bool.{cases_lt}
+use Rattle.base_lists.proofs.Common.{◌≡◌, ℕ, zero, suc, ◌+◌, ◌-◌, ◌<◌, ◌≤◌, arith, length, Bool, true, false, ◌&&◌, cond, List, [], ◌∷◌, ◌++◌, map, take, drop, Option, Some, None, ◌⊎◌, inl, inr, refl, sym, ap, ap₂, ◌∙◌, subst, slice_get, slice_index, append_assoc, add-one, rules, nat_le, nat_lt, flat_map, part, part_at, cases_lt}
+use Rattle.wasm_tree_spec.specs.Prelude.{BlockType, Instr, fold_out-Instr, items-the_row-Instr, the_lemmas, Block, Block', Loop, Loop', If, If', Call, outs-Block, outs-Loop, outs-If}
+use Rattle.wasm_tree.specs.declared.instr.Instr.{out-Instr}
 use Rattle.std.proofs.lemmas.List.{append-nil}
 use Rattle.index_remap.proofs.Rows.{block_is, loop_is, if_is}
-use Rattle.split_spec.specs.Calls.{calls_in, calls_step, with_calls}
+use Rattle.split_spec.specs.Prelude.{calls_in, calls_step, with_calls}
 use Rattle.split_slots.specs.Looking.{slot_at}
 use Rattle.split_slots.specs.declared.calls.Calls.{Calls}
 use Rattle.split_slots.specs.declared.calls.Target.{Target}

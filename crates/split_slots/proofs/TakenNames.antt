@@ -1,8 +1,5 @@
 -- Names that are noted one after the other, and the first of some that is noted.
-use Rattle.std.proofs.Common.{◌≡◌, ℕ, ◌+◌, ◌<◌, Bool, true, false, ◌||◌, cond, List, [], ◌∷◌, ◌++◌, drop, find, map, take, length, get_or, is_some, Option, Some, refl, sym, ap, ◌∙◌}
-use Rattle.std.specs.List.{list_any}
-use Rattle.std.proofs.lemmas.List.{drop_more, take_more}
-use Rattle.std.proofs.lemmas.List.Folds.{list_any-append}
+use Rattle.base_lists.proofs.Common.{◌≡◌, ℕ, ◌+◌, ◌<◌, Bool, true, false, ◌||◌, cond, List, [], ◌∷◌, ◌++◌, drop, find, map, take, length, get_or, is_some, Option, Some, refl, sym, ap, ◌∙◌, list_any, drop_more, take_more, list_any-append}
 
 last_first : (a b : Bool) → (a || (b || false)) ≡ cond b true a
 last_first true true = refl

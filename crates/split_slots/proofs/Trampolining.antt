@@ -1,11 +1,8 @@
 -- A trampoline's body, made one instruction at a time.
-use Rattle.std.proofs.Common.{◌≡◌, ℕ, suc, ◌+◌, List, [], ◌∷◌, ◌++◌, append_assoc, map, length, refl, ap, ◌∙◌, zero-add}
-use Rattle.std.proofs.lemmas.List.{map-append}
+use Rattle.base_lists.proofs.Common.{◌≡◌, ℕ, suc, ◌+◌, List, [], ◌∷◌, ◌++◌, append_assoc, map, length, refl, ap, ◌∙◌, zero-add, map-append, numbers_more}
 use Rattle.base_lists.specs.Places.{numbers}
-use Rattle.base_lists.proofs.Numbers.{numbers_more}
-use Rattle.wasm_tree.specs.declared.types.ValType.{ValType}
-use Rattle.wasm_tree.specs.declared.instr.Instr.TheVariants.{LocalGet}
-use Rattle.index_remap.specs.Trampolines.{gets}
+use Rattle.wasm_tree_spec.specs.Prelude.{ValType, LocalGet}
+use Rattle.index_remap.specs.Prelude.{gets}
 
 -- one number more, and what f gives for it
 pub numbered_more : {A : Type 0} (f : ℕ → A) (n k : ℕ) → map f (numbers n (k + 1)) ≡ map f (numbers n k) ++ f (n + k) ∷ []

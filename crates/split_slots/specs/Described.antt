@@ -1,14 +1,8 @@
 -- What a module has in an index space, as imports of it would describe it.
 use Rattle.std.specs.Prelude.{cond, List, [], map, Option, Some, None}
 use Rattle.std.specs.List.{filter_map}
-use Rattle.wasm_tree.specs.Operands.{same_space}
-use Rattle.wasm_tree.specs.Spaces.{space_of_import}
-use Rattle.wasm_tree.specs.declared.space.Space.{Space}
-use Rattle.wasm_tree.specs.declared.space.Space.TheVariants.{Types, Functions, Tables, Memories, Globals, ElementSegments, DataSegments}
-use Rattle.wasm_tree.specs.declared.module.Import.{Import}
-use Rattle.wasm_tree.specs.declared.module.Module.{Module}
+use Rattle.wasm_tree_spec.specs.Prelude.{same_space, space_of_import, Space, Types, Functions, Tables, Memories, Globals, ElementSegments, DataSegments, Import, Module, ImportDesc}
 use Rattle.wasm_tree.specs.declared.module.ImportDesc.TheVariants as im
-use Rattle.wasm_tree.specs.declared.module.ImportDesc.{ImportDesc}
 
 -- what an import adds to an index space, if it adds to it
 abbrev pub desc_in : Space → ImportDesc → Option ImportDesc

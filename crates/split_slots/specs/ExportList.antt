@@ -1,12 +1,9 @@
 -- What the primary module exports for secondary ones, by marks.
 use Rattle.std.specs.Prelude.{ℕ, List, [], ◌∷◌, ◌++◌}
 use Rattle.base_lists.specs.Places.{places}
-use Rattle.wasm_tree.specs.declared.space.Space.{Space}
-use Rattle.wasm_tree.specs.declared.space.Space.TheVariants.{Types, Functions, Tables, Memories, Globals, ElementSegments, DataSegments}
-use Rattle.wasm_tree.specs.declared.module.Export.{Export}
-use Rattle.wasm_tree.specs.declared.module.ExportDesc.{ExportDesc}
+use Rattle.wasm_tree_spec.specs.Prelude.{Space, Types, Functions, Tables, Memories, Globals, ElementSegments, DataSegments, Export, ExportDesc}
 use Rattle.wasm_tree.specs.declared.module.ExportDesc.TheVariants as ex
-use Rattle.split_spec.specs.FromPrimary.{exports_for_secondary, name_from_primary, slots_name}
+use Rattle.split_spec.specs.Prelude.{exports_for_secondary, name_from_primary, slots_name}
 use Rattle.split_slots.specs.declared.sharing.Marks.{Marks}
 
 -- what is exported of an index space

@@ -1,15 +1,10 @@
 -- What a secondary module imports from the primary one, by marks.
 use Rattle.std.specs.Prelude.{ℕ, List, ◌∷◌, ◌++◌, Option, option_map, slice_get}
 use Rattle.base_lists.specs.Places.{places}
-use Rattle.wasm_tree.specs.declared.space.Space.{Space}
-use Rattle.wasm_tree.specs.declared.space.Space.TheVariants.{Functions, Tables, Memories, Globals}
-use Rattle.wasm_tree.specs.declared.module.Import.{Import}
-use Rattle.wasm_tree.specs.declared.module.ImportDesc.{ImportDesc}
+use Rattle.wasm_tree_spec.specs.Prelude.{Space, Functions, Tables, Memories, Globals, Import, ImportDesc, Module}
 use Rattle.wasm_tree.specs.declared.module.ImportDesc.TheVariants as im
-use Rattle.wasm_tree.specs.declared.module.Module.{Module}
 use Rattle.split_spec.specs.declared.names.SplitNames.{SplitNames}
-use Rattle.split_spec.specs.FromPrimary.{imports_from_primary, name_from_primary, slots_name}
-use Rattle.split_spec.specs.Slots.{slot_table_type}
+use Rattle.split_spec.specs.Prelude.{imports_from_primary, name_from_primary, slots_name, slot_table_type}
 use Rattle.split_slots.specs.declared.sharing.Marks.{Marks}
 
 -- the import of an entity by its index, where it is among these

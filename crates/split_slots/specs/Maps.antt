@@ -2,9 +2,7 @@
 use Rattle.std.specs.Prelude.{ℕ, suc, ◌+◌, Bool, List, [], ◌∷◌, ◌++◌, drop, length, map}
 use Rattle.base_lists.specs.Places.{numbers, places}
 use Rattle.base_kept.specs.Kept.{new_places}
-use Rattle.wasm_tree.specs.declared.types.FuncType.{FuncType}
-use Rattle.wasm_tree.specs.declared.module.Module.{Module}
-use Rattle.wasm_tree.specs.Spaces.{imported_funcs, tables_of, memories_of, globals_of}
+use Rattle.wasm_tree_spec.specs.Prelude.{FuncType, Module, imported_funcs, tables_of, memories_of, globals_of}
 use Rattle.index_remap.specs.declared.remap.Remap.{Remap}
 use Rattle.split_slots.specs.declared.sharing.Marks.{Marks}
 

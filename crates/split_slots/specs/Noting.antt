@@ -2,14 +2,8 @@
 use Rattle.std.specs.Prelude.{◌≡◌, ℕ, Bool, ◌&&◌, ◌||◌, not, is_some, nat_eq, List, [], length, map, Option, option_map, slice_get}
 use Rattle.std.specs.List.{list_any}
 use Rattle.base_lists.specs.Places.{numbers}
-use Rattle.wasm_tree.specs.declared.space.Space.{Space}
-use Rattle.wasm_tree.specs.declared.space.Space.TheVariants.{Types, Functions, Tables, Memories, Globals, ElementSegments, DataSegments}
-use Rattle.wasm_tree.specs.declared.space.Operand.{Operand}
-use Rattle.wasm_tree.specs.declared.instr.Instr.{Instr, out-Instr}
-use Rattle.wasm_tree.specs.Operands.{any_operand_passes, held, same_space}
-use Rattle.wasm_tree.specs.declared.module.Module.{Module}
-use Rattle.split_spec.specs.Slots.{defined_at}
-use Rattle.split_spec.specs.FromPrimary.{entities}
+use Rattle.wasm_tree_spec.specs.Prelude.{Space, Types, Functions, Tables, Memories, Globals, ElementSegments, DataSegments, Operand, Instr, out-Instr, any_operand_passes, held, same_space, Module}
+use Rattle.split_spec.specs.Prelude.{defined_at, entities}
 use Rattle.split_slots.specs.declared.sharing.Marks.{Marks}
 use Rattle.split_slots.specs.Looking.{slot_at}
 

@@ -1,10 +1,9 @@
 -- What becomes of the defined functions, by what is known of calls.
 use Rattle.std.specs.Prelude.{◌≡◌, ℕ, suc, ◌≤◌, ◌^◌, cond, is_some, length, List, [], ◌∷◌, ◌++◌, Option, Some, None, pos, slice_get}
 use Rattle.std.specs.Option.{option_map_or}
-use Rattle.wasm_tree.specs.declared.types.FuncType.{FuncType}
-use Rattle.wasm_tree.specs.declared.module.Func.{Func}
-use Rattle.index_remap.specs.Trampolines.{gets, slot_call}
-use Rattle.split_spec.specs.Calls.{with_calls}
+use Rattle.wasm_tree_spec.specs.Prelude.{FuncType, Func}
+use Rattle.index_remap.specs.Prelude.{gets, slot_call}
+use Rattle.split_spec.specs.Prelude.{with_calls}
 use Rattle.split_slots.specs.declared.calls.Calls.{Calls}
 use Rattle.split_slots.specs.Looking.{slot_at}
 use Rattle.split_slots.specs.Replacing.{code_of_call}

@@ -1,6 +1,6 @@
 -- Imports of placeholders, by the types of functions.
 use Rattle.std.specs.Prelude.{ℕ, suc, List, [], ◌∷◌, decimal, slice_index}
-use Rattle.wasm_tree.specs.declared.module.Import.{Import}
+use Rattle.wasm_tree_spec.specs.Prelude.{Import}
 use Rattle.wasm_tree.specs.declared.module.ImportDesc.TheVariants as im
 
 abbrev pub placeholder_of : (namespace types : List ℕ) → (slot func : ℕ) → Import

@@ -1,10 +1,9 @@
 -- What stands in place of calls, instruction by instruction.
 use Rattle.std.specs.Prelude.{◌≡◌, ℕ, ◌+◌, ◌-◌, ◌<◌, ◌^◌, Bool, true, false, ◌&&◌, cond, length, nat_le, nat_lt, List, [], ◌∷◌, Option, None, Some, pos, slice_index}
-use Rattle.wasm_tree.specs.declared.instr.Instr.{Instr, out-Instr}
+use Rattle.wasm_tree_spec.specs.Prelude.{Instr, out-Instr, Block, Loop, If, Call}
 use Rattle.wasm_tree.specs.declared.instr.Instr.TheOpen.{Instr-F}
-use Rattle.wasm_tree.specs.declared.instr.Instr.TheVariants.{Block, Loop, If, Call}
-use Rattle.index_remap.specs.Trampolines.{slot_call}
-use Rattle.split_spec.specs.Calls.{with_calls}
+use Rattle.index_remap.specs.Prelude.{slot_call}
+use Rattle.split_spec.specs.Prelude.{with_calls}
 use Rattle.split_slots.specs.declared.calls.Calls.{Calls}
 use Rattle.split_slots.specs.declared.calls.Target.{Target}
 use Rattle.split_slots.specs.declared.calls.Target.TheVariants as target

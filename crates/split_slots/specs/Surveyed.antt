@@ -1,23 +1,13 @@
 -- What is known of a module that is split, and what is made of it.
 use Rattle.std.specs.Prelude.{◌≡◌, ℕ, ◌+◌, ◌<◌, ◌^◌, List, length, map, Option, Some, None, cond, nat_lt, false, IsTrue}
 use Rattle.base_lists.specs.Places.{numbers}
-use Rattle.wasm_tree.specs.declared.space.Space.{Space}
-use Rattle.wasm_tree.specs.declared.which.Which.{Which}
+use Rattle.wasm_tree_spec.specs.Prelude.{Space, Which, Module, IsBounded, limit, funcs_of}
 use Rattle.wasm_tree.specs.declared.which.Which.TheVariants as which
-use Rattle.wasm_tree.specs.declared.module.Module.{Module}
-use Rattle.wasm_tree.specs.Bounds.{IsBounded}
-use Rattle.wasm_tree.specs.Limits.{limit}
-use Rattle.wasm_tree.specs.Spaces.{funcs_of}
-use Rattle.wasm_valid.specs.Validity.{IsValid}
-use Rattle.index_remap.specs.References.{declared}
-use Rattle.index_remap.specs.Renumbered.{fits_tree, renumbered_tree}
+use Rattle.wasm_valid.specs.Prelude.{IsValid}
+use Rattle.index_remap.specs.Prelude.{declared, fits_tree, renumbered_tree}
 use Rattle.module_limits.specs.Counts.{or_above, over_limit}
 use Rattle.split_spec.specs.declared.names.SplitNames.{SplitNames}
-use Rattle.split_spec.specs.Faults.{moved_params, namespace_taken, prefix_taken}
-use Rattle.split_spec.specs.FromPrimary.{marks_from_primary}
-use Rattle.split_spec.specs.Primary.{left_marks, primary_map, primary_tree}
-use Rattle.split_spec.specs.Secondary.{secondary_imports, secondary_map, secondary_tree}
-use Rattle.split_spec.specs.Slots.{place_among}
+use Rattle.split_spec.specs.Prelude.{moved_params, namespace_taken, prefix_taken, marks_from_primary, left_marks, primary_map, primary_tree, secondary_imports, secondary_map, secondary_tree, place_among}
 use Rattle.split_slots.specs.declared.surveying.Survey.{Survey}
 use Rattle.split_slots.specs.declared.drafting.Draft.{Draft}
 use Rattle.split_slots.specs.declared.drafting.Drafts.{Drafts}

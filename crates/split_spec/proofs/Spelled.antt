@@ -1,9 +1,8 @@
 -- Both modules of small splits, as the bytes that are written.
-use Rattle.std.proofs.Common.{◌≡◌, refl, ℕ, List, [], ◌∷◌, Bool}
+use Rattle.base_lists.proofs.Common.{◌≡◌, refl, ℕ, List, [], ◌∷◌, Bool}
 use Rattle.wasm_bytes.specs.Writing.{unsigned_text, signed_text}
-use Rattle.wasm_tree.specs.Operands.{any_pass_step}
-use Rattle.wasm_tree.specs.DataUse.{names_data}
-use Rattle.wasm_tree.specs.declared.instr.Instr.{out-Instr, fold_out-Instr}
+use Rattle.wasm_tree_spec.specs.Prelude.{any_pass_step, names_data, fold_out-Instr}
+use Rattle.wasm_tree.specs.declared.instr.Instr.{out-Instr}
 use Rattle.wasm_write_spec.specs.PlainValues.{val_code, ref_code, func_type_text, limits_text, table_text, global_type_text, global_text, const_text, import_text, import_desc_text, export_text, export_desc_text, is_func, func_of, is_funcref, index_items, const_items, elem_text, data_text}
 use Rattle.wasm_write_spec.specs.PlainCode.{bin_code, store_code, instr_step, entry_text}
 use Rattle.wasm_write_spec.specs.Plain.{plain}

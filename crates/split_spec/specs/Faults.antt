@@ -4,9 +4,7 @@ use Rattle.std.specs.List.{list_any}
 use Rattle.std.specs.Option.{option_or}
 use Rattle.std.specs.Str.{bytes_eq}
 use Rattle.base_lists.specs.Places.{first_place}
-use Rattle.wasm_tree.specs.declared.which.Which.{Which}
-use Rattle.wasm_tree.specs.declared.which.Which.TheVariants.{Trampolines}
-use Rattle.wasm_tree.specs.declared.module.Module.{Module}
+use Rattle.wasm_tree_spec.specs.Prelude.{Which, Trampolines, Module}
 use Rattle.module_limits.specs.Counts.{or_above, over_limit}
 use Rattle.split_spec.specs.declared.names.SplitNames.{SplitNames}
 use Rattle.split_spec.specs.declared.faults.SplitFault.{SplitFault}

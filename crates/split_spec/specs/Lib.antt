@@ -5,3 +5,4 @@ pub mod FromPrimary
 pub mod Primary
 pub mod Secondary
 pub mod Faults
+pub mod Prelude

@@ -1,9 +1,9 @@
 -- The moved functions of which a trampoline is needed: those that anything but a `call` names.
 use Rattle.std.specs.Prelude.{ℕ, Bool, List, [], ◌++◌, filter}
 use Rattle.std.specs.List.{cons_option}
-use Rattle.wasm_tree.specs.declared.module.Module.{Module}
-use Rattle.wasm_valid.specs.Named.{refs_of}
-use Rattle.index_remap.specs.References.{body_refs, is_among}
+use Rattle.wasm_tree_spec.specs.Prelude.{Module}
+use Rattle.wasm_valid.specs.Prelude.{refs_of}
+use Rattle.index_remap.specs.Prelude.{body_refs, is_among}
 
 -- the functions that an item of an element segment, the initialiser of a global, an export, the start, or `ref.func` in a body names
 abbrev pub named_but_called : Module → List ℕ

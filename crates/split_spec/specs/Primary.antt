@@ -3,17 +3,11 @@
 use Rattle.std.specs.Prelude.{ℕ, suc, ◌+◌, Bool, ◌||◌, not, List, [], ◌∷◌, ◌++◌, drop, map, length, decimal, Option, Some, None}
 use Rattle.base_lists.specs.Places.{numbers}
 use Rattle.base_kept.specs.Kept.{kept, new_places}
-use Rattle.wasm_tree.specs.declared.space.Space.TheVariants.{Functions, Tables, Memories, Globals}
-use Rattle.wasm_tree.specs.declared.module.Import.{Import}
+use Rattle.wasm_tree_spec.specs.Prelude.{Functions, Tables, Memories, Globals, Import, Export, Func, Module, imported_funcs, funcs_of, tables_of, memories_of, globals_of}
 use Rattle.wasm_tree.specs.declared.module.ImportDesc.TheVariants as im
-use Rattle.wasm_tree.specs.declared.module.Export.{Export}
 use Rattle.wasm_tree.specs.declared.module.ExportDesc.TheVariants as ex
-use Rattle.wasm_tree.specs.declared.module.Func.{Func}
-use Rattle.wasm_tree.specs.declared.module.Module.{Module}
-use Rattle.wasm_tree.specs.Spaces.{imported_funcs, funcs_of, tables_of, memories_of, globals_of}
 use Rattle.index_remap.specs.declared.remap.Remap.{Remap}
-use Rattle.index_remap.specs.References.{declared, is_among}
-use Rattle.index_remap.specs.Renumbered.{renumbered_tree}
+use Rattle.index_remap.specs.Prelude.{declared, is_among, renumbered_tree}
 use Rattle.split_spec.specs.declared.names.SplitNames.{SplitNames}
 use Rattle.split_spec.specs.Calls.{with_calls}
 use Rattle.split_spec.specs.Slots.{type_index, place_among, slot_table, in_slots, slot_table_type, slot_segment, call_through_slot, trampoline_body}

@@ -3,17 +3,10 @@
 use Rattle.std.specs.Prelude.{◌≡◌, ℕ, ◌+◌, List, [], ◌∷◌, ◌++◌, map, length, Option, Some, None}
 use Rattle.base_lists.specs.Places.{numbers}
 use Rattle.base_kept.specs.Kept.{new_places}
-use Rattle.wasm_tree.specs.declared.space.Space.TheVariants.{Functions, Tables, Memories, Globals}
-use Rattle.wasm_tree.specs.declared.instr.Instr.{Instr}
-use Rattle.wasm_tree.specs.declared.instr.Instr.TheVariants.{Call}
-use Rattle.wasm_tree.specs.declared.module.Import.{Import}
+use Rattle.wasm_tree_spec.specs.Prelude.{Functions, Tables, Memories, Globals, Instr, Call, Import, Func, Module, funcs_of}
 use Rattle.wasm_tree.specs.declared.module.ImportDesc.TheVariants as im
-use Rattle.wasm_tree.specs.declared.module.Func.{Func}
-use Rattle.wasm_tree.specs.declared.module.Module.{Module}
-use Rattle.wasm_tree.specs.Spaces.{funcs_of}
 use Rattle.index_remap.specs.declared.remap.Remap.{Remap}
-use Rattle.index_remap.specs.References.{declared}
-use Rattle.index_remap.specs.Renumbered.{renumbered_tree}
+use Rattle.index_remap.specs.Prelude.{declared, renumbered_tree}
 use Rattle.split_spec.specs.declared.names.SplitNames.{SplitNames}
 use Rattle.split_spec.specs.Calls.{with_calls}
 use Rattle.split_spec.specs.Slots.{defined_at, place_among, slot_table, in_slots, slot_table_type, slot_segment, call_through_slot}

@@ -9,18 +9,10 @@ use Rattle.std.specs.List.{filter_map}
 use Rattle.std.specs.Option.{option_map_or}
 use Rattle.base_lists.specs.Places.{first_place, numbers}
 use Rattle.wasm_tree.specs.declared.types.RefType.TheVariants.{Func as func_ref}
-use Rattle.wasm_tree.specs.declared.types.ValType.{ValType}
-use Rattle.wasm_tree.specs.declared.types.Limits.{Limits}
-use Rattle.wasm_tree.specs.declared.types.TableType.{TableType}
-use Rattle.wasm_tree.specs.declared.instr.Instr.{Instr}
-use Rattle.wasm_tree.specs.declared.instr.Instr.TheVariants.{Call}
+use Rattle.wasm_tree_spec.specs.Prelude.{ValType, Limits, TableType, Instr, Call, ElemSeg, Func, Module, imported_funcs, funcs_of, tables_of, type_of_func}
 use Rattle.wasm_tree.specs.declared.module.ConstExpr.TheVariants as const
 use Rattle.wasm_tree.specs.declared.module.ElemMode.TheVariants as elem
-use Rattle.wasm_tree.specs.declared.module.ElemSeg.{ElemSeg}
-use Rattle.wasm_tree.specs.declared.module.Func.{Func}
-use Rattle.wasm_tree.specs.declared.module.Module.{Module}
-use Rattle.wasm_tree.specs.Spaces.{imported_funcs, funcs_of, tables_of, type_of_func}
-use Rattle.index_remap.specs.Trampolines.{gets, slot_call}
+use Rattle.index_remap.specs.Prelude.{gets, slot_call}
 
 -- ---- functions of the module ----
 

@@ -1,20 +1,15 @@
 -- Names that are looked up one by one.
-use Rattle.std.proofs.Common.{◌≡◌, ◌∙◌, ◌⊎◌, inl, inr, refl, sym, ap, ap₂, subst, zero, suc, arith, slice_get, Some, Contains, Bool, true, false, not, ◌&&◌, ◌||◌, ℕ, ◌+◌, ◌<◌, List, [], ◌∷◌, ◌++◌, map, take, drop, get_or, length, Bor}
-use Rattle.std.specs.List.{list_any}
-use Rattle.std.specs.Str.{bytes_eq}
-use Rattle.std.proofs.lemmas.List.{map-append, take-append-drop, get_or_default}
-use Rattle.std.proofs.lemmas.List.Folds.{list_any-append}
+use Rattle.base_lists.proofs.Common.{◌≡◌, ◌∙◌, ◌⊎◌, inl, inr, refl, sym, ap, ap₂, subst, zero, suc, arith, slice_get, Some, Contains, Bool, true, false, not, ◌&&◌, ◌||◌, ℕ, ◌+◌, ◌<◌, List, [], ◌∷◌, ◌++◌, map, take, drop, get_or, length, list_any, bytes_eq, map-append, take-append-drop, get_or_default, list_any-append, mapped_more, bytes_eq-Decides}
+use Rattle.std.proofs.Common.{Bor}
 use Rattle.std.proofs.Math.Seq.{drop-cons}
-use Rattle.base_lists.proofs.Walk.{mapped_more}
 use Rattle.wasm_valid.proofs.Repeats.{equivalence}
-use Rattle.std.proofs.lemmas.Slice.Eq.{bytes_eq-Decides}
 use Rattle.merge_names.specs.Names.{AreDistinct}
-use Rattle.merge_spec.specs.Parts.{named_module, named_modules, HaveDistinctNames}
-use Rattle.wasm_meaning.specs.Linking.{Part}
+use Rattle.merge_spec.specs.Prelude.{named_module, named_modules}
+use Rattle.merge_spec.specs.Parts.{HaveDistinctNames}
+use Rattle.wasm_meaning.specs.Prelude.{Part}
 use Rattle.merge_spec.specs.declared.parts.Part as code
-use Rattle.wasm_tree.specs.declared.module.Module.{Module}
-use Rattle.tools_cli.specs.CommandLine.{Text, Source, are_apart}
-use Rattle.tools_cli.specs.Job.{parts_of}
+use Rattle.wasm_tree_spec.specs.Prelude.{Module}
+use Rattle.tools_cli.specs.Prelude.{Text, Source, are_apart, parts_of}
 
 -- a borrowed word that is read nowhere
 unfoldable pub no_word : Bor Text

@@ -1,16 +1,13 @@
 -- What an evaluation of constructors decides: from its parts, that it decides something, and that it is one.
-use Rattle.std.proofs.Common.{◌≡◌, ◌∙◌, ◌⊎◌, inl, inr, refl, sym, ap, ap₂, subst, List, [], ◌∷◌, length, Option, Some, None, option_map, arith}
-use Rattle.std.specs.Option.{option_or}
-use Rattle.wasm_tree.specs.declared.which.Which.{Which}
-use Rattle.wasm_tree.specs.declared.module.Module.{Module}
+use Rattle.base_lists.proofs.Common.{◌≡◌, ◌∙◌, ◌⊎◌, inl, inr, refl, sym, ap, ap₂, subst, List, [], ◌∷◌, length, Option, Some, None, option_map, arith, option_or}
+use Rattle.wasm_tree_spec.specs.Prelude.{Which, Module}
 use Rattle.module_limits.specs.Counts.{over_limit}
 use Rattle.eval_snapshot_spec.specs.Evaluated.{evaluated_tree, first_missing}
 use Rattle.tools_cli_eval.specs.declared.evaluation.EvalFault.{EvalFault}
 use Rattle.tools_cli_eval.specs.declared.evaluation.EvalFault.TheVariants as fault
 use Rattle.tools_cli_eval.specs.declared.evaluation.Evaluation.{Evaluation}
 use Rattle.tools_cli_eval.specs.Evaluations.{IsEvaluation, fault_of}
-use Rattle.tools_cli.specs.CommandLine.{Text, CtorEvalTask, CtorEval}
-use Rattle.tools_cli.specs.Job.{Decision, Refuses, Makes, Decides, Evaluates, not_evaluated, evaluated}
+use Rattle.tools_cli.specs.Prelude.{Text, CtorEvalTask, CtorEval, Decision, Refuses, Makes, Decides, Evaluates, not_evaluated, evaluated}
 use Rattle.tools_cli.specs.Texts.{eval_text}
 use Rattle.tools_cli.specs.EvaluationLines.{evaluation_lines, lines_after}
 use Rattle.tools_cli.specs.Causes.{EvalFails}

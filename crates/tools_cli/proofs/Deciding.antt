@@ -1,12 +1,10 @@
 -- From the inputs of a task to its job.
-use Rattle.std.proofs.Common.{◌≡◌, ◌∙◌, sym, refl, ap, subst, Bool, true, false, cond, Result, Ok, Err, IfOk, IfErr, map, ℕ, zero, suc, ◌≤◌, List, [], ◌∷◌, ◌++◌, take, drop, length, length-append, arith, Contains}
-use Rattle.std.specs.List.{list_all}
-use Rattle.tools_cli.specs.CommandLine.{Text, MetadceTask, SplitTask, CtorEvalTask, SampleTask, Task, Merge, Metadce, Split, CtorEval, Sample, many_of, modules_of, texts_of, inputs_of, outputs_of}
-use Rattle.tools_cli.specs.Job.{Job, Usage, Missing, Refused, Done, Output, Decision, Refuses, Makes, not_linked, not_joined, merged, Reduces, no_graph, not_swept, reduced, Splits, no_plan, not_parted, parted, Evaluates, not_evaluated, evaluated, Samples, not_merged, sampled, Decides, is_within, spelled_output, job_of, AllLoad, OneFails, module_files, contents_of, InputsJob, not_loaded, decided}
-use Rattle.tools_cli.specs.Effects.{Entry, written_names}
-use Rattle.wasm_tree.specs.declared.module.Module.{Module}
-use Rattle.tools_cli.specs.Causes.{total, StopsWith, PrintsAsAllowed}
-use Rattle.tools_cli.specs.Command.{input_entry, input_entries, input_texts, decision_value}
+use Rattle.base_lists.proofs.Common.{◌≡◌, ◌∙◌, sym, refl, ap, subst, Bool, true, false, cond, Result, Ok, Err, IfOk, IfErr, map, ℕ, zero, suc, ◌≤◌, List, [], ◌∷◌, ◌++◌, take, drop, length, arith, Contains, list_all}
+use Rattle.std.proofs.Common.{length-append}
+use Rattle.tools_cli.specs.Prelude.{Text, MetadceTask, SplitTask, CtorEvalTask, SampleTask, Task, Merge, Metadce, Split, CtorEval, Sample, many_of, modules_of, texts_of, inputs_of, Job, Usage, Refused, Done, Output, Decision, Refuses, Makes, not_linked, not_joined, merged, Reduces, no_graph, not_swept, reduced, Splits, no_plan, not_parted, parted, Evaluates, not_evaluated, evaluated, Samples, not_merged, sampled, Decides, is_within, spelled_output, job_of, AllLoad, OneFails, module_files, contents_of, InputsJob, not_loaded, decided, Entry, written_names, total, StopsWith, PrintsAsAllowed, input_entry, input_entries, input_texts, decision_value}
+use Rattle.tools_cli.specs.CommandLine.{outputs_of}
+use Rattle.tools_cli.specs.Job.{Missing}
+use Rattle.wasm_tree_spec.specs.Prelude.{Module}
 use Rattle.tools_cli.specs.declared.gather.Input.{Input}
 use Rattle.tools_cli.specs.declared.decide.Decision as code
 use Rattle.tools_cli.specs.declared.stop.Stop.{Stop}

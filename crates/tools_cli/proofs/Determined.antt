@@ -1,28 +1,23 @@
 -- A command line has one job.
-use Rattle.std.proofs.Common.{Bool, take, zero, suc, ltb, ◌-◌, ◌↔◌, ◌≡◌, ◌∙◌, sym, refl, ap, ap₂, subst, inl, inr, ℕ, List, [], ◌∷◌, Option, Some, None, Result, Ok, Err, false, length}
-use Rattle.std.specs.FinMap.{get}
-use Rattle.wasm_bytes.specs.Reading.{IsBytes}
+use Rattle.base_lists.proofs.Common.{Bool, take, zero, suc, ltb, ◌-◌, ◌↔◌, ◌≡◌, ◌∙◌, sym, refl, ap, ap₂, subst, inl, inr, ℕ, List, [], ◌∷◌, Option, Some, None, Result, Ok, Err, false, length, get}
+use Rattle.wasm_bytes.specs.Prelude.{IsBytes}
 use Rattle.tool_io.specs.FilesAndSinks.{Contents}
-use Rattle.tools_cli.specs.CommandLine.{Text, MergeTask, Task, Merge, Metadce, Split, CtorEval, Sample, source_files, many_of, modules_of, inputs_of}
-use Rattle.tools_cli.specs.Effects.{Entry}
-use Rattle.tools_cli.specs.Texts.{fault_text, invalid_text, link_text, join_text, over_limit}
-use Rattle.wasm_tree.specs.declared.which.Which.TheVariants.{InputBytes}
-use Rattle.tools_cli.specs.Job.{IsRead, IsAccepted, invalid, Job, Refused, Gathered, add_first, add_file, HoldBytes, Whole, Lacks, TooLong, gathered, most_input, Loads, loaded, faulty, AllLoad, OneFails, Decision, Refuses, Makes, Merges, not_linked, not_joined, merged, parts_of, Decides, job_of, module_files, contents_of, InputsJob, not_loaded, decided, TaskJob, not_begun, missing, too_long, all_read, HasJob, no_task, asked}
+use Rattle.tools_cli.specs.Prelude.{Text, MergeTask, Task, Merge, Metadce, Split, CtorEval, Sample, source_files, many_of, modules_of, inputs_of, Entry, fault_text, link_text, over_limit, IsRead, IsAccepted, invalid, Job, Refused, Gathered, add_first, add_file, Whole, Lacks, TooLong, gathered, most_input, Loads, loaded, faulty, AllLoad, OneFails, Decision, Refuses, Makes, Merges, not_linked, not_joined, merged, parts_of, Decides, job_of, module_files, contents_of, InputsJob, not_loaded, decided, TaskJob, not_begun, missing, too_long, all_read, HasJob, no_task, asked}
+use Rattle.tools_cli.specs.Texts.{invalid_text, join_text}
+use Rattle.wasm_tree_spec.specs.Prelude.{InputBytes, Module}
+use Rattle.tools_cli.specs.Job.{HoldBytes}
 use Rattle.dce_exact_proof.specs.Laws.{ExactMarksAreOne}
 use Rattle.tools_cli.proofs.Faithful.{whole_is, short_enough}
 use Rattle.tools_cli.proofs.MetadceDecided.{metadce_once}
 use Rattle.tools_cli.proofs.SplitDecided.{NamesAreRead, split_once}
 use Rattle.tools_cli.proofs.CtorEvalDecided.{eval_once}
 use Rattle.tools_cli.proofs.SampleDecided.{sample_once}
-use Rattle.wasm_tree.specs.declared.module.Module.{Module}
 use Rattle.wasm_read_spec.specs.declared.fault.ReadFault.{ReadFault}
 use Rattle.wasm_valid.specs.declared.kinds.Invalid.{Invalid}
-use Rattle.wasm_valid.specs.Validity.{IsValid, IsSingle}
-use Rattle.wasm_valid.specs.First.{IsFirstInvalid}
-use Rattle.wasm_read_spec.specs.Files.{Spells, Within}
-use Rattle.wasm_read_spec.specs.Contents.{read_fault}
-use Rattle.wasm_meaning.specs.Linking.{Part}
-use Rattle.merge_spec.specs.Faults.{link_fault}
+use Rattle.wasm_valid.specs.Prelude.{IsValid, IsSingle, IsFirstInvalid}
+use Rattle.wasm_read_spec.specs.Prelude.{Spells, Within, read_fault}
+use Rattle.wasm_meaning.specs.Prelude.{Part}
+use Rattle.merge_spec.specs.Prelude.{link_fault}
 use Rattle.merge_spec.specs.declared.faults.LinkFault.{LinkFault}
 use Rattle.merge_spec.specs.declared.faults.JoinFault.{JoinFault}
 

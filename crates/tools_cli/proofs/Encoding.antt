@@ -1,13 +1,9 @@
 -- Outputs that are compared with the limit, and encoded, one after another.
-use Rattle.std.proofs.Common.{◌≡◌, ◌∙◌, sym, refl, ap, Bool, true, false, not, ltb, ◌&&◌, map, ℕ, suc, ◌+◌, ◌<◌, ◌≤◌, List, [], ◌∷◌, ◌++◌, append-nil, add-one, drop, drop-cons, length, get_or, arith}
-use Rattle.std.specs.List.{list_all}
-use Rattle.std.proofs.lemmas.List.{drop_all}
-use Rattle.std.proofs.lemmas.Bool.Decides.{nat_tests}
+use Rattle.base_lists.proofs.Common.{◌≡◌, ◌∙◌, sym, refl, ap, Bool, true, false, not, ltb, ◌&&◌, map, ℕ, suc, ◌+◌, ◌<◌, ◌≤◌, List, [], ◌∷◌, ◌++◌, append-nil, add-one, drop, drop-cons, length, get_or, arith, list_all, drop_all, nat_tests}
 use Rattle.wasm_write_spec.specs.Plain.{plain}
-use Rattle.wasm_tree.specs.declared.module.Module.{Module}
-use Rattle.tools_cli.specs.Effects.{Entry}
-use Rattle.tools_cli.specs.Job.{is_within, spelled_output, most_output}
-use Rattle.tools_cli.specs.Command.{output_value, output_values, write_entry, write_entries}
+use Rattle.wasm_tree_spec.specs.Prelude.{Module}
+use Rattle.tools_cli.specs.Prelude.{Entry, is_within, spelled_output, most_output, output_values, write_entries}
+use Rattle.tools_cli.specs.Command.{output_value, write_entry}
 use Rattle.tools_cli.specs.declared.decide.Output.{Output}
 use Rattle.tools_cli.specs.declared.perform.Write.{Write}
 

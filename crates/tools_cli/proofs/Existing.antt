@@ -1,28 +1,25 @@
 -- A command line has a job.
-use Rattle.std.proofs.Common.{Bool, true, false, cond, ltb, ◌-◌, ◌≡◌, ◌∙◌, sym, refl, ap, subst, map, inl, inr, ◌⊎◌, ℕ, zero, suc, ◌<◌, ◌≤◌, take, List, [], ◌∷◌, length, length-append, Option, Some, None, Result, Ok, Err, slice_get, option_map, arith}
-use Rattle.std.specs.FinMap.{get}
-use Rattle.wasm_bytes.specs.Reading.{IsBytes}
+use Rattle.base_lists.proofs.Common.{Bool, true, false, cond, ltb, ◌-◌, ◌≡◌, ◌∙◌, sym, refl, ap, subst, map, inl, inr, ◌⊎◌, ℕ, zero, suc, ◌<◌, ◌≤◌, take, List, [], ◌∷◌, length, Option, Some, None, Result, Ok, Err, slice_get, option_map, arith, get, length-map}
+use Rattle.std.proofs.Common.{length-append}
+use Rattle.wasm_bytes.specs.Prelude.{IsBytes}
 use Rattle.tool_io.specs.FilesAndSinks.{Contents}
-use Rattle.tools_cli.specs.CommandLine.{Text, Source, MergeTask, Task, Merge, Metadce, Split, CtorEval, Sample, task_of, source_files, many_of, modules_of, texts_of, inputs_of}
-use Rattle.tools_cli.specs.Effects.{Entry}
-use Rattle.tools_cli.specs.Texts.{fault_text, invalid_text, link_text, import_mismatch, import_cycle, limits_clash, global_cycle, too_many_memories}
-use Rattle.tools_cli.specs.Job.{IsRead, IsAccepted, invalid, Job, Gathered, add_first, add_file, HoldBytes, Whole, Lacks, TooLong, gathered, most_input, Loads, loaded, faulty, AllLoad, OneFails, Decision, Merges, not_linked, not_joined, merged, parts_of, sample_merge, sample_modules, Decides, job_of, module_files, contents_of, InputsJob, not_loaded, decided, refused_before, TaskJob, not_begun, missing, too_long, all_read, HasJob, no_task, asked}
-use Rattle.wasm_tree.specs.declared.module.Module.{Module}
+use Rattle.tools_cli.specs.Prelude.{Text, Source, MergeTask, Task, Merge, Metadce, Split, CtorEval, Sample, task_of, source_files, many_of, modules_of, texts_of, inputs_of, Entry, fault_text, link_text, IsRead, IsAccepted, invalid, Job, Gathered, add_first, add_file, Whole, Lacks, TooLong, gathered, most_input, Loads, loaded, faulty, AllLoad, OneFails, Decision, Merges, not_linked, not_joined, merged, parts_of, sample_merge, sample_modules, Decides, job_of, module_files, contents_of, InputsJob, not_loaded, decided, refused_before, TaskJob, not_begun, missing, too_long, all_read, HasJob, no_task, asked}
+use Rattle.tools_cli.specs.Texts.{invalid_text, import_mismatch, import_cycle, limits_clash, global_cycle, too_many_memories}
+use Rattle.tools_cli.specs.Job.{HoldBytes}
+use Rattle.wasm_tree_spec.specs.Prelude.{Module}
 use Rattle.wasm_read_spec.specs.declared.fault.ReadFault.{ReadFault}
 use Rattle.wasm_read_spec.specs.declared.fault.ReadFault.TheVariants as fault
 use Rattle.wasm_valid.specs.declared.kinds.Invalid.{Invalid}
-use Rattle.wasm_valid.specs.First.{IsFirstInvalid}
-use Rattle.wasm_read_spec.specs.Contents.{read_fault}
-use Rattle.wasm_read_spec.specs.Causes.{Cause}
-use Rattle.merge_spec.specs.Faults.{link_fault, NamesPart}
-use Rattle.merge_spec.specs.Joined.{join_of, outcome, repeated_name, joined_module}
+use Rattle.wasm_valid.specs.Prelude.{IsFirstInvalid}
+use Rattle.wasm_read_spec.specs.Prelude.{read_fault, Cause}
+use Rattle.merge_spec.specs.Prelude.{link_fault, NamesPart, repeated_name, joined_module}
+use Rattle.merge_spec.specs.Joined.{join_of, outcome}
 use Rattle.module_limits.specs.Counts.{over_limit}
 use Rattle.merge_spec.specs.declared.faults.LinkFault.{LinkFault}
 use Rattle.merge_spec.specs.declared.faults.LinkFault.TheVariants as link
 use Rattle.merge_spec.specs.declared.faults.JoinFault.{JoinFault}
 use Rattle.merge_spec.specs.declared.faults.JoinFault.TheVariants as join
 use Rattle.merge_spec.proofs.FaultParts.{fault_names_part, fault_not_memory}
-use Rattle.std.proofs.lemmas.List.{length-map}
 use Rattle.dce_exact_proof.specs.Laws.{ExactMarksExist}
 use Rattle.tools_cli.proofs.MergeDecided.{length_parts, length_files}
 use Rattle.tools_cli.proofs.MetadceDecided.{metadce_told}

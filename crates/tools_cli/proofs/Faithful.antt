@@ -1,27 +1,19 @@
 -- A job that is done keeps what it read: its decision is sound, by the laws of its command, and what is written of a sound decision is kept, of any command.
-use Rattle.std.proofs.Common.{IsTrue, Bool, true, false, not, cond, ltb, ◌≡◌, ◌∙◌, refl, sym, ap, subst, ℕ, zero, suc, ◌-◌, List, [], ◌∷◌, ◌++◌, append-nil, take, length, Option, Some, None, IfSome, IfOk, OnOk, Result, Ok, Err, ◌<◌, ◌≤◌, ◌^◌, arith, map, option_map, inl, inr}
-use Rattle.std.specs.Prelude.{IsUtf8, ◌||◌, ◌&&◌, nat_lt}
-use Rattle.std.specs.Option.{option_or}
-use Rattle.std.proofs.lemmas.Bool.{and_parts}
-use Rattle.std.proofs.lemmas.Bool.Decides.{nat_tests}
-use Rattle.std.specs.FinMap.{get, insert, get-insert}
+use Rattle.base_lists.proofs.Common.{IsTrue, Bool, true, false, not, cond, ltb, ◌≡◌, ◌∙◌, refl, sym, ap, subst, ℕ, zero, suc, ◌-◌, List, [], ◌∷◌, ◌++◌, append-nil, take, length, Option, Some, None, IfSome, IfOk, OnOk, Result, Ok, Err, ◌<◌, ◌≤◌, ◌^◌, arith, map, option_map, inl, inr, IsUtf8, ◌||◌, ◌&&◌, nat_lt, option_or, and_parts, nat_tests, get, list_all, list_any, cons_option, bytes_eq, is_eq-slice_cmp, map_twice}
+use Rattle.std.specs.FinMap.{insert, get-insert}
 use Rattle.std.specs.Cmp.{eq_by_cmp_equiv}
-use Rattle.std.specs.List.{list_all, list_any, cons_option}
-use Rattle.std.specs.Str.{bytes_eq}
-use Rattle.std.proofs.lemmas.Map.Text.{is_eq-slice_cmp}
 use Rattle.std.proofs.lemmas.Cmp.{nat_list_cmp_total}
 use Rattle.tool_io.specs.FilesAndSinks.{Contents}
-use Rattle.tools_cli.specs.CommandLine.{Text, Source, MergeTask, MetadceTask, SplitTask, CtorEvalTask, SampleTask, Task, Merge, Metadce, Split, CtorEval, Sample, task_of, many_of, modules_of, texts_of, inputs_of, are_apart}
+use Rattle.tools_cli.specs.Prelude.{Text, Source, MergeTask, MetadceTask, SplitTask, CtorEvalTask, SampleTask, Task, Merge, Metadce, Split, CtorEval, Sample, task_of, many_of, modules_of, texts_of, inputs_of, are_apart, Entry, made, IsRead, IsAccepted, Job, Usage, Refused, Done, Gathered, Whole, Lacks, TooLong, add_first, add_file, gathered, most_input, most_output, Loads, loaded, faulty, invalid, AllLoad, Output, Decision, Refuses, Makes, Merges, not_linked, not_joined, merged, Reduces, no_graph, not_swept, reduced, words_plan, Splits, no_plan, not_parted, parted, Evaluates, not_evaluated, evaluated, Samples, not_merged, sampled, sample_merge, sample_parts, Decides, is_within, spelled_output, job_of, module_files, contents_of, parts_of, AreMerged, InputsJob, not_loaded, decided, TaskJob, not_begun, missing, too_long, all_read, HasJob, no_task, asked}
 use Rattle.merge_names.specs.declared.mode.Mode.{Mode}
-use Rattle.tools_cli.specs.Effects.{Entry, made}
-use Rattle.tools_cli.specs.Job.{IsRead, IsAccepted, Job, Usage, Missing, Refused, Done, Gathered, Whole, Lacks, TooLong, add_first, add_file, gathered, most_input, most_output, Loads, loaded, faulty, invalid, AllLoad, Output, Decision, Refuses, Makes, Merges, not_linked, not_joined, merged, GivesMarks, Reduces, no_graph, not_swept, reduced, words_plan, Splits, no_plan, not_parted, parted, Evaluates, not_evaluated, evaluated, Samples, not_merged, sampled, sample_merge, sample_parts, Decides, is_within, spelled_output, job_of, module_files, contents_of, parts_of, AreMerged, InputsJob, not_loaded, decided, TaskJob, not_begun, missing, too_long, all_read, HasJob, no_task, asked}
+use Rattle.tools_cli.specs.Job.{Missing, GivesMarks}
 use Rattle.tools_cli.specs.Run.{EndsDone}
 use Rattle.tools_cli.specs.Faithful.{HoldModules, output_names, Findings, AreMade, equivalence, Holds, FurtherClaims, TaskIsSound, IsFaithful, EndsFaithful, SplitWordsAreText, HoldBytesAt, ReadsBytes}
 use Rattle.tools_cli.proofs.Apart.{both_of, neither}
 use Rattle.tools_cli.proofs.Deciding.{one_memory}
 use Rattle.tools_cli.proofs.ReadBytes.{all_read_are, first_read}
-use Rattle.wasm_bytes.specs.Reading.{IsBytes}
-use Rattle.eval_spec.specs.State.{State}
+use Rattle.wasm_bytes.specs.Prelude.{IsBytes}
+use Rattle.eval_spec.specs.Prelude.{State}
 use Rattle.eval_numbers_proof.specs.Ranges.{BeginsInRange}
 use Rattle.eval_snapshot_spec.specs.After.{IsAfter}
 use Rattle.eval_snapshot_spec.specs.Evaluated.{evaluated_count, evaluated_tree, first_missing}
@@ -39,20 +31,16 @@ use Rattle.split_plan.specs.Plans.{IsPlan, is_wanted}
 use Rattle.split_plan.proofs.Chosen.{result_shaped}
 use Rattle.split_spec.specs.declared.names.SplitNames.{SplitNames}
 use Rattle.split_spec.specs.declared.faults.SplitFault.TheVariants.{NamespaceTaken, PrefixTaken, TooMany}
-use Rattle.split_spec.specs.Faults.{namespace_taken, prefix_taken, moved_params, too_many, split_fault}
-use Rattle.split_spec.specs.Primary.{primary, primary_with}
-use Rattle.split_spec.specs.Secondary.{secondary, secondary_with}
+use Rattle.split_spec.specs.Prelude.{namespace_taken, prefix_taken, moved_params, too_many, split_fault, primary, primary_with, secondary, secondary_with}
 use Rattle.split_proof.specs.Premises.{CanMove}
 use Rattle.split_behaves_proof.specs.Laws.{SecondariesAlwaysLoad, SplitModuleEquivalent}
 use Rattle.split_behaves_proof.proofs.Pairs.{pair_can_be_split}
-use Rattle.base_lists.proofs.Places.{map_twice}
-use Rattle.wasm_tree.specs.declared.module.Module.{Module}
-use Rattle.wasm_tree.specs.Bounds.{IsBounded}
-use Rattle.wasm_valid.specs.Validity.{IsValid, IsSingle}
+use Rattle.wasm_tree_spec.specs.Prelude.{Module, IsBounded, Which, limit, Trampolines, memory_zero_funcs}
+use Rattle.wasm_valid.specs.Prelude.{IsValid, IsSingle}
 use Rattle.base_lists.specs.Every.{Every}
-use Rattle.wasm_read_spec.specs.Files.{Spells, Within}
-use Rattle.wasm_meaning.specs.Linking.{Part, module_at}
-use Rattle.merge_spec.specs.Faults.{link_fault}
+use Rattle.wasm_read_spec.specs.Prelude.{Spells, Within}
+use Rattle.wasm_meaning.specs.Prelude.{Part, module_at}
+use Rattle.merge_spec.specs.Prelude.{link_fault, linked_world, joined_module, repeated_name}
 use Rattle.merge_spec.proofs.FaultParts.{none_with_several}
 use Rattle.merge_valid_proof.specs.Joinable.{CanBeJoined}
 use Rattle.merge_behaves_proof.specs.Laws.{ObservationallyEquivalent}
@@ -66,14 +54,9 @@ use Rattle.dce_reach_proof.specs.Laws.{ReachedMarksAreClosed}
 use Rattle.dce_sweep.specs.Sweeps.{Sweeps, outcome}
 use Rattle.dce_behaves_proof.specs.Laws.{SweptModuleEquivalent, ObservationallyEquivalent as BehavesAsUnswept}
 use Rattle.world_sequential_proof.specs.Laws.{SequentialInstantiationIsEquivalent}
-use Rattle.merge_spec.specs.View.{linked_world}
-use Rattle.wasm_tree.specs.declared.which.Which.{Which}
-use Rattle.merge_spec.specs.Joined.{joined_module, repeated_name, outcome as merged_outcome}
+use Rattle.merge_spec.specs.Joined.{outcome as merged_outcome}
 use Rattle.module_limits.specs.Counts.{or_above, over_limit}
-use Rattle.wasm_tree.specs.Limits.{limit}
-use Rattle.wasm_tree.specs.declared.which.Which.TheVariants.{Trampolines}
 use Rattle.wasm_write_spec.specs.Plain.{plain}
-use Rattle.wasm_tree.specs.MemoryZero.{memory_zero_funcs}
 use Rattle.wasm_write_proof.specs.Ranges.{InRange}
 
 -- a part is valid, and a u32 counts what it has

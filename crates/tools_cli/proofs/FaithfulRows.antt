@@ -1,37 +1,23 @@
 -- Small runs of what is claimed of each command, computed: what is seen of the modules that a task reads and of the outputs that it makes of them; and of each a wrong output
 -- that the first half of the claim refuses, by moves and steps for which the second half stands, and one that the second half refuses, where the first stands.
-use Rattle.std.proofs.Common.{◌≡◌, refl, sym, subst, ℕ, List, [], ◌∷◌, true, false, Option, Some, None, rules}
-use Rattle.std.specs.Prelude.{pos, IsTrue, codes}
+use Rattle.base_lists.proofs.Common.{◌≡◌, refl, sym, subst, ℕ, List, [], ◌∷◌, true, false, Option, Some, None, rules, pos, IsTrue, codes}
 use Rattle.std.specs.Fmt.{digits}
 use Rattle.wasm_tree.specs.declared.types.RefType.TheVariants.{Func as func_ref}
-use Rattle.wasm_tree.specs.declared.types.ValType.TheVariants.{I32}
-use Rattle.wasm_tree.specs.declared.types.FuncType.{FuncType}
-use Rattle.wasm_tree.specs.declared.types.GlobalType.{GlobalType}
-use Rattle.wasm_tree.specs.declared.types.TableType.{TableType}
-use Rattle.wasm_tree.specs.declared.instr.Instr.{Instr, out-Instr, the_lemmas}
+use Rattle.wasm_tree_spec.specs.Prelude.{I32, FuncType, GlobalType, TableType, Instr, the_lemmas, Export, ExportDesc, Func, GlobalDef, Import, ImportDesc, Module}
+use Rattle.wasm_tree.specs.declared.instr.Instr.{out-Instr}
 use Rattle.wasm_tree.specs.declared.instr.Instr.TheVariants as i
 use Rattle.wasm_tree.specs.declared.module.ConstExpr.TheVariants as const
 use Rattle.wasm_tree.specs.declared.module.ElemMode.TheVariants as elem
-use Rattle.wasm_tree.specs.declared.module.Export.{Export}
-use Rattle.wasm_tree.specs.declared.module.ExportDesc.{ExportDesc}
 use Rattle.wasm_tree.specs.declared.module.ExportDesc.TheVariants as ex
-use Rattle.wasm_tree.specs.declared.module.Func.{Func}
-use Rattle.wasm_tree.specs.declared.module.GlobalDef.{GlobalDef}
-use Rattle.wasm_tree.specs.declared.module.Import.{Import}
-use Rattle.wasm_tree.specs.declared.module.ImportDesc.{ImportDesc}
 use Rattle.wasm_tree.specs.declared.module.ImportDesc.TheVariants as im
-use Rattle.wasm_tree.specs.declared.module.Module.{Module}
 use Rattle.wasm_num.specs.declared.BinOp.TheVariants.{I32Add}
 use Rattle.wasm_num.specs.Operations.{wrapped, bin_from, bin_to, bin_value}
-use Rattle.wasm_meaning.specs.State.{Text}
-use Rattle.wasm_meaning.specs.Environment.{Environment, Number, is_environment}
-use Rattle.wasm_meaning.specs.Run.{Event, Linked, Asked, Returned, BadMove, Move, Call, Answer, IsPrefix}
+use Rattle.wasm_meaning.specs.Prelude.{Text, Environment, Number, is_environment, Event, Linked, Asked, Returned, BadMove, Move, Call, Answer, IsPrefix}
 use Rattle.merge_names.specs.declared.mode.Mode.TheVariants as mode
 use Rattle.merge_spec.specs.Merged.{all_exports}
 use Rattle.merge_spec.specs.View.{all_entities, merge_view}
 use Rattle.dce_graph.specs.declared.marks.Reached.{Reached}
-use Rattle.tools_cli.specs.CommandLine.{MergeTask, MetadceTask, SplitTask, CtorEvalTask, SampleTask, Merge, Metadce, Split, CtorEval, Sample}
-use Rattle.tools_cli.specs.Job.{parts_of, words_plan, sample_merge, sample_parts}
+use Rattle.tools_cli.specs.Prelude.{MergeTask, MetadceTask, SplitTask, CtorEvalTask, SampleTask, Merge, Metadce, Split, CtorEval, Sample, parts_of, words_plan, sample_merge, sample_parts}
 use Rattle.tools_cli.specs.Faithful.{Equivalence, Holds, equivalence, merged_equivalence, evaluated_names}
 
 -- ---- the environment ----

@@ -1,21 +1,16 @@
 -- What stands in the parts of a merge together.
-use Rattle.std.proofs.Common.{◌≡◌, refl, ℕ, zero, suc, ◌*◌, ◌≤◌, ◌<◌, ◌^◌, List, [], ◌∷◌, length, length-append, Some, None, cond, ltb, true, false, Bool, arith}
-use Rattle.wasm_tree.specs.declared.space.Space.{Space}
-use Rattle.wasm_tree.specs.declared.space.Space.TheVariants.{Types, Functions, Tables, Memories, Globals, ElementSegments, DataSegments}
+use Rattle.base_lists.proofs.Common.{◌≡◌, refl, ℕ, zero, suc, ◌*◌, ◌≤◌, ◌<◌, ◌^◌, List, [], ◌∷◌, length, Some, None, cond, ltb, true, false, Bool, arith, nat_tests}
+use Rattle.std.proofs.Common.{length-append}
+use Rattle.wasm_tree_spec.specs.Prelude.{Space, Types, Functions, Tables, Memories, Globals, ElementSegments, DataSegments, limit, Module}
 use Rattle.wasm_tree.specs.declared.which.Which.TheVariants as which
-use Rattle.wasm_tree.specs.Limits.{limit}
-use Rattle.std.proofs.lemmas.Bool.Decides.{nat_tests}
-use Rattle.wasm_tree.specs.declared.module.Module.{Module}
 use Rattle.base_lists.specs.Every.{Every}
-use Rattle.wasm_meaning.specs.World.{defined_count, defined_before}
-use Rattle.wasm_meaning.specs.Linking.{Part, sites_in, sites_from, sites}
+use Rattle.wasm_meaning.specs.Prelude.{defined_count, defined_before, Part, sites_in, sites_from, sites}
 use Rattle.base_lists.specs.Places.{count_of}
-use Rattle.merge_spec.specs.Merged.{imports_kind}
+use Rattle.merge_spec.specs.Prelude.{imports_kind}
 use Rattle.merge_spec.specs.Joined as joined
-use Rattle.tools_cli.specs.CommandLine.{Source, MergeTask, Merge}
+use Rattle.tools_cli.specs.Prelude.{Source, MergeTask, Merge, parts_of, refused_before, IsWithinLimits}
 use Rattle.tools_cli.specs.Texts.{too_many_parts}
-use Rattle.tools_cli.specs.Job.{parts_of, refused_before, most_parts}
-use Rattle.tools_cli.specs.Causes.{IsWithinLimits}
+use Rattle.tools_cli.specs.Job.{most_parts}
 use Rattle.merge_join.proofs.ByPart.{sites_in_length}
 
 abbrev pub EachWithin : List Part → Type 0

@@ -1,11 +1,10 @@
 -- One item at most is the first that does not hold.
-use Rattle.std.proofs.Common.{◌≡◌, ◌∙◌, sym, ap, ap₂, subst, ℕ, List, [], ◌∷◌, ◌++◌, length, Bool, true, false, refl}
-use Rattle.wasm_tree.specs.declared.module.Module.{Module}
+use Rattle.base_lists.proofs.Common.{◌≡◌, ◌∙◌, sym, ap, ap₂, subst, ℕ, List, [], ◌∷◌, ◌++◌, length, Bool, true, false, refl}
+use Rattle.wasm_tree_spec.specs.Prelude.{Module}
 use Rattle.wasm_valid.specs.declared.kinds.ItemKind.{ItemKind}
 use Rattle.wasm_valid.specs.declared.kinds.ItemKind.TheVariants as kind
 use Rattle.wasm_valid.specs.declared.kinds.Invalid.{Invalid}
-use Rattle.wasm_valid.specs.Validity.{Item, HoldsAt, EachHolds, IsValid, IsSingle, item, items, span}
-use Rattle.wasm_valid.specs.First.{IsFirstInvalid, index_of}
+use Rattle.wasm_valid.specs.Prelude.{Item, HoldsAt, EachHolds, IsValid, IsSingle, item, items, span, IsFirstInvalid, index_of}
 
 abbrev Holds : Module → Item → Type 0
 Holds m x = HoldsAt m x.kind x.place

@@ -1,17 +1,13 @@
 -- Files that are read in order.
-use Rattle.std.proofs.Common.{◌≡◌, ◌∙◌, sym, refl, ap, subst, ℕ, zero, suc, ◌+◌, ◌-◌, ◌≤◌, ◌<◌, ltb, min, arith, List, [], ◌∷◌, ◌++◌, length, get_or, take, drop, map, append_assoc, add-one, Option, Some, None, option_map, Bor, Contains, IfSome, true, false, cond}
-use Rattle.std.proofs.lemmas.List.{take_all, length-take, drop_all, map-append}
-use Rattle.std.proofs.lemmas.Bool.Decides.{nat_tests}
+use Rattle.base_lists.proofs.Common.{◌≡◌, ◌∙◌, sym, refl, ap, subst, ℕ, zero, suc, ◌+◌, ◌-◌, ◌≤◌, ◌<◌, ltb, min, arith, List, [], ◌∷◌, ◌++◌, length, get_or, take, drop, map, append_assoc, add-one, Option, Some, None, option_map, Contains, IfSome, true, false, cond, take_all, drop_all, map-append, nat_tests}
+use Rattle.std.proofs.Common.{Bor}
+use Rattle.std.proofs.lemmas.List.{length-take}
 use Rattle.tools_cli.proofs.Pieces.{append-nil}
 use Rattle.std.proofs.Math.Seq.{drop-cons}
 use Rattle.tool_io.specs.FilesAndSinks.{Contents, first_bytes}
-use Rattle.tools_cli.specs.CommandLine.{Text}
-use Rattle.tools_cli.specs.Job.{Gathered, Whole, Lacks, TooLong, add_first, add_file, gathered}
-use Rattle.tools_cli.specs.Texts.{over_limit}
-use Rattle.wasm_tree.specs.declared.which.Which.TheVariants.{InputBytes}
-use Rattle.tools_cli.specs.Causes.{turns, turns_after, total}
-use Rattle.tools_cli.specs.Command.{names_of, input_entry, input_entries}
-use Rattle.tools_cli.specs.Effects.{Entry}
+use Rattle.tools_cli.specs.Prelude.{Text, Gathered, Whole, Lacks, TooLong, add_first, add_file, gathered, over_limit, total, names_of, input_entry, input_entries, Entry}
+use Rattle.wasm_tree_spec.specs.Prelude.{InputBytes}
+use Rattle.tools_cli.specs.Causes.{turns, turns_after}
 use Rattle.tools_cli.specs.declared.gather.Input.{Input}
 
 -- what was read before, and then the rest

@@ -1,18 +1,13 @@
 -- A tree that is read has no list above its limit.
-use Rattle.std.proofs.Common.{ℕ, ◌≤◌, List, [], ◌∷◌, length, Bool, true, false, sym, subst, arith}
-use Rattle.std.specs.Prelude.{◌==◌}
-use Rattle.wasm_bytes.specs.Frames.{Section}
-use Rattle.wasm_tree.specs.declared.which.Which.TheVariants.{Types, Imports, Functions, Tables, Memories, Globals, ElementSegments, DataSegments}
-use Rattle.wasm_tree.specs.Limits.{limit}
-use Rattle.wasm_tree.specs.declared.module.Func.{Func}
-use Rattle.wasm_tree.specs.declared.module.Module.{Module}
+use Rattle.base_lists.proofs.Common.{ℕ, ◌≤◌, List, [], ◌∷◌, length, Bool, true, false, sym, subst, arith, ◌==◌}
+use Rattle.wasm_bytes.specs.Prelude.{Section}
+use Rattle.wasm_tree_spec.specs.Prelude.{Imports, limit, Func, Module}
+use Rattle.wasm_tree.specs.declared.which.Which.TheVariants.{Types, Functions, Tables, Memories, Globals, ElementSegments, DataSegments}
 use Rattle.wasm_read_spec.specs.declared.parts.Parts.{Parts}
 use Rattle.base_lists.specs.Every.{Every}
-use Rattle.wasm_read_spec.specs.SpellingForms.{Never, Made, When, Any, Limited, WhenSmall}
-use Rattle.wasm_read_spec.specs.Files.{nothing, with_types, with_imports, with_func_types, with_tables, with_mems, with_globals, with_exports, with_start, with_elems, with_codes, with_datas, with_count, SpellsCustom, section_form, small_form, SectionIsSmall, Contents, typed, tree_of}
-use Rattle.tools_cli.specs.CommandLine.{Text}
-use Rattle.tools_cli.specs.Job.{IsRead}
-use Rattle.tools_cli.specs.Causes.{IsWithinLimits}
+use Rattle.wasm_read_spec.specs.Prelude.{Never, Made, When, Any, Limited, WhenSmall, nothing, with_types, with_imports, with_func_types, with_tables, with_mems, with_globals, with_exports, with_start, with_elems, with_codes, with_datas, with_count, SpellsCustom, SectionIsSmall, Contents, typed, tree_of}
+use Rattle.wasm_read_spec.specs.Files.{section_form, small_form}
+use Rattle.tools_cli.specs.Prelude.{Text, IsRead, IsWithinLimits}
 
 -- the lists of the sections
 record FewParts (p : Parts) : Type 0 where

@@ -1,14 +1,13 @@
 -- What is picked from the arguments of a command, and the task of these.
-use Rattle.std.specs.Prelude.{unwrap_or, bytes_eq, codes}
-use Rattle.std.proofs.Common.{◌≡◌, ◌∙◌, refl, sym, ap, ◌<◌, arith, map, length, Bool, true, false, cond, List, [], ◌∷◌, Option, Some, None, option_map, option_and_then}
-use Rattle.std.specs.Borrow.{Bor}
+use Rattle.base_lists.proofs.Common.{codes, ◌≡◌, ◌∙◌, refl, sym, ap, ◌<◌, arith, map, length, Bool, true, false, cond, List, [], ◌∷◌, Option, Some, None, option_map, option_and_then, Bor}
+use Rattle.std.specs.Prelude.{unwrap_or, bytes_eq}
 use Rattle.tools_cli_words.specs.Words.{Text, Arguments, said_together}
 use Rattle.tools_cli_words.specs.Vocabularies.{vocabulary_of}
 use Rattle.tools_cli_words.specs.declared.tool.Tool.{Tool}
 use Rattle.tools_cli_words.specs.declared.tool.Tool.TheVariants as tool
-use Rattle.tools_cli.specs.CommandLine.{Source, are_apart, some_apart, make_merge, merge_of, metadce_of, split_of, ctor_eval_of, sample_of, task_of, tool_named, tool_in, said_to_tool, task_of_arguments}
+use Rattle.tools_cli.specs.Prelude.{Source, are_apart, source_values, source_names}
+use Rattle.tools_cli.specs.CommandLine.{some_apart, make_merge, merge_of, metadce_of, split_of, ctor_eval_of, sample_of, task_of, tool_named, tool_in, said_to_tool, task_of_arguments}
 use Rattle.merge_names.specs.declared.mode.Mode.{Mode}
-use Rattle.tools_cli.specs.Sources.{source_values, source_names}
 use Rattle.tools_cli.specs.declared.merge.Source as code
 
 -- a text, or another in its place

@@ -1,20 +1,14 @@
 -- Files that are loaded one after another.
-use Rattle.std.proofs.Common.{◌≡◌, ◌∙◌, sym, refl, ap, subst, ◌⊎◌, inl, inr, Bool, false, Some, Result, Ok, Err, ℕ, zero, suc, ◌+◌, ◌<◌, ◌≤◌, ◌^◌, List, [], ◌∷◌, ◌++◌, append_assoc, append-nil, add-one, drop, drop-cons, length, get_or, arith}
-use Rattle.std.proofs.lemmas.List.{drop_all}
+use Rattle.base_lists.proofs.Common.{◌≡◌, ◌∙◌, sym, refl, ap, subst, ◌⊎◌, inl, inr, Bool, false, Some, Result, Ok, Err, ℕ, zero, suc, ◌+◌, ◌<◌, ◌≤◌, ◌^◌, List, [], ◌∷◌, ◌++◌, append_assoc, append-nil, add-one, drop, drop-cons, length, get_or, arith, drop_all}
 use Rattle.base_lists.specs.Every.{Every}
-use Rattle.tools_cli.specs.CommandLine.{Text}
-use Rattle.tools_cli.specs.Job.{Loads, faulty, invalid, loaded, IsRead, IsAccepted, AllLoad, OneFails, most_input}
-use Rattle.tools_cli.specs.Effects.{Entry}
-use Rattle.tools_cli.specs.Texts.{fault_text}
-use Rattle.wasm_tree.specs.declared.module.Module.{Module}
+use Rattle.tools_cli.specs.Prelude.{Text, Loads, faulty, invalid, loaded, IsRead, IsAccepted, AllLoad, OneFails, most_input, Entry, fault_text, total, StopsWith, IsWithinLimits, refusal_text, input_entry, input_entries}
+use Rattle.wasm_tree_spec.specs.Prelude.{Module}
 use Rattle.wasm_read_spec.specs.declared.fault.ReadFault.{ReadFault}
 use Rattle.wasm_read_spec.specs.declared.fault.ReadFault.TheVariants.{NoMemory}
-use Rattle.wasm_read_spec.specs.Contents.{read_fault}
+use Rattle.wasm_read_spec.specs.Prelude.{read_fault}
 use Rattle.tools_cli.specs.declared.stop.Stop.{Stop}
 use Rattle.tools_cli.specs.declared.stop.Stop.TheVariants as stop
-use Rattle.tools_cli.specs.Causes.{total, StopsWith, InvalidText, IsWithinLimits}
-use Rattle.tools_cli.specs.Stop.{refusal_text}
-use Rattle.tools_cli.specs.Command.{input_entry, input_entries}
+use Rattle.tools_cli.specs.Causes.{InvalidText}
 use Rattle.tools_cli.specs.declared.gather.Input.{Input}
 use Rattle.tools_cli.proofs.Limits.{read_within}
 

@@ -1,37 +1,35 @@
 -- That what the tasks of FaithfulRows.antt write is made of the modules that they read, computed: whatever bytes encode these modules, and for a split whatever bytes that have
 -- no name section.
-use Rattle.std.proofs.Common.{◌≡◌, refl, sym, ap, subst, ◌∙◌, zero, suc, List, [], ◌∷◌, length, true, false, Some, None, Ok, inr, true≢false, rules, arith}
-use Rattle.std.specs.Prelude.{codes, Contains}
+use Rattle.base_lists.proofs.Common.{◌≡◌, refl, sym, ap, subst, ◌∙◌, zero, suc, List, [], ◌∷◌, length, true, false, Some, None, Ok, inr, true≢false, rules, arith, codes, Contains}
 use Rattle.std.specs.Fmt.{digits}
 use Rattle.std.specs.Str.{is_utf8, chars}
 use Rattle.serde_json.proofs.OnLiterals.{serde_json_on_literals}
 use Rattle.base_lists.specs.Every.{Every}
-use Rattle.wasm_tree.specs.declared.instr.Instr.{fold_out-Instr, out-Instr, the_lemmas}
+use Rattle.wasm_tree_spec.specs.Prelude.{fold_out-Instr, the_lemmas}
+use Rattle.wasm_tree.specs.declared.instr.Instr.{out-Instr}
 use Rattle.wasm_num.specs.Operations.{wrapped, signed}
-use Rattle.wasm_meaning.specs.State.{Text}
+use Rattle.wasm_meaning.specs.Prelude.{Text}
 use Rattle.module_limits.specs.Counts.{over_limit}
 use Rattle.merge_names.specs.declared.mode.Mode.TheVariants as mode
 use Rattle.merge_names.specs.Names.{conflict_behind}
 use Rattle.merge_spec.specs.Faults.{link_fault, import_fault, stays, kept_limits, clash_fault, memory_count, memory_fault, defined_globals, global_fault}
-use Rattle.merge_spec.specs.Merged.{staying, staying_of, place_of_end, new_index, merged_types, place_of_type, map_of, merged_const, merged_import, starts, defined_funcs, all_exports, merged}
+use Rattle.merge_spec.specs.Prelude.{merged_import, starts, defined_funcs}
+use Rattle.merge_spec.specs.Merged.{staying, staying_of, place_of_end, new_index, merged_types, place_of_type, map_of, merged_const, all_exports, merged}
 use Rattle.merge_spec.specs.Joined.{joined_module, repeated_name}
 use Rattle.dce_graph.specs.declared.graph.Graph.{Graph}
 use Rattle.dce_graph.specs.declared.point.Point.{Point}
 use Rattle.dce_graph.specs.declared.point.Point.TheVariants as point
-use Rattle.dce_graph.specs.GraphFile.{graph_result}
-use Rattle.dce_graph.specs.Marks.{marked, flags}
-use Rattle.dce_graph.specs.Reach.{IsReached, root, along, edges, point_count}
+use Rattle.dce_graph.specs.Prelude.{graph_result, marked, flags, IsReached, root, along, edges, point_count}
 use Rattle.dce_sweep_spec.specs.Reached.{marks_of}
 use Rattle.dce_sweep_spec.specs.Swept.{swept}
 use Rattle.wasm_names.specs.declared.func_name.FuncName.{FuncName}
 use Rattle.wasm_names.specs.NameList.{SpellsFunctionNames}
-use Rattle.split_spec.specs.Faults.{split_fault}
-use Rattle.split_spec.specs.Primary.{primary, primary_with}
-use Rattle.split_spec.specs.Secondary.{secondary, secondary_with}
+use Rattle.split_spec.specs.Prelude.{split_fault, primary, secondary}
+use Rattle.split_spec.specs.Primary.{primary_with}
+use Rattle.split_spec.specs.Secondary.{secondary_with}
 use Rattle.eval_snapshot_spec.specs.Evaluated.{evaluated_tree}
 use Rattle.eval_snapshot_spec.specs.Snapshot.{declared_snapshot}
-use Rattle.tools_cli.specs.CommandLine.{Merge, Metadce, Split, CtorEval, Sample}
-use Rattle.tools_cli.specs.Job.{parts_of, AreMerged, sample_merge}
+use Rattle.tools_cli.specs.Prelude.{Merge, Metadce, Split, CtorEval, Sample, parts_of, AreMerged, sample_merge}
 use Rattle.tools_cli.specs.Faithful.{AreMade}
 use Rattle.tools_cli.proofs.FaithfulRows.{f, a, with, asking, merging, calling, both, reducing, reached, without_a}
 use Rattle.tools_cli.proofs.FaithfulRows.{splitting, keeping, moving, f_moves, evaluating, set_to_7, sampling, passing, drawn, they_are_drawn, sampled}

@@ -1,21 +1,19 @@
 -- What merging the modules of a task decides.
-use Rattle.std.proofs.Common.{◌≡◌, ◌∙◌, sym, refl, ap, subst, ◌⊎◌, inl, inr, None, Some, Err, map, ℕ, zero, suc, ◌+◌, ◌<◌, List, [], ◌∷◌, ◌++◌, append_assoc, append-nil, add-one, drop, drop-cons, length, get_or, slice_get, slice_index_or, arith, Bool, false, Result, Ok, IfOk, IfErr}
-use Rattle.tools_cli.specs.CommandLine.{Text, Source, MergeTask, Merge, source_files, many_of}
-use Rattle.tools_cli.specs.Job.{Decision, Refuses, Makes, Merges, not_linked, not_joined, merged, AreMerged, parts_of}
-use Rattle.tools_cli.specs.Texts.{link_text, join_text}
-use Rattle.wasm_tree.specs.declared.module.Module.{Module}
-use Rattle.wasm_meaning.specs.Linking.{Part}
-use Rattle.merge_spec.specs.Faults.{link_fault, NamesPart}
-use Rattle.merge_spec.specs.Joined.{Joins}
+use Rattle.base_lists.proofs.Common.{◌≡◌, ◌∙◌, sym, refl, ap, subst, ◌⊎◌, inl, inr, None, Some, Err, map, ℕ, zero, suc, ◌+◌, ◌<◌, List, [], ◌∷◌, ◌++◌, append_assoc, append-nil, add-one, drop, drop-cons, length, get_or, slice_get, slice_index_or, arith, Bool, false, Result, Ok, IfOk, IfErr}
+use Rattle.tools_cli.specs.Prelude.{Text, Source, MergeTask, Merge, source_files, many_of, Decision, Refuses, Makes, Merges, not_linked, not_joined, merged, AreMerged, parts_of, link_text, StopsWith, source_values}
+use Rattle.tools_cli.specs.Texts.{join_text}
+use Rattle.wasm_tree_spec.specs.Prelude.{Module}
+use Rattle.wasm_meaning.specs.Prelude.{Part}
+use Rattle.merge_spec.specs.Prelude.{link_fault, NamesPart, Joins}
 use Rattle.merge_names.specs.declared.mode.Mode.{Mode}
 use Rattle.merge_spec.specs.declared.faults.LinkFault.{LinkFault}
 use Rattle.merge_spec.specs.declared.faults.LinkFault.TheVariants as link
 use Rattle.merge_spec.specs.declared.faults.JoinFault.{JoinFault}
 use Rattle.merge_spec.specs.declared.faults.JoinFault.TheVariants as join
-use Rattle.tools_cli.specs.Causes.{MergeFails, StopsWith}
+use Rattle.tools_cli.specs.Causes.{MergeFails}
 use Rattle.tools_cli.specs.declared.stop.Stop.{Stop}
 use Rattle.tools_cli.proofs.Loading.{stops_weaker}
-use Rattle.tools_cli.specs.Sources.{source_values, files_of}
+use Rattle.tools_cli.specs.Sources.{files_of}
 use Rattle.merge_spec.proofs.FaultParts.{fault_names_part}
 use Rattle.tools_cli.specs.declared.merge.Source as code
 

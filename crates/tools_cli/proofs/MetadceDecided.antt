@@ -1,19 +1,15 @@
 -- What a metadce decides: from its parts, that it decides something, and that it is one.
-use Rattle.std.specs.Prelude.{◌↔◌, IfOk, true}
+use Rattle.base_lists.proofs.Common.{◌↔◌, IfOk, true, ◌≡◌, ◌∙◌, ◌⊎◌, inl, inr, refl, sym, ap, ap₂, subst, ℕ, List, [], ◌∷◌, length, get_or, Option, Some, None, Result, Ok, Err, arith, filter_map}
 use Rattle.dce_graph.specs.declared.point.Point.{Point}
-use Rattle.dce_graph.specs.Marks.{flags, marked}
-use Rattle.dce_graph.specs.Reach.{IsReached, point_count}
-use Rattle.std.proofs.Common.{◌≡◌, ◌∙◌, ◌⊎◌, inl, inr, refl, sym, ap, ap₂, subst, ℕ, List, [], ◌∷◌, length, get_or, Option, Some, None, Result, Ok, Err, arith}
-use Rattle.wasm_tree.specs.declared.which.Which.{Which}
-use Rattle.wasm_tree.specs.declared.module.Module.{Module}
+use Rattle.dce_graph.specs.Prelude.{flags, marked, IsReached, point_count, graph_result, if_text, misshapen, entry_of, first_repeated, first_unknown, names_of, place_of_name, reached_names, fault_of}
+use Rattle.wasm_tree_spec.specs.Prelude.{Which, Module}
 use Rattle.dce_graph.specs.declared.graph.Graph.{Graph}
 use Rattle.dce_graph.specs.declared.marks.Reached.{Reached}
 use Rattle.dce_graph.specs.declared.fault.GraphFault.{GraphFault}
 use Rattle.dce_graph.specs.declared.fault.GraphFault.TheVariants as graph
-use Rattle.std.specs.List.{filter_map}
 use Rattle.serde_json.specs.Data.{Data, Items}
 use Rattle.serde_json.specs.Find.{as_array}
-use Rattle.dce_graph.specs.GraphFile.{Entry, graph_result, if_text, if_array, if_shaped, if_distinct, if_known, value_of, misshapen, listed, entry_of, first_repeated, first_unknown, names_of, place_of_name, reached_names, graph_of, IsFault, fault_of}
+use Rattle.dce_graph.specs.GraphFile.{Entry, if_array, if_shaped, if_distinct, if_known, value_of, listed, graph_of, IsFault}
 use Rattle.dce_sweep_spec.specs.Marks.{Marks}
 use Rattle.dce_sweep_spec.specs.Reached.{AreExact, marks_of}
 use Rattle.dce_sweep_spec.specs.Swept.{swept}
@@ -21,17 +17,15 @@ use Rattle.dce_sweep.specs.declared.faults.SweepFault.{SweepFault}
 use Rattle.dce_sweep.specs.declared.faults.SweepFault.TheVariants as sweep
 use Rattle.dce_sweep.specs.Sweeps.{Sweeps, outcome, sweep_of}
 use Rattle.module_limits.specs.Counts.{over_limit}
-use Rattle.wasm_valid.specs.Validity.{IsValid}
+use Rattle.wasm_valid.specs.Prelude.{IsValid}
 use Rattle.dce_sweep_spec.specs.Closed.{AreClosed}
 use Rattle.dce_exact_proof.specs.Laws.{ExactMarksExist, ExactMarksAreOne}
 use Rattle.dce_reach_proof.specs.Laws.{ReachedMarksAreClosed}
-use Rattle.tools_cli.specs.CommandLine.{Text, MetadceTask, Metadce}
-use Rattle.tools_cli.specs.Job.{Decision, Refuses, Makes, Decides, GivesMarks, Reduces, no_graph, not_swept, reduced}
+use Rattle.tools_cli.specs.Prelude.{Text, MetadceTask, Metadce, Decision, Refuses, Makes, Decides, Reduces, no_graph, not_swept, reduced, unused_lines, unmarked_names, input_texts}
+use Rattle.tools_cli.specs.Job.{GivesMarks}
 use Rattle.tools_cli.specs.Texts.{graph_text, sweep_text}
-use Rattle.tools_cli.specs.Unused.{AreUnused, unused_lines}
-use Rattle.tools_cli.specs.Unmarked.{unmarked_names}
+use Rattle.tools_cli.specs.Unused.{AreUnused}
 use Rattle.tools_cli.specs.Causes.{GraphFails, SweepFails}
-use Rattle.tools_cli.specs.Command.{input_texts}
 use Rattle.tools_cli.specs.declared.gather.Input.{Input}
 use Rattle.tools_cli.proofs.UnusedNames.{unmarked_unused, unused_once}
 

@@ -1,10 +1,7 @@
 -- Numbers that are read from decimal digits.
-use Rattle.std.proofs.Common.{◌≡◌, ◌∙◌, refl, ℕ, ◌<◌, ◌≤◌, ◌^◌, Bool, true, false, not, cond, ltb, length, Option, Some, None, Err, IfSome, arith}
-use Rattle.std.specs.Prelude.{◌&&◌}
+use Rattle.base_lists.proofs.Common.{◌≡◌, ◌∙◌, refl, ℕ, ◌<◌, ◌≤◌, ◌^◌, Bool, true, false, not, cond, ltb, length, Option, Some, None, Err, IfSome, arith, ◌&&◌, and_parts, nat_tests}
 use Rattle.std.specs.Str.{all_ascii_digits}
 use Rattle.std.specs.Str.Parse.{digits_value, ParsesUnsigned}
-use Rattle.std.proofs.lemmas.Bool.{and_parts}
-use Rattle.std.proofs.lemmas.Bool.Decides.{nat_tests}
 use Rattle.std.proofs.lemmas.Str.Parse.{numerals_by_value, tells_all_ascii_digits, parse_digits}
 use Rattle.tools_cli_words.specs.Words.{Text}
 use Rattle.tools_cli.specs.Numbers.{is_number, number_within}

@@ -1,14 +1,10 @@
 -- Files that were read hold bytes.
-use Rattle.std.proofs.Common.{◌≡◌, ◌∙◌, sym, refl, ap, subst, zero, suc, List, [], ◌∷◌, ◌++◌, map, Some, arith}
-use Rattle.std.specs.FinMap.{get}
+use Rattle.base_lists.proofs.Common.{◌≡◌, ◌∙◌, sym, refl, ap, subst, zero, suc, List, [], ◌∷◌, ◌++◌, map, Some, arith, get}
 use Rattle.base_lists.specs.Every.{Every}
-use Rattle.wasm_bytes.specs.Reading.{IsBytes}
+use Rattle.wasm_bytes.specs.Prelude.{IsBytes}
 use Rattle.tool_io.specs.FilesAndSinks.{Contents}
-use Rattle.tools_cli.specs.CommandLine.{Text}
-use Rattle.tools_cli.specs.Effects.{Entry}
-use Rattle.tools_cli.specs.Job.{contents_of}
+use Rattle.tools_cli.specs.Prelude.{Text, Entry, contents_of, input_entries}
 use Rattle.tools_cli.specs.Faithful.{HoldBytesAt}
-use Rattle.tools_cli.specs.Command.{input_entries}
 use Rattle.tools_cli.specs.declared.gather.Input.{Input}
 
 -- the first contents are those of a file that was read

@@ -1,20 +1,17 @@
 -- From the parts of a run to its whole.
-use Rattle.std.proofs.Common.{◌≡◌, ◌∙◌, sym, refl, ap, subst, ℕ, ◌≤◌, List, [], ◌∷◌, ◌++◌, length, map, drop, Option, Some, None, IfSome, Contains, OnOk, Result, Ok, Err, string_bytes, inl, inr, ◌⊎◌}
-use Rattle.std.specs.FinMap.{get}
+use Rattle.base_lists.proofs.Common.{◌≡◌, ◌∙◌, sym, refl, ap, subst, ℕ, ◌≤◌, List, [], ◌∷◌, ◌++◌, length, map, drop, Option, Some, None, IfSome, Contains, OnOk, Result, Ok, Err, string_bytes, inl, inr, ◌⊎◌, get, map_twice}
 use Rattle.tool_io.specs.FilesAndSinks.{Contents, Becomes, AppendsPrefix, Rose}
 use Rattle.tool_io.proofs.Steps.{rose_earlier, becomes_itself, becomes_weaker, becomes_same}
-use Rattle.tools_cli.specs.CommandLine.{Text, Task, task_of, modules_of, texts_of, inputs_of, usage_line}
-use Rattle.tools_cli.specs.Effects.{Entry, made, IsCut, written_names}
-use Rattle.tools_cli.specs.Job.{Job, Usage, Refused, Done, Whole, TooLong, gathered, most_input, InputsJob, TaskJob, refused_before, not_begun, too_long, all_read, HasJob, no_task, asked}
-use Rattle.tools_cli.specs.Stop.{IsLine, usage, fault_line, invalid_line, parts_line, link_line, join_line, graph_line, plan_line, split_line, eval_line, output_line, cannot_read_line, cannot_write_line, cannot_print_line, no_memory_line, no_memory, stop_line, line_of, refusal_text, Says, Reports}
-use Rattle.tools_cli.specs.Causes.{StopsWith, StopsGathering, StopsPreparing, StopsFinishing, MayHold, AreOutputs, AllWritten, PrintsAfter, PrintsAsAllowed}
-use Rattle.tools_cli.specs.Run.{IsUsage, PrintsNothing, JobIsDone, HostState, StopsWork, ChangesByTheJob, PrintsForTheJob, EndsDone, EndsRefused, Gains, IsSame, HasOutsideCause, HasStatus, SomeRose}
+use Rattle.tools_cli.specs.Prelude.{Text, Task, task_of, modules_of, texts_of, inputs_of, Entry, made, IsCut, written_names, Job, Usage, Refused, Done, Whole, TooLong, gathered, most_input, InputsJob, TaskJob, refused_before, not_begun, too_long, all_read, HasJob, no_task, asked, refusal_text, StopsWith, PrintsAsAllowed, HostState, over_limit}
+use Rattle.tools_cli.specs.CommandLine.{usage_line}
+use Rattle.tools_cli.specs.Stop.{IsLine, usage, fault_line, invalid_line, parts_line, link_line, join_line, graph_line, plan_line, split_line, eval_line, output_line, cannot_read_line, cannot_write_line, cannot_print_line, no_memory_line, no_memory, stop_line, line_of, Says, Reports}
+use Rattle.tools_cli.specs.Causes.{StopsGathering, StopsPreparing, StopsFinishing, MayHold, AreOutputs, AllWritten, PrintsAfter}
+use Rattle.tools_cli.specs.Run.{IsUsage, PrintsNothing, JobIsDone, StopsWork, ChangesByTheJob, PrintsForTheJob, EndsDone, EndsRefused, Gains, IsSame, HasOutsideCause, HasStatus, SomeRose}
 use Rattle.tools_cli.specs.declared.stop.Status.{Status}
 use Rattle.tools_cli.specs.declared.stop.Status.TheVariants as status
 use Rattle.tools_cli.specs.declared.stop.Stop.{Stop}
 use Rattle.tools_cli.specs.declared.stop.Stop.TheVariants as stop
-use Rattle.tools_cli.specs.Texts.{over_limit}
-use Rattle.wasm_tree.specs.declared.which.Which.TheVariants.{InputBytes}
+use Rattle.wasm_tree_spec.specs.Prelude.{InputBytes}
 use Rattle.tools_cli.specs.declared.refusal.Refusal.{Refusal}
 use Rattle.tools_cli.specs.declared.refusal.Refusal.TheVariants as refusal
 use Rattle.dce_graph.specs.declared.fault.GraphFault.TheVariants as graph
@@ -24,7 +21,6 @@ use Rattle.tools_cli_eval.specs.declared.evaluation.EvalFault.TheVariants as eva
 use Rattle.merge_spec.specs.declared.faults.LinkFault.TheVariants as link
 use Rattle.merge_spec.specs.declared.faults.JoinFault.TheVariants as join
 use Rattle.wasm_read_spec.specs.declared.fault.ReadFault.TheVariants as fault
-use Rattle.base_lists.proofs.Places.{map_twice}
 use Rattle.tools_cli.proofs.Faithful.{gathered_held}
 use Rattle.tools_cli.proofs.Deciding.{text_contents}
 use Rattle.tools_cli.proofs.Pieces.{prefix_none}

@@ -1,9 +1,8 @@
 -- What a sample decides: from its parts, that it decides something, and that it is one.
-use Rattle.std.proofs.Common.{◌≡◌, ◌∙◌, refl, sym, ap, subst, false, map, List, [], ◌∷◌, length, Option, Some, None, option_map, arith}
-use Rattle.std.specs.List.{cons_option}
-use Rattle.wasm_tree.specs.declared.module.Module.{Module}
-use Rattle.tools_cli.specs.CommandLine.{Text, MergeTask, SampleTask, Sample}
-use Rattle.tools_cli.specs.Job.{Output, Decision, Refuses, Makes, parts_of, AreMerged, Merges, not_linked, not_joined, merged, Decides, Samples, not_merged, sampled, sample_merge, sample_modules, sample_parts, sample_outputs}
+use Rattle.base_lists.proofs.Common.{◌≡◌, ◌∙◌, refl, sym, ap, subst, false, map, List, [], ◌∷◌, length, Option, Some, None, option_map, arith, cons_option}
+use Rattle.wasm_tree_spec.specs.Prelude.{Module}
+use Rattle.tools_cli.specs.Prelude.{Text, MergeTask, SampleTask, Sample, Output, Decision, Refuses, Makes, parts_of, AreMerged, Merges, not_linked, not_joined, merged, Decides, Samples, not_merged, sampled, sample_merge, sample_modules, sample_parts}
+use Rattle.tools_cli.specs.Job.{sample_outputs}
 use Rattle.tools_cli.specs.SampleLines.{sample_lines}
 
 -- ---- from its parts ----

@@ -1,27 +1,17 @@
 -- The modules of a sample: how many of each thing they have, and that their numbers are in the ranges of their types.
-use Rattle.std.proofs.Common.{◌≡◌, ◌∙◌, refl, ap, subst, ℕ, zero, suc, ◌+◌, ◌*◌, ◌%◌, ◌^◌, ◌<◌, ◌≤◌, [], ◌∷◌, length, map, true, arith, decimal}
-use Rattle.std.specs.Prelude.{IsUtf8, ◌&&◌, Bool, nat_lt, pos}
-use Rattle.std.proofs.lemmas.Bool.Decides.{nat_tests}
+use Rattle.base_lists.proofs.Common.{◌≡◌, ◌∙◌, refl, ap, subst, ℕ, zero, suc, ◌+◌, ◌*◌, ◌%◌, ◌^◌, ◌<◌, ◌≤◌, [], ◌∷◌, length, map, true, arith, decimal, IsUtf8, ◌&&◌, Bool, nat_lt, pos, nat_tests, length-map, IsUtf8-from_ascii, IsAscii-cons, IsAscii-nil, length-numbers}
 use Rattle.std.proofs.lemmas.Fmt.{IsAscii-decimal}
-use Rattle.std.proofs.lemmas.List.{length-map}
-use Rattle.std.proofs.lemmas.Str.{IsUtf8-from_ascii}
-use Rattle.std.proofs.lemmas.Str.Ascii.{IsAscii-cons, IsAscii-nil}
 use Rattle.base_lists.specs.Every.{Every}
 use Rattle.base_lists.specs.Places.{numbers}
-use Rattle.base_lists.proofs.Numbers.{length-numbers}
 use Rattle.wasm_num.specs.declared.BinOp.{BinOp}
-use Rattle.wasm_tree.specs.Operands.{all_pass_step}
-use Rattle.wasm_tree.specs.declared.instr.Instr.{out-Instr, fold_out-Instr}
-use Rattle.wasm_tree.specs.declared.instr.Instr.TheVariants.{LocalGet, I32Const, Bin, Call}
-use Rattle.wasm_tree.specs.declared.module.Import.{Import}
+use Rattle.wasm_tree_spec.specs.Prelude.{all_pass_step, fold_out-Instr, LocalGet, I32Const, Bin, Call, Import}
+use Rattle.wasm_tree.specs.declared.instr.Instr.{out-Instr}
 use Rattle.wasm_tree.specs.declared.module.ImportDesc.TheVariants as imported
 use Rattle.wasm_tree.specs.declared.module.ExportDesc.TheVariants as exported
 use Rattle.wasm_write_proof.specs.Ranges.{ImportInRange, ExportInRange, FuncInRange, InRange, all_in_range, number_step, small_operand}
 use Rattle.wasm_gen.specs.Draws.{draw}
 use Rattle.wasm_gen.specs.Modules.{numbered, exports_of, operation, joined, first_func, first_module, passed, second_func, second_module, a, f}
-use Rattle.tools_cli.specs.CommandLine.{SampleTask}
-use Rattle.tools_cli.specs.Job.{sample_modules}
-use Rattle.tools_cli.specs.Causes.{IsWithinLimits}
+use Rattle.tools_cli.specs.Prelude.{SampleTask, sample_modules, IsWithinLimits}
 
 -- ---- how many ----
 

@@ -1,10 +1,7 @@
 -- What a split decides: from its parts, that it decides something, and that it is one.
-use Rattle.std.specs.Prelude.{◌↔◌}
-use Rattle.std.proofs.Common.{◌≡◌, ◌∙◌, ◌⊎◌, inl, inr, refl, sym, ap, ap₂, subst, ℕ, List, [], ◌∷◌, length, Option, Some, None, option_map, arith}
-use Rattle.std.specs.Option.{option_or}
-use Rattle.wasm_bytes.specs.Reading.{IsBytes}
-use Rattle.wasm_tree.specs.declared.which.Which.{Which}
-use Rattle.wasm_tree.specs.declared.module.Module.{Module}
+use Rattle.base_lists.proofs.Common.{◌↔◌, ◌≡◌, ◌∙◌, ◌⊎◌, inl, inr, refl, sym, ap, ap₂, subst, ℕ, List, [], ◌∷◌, length, Option, Some, None, option_map, arith, option_or}
+use Rattle.wasm_bytes.specs.Prelude.{IsBytes}
+use Rattle.wasm_tree_spec.specs.Prelude.{Which, Module}
 use Rattle.wasm_names.specs.declared.func_name.FuncName.{FuncName}
 use Rattle.wasm_names.specs.NameList.{AreFunctionNames}
 use Rattle.wasm_names.specs.Reading.{name_list}
@@ -14,13 +11,10 @@ use Rattle.split_plan.specs.declared.fault.PlanFault.TheVariants as plan
 use Rattle.split_plan.specs.Causes.{FaultsHaveCauses}
 use Rattle.split_spec.specs.declared.faults.SplitFault.{SplitFault}
 use Rattle.split_spec.specs.declared.faults.SplitFault.TheVariants as fault
-use Rattle.split_spec.specs.Faults.{namespace_taken, prefix_taken, too_many, split_fault}
-use Rattle.split_spec.specs.Primary.{primary}
-use Rattle.split_spec.specs.Secondary.{secondary}
-use Rattle.tools_cli.specs.CommandLine.{Text, SplitTask, Split}
-use Rattle.tools_cli.specs.Job.{Decision, Refuses, Makes, Decides, words_plan, words_fault, GivesPlan, both_modules, Splits, no_plan, not_parted, parted}
+use Rattle.split_spec.specs.Prelude.{namespace_taken, prefix_taken, too_many, split_fault, primary, secondary}
+use Rattle.tools_cli.specs.Prelude.{Text, SplitTask, Split, Decision, Refuses, Makes, Decides, words_plan, Splits, no_plan, not_parted, parted, kept_lines}
+use Rattle.tools_cli.specs.Job.{words_fault, GivesPlan, both_modules}
 use Rattle.tools_cli.specs.Texts.{plan_text, split_text}
-use Rattle.tools_cli.specs.KeptFuncs.{kept_lines}
 use Rattle.tools_cli.specs.Causes.{PlanFails, SplitFails}
 
 -- ---- from its parts ----

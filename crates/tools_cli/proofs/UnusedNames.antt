@@ -1,26 +1,26 @@
 -- The names of the nodes that have no mark: they ascend, they are all of them, and no other list is so.
-use Rattle.std.proofs.Common.{◌≡◌, ◌∙◌, ◌⊎◌, inl, inr, refl, sym, ap, ap₂, subst, ℕ, zero, suc, ◌+◌, ◌<◌, List, [], ◌∷◌, length, drop, drop-cons, get_or, Bool, true, false, cond, Some, add-one, arith, slice_get, Contains, Bor}
-use Rattle.std.specs.Ordering.{nat_cmp, match_ordering, ordering_reverse}
+use Rattle.base_lists.proofs.Common.{◌≡◌, ◌∙◌, ◌⊎◌, inl, inr, refl, sym, ap, ap₂, subst, ℕ, zero, suc, ◌+◌, ◌<◌, List, [], ◌∷◌, length, drop, drop-cons, get_or, Bool, true, false, cond, Some, add-one, arith, slice_get, Contains, nat_cmp, slice_cmp}
+use Rattle.std.proofs.Common.{Bor}
+use Rattle.std.specs.Ordering.{match_ordering, ordering_reverse}
 use Rattle.std.specs.declared.cmp.Ordering.{Ordering}
 use Rattle.std.specs.declared.cmp.Ordering.TheVariants.{Less, Equal, Greater}
 use Rattle.std.specs.Cmp.{both_ways}
-use Rattle.std.specs.Cmp.Lexicographic.{slice_cmp}
 use Rattle.std.specs.List.{AllByRecursion}
 use Rattle.std.specs.List.Sorted.{IsStrictlySortedBy}
 use Rattle.std.specs.BTreeSet.{BTreeSet, insert_key}
 use Rattle.std.proofs.lemmas.Cmp.{nat_list_cmp_total}
 use Rattle.std.proofs.lemmas.Map.Lookups.{exact_bytes, btree_set_from_contains}
 use Rattle.std.proofs.lemmas.Map.Views.{btree_set_contains_iff}
-use Rattle.wasm_tree.specs.declared.module.Module.{Module}
+use Rattle.wasm_tree_spec.specs.Prelude.{Module}
 use Rattle.dce_graph.specs.declared.graph.Graph.{Graph}
 use Rattle.dce_graph.specs.declared.graph.Node.{Node}
 use Rattle.dce_graph.specs.declared.point.Point.TheVariants as point
 use Rattle.dce_graph.specs.declared.marks.Reached.{Reached}
 use Rattle.dce_sweep_spec.specs.Reached.{AreExact}
 use Rattle.tools_cli_words.specs.Words.{Text}
-use Rattle.tools_cli.specs.Command.{names_of}
+use Rattle.tools_cli.specs.Prelude.{names_of, unmarked_from, unmarked_names}
 use Rattle.tools_cli.specs.Unused.{AreUnused, IsUnused}
-use Rattle.tools_cli.specs.Unmarked.{with_name, unmarked_from, unmarked_names}
+use Rattle.tools_cli.specs.Unmarked.{with_name}
 use Rattle.tools_cli.proofs.Apart.{first_or_later}
 use Rattle.tools_cli.proofs.Gathering.{contains_first, contains_later}
 

@@ -1,19 +1,14 @@
 -- What is so of each task: its names are UTF-8 where the words that ask for it are, no two of its outputs have one name, and a sample has functions, not too many.
-use Rattle.std.proofs.Common.{◌≡◌, ◌∙◌, refl, ap, subst, Bool, true, false, cond, ℕ, suc, ◌+◌, ◌<◌, ◌≤◌, List, [], ◌∷◌, ◌++◌, drop, length, get_or, add-one, Option, Some, None, IfSome, option_map, option_and_then, map, string_bytes, arith}
-use Rattle.std.specs.Prelude.{◌==◌, IsUtf8, bytes_eq, codes, unwrap_or, nat_lt}
-use Rattle.std.specs.Str.{IsAscii}
-use Rattle.std.proofs.lemmas.Bool.{and_parts}
-use Rattle.std.proofs.lemmas.Str.Ascii.{IsAscii-cons, IsAscii-nil}
-use Rattle.std.specs.Option.{option_or}
-use Rattle.std.specs.List.{list_any, list_all}
+use Rattle.base_lists.proofs.Common.{◌≡◌, ◌∙◌, refl, ap, subst, Bool, true, false, cond, ℕ, suc, ◌+◌, ◌<◌, ◌≤◌, List, [], ◌∷◌, ◌++◌, drop, length, get_or, add-one, Option, Some, None, IfSome, option_map, option_and_then, map, string_bytes, arith, ◌==◌, IsUtf8, codes, nat_lt, IsAscii, and_parts, IsAscii-cons, IsAscii-nil, option_or, list_any, list_all, nat_tests, IsUtf8-from_ascii}
+use Rattle.std.specs.Prelude.{bytes_eq, unwrap_or}
 use Rattle.std.specs.declared.string.String.{String}
-use Rattle.std.proofs.lemmas.Bool.Decides.{nat_tests}
-use Rattle.std.proofs.lemmas.Str.{IsUtf8-drop, IsUtf8-from_ascii, IsUtf8-string_bytes, IsCharBoundary-after_ascii}
+use Rattle.std.proofs.lemmas.Str.{IsUtf8-drop, IsUtf8-string_bytes, IsCharBoundary-after_ascii}
 use Rattle.base_lists.specs.Every.{Every}
 use Rattle.split_spec.specs.declared.names.SplitNames.{SplitNames}
 use Rattle.tools_cli.specs.declared.split.SplitWords.{SplitWords}
 use Rattle.tools_cli_words.specs.Words.{Text, Vocabulary, Argument, Value, Flag, Plain, is_plain, behind, long_name, takes_value, own_value, some_value, value_behind, joined_value, other_word, next_argument, add_argument, said_from, OptionValue, Arguments, add_to_arguments, arguments_of, value_of, with_value, valued_options, in_order, are_apart, options_and_flags, said_once, values_of, at_most_one, only_value, value_or}
-use Rattle.tools_cli.specs.CommandLine.{Task, Merge, Metadce, Split, CtorEval, Sample, Source, MergeTask, MetadceTask, SplitTask, CtorEvalTask, SplitOutputs, make_ctor_eval, ctor_eval_of_arguments, ctor_eval_of, ctor_eval_vocabulary, SampleTask, make_merge, make_metadce, make_outputs, make_names, make_split, make_sample, names_said, outputs_said, words_said, count_in, merge_of_arguments, metadce_of_arguments, split_of_arguments, sample_of_arguments, merge_of, metadce_of, split_of, sample_of, merge_vocabulary, metadce_vocabulary, split_vocabulary, sample_vocabulary, task_of}
+use Rattle.tools_cli.specs.Prelude.{Task, Merge, Metadce, Split, CtorEval, Sample, Source, MergeTask, MetadceTask, SplitTask, CtorEvalTask, SampleTask}
+use Rattle.tools_cli.specs.CommandLine.{SplitOutputs, make_ctor_eval, ctor_eval_of_arguments, ctor_eval_of, ctor_eval_vocabulary, make_merge, make_metadce, make_outputs, make_names, make_split, make_sample, names_said, outputs_said, words_said, count_in, merge_of_arguments, metadce_of_arguments, split_of_arguments, sample_of_arguments, merge_of, metadce_of, split_of, sample_of, merge_vocabulary, metadce_vocabulary, split_vocabulary, sample_vocabulary, task_of}
 use Rattle.merge_names.specs.declared.mode.Mode.{Mode}
 use Rattle.tools_cli.proofs.NumberTexts.{in_range}
 

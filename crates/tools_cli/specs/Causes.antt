@@ -6,26 +6,24 @@ use Rattle.tools_cli.specs.CommandLine.{Text, MergeTask, SplitTask, CtorEvalTask
 use Rattle.tools_cli.specs.Job.{TooLong, gathered, words_fault, TaskJob, refused_before, most_input}
 use Rattle.tools_cli.specs.Texts.{over_limit, invalid_text, link_text, join_text, graph_text, sweep_text, plan_text, split_text, eval_text}
 use Rattle.wasm_valid.specs.declared.kinds.Invalid.{Invalid}
-use Rattle.wasm_valid.specs.First.{IsFirstInvalid}
-use Rattle.wasm_meaning.specs.Linking.{Part}
+use Rattle.wasm_valid.specs.Prelude.{IsFirstInvalid}
+use Rattle.wasm_meaning.specs.Prelude.{Part}
 use Rattle.merge_spec.specs.declared.faults.LinkFault.{LinkFault}
 use Rattle.merge_spec.specs.declared.faults.JoinFault.{JoinFault}
-use Rattle.merge_spec.specs.Faults.{link_fault}
-use Rattle.merge_spec.specs.Joined.{Joins}
+use Rattle.merge_spec.specs.Prelude.{link_fault, Joins}
 use Rattle.dce_graph.specs.declared.fault.GraphFault.{GraphFault}
-use Rattle.dce_graph.specs.GraphFile.{graph_result}
+use Rattle.dce_graph.specs.Prelude.{graph_result}
 use Rattle.dce_sweep_spec.specs.Marks.{Marks}
 use Rattle.dce_sweep.specs.declared.faults.SweepFault.{SweepFault}
 use Rattle.dce_sweep.specs.Sweeps.{Sweeps}
 use Rattle.wasm_names.specs.declared.func_name.FuncName.{FuncName}
 use Rattle.split_plan.specs.declared.fault.PlanFault.{PlanFault}
 use Rattle.split_spec.specs.declared.faults.SplitFault.{SplitFault}
-use Rattle.split_spec.specs.Faults.{split_fault}
+use Rattle.split_spec.specs.Prelude.{split_fault}
 use Rattle.tools_cli_eval.specs.declared.evaluation.EvalFault.{EvalFault}
 use Rattle.tools_cli_eval.specs.Evaluations.{fault_of}
-use Rattle.wasm_tree.specs.declared.module.Module.{Module}
-use Rattle.wasm_tree.specs.declared.which.Which.TheVariants.{InputBytes, Types, Imports, Functions, Tables, Memories, Globals, ElementSegments, DataSegments}
-use Rattle.wasm_tree.specs.Limits.{limit}
+use Rattle.wasm_tree_spec.specs.Prelude.{Module, InputBytes, Imports, limit}
+use Rattle.wasm_tree.specs.declared.which.Which.TheVariants.{Types, Functions, Tables, Memories, Globals, ElementSegments, DataSegments}
 use Rattle.tools_cli.specs.Job as job
 use Rattle.tools_cli.specs.Effects.{Entry, made, written_names}
 use Rattle.tools_cli.specs.Stop.{refusal_text}

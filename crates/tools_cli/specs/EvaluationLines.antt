@@ -1,6 +1,6 @@
 -- What is told of an evaluation of constructors.
 use Rattle.std.specs.Prelude.{ℕ, List, [], ◌++◌, flat_map, take, Option, Some, None, slice_get, codes}
-use Rattle.wasm_tree.specs.declared.module.Module.{Module}
+use Rattle.wasm_tree_spec.specs.Prelude.{Module}
 use Rattle.eval_spec.specs.declared.stop.Stop.{Stop}
 use Rattle.eval_spec.specs.declared.stop.Stop.TheVariants as stop
 use Rattle.eval_snapshot_spec.specs.Evaluated.{evaluated_count}

@@ -6,31 +6,25 @@ use Rattle.tool_io.specs.FilesAndSinks.{Contents}
 use Rattle.base_lists.specs.Every.{Every}
 use Rattle.tools_cli.specs.CommandLine.{Text, SplitTask, CtorEvalTask, Task, Merge, Metadce, Split, CtorEval, Sample, task_of, many_of, modules_of, inputs_of, outputs_of}
 use Rattle.tools_cli.specs.Job.{IsAccepted, parts_of, AreMerged, GivesMarks, words_plan, GivesPlan, sample_merge, sample_parts}
-use Rattle.wasm_tree.specs.declared.module.Module.{Module}
-use Rattle.wasm_read_spec.specs.Files.{Spells}
-use Rattle.wasm_meaning.specs.Linking.{Part}
-use Rattle.wasm_meaning.specs.Environment.{Environment}
-use Rattle.wasm_meaning.specs.World.{alone, links}
-use Rattle.wasm_meaning.specs.Run.{Event, Move, Same, events}
-use Rattle.wasm_meaning.specs.Loader.{LoaderWorld, events_loaded}
+use Rattle.wasm_tree_spec.specs.Prelude.{Module}
+use Rattle.wasm_read_spec.specs.Prelude.{Spells}
+use Rattle.wasm_meaning.specs.Prelude.{Part, Environment, alone, links, Event, Move, Same, events, LoaderWorld, events_loaded}
 use Rattle.merge_names.specs.declared.mode.Mode.{Mode}
-use Rattle.merge_spec.specs.View.{linked_world}
+use Rattle.merge_spec.specs.Prelude.{linked_world}
 use Rattle.dce_graph.specs.declared.graph.Graph.{Graph}
 use Rattle.dce_graph.specs.declared.marks.Reached.{Reached}
 use Rattle.dce_sweep_spec.specs.Reached.{marks_of}
 use Rattle.dce_sweep_spec.specs.Unswept.{unswept}
 use Rattle.dce_sweep.specs.Sweeps.{Sweeps}
 use Rattle.wasm_names.specs.declared.func_name.FuncName.{FuncName}
-use Rattle.split_spec.specs.Faults.{split_fault}
-use Rattle.split_spec.specs.Primary.{primary}
-use Rattle.split_spec.specs.Secondary.{secondary}
+use Rattle.split_spec.specs.Prelude.{split_fault, primary, secondary}
 use Rattle.split_behaves_proof.specs.Laws.{AlwaysLoads, most_params}
 use Rattle.split_behaves_proof.specs.Worlds.{pair_in_place}
 use Rattle.eval_snapshot_spec.specs.Evaluated.{evaluated_count, evaluated_tree}
 use Rattle.eval_behaves_proof.specs.Worlds.{events_evaluated}
 use Rattle.tools_cli_eval.specs.Evaluations.{fault_of}
 use Rattle.tools_cli_eval.specs.Trees.{EvaluatedAsByTheMachine}
-use Rattle.wasm_bytes.specs.Reading.{IsBytes}
+use Rattle.wasm_bytes.specs.Prelude.{IsBytes}
 use Rattle.world_sequential_proof.specs.Laws.{SequentialInstantiationEquivalent}
 
 -- The file of this name holds an encoding of this module; where `many`, its instructions may name a memory by index.

@@ -3,13 +3,13 @@ use Rattle.std.specs.Prelude.{◌≡◌, ◌⊎◌, ℕ, ◌-◌, ltb, not, if�
 use Rattle.std.specs.FinMap.{get}
 use Rattle.std.specs.List.{list_all, cons_option}
 use Rattle.tool_io.specs.FilesAndSinks.{Contents}
-use Rattle.wasm_bytes.specs.Reading.{IsBytes}
+use Rattle.wasm_bytes.specs.Prelude.{IsBytes}
 use Rattle.tools_cli.specs.CommandLine.{Text, Source, MergeTask, MetadceTask, SplitTask, CtorEvalTask, SampleTask, Task, Merge, Metadce, Split, CtorEval, Sample, task_of, source_files, many_of, modules_of, inputs_of}
-use Rattle.wasm_meaning.specs.Linking.{Part}
+use Rattle.wasm_meaning.specs.Prelude.{Part}
 use Rattle.dce_graph.specs.declared.graph.Graph.{Graph}
 use Rattle.dce_graph.specs.declared.marks.Reached.{Reached}
 use Rattle.dce_graph.specs.declared.fault.GraphFault.{GraphFault}
-use Rattle.dce_graph.specs.GraphFile.{graph_result}
+use Rattle.dce_graph.specs.Prelude.{graph_result}
 use Rattle.dce_sweep_spec.specs.Reached.{AreExact, marks_of}
 use Rattle.dce_sweep.specs.declared.faults.SweepFault.{SweepFault}
 use Rattle.dce_sweep.specs.Sweeps.{Sweeps}
@@ -19,9 +19,7 @@ use Rattle.split_plan.specs.declared.plans.Plan.{Plan}
 use Rattle.split_plan.specs.declared.fault.PlanFault.{PlanFault}
 use Rattle.split_plan.specs.Plans.{plan_fault, plan_of}
 use Rattle.split_spec.specs.declared.faults.SplitFault.{SplitFault}
-use Rattle.split_spec.specs.Faults.{split_fault}
-use Rattle.split_spec.specs.Primary.{primary}
-use Rattle.split_spec.specs.Secondary.{secondary}
+use Rattle.split_spec.specs.Prelude.{split_fault, primary, secondary}
 use Rattle.eval_snapshot_spec.specs.Evaluated.{evaluated_tree}
 use Rattle.tools_cli_eval.specs.declared.evaluation.EvalFault.{EvalFault}
 use Rattle.tools_cli_eval.specs.Evaluations.{fault_of}
@@ -30,23 +28,19 @@ use Rattle.merge_names.specs.declared.mode.Mode.{Mode}
 use Rattle.merge_names.specs.declared.mode.Mode.TheVariants as mode
 use Rattle.merge_spec.specs.declared.faults.LinkFault.{LinkFault}
 use Rattle.merge_spec.specs.declared.faults.JoinFault.{JoinFault}
-use Rattle.merge_spec.specs.Faults.{link_fault}
-use Rattle.merge_spec.specs.Joined.{Joins}
+use Rattle.merge_spec.specs.Prelude.{link_fault, Joins}
 use Rattle.tools_cli.specs.Effects.{Entry}
 use Rattle.tools_cli.specs.Unused.{AreUnused, unused_lines}
 use Rattle.tools_cli.specs.KeptFuncs.{kept_lines}
 use Rattle.tools_cli.specs.EvaluationLines.{evaluation_lines}
 use Rattle.tools_cli.specs.Texts.{fault_text, invalid_text, link_text, join_text, graph_text, sweep_text, plan_text, split_text, eval_text, over_limit, too_many_parts, too_many}
 use Rattle.tools_cli.specs.SampleLines.{sample_lines}
-use Rattle.wasm_tree.specs.declared.module.Module.{Module}
-use Rattle.wasm_tree.specs.declared.which.Which.TheVariants.{InputBytes, Parts, OutputBytes}
-use Rattle.wasm_tree.specs.Limits.{limit}
+use Rattle.wasm_tree_spec.specs.Prelude.{Module, InputBytes, limit}
+use Rattle.wasm_tree.specs.declared.which.Which.TheVariants.{Parts, OutputBytes}
 use Rattle.wasm_read_spec.specs.declared.fault.ReadFault.{ReadFault}
-use Rattle.wasm_read_spec.specs.Files.{Spells, Within}
-use Rattle.wasm_read_spec.specs.Contents.{read_fault}
+use Rattle.wasm_read_spec.specs.Prelude.{Spells, Within, read_fault}
 use Rattle.wasm_valid.specs.declared.kinds.Invalid.{Invalid}
-use Rattle.wasm_valid.specs.Validity.{IsValid, IsSingle}
-use Rattle.wasm_valid.specs.First.{IsFirstInvalid}
+use Rattle.wasm_valid.specs.Prelude.{IsValid, IsSingle, IsFirstInvalid}
 use Rattle.wasm_write_spec.specs.Plain.{plain}
 
 -- The most parts of a merge.

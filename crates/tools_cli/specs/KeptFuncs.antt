@@ -1,11 +1,7 @@
 -- What is told of functions that were asked to move and are kept.
 use Rattle.std.specs.Prelude.{ℕ, Bool, ◌==◌, ◌&&◌, List, ◌++◌, flat_map, find, Option, option_map, unwrap_or, codes, decimal}
 use Rattle.std.specs.Option.{option_or}
-use Rattle.wasm_tree.specs.declared.space.Space.TheVariants.{Functions}
-use Rattle.wasm_tree.specs.declared.module.Export.{Export}
-use Rattle.wasm_tree.specs.declared.module.Module.{Module}
-use Rattle.wasm_tree.specs.Operands.{same_space}
-use Rattle.wasm_tree.specs.Spaces.{space_of_export, index_of_export}
+use Rattle.wasm_tree_spec.specs.Prelude.{Functions, Export, Module, same_space, space_of_export, index_of_export}
 use Rattle.wasm_names.specs.declared.func_name.FuncName.{FuncName}
 use Rattle.tools_cli_words.specs.Words.{Text}
 

@@ -15,3 +15,4 @@ pub mod Stop
 pub mod Causes
 pub mod Run
 pub mod Faithful
+pub mod Prelude

@@ -1,6 +1,6 @@
 -- The lines that a sample prints.
 use Rattle.std.specs.Prelude.{◌++◌, length, codes, decimal}
-use Rattle.wasm_tree.specs.declared.module.Module.{Module}
+use Rattle.wasm_tree_spec.specs.Prelude.{Module}
 use Rattle.wasm_write_spec.specs.Plain.{plain}
 use Rattle.tools_cli.specs.CommandLine.{Text, SampleTask}
 

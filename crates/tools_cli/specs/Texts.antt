@@ -1,6 +1,6 @@
 -- The texts of refusals, without what stands before and behind them.
 use Rattle.std.specs.Prelude.{ℕ, ◌++◌, List, Option, Some, None, option_map, slice_get, codes, decimal}
-use Rattle.wasm_tree.specs.declared.which.Which.{Which}
+use Rattle.wasm_tree_spec.specs.Prelude.{Which}
 use Rattle.wasm_tree.specs.declared.which.Which.TheVariants as which
 use Rattle.wasm_read_spec.specs.declared.fault.ReadFault.{ReadFault}
 use Rattle.wasm_read_spec.specs.declared.fault.ReadFault.TheVariants.{NotModule, Malformed, MalformedBody, Unsupported, Limit, NoMemory}

@@ -3,11 +3,11 @@ use Rattle.std.specs.Prelude.{◌≡◌, ◌↔◌, ℕ, List, ◌++◌, flat_ma
 use Rattle.std.specs.Ordering.{nat_cmp}
 use Rattle.std.specs.Cmp.Lexicographic.{slice_cmp}
 use Rattle.std.specs.List.Sorted.{IsStrictlySortedBy}
-use Rattle.wasm_tree.specs.declared.module.Module.{Module}
+use Rattle.wasm_tree_spec.specs.Prelude.{Module}
 use Rattle.dce_graph.specs.declared.graph.Graph.{Graph}
 use Rattle.dce_graph.specs.declared.graph.Node.{Node}
 use Rattle.dce_graph.specs.declared.point.Point.TheVariants as point
-use Rattle.dce_graph.specs.Reach.{IsReached}
+use Rattle.dce_graph.specs.Prelude.{IsReached}
 use Rattle.tools_cli_words.specs.Words.{Text}
 
 -- A node of this name is there, and no path from a root leads to it.

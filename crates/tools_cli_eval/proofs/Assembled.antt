@@ -1,19 +1,14 @@
 -- What the calls that came to their ends make of the module.
-use Rattle.std.proofs.Common.{◌≡◌, ◌∙◌, ap, ap₂, sym, refl, subst, ℕ, zero, suc, ◌≤◌, arith, List, [], ◌∷◌, length, take, is_some, Bool, true, false, cond, Option, Some, None, Result, Ok, Err, ◌⊎◌, inl, inr, option_map}
-use Rattle.std.specs.List.{cons_option}
-use Rattle.std.specs.Option.{option_or}
-use Rattle.wasm_tree.specs.declared.which.Which.{Which}
-use Rattle.wasm_tree.specs.declared.module.Module.{Module}
+use Rattle.base_lists.proofs.Common.{◌≡◌, ◌∙◌, ap, ap₂, sym, refl, subst, ℕ, zero, suc, ◌≤◌, arith, List, [], ◌∷◌, length, take, is_some, Bool, true, false, cond, Option, Some, None, Result, Ok, Err, ◌⊎◌, inl, inr, option_map, cons_option, option_or}
+use Rattle.wasm_tree_spec.specs.Prelude.{Which, Module}
 use Rattle.module_limits.specs.Counts.{over_limit}
-use Rattle.wasm_meaning.specs.State.{Text}
+use Rattle.wasm_meaning.specs.Prelude.{Text}
 use Rattle.eval_spec.specs.declared.limits.TheConstants.{MOST_TURNS}
 use Rattle.eval_spec.specs.declared.stop.Stop.{Stop}
-use Rattle.eval_spec.specs.State.{State, Stage, Going, Stopped, Finished, state_of, stop_of}
-use Rattle.eval_spec.specs.Instantiation.{booted}
-use Rattle.eval_spec.specs.Evaluation.{called_in_order, calls_finished, done_count, evaluated, state_at_end, stopped_by}
+use Rattle.eval_spec.specs.Prelude.{State, Stage, Going, Stopped, Finished, state_of, stop_of, booted, called_in_order, calls_finished, done_count, evaluated, state_at_end, stopped_by}
 use Rattle.eval_machine.specs.declared.kept.Kept.{Kept}
-use Rattle.eval_machine.specs.Calls.{IsReady, StopsBoot}
-use Rattle.eval_machine.specs.Kept.{state_in}
+use Rattle.eval_machine.specs.Prelude.{IsReady, state_in}
+use Rattle.eval_machine.specs.Calls.{StopsBoot}
 use Rattle.eval_snapshot_spec.specs.After.{IsAfter, TellsTheSame}
 use Rattle.eval_snapshot_spec.specs.Evaluated.{evaluated_count, evaluated_tree, first_missing, func_named, funcs_named, tree_in}
 use Rattle.eval_snapshot_spec.specs.Snapshot.{declared_snapshot, snapshot}

@@ -1,16 +1,12 @@
 -- Calls in order: where a machine stands after some of them.
-use Rattle.std.proofs.Common.{◌≡◌, ◌∙◌, ap, sym, refl, subst, ℕ, zero, suc, ◌+◌, ◌<◌, ◌≤◌, arith, List, [], ◌∷◌, ◌++◌, length, take, drop, get_or, Bool, true, false, cond, Option, Some, None}
-use Rattle.std.proofs.lemmas.List.{drop_all, drop_more, take_more}
-use Rattle.wasm_tree.specs.declared.module.Module.{Module}
+use Rattle.base_lists.proofs.Common.{◌≡◌, ◌∙◌, ap, sym, refl, subst, ℕ, zero, suc, ◌+◌, ◌<◌, ◌≤◌, arith, List, [], ◌∷◌, ◌++◌, length, take, drop, get_or, Bool, true, false, cond, Option, Some, None, drop_all, drop_more, take_more}
+use Rattle.wasm_tree_spec.specs.Prelude.{Module}
 use Rattle.eval_spec.specs.declared.limits.TheConstants.{MOST_TURNS}
 use Rattle.eval_spec.specs.declared.stop.Stop.{Stop}
-use Rattle.eval_spec.specs.State.{State, Stage, Going, Stopped, Finished, is_finished, stop_of}
-use Rattle.eval_spec.specs.Quiet.{call_end}
-use Rattle.eval_spec.specs.Evaluation.{called_in_order, calls_finished, done_count, evaluated, stopped_by}
+use Rattle.eval_spec.specs.Prelude.{State, Stage, Going, Stopped, Finished, is_finished, stop_of, call_end, called_in_order, calls_finished, done_count, evaluated, stopped_by}
 use Rattle.eval_lists_proof.specs.Lists.{AddedAreEvaluated, NoneIsTheInstantiation}
 use Rattle.eval_machine.specs.declared.kept.Kept.{Kept}
-use Rattle.eval_machine.specs.Calls.{IsLeft, IsReady, StopsCall}
-use Rattle.eval_machine.specs.Kept.{Rests, state_in}
+use Rattle.eval_machine.specs.Prelude.{IsLeft, IsReady, StopsCall, Rests, state_in}
 use Rattle.tools_cli_eval.specs.declared.running.Calls.{Calls}
 use Rattle.tools_cli_eval.specs.Calls.{HaveEnded}
 

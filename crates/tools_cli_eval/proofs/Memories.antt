@@ -1,35 +1,17 @@
 -- An evaluation has as many memories as the module, at each point.
-use Rattle.std.proofs.Common.{◌≡◌, ◌∙◌, ℕ, zero, suc, ◌+◌, ◌-◌, ◌*◌, arith, List, [], ◌∷◌, ◌++◌, map, length, length-append, Bool, true, false, cond, Option, Some, None, slice_get, slice_set, refl, sym, ap, subst}
-use Rattle.std.specs.Prelude.{nat_lt, unwrap_or}
-use Rattle.std.proofs.lemmas.List.{length-map, length-set}
-use Rattle.std.proofs.lemmas.Option.{same_Some}
+use Rattle.base_lists.proofs.Common.{◌≡◌, ◌∙◌, ℕ, zero, suc, ◌+◌, ◌-◌, ◌*◌, arith, List, [], ◌∷◌, ◌++◌, map, length, Bool, true, false, cond, Option, Some, None, slice_get, slice_set, refl, sym, ap, subst, nat_lt, length-map, length-set, same_Some, and_then_is}
+use Rattle.std.proofs.Common.{length-append}
+use Rattle.std.specs.Prelude.{unwrap_or}
 use Rattle.base_lists.specs.Options.{◌>>=◌, all_there}
-use Rattle.base_lists.proofs.Options.{and_then_is}
-use Rattle.wasm_tree.specs.declared.module.ConstExpr.{ConstExpr}
-use Rattle.wasm_tree.specs.declared.module.ElemSeg.{ElemSeg}
-use Rattle.wasm_tree.specs.declared.module.ElemMode.{ElemMode}
+use Rattle.wasm_tree_spec.specs.Prelude.{ConstExpr, ElemSeg, ElemMode, DataSeg, DataMode, Module, imported_memories, memories_of}
 use Rattle.wasm_tree.specs.declared.module.ElemMode.TheVariants as elem
-use Rattle.wasm_tree.specs.declared.module.DataSeg.{DataSeg}
-use Rattle.wasm_tree.specs.declared.module.DataMode.{DataMode}
 use Rattle.wasm_tree.specs.declared.module.DataMode.TheVariants as data'
-use Rattle.wasm_tree.specs.declared.module.Module.{Module}
-use Rattle.wasm_tree.specs.Spaces.{imported_memories, memories_of}
 use Rattle.wasm_num.specs.Operations.{W32}
-use Rattle.wasm_meaning.specs.Outcomes.{Outcome, Gives, Traps, IllTyped, copies, overwrite}
-use Rattle.wasm_meaning.specs.State.{Val, Inst, Func, Code, Own, Placeholder, Memory, Store, Level, Frame, Entry, Running, Mark, Opening, Waiting, Ended, Growing, Change, Keep, SetGlobal, SetMemory, SetTable, DropElem, DropData, Act, Goes, Calls, AsksGrow, Ends, Next, Ran, CallsOwn, WaitsGrowth, CallsPlaceholder, EndsCall}
-use Rattle.wasm_meaning.specs.Values.{num_of, pop_typed}
-use Rattle.wasm_meaning.specs.Control.{type_at}
-use Rattle.wasm_meaning.specs.Step.{act, changed, enter, give, give_levels, perform, step}
-use Rattle.wasm_meaning.specs.Touched.{Bytes}
-use Rattle.wasm_meaning.specs.World.{Filled, PlacedSegment, copy_bytes, copy_slots, elem_with as elems_with, global_with, joined_stores, new_func, or_trapped, run_data_with, run_elem_with, segments_in, store_with}
+use Rattle.wasm_meaning.specs.Prelude.{Outcome, Gives, Traps, IllTyped, copies, overwrite, Val, Inst, Func, Code, Own, Placeholder, Memory, Store, Level, Frame, Entry, Running, Mark, Opening, Waiting, Ended, Growing, Change, Keep, SetGlobal, SetMemory, SetTable, DropElem, DropData, Act, Goes, Calls, AsksGrow, Ends, Next, Ran, CallsOwn, WaitsGrowth, CallsPlaceholder, EndsCall, num_of, pop_typed, type_at, act, changed, enter, give, give_levels, perform, step, Bytes, Filled, PlacedSegment, copy_bytes, copy_slots, global_with, joined_stores, new_func, or_trapped, run_data_with, run_elem_with, segments_in, store_with}
+use Rattle.wasm_meaning.specs.World.{elem_with as elems_with}
 use Rattle.wasm_meaning.proofs.Outcomes.{AllOf, ill_typed, just, with_found, with_is}
 use Rattle.eval_spec.specs.declared.stop.Stop.TheVariants as why
-use Rattle.eval_spec.specs.State.{State, Stage, Going, Stopped, Finished, Test, first_held, stopped_or}
-use Rattle.eval_spec.specs.Stops.{frame_turns, host_tests, tests, written_after}
-use Rattle.eval_spec.specs.Quiet.{after_steps, call_end, came_to, host_call, host_opened_if_there, quiet_step, spent, weight}
-use Rattle.eval_spec.specs.Evaluation.{called_in_order, evaluated_within}
-use Rattle.eval_spec.specs.Instantiation.{after_start, data_tests, elem_tests, filled_from, imported_store, in_order, instantiated, own_inst, place_in, state_at_first, value_in, with_data, with_data_mode, with_elem, with_elem_mode, with_segments}
-use Rattle.eval_spec.specs.Told.{memory_bytes}
+use Rattle.eval_spec.specs.Prelude.{State, Stage, Going, Stopped, Finished, Test, first_held, stopped_or, frame_turns, host_tests, tests, written_after, after_steps, call_end, came_to, host_call, host_opened_if_there, quiet_step, spent, weight, called_in_order, evaluated_within, after_start, data_tests, elem_tests, filled_from, imported_store, in_order, instantiated, own_inst, place_in, state_at_first, value_in, with_data, with_data_mode, with_elem, with_elem_mode, with_segments, memory_bytes}
 
 abbrev Has : ℕ → Store → Type 0
 Has n s = length s.mems ≡ n

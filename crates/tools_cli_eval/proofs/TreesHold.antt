@@ -1,13 +1,11 @@
 -- The module after evaluated constructors is a snapshot or the module as it is, and valid.
-use Rattle.std.proofs.Common.{◌≡◌, ◌∙◌, ap, sym, refl, subst, ℕ, List, take, Option, Some, None, ◌⊎◌, inl, inr}
-use Rattle.wasm_tree.specs.declared.module.Module.{Module}
-use Rattle.wasm_tree.specs.Bounds.{IsBounded}
-use Rattle.wasm_valid.specs.Validity.{IsSingle, IsValid}
+use Rattle.base_lists.proofs.Common.{◌≡◌, ◌∙◌, ap, sym, refl, subst, ℕ, List, take, Option, Some, None, ◌⊎◌, inl, inr}
+use Rattle.wasm_tree_spec.specs.Prelude.{Module, IsBounded}
+use Rattle.wasm_valid.specs.Prelude.{IsSingle, IsValid}
 use Rattle.module_limits.specs.Counts.{over_limit}
-use Rattle.wasm_meaning.specs.State.{Text}
+use Rattle.wasm_meaning.specs.Prelude.{Text}
 use Rattle.eval_spec.specs.declared.limits.TheConstants.{MOST_TURNS}
-use Rattle.eval_spec.specs.State.{State, Stage, Going, Stopped, Finished, state_of}
-use Rattle.eval_spec.specs.Evaluation.{done_count, evaluated, state_at_end}
+use Rattle.eval_spec.specs.Prelude.{State, Stage, Going, Stopped, Finished, state_of, done_count, evaluated, state_at_end}
 use Rattle.eval_snapshot_spec.specs.After.{IsAfter}
 use Rattle.eval_snapshot_spec.specs.Evaluated.{evaluated_count, evaluated_tree, first_missing, funcs_named, tree_in}
 use Rattle.eval_snapshot_spec.specs.Snapshot.{snapshot, too_much}

@@ -1,10 +1,9 @@
 -- Calls in order, by a machine.
 use Rattle.std.specs.Prelude.{◌≡◌, ℕ, ◌≤◌, List, length, take}
-use Rattle.wasm_tree.specs.declared.module.Module.{Module}
-use Rattle.eval_spec.specs.State.{State, Finished}
-use Rattle.eval_spec.specs.Evaluation.{done_count, evaluated, stopped_by}
+use Rattle.wasm_tree_spec.specs.Prelude.{Module}
+use Rattle.eval_spec.specs.Prelude.{State, Finished, done_count, evaluated, stopped_by}
 use Rattle.eval_machine.specs.declared.kept.Kept.{Kept}
-use Rattle.eval_machine.specs.Kept.{state_in}
+use Rattle.eval_machine.specs.Prelude.{state_in}
 use Rattle.tools_cli_eval.specs.declared.running.Calls.{Calls}
 
 -- They came so far, and the machine has the state that the last call left which came to its end; the turns of one that was stopped are spent.

@@ -1,11 +1,11 @@
 -- What the evaluation of listed constructors comes to: a module, how many were evaluated and what ended it; or why there is no module.
 use Rattle.std.specs.Prelude.{◌≡◌, ◌≤◌, List, length, [], Option, Some, None, option_map}
 use Rattle.std.specs.Option.{option_or}
-use Rattle.wasm_tree.specs.declared.module.Module.{Module}
+use Rattle.wasm_tree_spec.specs.Prelude.{Module}
 use Rattle.module_limits.specs.Counts.{over_limit}
-use Rattle.wasm_meaning.specs.State.{Text}
+use Rattle.wasm_meaning.specs.Prelude.{Text}
 use Rattle.eval_spec.specs.declared.stop.Stop.{Stop}
-use Rattle.eval_spec.specs.Evaluation.{stopped_by}
+use Rattle.eval_spec.specs.Prelude.{stopped_by}
 use Rattle.eval_snapshot_spec.specs.Evaluated.{evaluated_count, evaluated_tree, first_missing, funcs_named}
 use Rattle.tools_cli_eval.specs.declared.evaluation.Ending.{Ending}
 use Rattle.tools_cli_eval.specs.declared.evaluation.Ending.TheVariants.{Complete, Instantiation, Constructor}

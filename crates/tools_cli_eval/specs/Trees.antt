@@ -1,14 +1,10 @@
 -- The module after evaluated constructors, where no listed name is missing.
 use Rattle.std.specs.Prelude.{◌≡◌, ◌⊎◌, List, [], ◌∷◌, None, IsTrue, take}
-use Rattle.wasm_tree.specs.declared.module.Module.{Module}
-use Rattle.wasm_tree.specs.Bounds.{IsBounded}
-use Rattle.wasm_valid.specs.Validity.{IsSingle, IsValid}
+use Rattle.wasm_tree_spec.specs.Prelude.{Module, IsBounded}
+use Rattle.wasm_valid.specs.Prelude.{IsSingle, IsValid}
 use Rattle.module_limits.specs.Counts.{over_limit}
-use Rattle.wasm_meaning.specs.State.{Text}
-use Rattle.wasm_meaning.specs.Environment.{Environment, is_environment}
-use Rattle.wasm_meaning.specs.World.{alone, links}
-use Rattle.eval_spec.specs.State.{State, Finished}
-use Rattle.eval_spec.specs.Evaluation.{evaluated}
+use Rattle.wasm_meaning.specs.Prelude.{Text, Environment, is_environment, alone, links}
+use Rattle.eval_spec.specs.Prelude.{State, Finished, evaluated}
 use Rattle.eval_numbers_proof.specs.Ranges.{BeginsInRange}
 use Rattle.eval_snapshot_spec.specs.After.{IsAfter}
 use Rattle.eval_snapshot_spec.specs.Evaluated.{evaluated_count, evaluated_tree, first_missing, funcs_named}

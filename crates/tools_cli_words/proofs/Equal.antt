@@ -1,9 +1,5 @@
 -- Texts that are equal.
-use Rattle.std.proofs.Common.{◌≡◌, refl, sym, subst, true, false, Bool, List, [], ◌∷◌}
-use Rattle.std.specs.Prelude.{◌||◌}
-use Rattle.std.specs.List.{list_any}
-use Rattle.std.specs.Str.{bytes_eq}
-use Rattle.std.proofs.lemmas.Slice.Eq.{bytes_eq-Decides}
+use Rattle.base_lists.proofs.Common.{◌≡◌, refl, sym, subst, true, false, Bool, List, [], ◌∷◌, ◌||◌, list_any, bytes_eq, bytes_eq-Decides}
 use Rattle.base_lists.specs.Every.{Every}
 use Rattle.tools_cli_words.specs.Words.{Text}
 

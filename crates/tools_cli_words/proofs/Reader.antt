@@ -1,8 +1,6 @@
 -- What `clap` makes of one word, by the command of a vocabulary.
-use Rattle.std.proofs.Common.{◌≡◌, ℕ, Bool, true, false, List, [], ◌∷◌, ◌++◌, Option, Some, None, codes, fold}
-use Rattle.std.specs.Prelude.{◌==◌, ◌||◌, not, ◌&&◌, unwrap_or, if◌then◌else◌}
-use Rattle.std.specs.List.{list_all, list_any}
-use Rattle.std.specs.Str.{bytes_eq}
+use Rattle.base_lists.proofs.Common.{◌≡◌, ℕ, Bool, true, false, List, [], ◌∷◌, ◌++◌, Option, Some, None, codes, fold, ◌==◌, ◌||◌, not, ◌&&◌, if◌then◌else◌, list_all, list_any, bytes_eq}
+use Rattle.std.specs.Prelude.{unwrap_or}
 use Rattle.base_lists.specs.Every.{Every}
 use Rattle.clap.specs.Words.{Row, Rule, Shape, built, fault_of, matches_of, is_simple_and_free}
 use Rattle.clap.specs.Faults.{turn_fault, repeat_fault, check_fault, given_default_fault, level_fault}

@@ -1,9 +1,5 @@
 -- The rows of the matches: what is put there, and what is found.
-use Rattle.std.proofs.Common.{◌≡◌, ◌∙◌, refl, sym, ap, ap₂, Bool, true, false, cond, List, [], ◌∷◌, ◌++◌, map, append_assoc, append-nil, Option, Some, None, fold}
-use Rattle.std.specs.Prelude.{◌||◌, ◌&&◌, not, find}
-use Rattle.std.specs.List.{list_all, list_any}
-use Rattle.std.specs.Option.{option_or}
-use Rattle.std.specs.Str.{bytes_eq}
+use Rattle.base_lists.proofs.Common.{◌≡◌, ◌∙◌, refl, sym, ap, ap₂, Bool, true, false, cond, List, [], ◌∷◌, ◌++◌, map, append_assoc, append-nil, Option, Some, None, fold, ◌||◌, ◌&&◌, not, find, list_all, list_any, option_or, bytes_eq, bytes_eq-Decides}
 use Rattle.clap.specs.Words.{Row, Rule}
 use Rattle.clap.specs.Walk.{at_row, has_row, with_default, default_rows, without, more_values, reading_by}
 use Rattle.clap.specs.Faults.{repeat_fault}
@@ -11,7 +7,6 @@ use Rattle.clap.specs.Kinds.{Kinds, or_else}
 use Rattle.clap.specs.declared.parser.matches.ValueSource.TheVariants.{CommandLine, DefaultValue}
 use Rattle.clap.specs.declared.builder.value_parser.Reading.TheVariants as reading
 use Rattle.tools_cli_words.specs.Words.{Text, are_apart}
-use Rattle.std.proofs.lemmas.Slice.Eq.{bytes_eq-Decides}
 use Rattle.tools_cli_words.proofs.Reader.{Use, row, put, default_row, has_some, is_nothing}
 
 abbrev pub row_at : Text → List Row → Option Row

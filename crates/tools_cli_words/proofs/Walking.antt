@@ -1,12 +1,6 @@
 -- What `clap` makes of arranged words: uses of options and flags, and then plain words.
-use Rattle.std.proofs.Common.{◌≡◌, ◌∙◌, refl, sym, ap, ap₂, subst, ℕ, ◌<◌, ◌≤◌, ◌^◌, arith, Bool, true, false, cond, List, [], ◌∷◌, ◌++◌, map, length, append_assoc, append-nil, Option, Some, None, option_map, codes, fold}
-use Rattle.std.specs.Prelude.{◌||◌, ◌&&◌, ◌==◌, not, nat_lt}
-use Rattle.std.specs.List.{list_all, list_any}
-use Rattle.std.specs.Option.{option_map_or, option_or}
-use Rattle.std.specs.Str.{bytes_eq}
-use Rattle.std.proofs.lemmas.Bool.Decides.{nat_tests}
+use Rattle.base_lists.proofs.Common.{◌≡◌, ◌∙◌, refl, sym, ap, ap₂, subst, ℕ, ◌<◌, ◌≤◌, ◌^◌, arith, Bool, true, false, cond, List, [], ◌∷◌, ◌++◌, map, length, append_assoc, append-nil, Option, Some, None, option_map, codes, fold, ◌||◌, ◌&&◌, ◌==◌, not, nat_lt, list_all, list_any, option_map_or, option_or, bytes_eq, nat_tests, left_true, right_true}
 use Rattle.base_lists.specs.Every.{Every}
-use Rattle.base_lists.proofs.Bools.{left_true, right_true}
 use Rattle.clap.specs.Words.{App, Row, Rule, Shape, built, fault_of, matches_of}
 use Rattle.clap.specs.Walk.{Walk, Held, walked, walk, walk_from, nothing_held, has_row, with_default, settled, finished, settled_rows, used_by_id, arg_by_id, more_values, used, rows_after, is_empty}
 use Rattle.clap.specs.Faults.{turn_fault, walk_fault, repeat_fault, settle_fault, defaults_fault, default_fault, given_default_fault, check_fault, level_fault, use_fault, values_fault}

@@ -1,14 +1,11 @@
 -- A name is read exactly where one is spelled.
-use Rattle.std.proofs.Common.{◌≡◌, ℕ, ◌≤◌, List, ◌++◌, length, take, drop, Result, Ok, Err, false, ◌⊎◌, inl, inr, ⊎_elim, refl, sym, ap, ◌∙◌, subst, arith, append_assoc}
-use Rattle.std.proofs.lemmas.Bool.{cases_lt, lt-ltb, le-ltb, cases_Bool}
-use Rattle.std.proofs.lemmas.Str.{IsUtf8-from_is_utf8, is_utf8-from_IsUtf8}
-use Rattle.std.specs.Prelude.{IsUtf8}
-use Rattle.std.specs.Str.{is_utf8}
+use Rattle.base_lists.proofs.Common.{◌≡◌, ℕ, ◌≤◌, List, ◌++◌, length, take, drop, Result, Ok, Err, false, ◌⊎◌, inl, inr, ⊎_elim, refl, sym, ap, ◌∙◌, subst, arith, append_assoc, cases_lt, lt-ltb, le-ltb, cases_Bool, IsUtf8-from_is_utf8, is_utf8-from_IsUtf8, IsUtf8, is_utf8}
 use Rattle.wasm_bytes.specs.declared.cursor.Wrong.{Wrong}
 use Rattle.wasm_bytes.specs.declared.cursor.Wrong.TheVariants.{Short, Spelling}
-use Rattle.wasm_bytes.specs.Numbers.{Takes, IsCut, IsMisspelled, last_unsigned, join_unsigned}
-use Rattle.wasm_bytes.specs.Reading.{Gives, IsBytes, unsigned_at, utf8_or_spelling, name_at}
-use Rattle.wasm_bytes.specs.Joins.{U32, Named, IsNameShort, IsNameMisspelled, IsNameRead}
+use Rattle.wasm_bytes.specs.Prelude.{Takes, last_unsigned, join_unsigned, IsBytes, U32, Named}
+use Rattle.wasm_bytes.specs.Numbers.{IsCut, IsMisspelled}
+use Rattle.wasm_bytes.specs.Reading.{Gives, unsigned_at, utf8_or_spelling, name_at}
+use Rattle.wasm_bytes.specs.Joins.{IsNameShort, IsNameMisspelled, IsNameRead}
 use Rattle.wasm_bytes.proofs.NumberLaws.{reading_of_cut, cut_of_reading, unsigned_ends}
 use Rattle.wasm_bytes.proofs.Lists.{halves, taken}
 use Rattle.wasm_bytes.proofs.Sized.{u32_sound, u32_complete, sized_complete}

@@ -1,9 +1,8 @@
 -- The shortest spelling is one, and no other is shorter.
-use Rattle.std.proofs.Common.{◌≡◌, ℕ, zero, suc, ◌+◌, ◌-◌, ◌*◌, ◌/◌, ◌%◌, ◌^◌, ◌<◌, ◌≤◌, List, [], ◌∷◌, length, Some, refl, ap, ◌∙◌, arith, lt-ltb, le-ltb, ⊎_elim}
-use Rattle.std.proofs.lemmas.Bool.{cases_lt}
-use Rattle.std.proofs.lemmas.Nat.{pow-add}
-use Rattle.std.proofs.Math.Pow.{pow_mono}
-use Rattle.wasm_bytes.specs.Numbers.{Unsigned, last_unsigned, join_unsigned}
+use Rattle.base_lists.proofs.Common.{◌≡◌, ℕ, zero, suc, ◌+◌, ◌-◌, ◌*◌, ◌/◌, ◌%◌, ◌^◌, ◌<◌, ◌≤◌, List, [], ◌∷◌, length, Some, refl, ap, ◌∙◌, arith, ⊎_elim, cases_lt, pow-add, pow_mono}
+use Rattle.std.proofs.Common.{lt-ltb, le-ltb}
+use Rattle.wasm_bytes.specs.Prelude.{last_unsigned, join_unsigned}
+use Rattle.wasm_bytes.specs.Numbers.{Unsigned}
 use Rattle.wasm_bytes.specs.Writing.{unsigned_text, IsShortest}
 use Rattle.wasm_bytes.proofs.NumberLaws.{Spells-more, unsigned_ends}
 

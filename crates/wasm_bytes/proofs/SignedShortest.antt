@@ -1,10 +1,7 @@
 -- The shortest spelling of a number with a sign is one, and no other is shorter.
-use Rattle.std.proofs.Common.{◌≡◌, ℕ, zero, suc, ◌+◌, ◌-◌, ◌*◌, ◌/◌, ◌%◌, ◌^◌, ◌<◌, ◌≤◌, List, [], ◌∷◌, length, true, false, ℤ, pos, negsuc, neg_ℤ, ◌<ℤ◌, ◌≤ℤ◌, ◌-ℤ◌, Some, refl, sym, ap, ◌∙◌, subst, arith, ⊎_elim}
-use Rattle.std.proofs.lemmas.Bool.{cases_lt, lt-ltb, le-ltb, ltb-false}
-use Rattle.std.proofs.lemmas.Nat.{pow-add}
-use Rattle.std.proofs.lemmas.Int.{ints}
-use Rattle.std.proofs.Math.Pow.{pow_mono}
-use Rattle.wasm_bytes.specs.Numbers.{IsWithin, Signed, last_signed, join_signed}
+use Rattle.base_lists.proofs.Common.{◌≡◌, ℕ, zero, suc, ◌+◌, ◌-◌, ◌*◌, ◌/◌, ◌%◌, ◌^◌, ◌<◌, ◌≤◌, List, [], ◌∷◌, length, true, false, ℤ, pos, negsuc, ◌-ℤ◌, Some, refl, sym, ap, ◌∙◌, subst, arith, ⊎_elim, cases_lt, lt-ltb, le-ltb, ltb-false, pow-add, ints, pow_mono}
+use Rattle.std.proofs.Common.{neg_ℤ, ◌<ℤ◌, ◌≤ℤ◌}
+use Rattle.wasm_bytes.specs.Prelude.{IsWithin, Signed, last_signed, join_signed}
 use Rattle.wasm_bytes.specs.Writing.{low, high, is_small, signed_text, IsShortest}
 use Rattle.wasm_bytes.proofs.NumberLaws.{Spells-more, signed_ends}
 

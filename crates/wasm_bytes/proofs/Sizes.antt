@@ -1,9 +1,6 @@
 -- Sizes of what seven more bits make.
-use Rattle.std.proofs.Common.{◌≡◌, ℕ, ◌+◌, ◌-◌, ◌*◌, ◌^◌, ◌<◌, ◌≤◌, arith, ◌∙◌, ap, ℤ}
-use Rattle.std.proofs.lemmas.Int.{ints}
-use Rattle.wasm_bytes.specs.Numbers.{IsWithin, join_signed}
-use Rattle.std.proofs.lemmas.Nat.{pow-add}
-use Rattle.std.proofs.Math.Pow.{pow_mono}
+use Rattle.base_lists.proofs.Common.{◌≡◌, ℕ, ◌+◌, ◌-◌, ◌*◌, ◌^◌, ◌<◌, ◌≤◌, arith, ◌∙◌, ap, ℤ, ints, pow-add, pow_mono}
+use Rattle.wasm_bytes.specs.Prelude.{IsWithin, join_signed}
 
 pub small_fits : (b bits : ℕ) → b < 128 → 7 ≤ bits → b < 2 ^ bits
 small_fits b bits small more = let h : 128 ≤ 2 ^ bits = pow_mono {i = 7} more in omega arith

@@ -6,3 +6,4 @@ pub mod Lending
 pub mod Numbers
 pub mod Reading
 pub mod Writing
+pub mod Prelude

@@ -1,13 +1,9 @@
 -- Lists of what is made for each number, with one more.
-use Rattle.std.proofs.Common.{◌≡◌, ◌∙◌, ap, ap₂, sym, ℕ, suc, ◌+◌, ◌*◌, ◌%◌, ◌++◌, ◌∷◌, List, [], map, arith}
-use Rattle.std.proofs.lemmas.List.{map-append}
+use Rattle.base_lists.proofs.Common.{◌≡◌, ◌∙◌, ap, ap₂, sym, ℕ, suc, ◌+◌, ◌*◌, ◌%◌, ◌++◌, ◌∷◌, List, [], map, arith, map-append, numbers_more}
 use Rattle.base_lists.specs.Places.{numbers}
-use Rattle.base_lists.proofs.Numbers.{numbers_more}
 use Rattle.wasm_tree.specs.declared.module.ImportDesc.TheVariants as imported
 use Rattle.wasm_tree.specs.declared.module.ExportDesc.TheVariants as exported
-use Rattle.wasm_tree.specs.declared.module.Import.{Import}
-use Rattle.wasm_tree.specs.declared.module.Export.{Export}
-use Rattle.wasm_tree.specs.declared.module.Func.{Func}
+use Rattle.wasm_tree_spec.specs.Prelude.{Import, Export, Func}
 use Rattle.wasm_gen.specs.Draws.{next, draw}
 use Rattle.wasm_gen.specs.Modules.{a, f, numbered, exports_of, joined, first_func, passed, second_func, second_imports}
 

@@ -1,8 +1,8 @@
 -- Samples of seed 1, computed: with one function each, and with two. (What a name spells is told by a test, since `decimal` computes no further here.)
-use Rattle.std.proofs.Common.{◌≡◌, refl, [], ◌∷◌, map, pos}
+use Rattle.base_lists.proofs.Common.{◌≡◌, refl, [], ◌∷◌, map, pos}
 use Rattle.base_lists.specs.Places.{numbers}
 use Rattle.wasm_num.specs.declared.BinOp.TheVariants.{I32Add, I32Xor}
-use Rattle.wasm_tree.specs.declared.instr.Instr.TheVariants.{LocalGet, I32Const, Bin, Call}
+use Rattle.wasm_tree_spec.specs.Prelude.{LocalGet, I32Const, Bin, Call}
 use Rattle.wasm_tree.specs.declared.module.ImportDesc.TheVariants as imported
 use Rattle.wasm_tree.specs.declared.module.ExportDesc.TheVariants as exported
 use Rattle.wasm_gen.specs.Draws.{draw}

@@ -1,30 +1,16 @@
 -- Both modules of a sample are valid, and their parts are counted by a u32.
-use Rattle.std.proofs.Common.{◌≡◌, ◌∙◌, ap, sym, refl, subst, ℕ, zero, suc, ◌+◌, ◌-◌, ◌*◌, ◌%◌, ◌^◌, ◌<◌, ◌≤◌, List, [], ◌∷◌, ◌++◌, map, length, take, replicate, Contains, ◌↔◌, true, Option, Some, None, option_map, slice_get, decimal, arith}
-use Rattle.std.specs.List.{filter_map, cons_option}
-use Rattle.std.proofs.lemmas.Fmt.{decimal_injective}
-use Rattle.std.proofs.lemmas.List.{append_cancel_left, length-append, length-map, length-replicate, map-append}
-use Rattle.std.proofs.lemmas.Option.{slice_get-get_or}
+use Rattle.base_lists.proofs.Common.{◌≡◌, ◌∙◌, ap, sym, refl, subst, ℕ, zero, suc, ◌+◌, ◌-◌, ◌*◌, ◌%◌, ◌^◌, ◌<◌, ◌≤◌, List, [], ◌∷◌, ◌++◌, map, length, take, replicate, Contains, ◌↔◌, true, Option, Some, None, option_map, slice_get, decimal, arith, filter_map, cons_option, decimal_injective, append_cancel_left, length-append, length-map, length-replicate, map-append, slice_get-get_or, append_at_left, map_at, map_from, map_twice, replicate_at, slice_get_there, length-numbers, numbers_at, numbers_is, numbers_append}
 use Rattle.std.proofs.Math.Seq.{take-append_seam}
 use Rattle.base_lists.specs.Options.{◌>>=◌}
 use Rattle.base_lists.specs.Places.{numbers}
-use Rattle.base_lists.proofs.Places.{append_at_left, map_at, map_from, map_twice, replicate_at, slice_get_there}
-use Rattle.base_lists.proofs.Numbers.{length-numbers, numbers_at, numbers_is, numbers_append}
 use Rattle.wasm_num.specs.Operations.{bin_from, bin_to}
-use Rattle.wasm_tree.specs.declared.types.ValType.TheVariants.{I32}
-use Rattle.wasm_tree.specs.declared.instr.Instr.TheVariants.{LocalGet, Bin}
-use Rattle.wasm_tree.specs.declared.module.Import.{Import}
-use Rattle.wasm_tree.specs.declared.module.ImportDesc.{ImportDesc}
+use Rattle.wasm_tree_spec.specs.Prelude.{I32, LocalGet, Bin, Import, ImportDesc, Export, Func, Module, IsBounded, local_count, table_of, memory_of, global_of, imported_funcs, imported_tables, imported_memories, imported_globals, funcs_of}
 use Rattle.wasm_tree.specs.declared.module.ImportDesc.TheVariants as imported
 use Rattle.wasm_tree.specs.declared.module.ExportDesc.TheVariants as exported
-use Rattle.wasm_tree.specs.declared.module.Export.{Export}
-use Rattle.wasm_tree.specs.declared.module.Func.{Func}
-use Rattle.wasm_tree.specs.declared.module.Module.{Module}
-use Rattle.wasm_tree.specs.Bounds.{IsBounded, local_count}
-use Rattle.wasm_tree.specs.Spaces.{table_of, memory_of, global_of, imported_funcs, imported_tables, imported_memories, imported_globals, funcs_of}
 use Rattle.wasm_valid_bodies.specs.Typing.{Context, Fits, Gives, WellTyped, Operand, gives_of, signature_in}
 use Rattle.wasm_valid.specs.declared.kinds.ItemKind.{ItemKind}
 use Rattle.wasm_valid.specs.declared.kinds.ItemKind.TheVariants as kind
-use Rattle.wasm_valid.specs.Validity.{HoldsAt, ImportHolds, IsValid, body_context, count_of}
+use Rattle.wasm_valid.specs.Prelude.{HoldsAt, ImportHolds, IsValid, body_context, count_of}
 use Rattle.wasm_gen.specs.Draws.{draw}
 use Rattle.wasm_gen.specs.Modules.{unary, numbered, exports_of, module_of, operation, joined, first_func, first_module, passed, second_func, second_imports, second_from, a, f, g}
 

@@ -1,8 +1,7 @@
 -- What is so of both modules of a sample.
 use Rattle.std.specs.Prelude.{ℕ, ◌≤◌}
-use Rattle.wasm_tree.specs.declared.module.Module.{Module}
-use Rattle.wasm_tree.specs.Bounds.{IsBounded}
-use Rattle.wasm_valid.specs.Validity.{IsValid}
+use Rattle.wasm_tree_spec.specs.Prelude.{Module, IsBounded}
+use Rattle.wasm_valid.specs.Prelude.{IsValid}
 use Rattle.wasm_gen.specs.Modules.{first_module, second_module}
 
 -- valid, and a u32 names what it has

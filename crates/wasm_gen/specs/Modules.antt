@@ -3,16 +3,9 @@ use Rattle.std.specs.Prelude.{ℕ, zero, suc, ◌+◌, ◌*◌, ◌%◌, List, [
 use Rattle.base_lists.specs.Places.{numbers}
 use Rattle.wasm_num.specs.declared.BinOp.{BinOp}
 use Rattle.wasm_num.specs.declared.BinOp.TheVariants.{I32Add, I32Xor, I32Mul}
-use Rattle.wasm_tree.specs.declared.types.ValType.TheVariants.{I32}
-use Rattle.wasm_tree.specs.declared.types.FuncType.{FuncType}
-use Rattle.wasm_tree.specs.declared.instr.Instr.{Instr}
-use Rattle.wasm_tree.specs.declared.instr.Instr.TheVariants.{LocalGet, I32Const, Bin, Call}
+use Rattle.wasm_tree_spec.specs.Prelude.{I32, FuncType, Instr, LocalGet, I32Const, Bin, Call, Import, Export, Func, Module}
 use Rattle.wasm_tree.specs.declared.module.ImportDesc.TheVariants as imported
 use Rattle.wasm_tree.specs.declared.module.ExportDesc.TheVariants as exported
-use Rattle.wasm_tree.specs.declared.module.Import.{Import}
-use Rattle.wasm_tree.specs.declared.module.Export.{Export}
-use Rattle.wasm_tree.specs.declared.module.Func.{Func}
-use Rattle.wasm_tree.specs.declared.module.Module.{Module}
 use Rattle.wasm_gen.specs.Draws.{draw}
 
 -- the module that the second imports from

@@ -1,10 +1,7 @@
 -- Parts by their number, and how much the parts before one define.
-use Rattle.std.proofs.Common.{◌≡◌, ap, refl, ℕ, zero, suc, ◌+◌, ◌<◌, List, [], ◌∷◌, length, Some, arith}
-use Rattle.std.proofs.lemmas.Option.{same_Some}
-use Rattle.wasm_tree.specs.declared.space.Space.{Space}
-use Rattle.wasm_tree.specs.declared.module.Module.{Module}
-use Rattle.wasm_meaning.specs.Linking.{Part, module_at}
-use Rattle.wasm_meaning.specs.World.{defined_count, defined_before}
+use Rattle.base_lists.proofs.Common.{◌≡◌, ap, refl, ℕ, zero, suc, ◌+◌, ◌<◌, List, [], ◌∷◌, length, Some, arith, same_Some}
+use Rattle.wasm_tree_spec.specs.Prelude.{Space, Module}
+use Rattle.wasm_meaning.specs.Prelude.{Part, module_at, defined_count, defined_before}
 
 pub module_there : (parts : List Part) (p : ℕ) (m : Module) → module_at parts p ≡ Some m → p < length parts
 module_there [] p m e = cc

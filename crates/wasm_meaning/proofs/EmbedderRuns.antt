@@ -1,17 +1,15 @@
 -- What an embedder does, computed: it extends what is its own, its own functions and those that it was shown are passed and called, and moves that are not taken.
-use Rattle.std.proofs.Common.{◌≡◌, refl, [], ◌∷◌, Some, None, false}
+use Rattle.base_lists.proofs.Common.{◌≡◌, refl, [], ◌∷◌, Some, None, false}
 use Rattle.wasm_tree.specs.declared.types.RefType.TheVariants as reft
 use Rattle.wasm_tree.specs.declared.types.ValType.TheVariants as valt
 use Rattle.wasm_tree.specs.declared.instr.Instr.{out-Instr}
 use Rattle.wasm_tree.specs.declared.instr.Instr.TheVariants as i
 use Rattle.wasm_tree.specs.declared.module.ImportDesc.TheVariants as im
 use Rattle.wasm_tree.specs.declared.module.ExportDesc.TheVariants as ex
-use Rattle.wasm_tree.specs.declared.module.Module.{Module}
+use Rattle.wasm_tree_spec.specs.Prelude.{Module}
 use Rattle.wasm_num.specs.Operations.{wrapped, un_from, un_to, un_value, bin_from, bin_to, bin_value}
 use Rattle.wasm_meaning.specs.Access.{load_to, load_width, loaded, store_from, stored}
-use Rattle.wasm_meaning.specs.Environment.{Environment, Shown, Number, Null, OwnFunc, Function}
-use Rattle.wasm_meaning.specs.World.{World}
-use Rattle.wasm_meaning.specs.Run.{Linked, Returned, Trapped, Asked, Got, Done, BadMove, Call, Invoke, Take, Answer, Refuse, Grant, Deny, Get, Size, Set, Extend, TableOf, MemoryOf, GlobalOf, Named, events}
+use Rattle.wasm_meaning.specs.Prelude.{Environment, Shown, Number, Null, OwnFunc, Function, World, Linked, Returned, Trapped, Asked, Got, Done, BadMove, Call, Invoke, Take, Answer, Refuse, Grant, Deny, Get, Size, Set, Extend, TableOf, MemoryOf, GlobalOf, Named, events}
 use Rattle.wasm_meaning.proofs.SmallRuns.{f, g, e, m, i32, to_i32, empty, code, num, gives, plain, own, importing}
 
 -- ---- modules, worlds and environments ----

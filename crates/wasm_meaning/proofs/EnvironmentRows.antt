@@ -1,21 +1,15 @@
 -- What an environment is and is not, and which it links with which world, computed.
-use Rattle.std.proofs.Common.{◌≡◌, refl, ap, ◌∙◌, ℕ, zero, suc, ◌*◌, List, [], ◌∷◌, length, Some, None, Bool, true, false, ◌&&◌}
-use Rattle.std.specs.Prelude.{pos, nat_le, nat_eq, nat_lt}
-use Rattle.std.proofs.lemmas.Bool.{eq-eqb}
+use Rattle.base_lists.proofs.Common.{◌≡◌, refl, ap, ◌∙◌, ℕ, zero, suc, ◌*◌, List, [], ◌∷◌, length, Some, None, Bool, true, false, ◌&&◌, pos, nat_le, nat_eq, nat_lt, eq-eqb}
 use Rattle.wasm_tree.specs.declared.types.RefType.TheVariants as reft
-use Rattle.wasm_tree.specs.declared.types.ValType.{ValType}
+use Rattle.wasm_tree_spec.specs.Prelude.{ValType, Limits, Module}
 use Rattle.wasm_tree.specs.declared.types.ValType.TheVariants as valt
-use Rattle.wasm_tree.specs.declared.types.Limits.{Limits}
 use Rattle.wasm_tree.specs.declared.instr.Instr.TheVariants as i
 use Rattle.wasm_tree.specs.declared.module.ImportDesc.TheVariants as im
 use Rattle.wasm_tree.specs.declared.module.ConstExpr.TheVariants as const
 use Rattle.wasm_tree.specs.declared.module.DataMode.TheVariants as data'
 use Rattle.wasm_tree.specs.declared.module.ElemMode.TheVariants as elem
-use Rattle.wasm_tree.specs.declared.module.Module.{Module}
-use Rattle.wasm_meaning.specs.Outcomes.{copies}
-use Rattle.wasm_meaning.specs.State.{Text}
-use Rattle.wasm_meaning.specs.Environment.{Offer, Shown, Number, Null, OwnFunc, ExternNumber, Function, OwnTable, OwnMemory, all_of, where_there, is_within, is_environment, is_memory}
-use Rattle.wasm_meaning.specs.World.{links}
+use Rattle.wasm_meaning.specs.Prelude.{copies, Text, Offer, Shown, Number, Null, OwnFunc, ExternNumber, Function, all_of, is_environment, links}
+use Rattle.wasm_meaning.specs.Environment.{OwnTable, OwnMemory, where_there, is_within, is_memory}
 use Rattle.wasm_meaning.proofs.Slices.{copies_length}
 use Rattle.wasm_meaning.proofs.SmallRuns.{f, g, a, e, m, i32, to_i32, nothing, empty, code, num, gives, three, plain}
 

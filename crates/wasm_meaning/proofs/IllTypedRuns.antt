@@ -1,6 +1,5 @@
 -- Code that no validation lets through, computed: where it is ill typed it traps. No engine takes these modules. Beside three of them stands what goes on.
-use Rattle.std.proofs.Common.{◌≡◌, refl, [], ◌∷◌, Some, false}
-use Rattle.std.specs.Prelude.{pos}
+use Rattle.base_lists.proofs.Common.{◌≡◌, refl, [], ◌∷◌, Some, false, pos}
 use Rattle.wasm_num.specs.declared.BinOp.TheVariants as bin
 use Rattle.wasm_tree.specs.declared.types.RefType.TheVariants as reft
 use Rattle.wasm_tree.specs.declared.types.ValType.TheVariants as valt
@@ -12,8 +11,7 @@ use Rattle.wasm_tree.specs.declared.instr.StoreOp.TheVariants as store
 use Rattle.wasm_tree.specs.declared.module.ConstExpr.TheVariants as const
 use Rattle.wasm_num.specs.Operations.{wrapped, un_from, un_to, un_value, bin_from, bin_to, bin_value}
 use Rattle.wasm_meaning.specs.Access.{load_to, load_width, loaded, store_from, stored}
-use Rattle.wasm_meaning.specs.Environment.{Number}
-use Rattle.wasm_meaning.specs.Run.{Linked, InstanceTrapped, Trapped, Call, events}
+use Rattle.wasm_meaning.specs.Prelude.{Number, Linked, InstanceTrapped, Trapped, Call, events}
 use Rattle.wasm_meaning.proofs.SmallRuns.{f, i32, to_i32, empty, code, code', num, gives, page, three, plain, returns, f_gives}
 use Rattle.wasm_meaning.proofs.MoreRuns.{i64, by, forty, from_slot}
 

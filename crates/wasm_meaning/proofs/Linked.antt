@@ -1,14 +1,10 @@
 -- Where imports end and what is read: the definitions by paths and those that compute are one.
-use Rattle.std.proofs.Common.{◌≡◌, ◌∙◌, ap, subst, refl, ℕ, zero, suc, ◌+◌, ◌-◌, ◌<◌, ◌≤◌, List, [], ◌∷◌, ◌++◌, map, length, arith, Option, Some, None, ◌↔◌, Bool, true, false, cond, option_and_then, slice_get}
-use Rattle.wasm_tree.specs.declared.space.Space.TheVariants.{Globals}
-use Rattle.wasm_tree.specs.declared.module.Import.{Import}
-use Rattle.wasm_tree.specs.declared.module.GlobalDef.{GlobalDef}
-use Rattle.wasm_tree.specs.declared.module.ConstExpr.{ConstExpr}
+use Rattle.base_lists.proofs.Common.{◌≡◌, ◌∙◌, ap, subst, refl, ℕ, zero, suc, ◌+◌, ◌-◌, ◌<◌, ◌≤◌, List, [], ◌∷◌, ◌++◌, map, length, arith, Option, Some, None, ◌↔◌, Bool, true, false, cond, option_and_then, slice_get}
+use Rattle.wasm_tree_spec.specs.Prelude.{Globals, Import, GlobalDef, ConstExpr, Module, index_of_export, space_of_export}
 use Rattle.wasm_tree.specs.declared.module.ConstExpr.TheVariants as const
-use Rattle.wasm_tree.specs.declared.module.Module.{Module}
-use Rattle.wasm_meaning.specs.Paths.{PathStep, EndsWith, LeadsTo, In, here, there}
-use Rattle.wasm_meaning.specs.Linking.{Part, Site, End, Defined, Outside, Entity, Read, places, module_at, import_at, imports_of, has_kind, joined, imported_as, entity_step, joined_step, import_step, Leads, sites_in, sites_from, sites, end_of, initial, outside_read, global_import, end_step, expr_step, read_step, Reads, initials_from, read_of}
-use Rattle.wasm_tree.specs.Spaces.{index_of_export, space_of_export}
+use Rattle.wasm_meaning.specs.Prelude.{PathStep, EndsWith, LeadsTo, Part, Site, End, Defined, Outside, Entity, Read, places, module_at, import_at, imports_of, has_kind, joined, imported_as, entity_step, joined_step, import_step, sites_in, sites_from, sites, end_of, initial, outside_read, global_import, end_step, read_step, initials_from, read_of}
+use Rattle.wasm_meaning.specs.Paths.{In, here, there}
+use Rattle.wasm_meaning.specs.Linking.{Leads, expr_step, Reads}
 use Rattle.wasm_meaning.proofs.Walks.{walk_is}
 
 in_front : {A : Type 0} {x : A} {xs : List A} (ys : List A) → In x xs → In x (xs ++ ys)

@@ -1,41 +1,20 @@
 -- Runs that tell, computed, continued: instantiation, linking, the embedder's moves, a loader, and a module alone with its own exports.
-use Rattle.std.proofs.Common.{◌≡◌, refl, ℕ, List, [], ◌∷◌, Option, Some, None, true, false}
-use Rattle.wasm_tree.specs.declared.space.Space.TheVariants.{Memories}
-use Rattle.std.specs.Prelude.{pos, negsuc}
+use Rattle.base_lists.proofs.Common.{◌≡◌, refl, ℕ, List, [], ◌∷◌, Option, Some, None, true, false, pos, negsuc}
+use Rattle.wasm_tree_spec.specs.Prelude.{Memories, ValType, FuncType, Limits, GlobalType, Instr, Func, Import, ImportDesc, ExportDesc, Export, ConstExpr, ElemSeg, DataSeg, Module}
 use Rattle.wasm_tree.specs.declared.types.RefType.TheVariants as reft
-use Rattle.wasm_tree.specs.declared.types.ValType.{ValType}
-use Rattle.wasm_tree.specs.declared.types.FuncType.{FuncType}
-use Rattle.wasm_tree.specs.declared.types.Limits.{Limits}
-use Rattle.wasm_tree.specs.declared.types.GlobalType.{GlobalType}
-use Rattle.wasm_tree.specs.declared.instr.Instr.{Instr, out-Instr}
+use Rattle.wasm_tree.specs.declared.instr.Instr.{out-Instr}
 use Rattle.wasm_tree.specs.declared.instr.Instr.TheVariants as i
 use Rattle.wasm_tree.specs.declared.instr.LoadOp.TheVariants as load
 use Rattle.wasm_tree.specs.declared.instr.StoreOp.TheVariants as store
-use Rattle.wasm_tree.specs.declared.module.Func.{Func}
-use Rattle.wasm_tree.specs.declared.module.Import.{Import}
-use Rattle.wasm_tree.specs.declared.module.ImportDesc.{ImportDesc}
 use Rattle.wasm_tree.specs.declared.module.ImportDesc.TheVariants as im
-use Rattle.wasm_tree.specs.declared.module.ExportDesc.{ExportDesc}
 use Rattle.wasm_tree.specs.declared.module.ExportDesc.TheVariants as ex
-use Rattle.wasm_tree.specs.declared.module.Export.{Export}
-use Rattle.wasm_tree.specs.declared.module.ConstExpr.{ConstExpr}
 use Rattle.wasm_tree.specs.declared.module.ConstExpr.TheVariants as const
-use Rattle.wasm_tree.specs.declared.module.ElemSeg.{ElemSeg}
 use Rattle.wasm_tree.specs.declared.module.ElemMode.TheVariants as elem
-use Rattle.wasm_tree.specs.declared.module.DataSeg.{DataSeg}
 use Rattle.wasm_tree.specs.declared.module.DataMode.TheVariants as data'
-use Rattle.wasm_tree.specs.declared.module.Module.{Module}
 use Rattle.wasm_num.specs.Operations.{wrapped, un_from, un_to, un_value, bin_from, bin_to, bin_value}
-use Rattle.wasm_meaning.specs.Outcomes.{copies}
-use Rattle.wasm_meaning.specs.State.{Text, Pair}
+use Rattle.wasm_meaning.specs.Prelude.{copies, Text, Pair, Part, Environment, Shown, Number, Null, OwnFunc, ExternNumber, Function, World, Event, Place, Linked, LinkFault, InstanceTrapped, Returned, Trapped, Asked, GrowAsked, Got, Done, BadMove, Call, Invoke, Take, Answer, Grant, Get, Set, TableOf, GlobalOf, Named, events, events_sequential, LoaderWorld, events_loaded}
 use Rattle.wasm_meaning.specs.Access.{load_to, load_width, loaded, store_from, stored}
-use Rattle.wasm_meaning.specs.Linking.{Part}
-use Rattle.wasm_meaning.specs.Environment.{Environment, Shown, Number, Null, OwnFunc, ExternNumber, Function}
-use Rattle.wasm_meaning.specs.World.{World}
 use Rattle.wasm_meaning.specs.World as world
-use Rattle.wasm_meaning.specs.Run.{Event, Place, Linked, LinkFault, InstanceTrapped, Returned, Trapped, Asked, GrowAsked, Got, Done, BadMove, Call, Invoke, Take, Answer, Grant, Get, Set, TableOf, GlobalOf, Named, events}
-use Rattle.wasm_meaning.specs.Sequential.{events_sequential}
-use Rattle.wasm_meaning.specs.Loader.{LoaderWorld, events_loaded}
 use Rattle.wasm_meaning.proofs.SmallRuns.{f, g, a, b, e, m, i32, to_i32, nothing, to_nothing, empty, code, num, gives, plain, returns, env, log, linked_by_hand, logging}
 use Rattle.wasm_meaning.proofs.MoreRuns.{i64, by}
 use Rattle.wasm_meaning.proofs.OrderAndIndexRuns.{funcref, externref, takes_two, two_to_two, pairs, first_and, seven_two, gives_in, plus, difference, from_e, offering, giving, func_table, put_at, data_at, pages, one_memory, byte_in, both_parts, counter, declaring, f_of, from_a, taking}

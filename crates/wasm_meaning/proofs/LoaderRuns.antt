@@ -1,23 +1,17 @@
 -- Small runs under a loader, computed.
-use Rattle.std.proofs.Common.{◌≡◌, refl, ℕ, List, [], ◌∷◌, ◌++◌, Some, None, true}
-use Rattle.std.specs.Prelude.{pos}
+use Rattle.base_lists.proofs.Common.{◌≡◌, refl, ℕ, List, [], ◌∷◌, ◌++◌, Some, None, true, pos}
 use Rattle.wasm_num.specs.declared.BinOp.TheVariants as bin
 use Rattle.wasm_tree.specs.declared.types.RefType.TheVariants as reft
-use Rattle.wasm_tree.specs.declared.types.TableType.{TableType}
+use Rattle.wasm_tree_spec.specs.Prelude.{TableType, Func, ElemSeg, Module}
 use Rattle.wasm_tree.specs.declared.instr.Instr.{out-Instr}
 use Rattle.wasm_tree.specs.declared.instr.Instr.TheVariants as i
-use Rattle.wasm_tree.specs.declared.module.Func.{Func}
 use Rattle.wasm_tree.specs.declared.module.ImportDesc.TheVariants as im
 use Rattle.wasm_tree.specs.declared.module.ExportDesc.TheVariants as ex
 use Rattle.wasm_tree.specs.declared.module.ConstExpr.TheVariants as const
-use Rattle.wasm_tree.specs.declared.module.ElemSeg.{ElemSeg}
 use Rattle.wasm_tree.specs.declared.module.ElemMode.TheVariants as elem
-use Rattle.wasm_tree.specs.declared.module.Module.{Module}
 use Rattle.wasm_num.specs.Operations.{wrapped, un_from, un_to, un_value, bin_from, bin_to, bin_value}
 use Rattle.wasm_meaning.specs.Access.{load_to, load_width, loaded, store_from, stored}
-use Rattle.wasm_meaning.specs.Environment.{Environment, Number, Function}
-use Rattle.wasm_meaning.specs.Run.{Event, Move, Linked, LinkFault, InstanceTrapped, Asked, Returned, Trapped, Got, BadMove, Call, Invoke, Answer, Get, Named}
-use Rattle.wasm_meaning.specs.Loader.{LoaderWorld, events_loaded}
+use Rattle.wasm_meaning.specs.Prelude.{Environment, Number, Function, Event, Move, Linked, LinkFault, InstanceTrapped, Asked, Returned, Trapped, Got, BadMove, Call, Invoke, Answer, Get, Named, LoaderWorld, events_loaded}
 use Rattle.wasm_meaning.proofs.SmallRuns.{f, g, a, b, e, m, i32, to_i32, nothing, empty, code, num, own}
 
 -- ---- modules ----

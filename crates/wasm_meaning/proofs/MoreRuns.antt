@@ -1,33 +1,22 @@
 -- More small runs, computed: branches with a condition, segments and copies at their bounds, loads and stores of each width, numbers of 64 bits, references.
-use Rattle.std.proofs.Common.{◌≡◌, refl, ℕ, List, [], ◌∷◌, Some, None, true}
-use Rattle.wasm_tree.specs.declared.space.Space.TheVariants.{Tables, Memories}
-use Rattle.std.specs.Prelude.{pos, negsuc}
+use Rattle.base_lists.proofs.Common.{◌≡◌, refl, ℕ, List, [], ◌∷◌, Some, None, true, pos, negsuc}
+use Rattle.wasm_tree_spec.specs.Prelude.{Tables, Memories, RefType, ValType, FuncType, MemArg, Instr, LoadOp, ElemMode, DataMode, Module}
 use Rattle.wasm_num.specs.declared.BinOp.TheVariants as bin
 use Rattle.wasm_num.specs.declared.UnOp.TheVariants as un
-use Rattle.wasm_tree.specs.declared.types.RefType.{RefType}
 use Rattle.wasm_tree.specs.declared.types.RefType.TheVariants as reft
-use Rattle.wasm_tree.specs.declared.types.ValType.{ValType}
 use Rattle.wasm_tree.specs.declared.types.ValType.TheVariants as valt
-use Rattle.wasm_tree.specs.declared.types.FuncType.{FuncType}
 use Rattle.wasm_tree.specs.declared.types.BlockType.TheVariants as bt
-use Rattle.wasm_tree.specs.declared.instr.MemArg.{MemArg}
-use Rattle.wasm_tree.specs.declared.instr.Instr.{Instr, out-Instr}
+use Rattle.wasm_tree.specs.declared.instr.Instr.{out-Instr}
 use Rattle.wasm_tree.specs.declared.instr.Instr.TheVariants as i
-use Rattle.wasm_tree.specs.declared.instr.LoadOp.{LoadOp}
 use Rattle.wasm_tree.specs.declared.instr.LoadOp.TheVariants as load
 use Rattle.wasm_tree.specs.declared.instr.StoreOp.TheVariants as store
 use Rattle.wasm_tree.specs.declared.module.ImportDesc.TheVariants as im
 use Rattle.wasm_tree.specs.declared.module.ConstExpr.TheVariants as const
-use Rattle.wasm_tree.specs.declared.module.ElemMode.{ElemMode}
 use Rattle.wasm_tree.specs.declared.module.ElemMode.TheVariants as elem
-use Rattle.wasm_tree.specs.declared.module.DataMode.{DataMode}
 use Rattle.wasm_tree.specs.declared.module.DataMode.TheVariants as data'
-use Rattle.wasm_tree.specs.declared.module.Module.{Module}
 use Rattle.wasm_num.specs.Operations.{wrapped, un_from, un_to, un_value, bin_from, bin_to, bin_value}
 use Rattle.wasm_meaning.specs.Access.{load_to, load_width, loaded, store_from, stored}
-use Rattle.wasm_meaning.specs.Environment.{Environment, Number, Null, ExternNumber}
-use Rattle.wasm_meaning.specs.World.{World}
-use Rattle.wasm_meaning.specs.Run.{Linked, LinkFault, InstanceTrapped, Returned, Trapped, Asked, GrowAsked, Got, Call, Answer, Grant, Deny, Get, Named, events}
+use Rattle.wasm_meaning.specs.Prelude.{Environment, Number, Null, ExternNumber, World, Linked, LinkFault, InstanceTrapped, Returned, Trapped, Asked, GrowAsked, Got, Call, Answer, Grant, Deny, Get, Named, events}
 use Rattle.wasm_meaning.proofs.SmallRuns.{f, g, a, b, e, m, i32, nothing, to_nothing, empty, code, code', num, gives, page, three, alone, plain, returns, f_gives}
 
 -- ---- modules ----

@@ -1,42 +1,25 @@
 -- Runs that tell, computed: each gives something else under a definition that is wrong in one place. The order of two values, indices other than 0, the addresses of a
 -- second part, locals, and equal types under other indices.
-use Rattle.std.proofs.Common.{◌≡◌, refl, ℕ, List, [], ◌∷◌, Some, None, true}
-use Rattle.wasm_tree.specs.declared.space.Space.TheVariants.{Tables, Memories}
-use Rattle.std.specs.Prelude.{pos}
+use Rattle.base_lists.proofs.Common.{◌≡◌, refl, ℕ, List, [], ◌∷◌, Some, None, true, pos}
+use Rattle.wasm_tree_spec.specs.Prelude.{Tables, Memories, ValType, FuncType, Limits, TableType, Instr, Func, Import, ImportDesc, ConstExpr, GlobalDef, LocalGroup, ElemSeg, DataSeg, Module}
 use Rattle.wasm_num.specs.declared.BinOp.TheVariants as bin
 use Rattle.wasm_num.specs.declared.UnOp.TheVariants as un
 use Rattle.wasm_tree.specs.declared.types.RefType.TheVariants as reft
-use Rattle.wasm_tree.specs.declared.types.ValType.{ValType}
 use Rattle.wasm_tree.specs.declared.types.ValType.TheVariants as valt
-use Rattle.wasm_tree.specs.declared.types.FuncType.{FuncType}
-use Rattle.wasm_tree.specs.declared.types.Limits.{Limits}
 use Rattle.wasm_tree.specs.declared.types.BlockType.TheVariants as bt
-use Rattle.wasm_tree.specs.declared.types.TableType.{TableType}
-use Rattle.wasm_tree.specs.declared.instr.Instr.{Instr, out-Instr}
+use Rattle.wasm_tree.specs.declared.instr.Instr.{out-Instr}
 use Rattle.wasm_tree.specs.declared.instr.Instr.TheBlock.{shown-the_row-Instr-0}
 use Rattle.wasm_tree.specs.declared.instr.Instr.TheVariants as i
 use Rattle.wasm_tree.specs.declared.instr.LoadOp.TheVariants as load
 use Rattle.wasm_tree.specs.declared.instr.StoreOp.TheVariants as store
-use Rattle.wasm_tree.specs.declared.module.Func.{Func}
-use Rattle.wasm_tree.specs.declared.module.Import.{Import}
-use Rattle.wasm_tree.specs.declared.module.ImportDesc.{ImportDesc}
 use Rattle.wasm_tree.specs.declared.module.ImportDesc.TheVariants as im
 use Rattle.wasm_tree.specs.declared.module.ExportDesc.TheVariants as ex
-use Rattle.wasm_tree.specs.declared.module.ConstExpr.{ConstExpr}
 use Rattle.wasm_tree.specs.declared.module.ConstExpr.TheVariants as const
-use Rattle.wasm_tree.specs.declared.module.GlobalDef.{GlobalDef}
-use Rattle.wasm_tree.specs.declared.module.LocalGroup.{LocalGroup}
-use Rattle.wasm_tree.specs.declared.module.ElemSeg.{ElemSeg}
 use Rattle.wasm_tree.specs.declared.module.ElemMode.TheVariants as elem
-use Rattle.wasm_tree.specs.declared.module.DataSeg.{DataSeg}
 use Rattle.wasm_tree.specs.declared.module.DataMode.TheVariants as data'
-use Rattle.wasm_tree.specs.declared.module.Module.{Module}
 use Rattle.wasm_num.specs.Operations.{wrapped, un_from, un_to, un_value, bin_from, bin_to, bin_value}
 use Rattle.wasm_meaning.specs.Access.{load_to, load_width, loaded, store_from, stored}
-use Rattle.wasm_meaning.specs.Environment.{Environment, Number, Null, ExternNumber}
-use Rattle.wasm_meaning.specs.World.{World}
-use Rattle.wasm_meaning.specs.Run.{Event, Move, Linked, Returned, Trapped, Asked, GrowAsked, Call, Answer, Grant, events}
-use Rattle.wasm_meaning.specs.Sequential.{events_sequential}
+use Rattle.wasm_meaning.specs.Prelude.{Environment, Number, Null, ExternNumber, World, Event, Move, Linked, Returned, Trapped, Asked, GrowAsked, Call, Answer, Grant, events, events_sequential}
 use Rattle.wasm_meaning.proofs.SmallRuns.{f, g, a, b, e, i32, to_i32, from_i32, nothing, empty, code, num, gives, plain, returns}
 use Rattle.wasm_meaning.proofs.MoreRuns.{i64}
 

@@ -1,15 +1,12 @@
 -- Small runs of parts that are instantiated sequentially, computed.
-use Rattle.std.proofs.Common.{◌≡◌, refl, [], ◌∷◌, Some}
+use Rattle.base_lists.proofs.Common.{◌≡◌, refl, [], ◌∷◌, Some}
 use Rattle.wasm_tree.specs.declared.instr.Instr.{out-Instr}
 use Rattle.wasm_tree.specs.declared.instr.Instr.TheVariants as i
 use Rattle.wasm_tree.specs.declared.module.ImportDesc.TheVariants as im
 use Rattle.wasm_tree.specs.declared.module.ExportDesc.TheVariants as ex
 use Rattle.wasm_num.specs.Operations.{wrapped, un_from, un_to, un_value, bin_from, bin_to, bin_value}
 use Rattle.wasm_meaning.specs.Access.{load_to, load_width, loaded, store_from, stored}
-use Rattle.wasm_meaning.specs.Environment.{Number}
-use Rattle.wasm_meaning.specs.World.{World}
-use Rattle.wasm_meaning.specs.Run.{Linked, LinkFault, InstanceTrapped, Asked, BadMove, Call, Answer, Refuse}
-use Rattle.wasm_meaning.specs.Sequential.{events_sequential}
+use Rattle.wasm_meaning.specs.Prelude.{Number, World, Linked, LinkFault, InstanceTrapped, Asked, BadMove, Call, Answer, Refuse, events_sequential}
 use Rattle.wasm_meaning.proofs.SmallRuns.{f, g, a, b, e, to_nothing, empty, code, giver, taker, two, returns}
 use Rattle.wasm_meaning.proofs.MoreRuns.{starting, two_starts, hearing}
 

@@ -1,19 +1,10 @@
 -- A start does not see what it stands on.
-use Rattle.std.proofs.Common.{◌≡◌, ℕ, List, [], ◌∷◌, ◌++◌, length, Option, Some, None, Bool, true, false, cond, option_and_then, slice_get, refl, ap, subst}
-use Rattle.std.specs.Prelude.{nat_eq}
-use Rattle.wasm_tree.specs.declared.types.ValType.{ValType}
-use Rattle.wasm_tree.specs.declared.types.FuncType.{FuncType}
+use Rattle.base_lists.proofs.Common.{◌≡◌, ℕ, List, [], ◌∷◌, ◌++◌, length, Option, Some, None, Bool, true, false, cond, option_and_then, slice_get, refl, ap, subst, nat_eq}
+use Rattle.wasm_tree_spec.specs.Prelude.{ValType, FuncType}
 use Rattle.wasm_num.specs.Operations.{W32}
-use Rattle.wasm_meaning.specs.Outcomes.{Outcome, Gives, Traps, IllTyped, bind, overwrite, or_ill_typed}
-use Rattle.wasm_meaning.specs.State.{Pair, FuncRef, Val, Num, Ref, Func, Code, Own, Placeholder, Store, Change, Keep, SetGlobal, SetMemory, SetTable, DropElem, DropData, Growth, GrowMemory, GrowTable, Level, Frame, Entry, Running, Caller, Host, Starter, Mark, Opening, Waiting, Ended, Growing, Act, Goes, Calls, AsksGrow, Ends, Next, Ran, CallsOwn, WaitsGrowth, CallsPlaceholder, EndsCall}
-use Rattle.wasm_meaning.specs.Values.{pop_typed, null_of, with_values}
-use Rattle.wasm_meaning.specs.Memory.{memory_may_grow}
-use Rattle.wasm_meaning.specs.Tables.{table_may_grow}
-use Rattle.wasm_meaning.specs.Control.{type_at}
-use Rattle.wasm_meaning.specs.Step.{act, frame_of, give_levels, give, enter, enter_at, changed, perform, to_mark}
-use Rattle.wasm_meaning.specs.Environment.{Shown, ExternalValue, FuncAt, TableAt, MemoryAt, GlobalAt, func_of, received, received_ref, received_all}
-use Rattle.wasm_meaning.specs.Run.{Move, Call, Invoke, Take, Answer, Refuse, Grant, Deny, Get, Size, Set, Extend, Phase, Run, Out, Transition, Steps, Makes, made, viewed_at, place_at, show_all, show, trapped_to, run_after, called, is_mark, delivered, answered, refused, grown_memory, grown_table, granted, decided, shows, got, size_of, does, byte_of, set, extended, moved, at_entries, or_bad, next_move, tick}
-use Rattle.wasm_meaning.specs.StartFrames.{IsBottom, GivesNothing, a_frame, a_call, over, AgreeOnFrames, goes_on, ended, trapped}
+use Rattle.wasm_meaning.specs.Prelude.{Outcome, Gives, Traps, IllTyped, bind, overwrite, or_ill_typed, Pair, FuncRef, Val, Num, Ref, Func, Code, Own, Placeholder, Store, Change, Keep, SetGlobal, SetMemory, SetTable, DropElem, DropData, Growth, GrowMemory, GrowTable, Level, Frame, Entry, Running, Caller, Host, Starter, Mark, Opening, Waiting, Ended, Growing, Act, Goes, Calls, AsksGrow, Ends, Next, Ran, CallsOwn, WaitsGrowth, CallsPlaceholder, EndsCall, pop_typed, null_of, with_values, memory_may_grow, table_may_grow, type_at, act, frame_of, give_levels, give, enter, enter_at, changed, perform, to_mark, Shown, ExternalValue, FuncAt, TableAt, MemoryAt, GlobalAt, func_of, received, received_ref, received_all, Move, Call, Invoke, Take, Answer, Refuse, Grant, Deny, Get, Size, Set, Extend, Phase, Run, Out, Transition, Steps, Makes, made, viewed_at, place_at, show_all, trapped_to, run_after, called, is_mark, delivered, answered, refused, grown_table, granted, decided, shows, got, size_of, does, byte_of, set, extended, moved, at_entries, or_bad, next_move, tick, IsBottom, GivesNothing, a_frame, a_call, over, AgreeOnFrames, ended, trapped}
+use Rattle.wasm_meaning.specs.Run.{show, grown_memory}
+use Rattle.wasm_meaning.specs.StartFrames.{goes_on}
 
 -- ---- outcomes ----
 

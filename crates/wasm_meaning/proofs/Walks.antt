@@ -1,9 +1,7 @@
 -- A walk of enough points finds the end of a path, and no other.
-use Rattle.std.proofs.Common.{◌≡◌, ◌∙◌, ap, subst, refl, ℕ, zero, suc, ◌-◌, ◌<◌, ◌≤◌, List, length, arith, Option, Some, None, ◌↔◌, ◌⊎◌, inl, inr}
-use Rattle.std.proofs.lemmas.Bool.{cases_lt}
-use Rattle.base_lists.proofs.Pigeons.{pigeons}
-use Rattle.base_lists.proofs.Places.{Has}
-use Rattle.wasm_meaning.specs.Paths.{PathStep, EndsWith, LeadsTo, Path, ends, goes, walk_on, walk, In, here, there}
+use Rattle.base_lists.proofs.Common.{◌≡◌, ◌∙◌, ap, subst, refl, ℕ, zero, suc, ◌-◌, ◌<◌, ◌≤◌, List, length, arith, Option, Some, None, ◌↔◌, ◌⊎◌, inl, inr, cases_lt, pigeons, Has}
+use Rattle.wasm_meaning.specs.Prelude.{PathStep, EndsWith, LeadsTo, Path, ends, goes, walk_on, walk}
+use Rattle.wasm_meaning.specs.Paths.{In, here, there}
 
 in_has : {A : Type 0} {x : A} {xs : List A} → In x xs → Has xs x
 in_has here = (0, refl)

@@ -1,9 +1,8 @@
 -- What loads read and stores write: little-endian numbers of 1, 2, 4 or 8 bytes (WebAssembly Core 2.0, section 4.4.7).
 use Rattle.std.specs.Prelude.{ℕ, zero, suc, ◌+◌, ◌*◌, ◌/◌, ◌%◌, List, [], ◌∷◌}
 use Rattle.wasm_num.specs.Operations.{Width, W32, W64, extended}
-use Rattle.wasm_tree.specs.declared.instr.LoadOp.{LoadOp}
+use Rattle.wasm_tree_spec.specs.Prelude.{LoadOp, StoreOp}
 use Rattle.wasm_tree.specs.declared.instr.LoadOp.TheVariants as load
-use Rattle.wasm_tree.specs.declared.instr.StoreOp.{StoreOp}
 use Rattle.wasm_tree.specs.declared.instr.StoreOp.TheVariants as store
 
 -- the number that bytes spell, the lowest first

@@ -1,18 +1,13 @@
 -- What an embedder offers to a world, and the values that it sees and passes.
 use Rattle.std.proofs.Common.{ℕ, suc, ◌*◌, ◌^◌, List, [], ◌∷◌, ◌++◌, map, length, Option, Some, None, Bool, true, false, cond, slice_get, ◌&&◌}
 use Rattle.std.specs.Prelude.{nat_eq, nat_lt, nat_le}
-use Rattle.wasm_tree.specs.declared.types.RefType.{RefType}
+use Rattle.wasm_tree_spec.specs.Prelude.{RefType, ValType, FuncType, Limits, GlobalType, same_func_type}
 use Rattle.wasm_tree.specs.declared.types.RefType.TheVariants as reft
-use Rattle.wasm_tree.specs.declared.types.ValType.{ValType}
 use Rattle.wasm_tree.specs.declared.types.ValType.TheVariants as valt
-use Rattle.wasm_tree.specs.declared.types.FuncType.{FuncType}
-use Rattle.wasm_tree.specs.declared.types.Limits.{Limits}
-use Rattle.wasm_tree.specs.declared.types.GlobalType.{GlobalType}
 use Rattle.wasm_num.specs.Operations.{W32, W64}
 use Rattle.base_lists.specs.Options.{◌>>=◌}
 use Rattle.wasm_meaning.specs.State.{Pair, RefVal, FuncRef, ExternRef, Val, Num, Ref, Func, Own, Table, Memory, Global}
 use Rattle.wasm_meaning.specs.Values.{ref_of}
-use Rattle.wasm_tree.specs.SameTypes.{same_func_type}
 use Rattle.wasm_meaning.specs.Linking.{same_pair}
 
 -- a value as the embedder sees it: a number, null, a function of its own, a number of its own, or a function that was shown to it, by its number in the order

@@ -1,6 +1,6 @@
 -- The laws of runs and of linking by name.
 use Rattle.std.proofs.Common.{◌≡◌, ℕ, ◌+◌, List, Some, ◌↔◌}
-use Rattle.wasm_tree.specs.declared.module.ConstExpr.{ConstExpr}
+use Rattle.wasm_tree_spec.specs.Prelude.{ConstExpr}
 use Rattle.wasm_meaning.specs.Linking.{Part, Site, End, Read, Leads, end_of, Reads, read_of}
 use Rattle.wasm_meaning.specs.Environment.{Environment}
 use Rattle.wasm_meaning.specs.World.{World}

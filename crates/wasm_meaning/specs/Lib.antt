@@ -16,3 +16,4 @@ pub mod Sequential
 pub mod Loader
 pub mod StartFrames
 pub mod Laws
+pub mod Prelude

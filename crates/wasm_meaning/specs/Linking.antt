@@ -1,24 +1,14 @@
 -- Imports that are joined by name: where they end, what is asked of what stays, and what constant expressions read through them.
 -- An import whose module is a part's name is joined with that part's export of the field's name, if there is one; otherwise it stays an import.
-use Rattle.wasm_tree.specs.declared.space.Space.TheVariants.{Memories, Globals}
+use Rattle.wasm_tree_spec.specs.Prelude.{Memories, Globals, Space, same_space, Limits, Import, ImportDesc, Export, ExportDesc, ConstExpr, Module, space_of_import, space_of_export, index_of_export}
 use Rattle.std.proofs.Common.{ℕ, zero, suc, ◌-◌, List, [], ◌∷◌, ◌++◌, map, length, Option, Some, None, Bool, false, cond, slice_get, ◌&&◌}
-use Rattle.wasm_tree.specs.declared.space.Space.{Space}
-use Rattle.wasm_tree.specs.Operands.{same_space}
 use Rattle.base_lists.specs.Same.{each_same}
 use Rattle.base_lists.specs.Options.{◌>>=◌}
 pub use Rattle.base_lists.specs.Places.{first_place, places, count_of}
 use Rattle.std.specs.Prelude.{nat_eq, max, min}
-use Rattle.wasm_tree.specs.declared.types.Limits.{Limits}
-use Rattle.wasm_tree.specs.declared.module.Import.{Import}
-use Rattle.wasm_tree.specs.declared.module.ImportDesc.{ImportDesc}
 use Rattle.wasm_tree.specs.declared.module.ImportDesc.TheVariants as im
-use Rattle.wasm_tree.specs.declared.module.Export.{Export}
-use Rattle.wasm_tree.specs.declared.module.ExportDesc.{ExportDesc}
 use Rattle.wasm_tree.specs.declared.module.ExportDesc.TheVariants as ex
-use Rattle.wasm_tree.specs.declared.module.ConstExpr.{ConstExpr}
 use Rattle.wasm_tree.specs.declared.module.ConstExpr.TheVariants as const
-use Rattle.wasm_tree.specs.declared.module.Module.{Module}
-use Rattle.wasm_tree.specs.Spaces.{space_of_import, space_of_export, index_of_export}
 use Rattle.wasm_meaning.specs.State.{Text, Pair}
 use Rattle.wasm_meaning.specs.Paths.{PathStep, EndsWith, LeadsTo, Path, walk}
 

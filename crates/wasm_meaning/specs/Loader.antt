@@ -3,15 +3,10 @@
 -- placeholder goes to the function that is then in its slot.
 use Rattle.std.proofs.Common.{ℕ, suc, ◌+◌, ◌-◌, List, [], ◌∷◌, ◌++◌, map, length, Option, Some, None, Bool, true, false, cond, slice_get, slice_set, unwrap_or}
 use Rattle.std.specs.Prelude.{nat_lt}
-use Rattle.wasm_tree.specs.declared.space.Space.TheVariants.{Functions}
+use Rattle.wasm_tree_spec.specs.Prelude.{Functions, FuncType, Import, ExportDesc, Module, same_func_type}
 use Rattle.base_lists.specs.Options.{◌>>=◌}
-use Rattle.wasm_tree.specs.declared.types.FuncType.{FuncType}
-use Rattle.wasm_tree.specs.declared.module.Import.{Import}
-use Rattle.wasm_tree.specs.declared.module.ExportDesc.{ExportDesc}
-use Rattle.wasm_tree.specs.declared.module.Module.{Module}
 use Rattle.wasm_meaning.specs.Outcomes.{Outcome, Gives, Traps, bind, or_ill_typed, with_entry}
 use Rattle.wasm_meaning.specs.State.{Text, Pair, Val, Inst, Func, Placeholder, Store, Entry, Next, CallsPlaceholder}
-use Rattle.wasm_tree.specs.SameTypes.{same_func_type}
 use Rattle.wasm_meaning.specs.Tables.{with_table}
 use Rattle.wasm_meaning.specs.Control.{type_at, func_ref}
 use Rattle.wasm_meaning.specs.Step.{enter_at}

@@ -1,9 +1,7 @@
 -- Instructions on memories and data segments (WebAssembly Core 2.0, section 4.4.7).
 use Rattle.std.proofs.Common.{ℕ, suc, ◌+◌, ◌%◌, List, ◌∷◌, Option, Some, None, Bool, true, cond, ◌&&◌}
 use Rattle.std.specs.Prelude.{nat_lt}
-use Rattle.wasm_tree.specs.declared.instr.LoadOp.{LoadOp}
-use Rattle.wasm_tree.specs.declared.instr.StoreOp.{StoreOp}
-use Rattle.wasm_tree.specs.declared.instr.MemArg.{MemArg}
+use Rattle.wasm_tree_spec.specs.Prelude.{LoadOp, StoreOp, MemArg}
 use Rattle.wasm_meaning.specs.Outcomes.{Outcome, Gives, bind, slice, overwrite, copies, or_trap, with_entry}
 use Rattle.wasm_num.specs.Operations.{W32}
 use Rattle.wasm_meaning.specs.Access.{load_to, load_width, loaded, store_from, stored}

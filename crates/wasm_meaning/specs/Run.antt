@@ -1,11 +1,8 @@
 -- The embedder's moves, and runs. A run instantiates its world, opens the starts and the view, and then makes steps and takes moves; what others see of it are its events.
 use Rattle.std.proofs.Common.{ℕ, suc, ◌+◌, ◌*◌, List, [], ◌∷◌, ◌++◌, length, Option, Some, None, Bool, true, false, cond, slice_get}
-use Rattle.wasm_tree.specs.declared.space.Space.{Space}
+use Rattle.wasm_tree_spec.specs.Prelude.{Space, Tables, Memories, ValType, FuncType}
 pub use Rattle.base_simulation.specs.Machines.{events_of, IsPrefix}
-use Rattle.wasm_tree.specs.declared.space.Space.TheVariants.{Tables, Memories}
 use Rattle.std.specs.Prelude.{nat_lt, nat_eq, IsTrue}
-use Rattle.wasm_tree.specs.declared.types.ValType.{ValType}
-use Rattle.wasm_tree.specs.declared.types.FuncType.{FuncType}
 use Rattle.wasm_num.specs.Operations.{W32}
 use Rattle.base_lists.specs.Options.{◌>>=◌}
 use Rattle.wasm_meaning.specs.Outcomes.{Outcome, Gives, Traps, IllTyped, overwrite, copies}

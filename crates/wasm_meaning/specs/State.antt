@@ -1,10 +1,6 @@
 -- The store and the configuration (WebAssembly Core 2.0, section 4.2), and what a step comes to.
 use Rattle.std.proofs.Common.{ℕ, List, Option, Bool}
-use Rattle.wasm_tree.specs.declared.types.RefType.{RefType}
-use Rattle.wasm_tree.specs.declared.types.ValType.{ValType}
-use Rattle.wasm_tree.specs.declared.types.FuncType.{FuncType}
-use Rattle.wasm_tree.specs.declared.types.GlobalType.{GlobalType}
-use Rattle.wasm_tree.specs.declared.instr.Instr.{Instr}
+use Rattle.wasm_tree_spec.specs.Prelude.{RefType, ValType, FuncType, GlobalType, Instr}
 use Rattle.wasm_num.specs.Operations.{Width}
 
 -- bytes of a name

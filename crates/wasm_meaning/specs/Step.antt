@@ -1,6 +1,6 @@
 -- One small step (WebAssembly Core 2.0, section 4.4).
 use Rattle.std.proofs.Common.{ℕ, List, [], ◌∷◌, ◌++◌, length, true, slice_set}
-use Rattle.wasm_tree.specs.declared.instr.Instr.{Instr, out-Instr}
+use Rattle.wasm_tree_spec.specs.Prelude.{Instr, out-Instr}
 use Rattle.wasm_tree.specs.declared.instr.Instr.TheOpen.{Instr-F}
 use Rattle.wasm_meaning.specs.Outcomes.{Outcome, Gives, Traps, IllTyped, bind, onto, or_ill_typed, with_entry}
 use Rattle.wasm_num.specs.Operations.{W32, W64, wrapped}

@@ -1,39 +1,24 @@
 -- Worlds, and their instantiation at once (WebAssembly Core 2.0, section 4.5.4, for several modules together).
 -- Every import is matched and everything allocated; then all active element segments are copied by part, then all active data segments by part.
 use Rattle.std.proofs.Common.{ℕ, zero, suc, ◌+◌, ◌-◌, ◌*◌, List, [], ◌∷◌, ◌++◌, map, length, Option, Some, None, Bool, true, false, cond, slice_get, unwrap_or, ◌&&◌}
-use Rattle.wasm_tree.specs.declared.space.Space.{Space}
-use Rattle.wasm_tree.specs.declared.space.Space.TheVariants.{Types, Functions, Tables, Memories, Globals, ElementSegments, DataSegments}
+use Rattle.wasm_tree_spec.specs.Prelude.{Space, Types, Functions, Tables, Memories, Globals, ElementSegments, DataSegments, FuncType, Limits, Import, ImportDesc, ExportDesc, ConstExpr, GlobalDef, ElemSeg, ElemMode, DataSeg, DataMode, Module, same_func_type, same_ref, same_type, index_of_export, space_of_export}
 use Rattle.base_lists.specs.Options.{◌>>=◌}
 pub use Rattle.base_lists.specs.Options.{all_there}
 pub use Rattle.base_lists.specs.Places.{numbers}
 use Rattle.std.specs.Prelude.{nat_le}
-use Rattle.wasm_tree.specs.declared.types.FuncType.{FuncType}
-use Rattle.wasm_tree.specs.declared.types.Limits.{Limits}
-use Rattle.wasm_tree.specs.declared.module.Import.{Import}
-use Rattle.wasm_tree.specs.declared.module.ImportDesc.{ImportDesc}
 use Rattle.wasm_tree.specs.declared.module.ImportDesc.TheVariants as im
-use Rattle.wasm_tree.specs.declared.module.ExportDesc.{ExportDesc}
 use Rattle.wasm_tree.specs.declared.module.ExportDesc.TheVariants as ex
-use Rattle.wasm_tree.specs.declared.module.ConstExpr.{ConstExpr}
 use Rattle.wasm_tree.specs.declared.module.ConstExpr.TheVariants as const
-use Rattle.wasm_tree.specs.declared.module.GlobalDef.{GlobalDef}
-use Rattle.wasm_tree.specs.declared.module.ElemSeg.{ElemSeg}
-use Rattle.wasm_tree.specs.declared.module.ElemMode.{ElemMode}
 use Rattle.wasm_tree.specs.declared.module.ElemMode.TheVariants as elem
-use Rattle.wasm_tree.specs.declared.module.DataSeg.{DataSeg}
-use Rattle.wasm_tree.specs.declared.module.DataMode.{DataMode}
 use Rattle.wasm_tree.specs.declared.module.DataMode.TheVariants as data'
 use Rattle.wasm_tree.specs.declared.module.Func as tree
-use Rattle.wasm_tree.specs.declared.module.Module.{Module}
 use Rattle.wasm_num.specs.Operations.{W32, W64, wrapped}
 use Rattle.wasm_meaning.specs.Outcomes.{overwrite, copies}
 use Rattle.wasm_meaning.specs.State.{Text, Pair, RefVal, FuncRef, Val, Num, Ref, Inst, Func, Code, Table, Memory, Global, Elem, Store, DropElem, DropData, SetTable, SetMemory}
 use Rattle.wasm_meaning.specs.Values.{null_of, declared, ref_of, num_of}
-use Rattle.wasm_tree.specs.SameTypes.{same_func_type, same_ref, same_type}
 use Rattle.wasm_meaning.specs.Control.{type_at}
 use Rattle.wasm_meaning.specs.Step.{changed, no_items}
 use Rattle.wasm_meaning.specs.Linking.{Part, Site, End, Defined, Outside, Entity, Read, module_at, import_at, imports_of, pair_of, end_of, read_of, sites}
-use Rattle.wasm_tree.specs.Spaces.{index_of_export, space_of_export}
 use Rattle.wasm_meaning.specs.Environment.{Environment, ExternalValue, FuncAt, TableAt, MemoryAt, GlobalAt, OwnKey, FuncKey, TableKey, MemoryKey, GlobalKey, Owned, owned_of, owned_at, own_funcs, own_tables, own_memories, own_globals, all_of}
 
 -- modules with names, whose imports are joined by name, and what the embedder may use: names, each with the entity for which it stands

@@ -1,17 +1,13 @@
 -- The name list of a file is what it spells.
-use Rattle.std.proofs.Common.{◌≡◌, ℕ, List, [], ◌∷◌, ◌++◌, length, Option, Some, None, Result, Ok, Err, IfOk, Bool, true, false, inl, inr, ⊎_elim, refl, sym, ap, ◌∙◌, subst, arith}
-use Rattle.std.specs.Prelude.{◌==◌, option_and_then, option_to_list, unwrap_or, ◌↔◌}
+use Rattle.base_lists.proofs.Common.{◌≡◌, ℕ, List, [], ◌∷◌, ◌++◌, length, Option, Some, None, Result, Ok, Err, IfOk, Bool, true, false, inl, inr, ⊎_elim, refl, sym, ap, ◌∙◌, subst, arith, ◌==◌, option_and_then, option_to_list, ◌↔◌, and_then_is}
+use Rattle.std.specs.Prelude.{unwrap_or}
 use Rattle.std.specs.Result.{result_ok}
 use Rattle.base_lists.specs.Every.{Every}
-use Rattle.base_lists.proofs.Options.{and_then_is}
-use Rattle.wasm_bytes.specs.Frames.{Section, Framed, HasHeader, FirstBad}
+use Rattle.wasm_bytes.specs.Prelude.{Section, Framed, HasHeader, FirstBad, framed_all, Each, IsBytes}
 use Rattle.wasm_bytes.specs.declared.framing.Frame.{Frame as Place}
-use Rattle.wasm_bytes.specs.FrameViews.{framed_all}
-use Rattle.wasm_bytes.specs.Joins.{Each}
-use Rattle.wasm_bytes.specs.Reading.{IsBytes}
 use Rattle.wasm_bytes.proofs.Lists.{bytes_rest}
 use Rattle.wasm_bytes.proofs.Sized.{bind_ok}
-use Rattle.wasm_read_spec.specs.Contents.{framed_at}
+use Rattle.wasm_read_spec.specs.Prelude.{framed_at}
 use Rattle.wasm_read_spec.proofs.FileLaws.{AreBytes, front_bytes, framed_bytes}
 use Rattle.wasm_read_spec.proofs.Framing.{framed_reads, bad_reads, header_reads, framed_sound}
 use Rattle.wasm_names.specs.declared.func_name.FuncName.{FuncName}

@@ -1,21 +1,10 @@
 -- What is found behind the name of the first section called `name` is what stands there.
-use Rattle.std.proofs.Common.{◌≡◌, ℕ, ◌+◌, ◌<◌, ◌≤◌, length, drop, get_or, drop-cons, add-one, List, [], ◌∷◌, ◌++◌, Option, Some, None, Result, Ok, Err, true, false, ⊎_elim, refl, sym, ap, ◌∙◌, subst}
-use Rattle.std.proofs.lemmas.Bool.{eqb-true}
-use Rattle.std.proofs.lemmas.List.{drop_all}
-use Rattle.std.proofs.lemmas.Slice.Eq.{bytes_eq-Decides}
-use Rattle.std.specs.Borrow.{Bor}
-use Rattle.std.specs.Prelude.{◌==◌, is_some}
-use Rattle.std.specs.Str.{bytes_eq}
+use Rattle.base_lists.proofs.Common.{◌≡◌, ℕ, ◌+◌, ◌<◌, ◌≤◌, length, drop, get_or, drop-cons, add-one, List, [], ◌∷◌, ◌++◌, Option, Some, None, Result, Ok, Err, true, false, ⊎_elim, refl, sym, ap, ◌∙◌, subst, eqb-true, drop_all, bytes_eq-Decides, Bor, ◌==◌, is_some, bytes_eq, cond_is}
 use Rattle.base_lists.specs.Every.{Every}
-use Rattle.base_lists.proofs.Bools.{cond_is}
-use Rattle.wasm_bytes.specs.Frames.{Section}
+use Rattle.wasm_bytes.specs.Prelude.{Section, framed, framed_all, Takes, Named, IsBytes}
 use Rattle.wasm_bytes.specs.declared.framing.Frame.{Frame as Place}
-use Rattle.wasm_bytes.specs.FrameViews.{framed, framed_all}
-use Rattle.wasm_bytes.specs.Numbers.{Takes}
-use Rattle.wasm_bytes.specs.Joins.{Named}
-use Rattle.wasm_bytes.specs.Reading.{IsBytes}
 use Rattle.wasm_read_spec.specs.declared.fault.Fault.{Fault}
-use Rattle.wasm_read_spec.specs.Reading.{name_at}
+use Rattle.wasm_read_spec.specs.Prelude.{name_at}
 use Rattle.wasm_read_spec.proofs.Exact.{name_exact}
 use Rattle.wasm_read_spec.proofs.FileLaws.{AreBytes}
 use Rattle.wasm_names.specs.NameList.{IsNameSection, IsCalledOtherwise, section_name}

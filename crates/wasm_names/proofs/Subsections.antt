@@ -1,15 +1,12 @@
 -- What is read of the subsections of a name section is what they spell.
-use Rattle.std.proofs.Common.{◌≡◌, ◌≢◌, ℕ, zero, suc, ◌≤◌, List, [], ◌∷◌, ◌++◌, length, Option, Some, None, Ok, Err, Bool, true, false, refl, sym, ap, ◌∙◌, subst, arith, append-nil, length-append}
-use Rattle.std.specs.Borrow.{Bor}
-use Rattle.std.specs.Prelude.{◌==◌, is_some, option_to_list}
-use Rattle.wasm_bytes.specs.Frames.{Section}
-use Rattle.wasm_bytes.specs.Joins.{Each}
-use Rattle.wasm_bytes.specs.Reading.{◌>>=◌, IsBytes}
+use Rattle.base_lists.proofs.Common.{◌≡◌, ◌≢◌, ℕ, zero, suc, ◌≤◌, List, [], ◌∷◌, ◌++◌, length, Option, Some, None, Ok, Err, Bool, true, false, refl, sym, ap, ◌∙◌, subst, arith, append-nil, Bor, ◌==◌, is_some, option_to_list}
+use Rattle.std.proofs.Common.{length-append}
+use Rattle.wasm_bytes.specs.Prelude.{Section, Each, ◌>>=◌, IsBytes}
 use Rattle.wasm_bytes.proofs.Lists.{Took, small_rest}
 use Rattle.wasm_bytes.proofs.Sized.{bind_ok}
 use Rattle.wasm_read_spec.specs.declared.fault.Fault.{Fault}
 use Rattle.wasm_read_spec.specs.declared.fault.Fault.TheVariants.{Malformed}
-use Rattle.wasm_read_spec.specs.Reading.{Fails, sized_at}
+use Rattle.wasm_read_spec.specs.Prelude.{Fails, sized_at}
 use Rattle.wasm_read_spec.proofs.Exact.{sized_exact}
 use Rattle.wasm_read_spec.proofs.Loops.{fails_through}
 use Rattle.wasm_names.specs.NameList.{SpellsSubsection, func_name_maps}

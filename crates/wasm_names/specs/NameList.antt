@@ -2,10 +2,8 @@
 use Rattle.std.specs.Prelude.{◌≡◌, ◌==◌, ℕ, List, [], ◌∷◌, ◌++◌, ◌⊎◌, map, filter}
 use Rattle.std.specs.List.Sorted.{IsStrictlyIncreasing}
 use Rattle.base_lists.specs.Every.{Every}
-use Rattle.wasm_bytes.specs.Numbers.{Takes}
-use Rattle.wasm_bytes.specs.Joins.{U32, Each, Vector, Sized, Named}
-use Rattle.wasm_bytes.specs.Frames.{Section, Framed}
-use Rattle.wasm_read_spec.specs.SpellingForms.{Byte, Both}
+use Rattle.wasm_bytes.specs.Prelude.{Takes, U32, Each, Vector, Sized, Named, Section, Framed}
+use Rattle.wasm_read_spec.specs.Prelude.{Byte, Both}
 use Rattle.wasm_names.specs.declared.func_name.FuncName.{FuncName}
 
 -- ---- a name map

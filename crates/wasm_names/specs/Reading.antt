@@ -3,12 +3,10 @@ use Rattle.std.specs.Prelude.{◌≡◌, ◌==◌, ℕ, zero, suc, ◌+◌, List
 use Rattle.std.specs.Result.{result_ok}
 use Rattle.std.specs.Str.{bytes_eq}
 use Rattle.std.specs.Borrow.{Bor}
-use Rattle.wasm_bytes.specs.Reading.{◌>>=◌}
-use Rattle.wasm_bytes.specs.Frames.{Section}
+use Rattle.wasm_bytes.specs.Prelude.{◌>>=◌, Section}
 use Rattle.wasm_read_spec.specs.declared.fault.Fault.{Fault}
 use Rattle.wasm_read_spec.specs.declared.fault.Fault.TheVariants.{Malformed}
-use Rattle.wasm_read_spec.specs.Reading.{Reader, Fails, u32_at, name_at, sized_at, each_from, whole_at}
-use Rattle.wasm_read_spec.specs.Contents.{framed_at}
+use Rattle.wasm_read_spec.specs.Prelude.{Reader, Fails, u32_at, name_at, sized_at, each_from, whole_at, framed_at}
 use Rattle.wasm_names.specs.declared.func_name.FuncName.{FuncName}
 use Rattle.wasm_names.specs.NameList.{section_name}
 

@@ -1,15 +1,11 @@
 -- What is known besides of a tree that is found.
-use Rattle.std.proofs.Common.{◌≡◌, ℕ, List, Bool, true, false, Some, Result, Ok, Err, IfOk, IsTrue, ◌⊎◌, ⊎_elim, subst}
-use Rattle.std.specs.Prelude.{IfErr, ◌↔◌}
-use Rattle.wasm_bytes.specs.Reading.{IsBytes}
-use Rattle.wasm_tree.specs.declared.module.Module.{Module}
-use Rattle.wasm_tree.specs.Bounds.{IsBounded}
-use Rattle.wasm_tree.specs.MemoryZero.{memory_zero_funcs}
+use Rattle.base_lists.proofs.Common.{◌≡◌, ℕ, List, Bool, true, false, Some, Result, Ok, Err, IfOk, IsTrue, ◌⊎◌, ⊎_elim, subst, IfErr, ◌↔◌}
+use Rattle.wasm_bytes.specs.Prelude.{IsBytes}
+use Rattle.wasm_tree_spec.specs.Prelude.{Module, IsBounded, memory_zero_funcs}
 use Rattle.wasm_read_spec.specs.declared.fault.ReadFault.{ReadFault}
 use Rattle.wasm_read_spec.specs.declared.fault.ReadFault.TheVariants.{NoMemory}
-use Rattle.wasm_read_spec.specs.Files.{Spells, Within}
-use Rattle.wasm_read_spec.specs.Contents.{GivesAll, read_at, read_fault}
-use Rattle.wasm_read_spec.specs.Causes.{Cause}
+use Rattle.wasm_read_spec.specs.Prelude.{Spells, Within, read_at, read_fault, Cause}
+use Rattle.wasm_read_spec.specs.Contents.{GivesAll}
 use Rattle.wasm_read_spec.proofs.FileLaws.{call_fault, call_first}
 use Rattle.wasm_read.specs.Told.{Told}
 

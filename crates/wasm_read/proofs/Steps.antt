@@ -1,13 +1,12 @@
 -- Steps of the loops over frames and functions.
-use Rattle.std.proofs.Common.{◌≡◌, ℕ, zero, suc, ◌+◌, ◌<◌, ◌≤◌, List, [], ◌∷◌, length, drop, set, get_or, slice_get, slice_index, Bool, Result, Ok, Some, refl, sym, ap, ◌∙◌, subst, arith, add-one}
-use Rattle.std.proofs.lemmas.List.{drop_all}
+use Rattle.base_lists.proofs.Common.{◌≡◌, ℕ, zero, suc, ◌+◌, ◌<◌, ◌≤◌, List, [], ◌∷◌, length, drop, set, get_or, slice_get, slice_index, Bool, Result, Ok, Some, refl, sym, ap, ◌∙◌, subst, arith, add-one, drop_all}
 use Rattle.wasm_bytes.specs.declared.framing.Frame.{Frame as Place}
-use Rattle.wasm_bytes.specs.FrameViews.{framed, framed_all}
-use Rattle.wasm_tree.specs.declared.module.Func.{Func}
+use Rattle.wasm_bytes.specs.Prelude.{framed, framed_all}
+use Rattle.wasm_tree_spec.specs.Prelude.{Func}
 use Rattle.wasm_read_spec.specs.declared.fault.ReadFault.{ReadFault}
 use Rattle.wasm_read_spec.specs.declared.parts.Parts.{Parts}
-use Rattle.wasm_read_spec.specs.Contents.{Fails, section_at, contents_at}
-use Rattle.wasm_read_spec.specs.Files.{typed}
+use Rattle.wasm_read_spec.specs.Prelude.{section_at, typed}
+use Rattle.wasm_read_spec.specs.Contents.{Fails, contents_at}
 use Rattle.wasm_read_spec.proofs.Loops.{fails_in_through}
 
 pub drop_some : {A : Type 0} (xs : List A) (i : ℕ) (d : A) → i < length xs → drop i xs ≡ get_or xs i d ∷ drop (i + 1) xs

@@ -1,19 +1,13 @@
 -- What is known of a token that was told, and which code names data segments.
-use Rattle.std.proofs.Common.{◌≡◌, ℕ, Bool, ◌||◌, List, [], ◌++◌, Option, Some, None, Result, Ok, Err, sym, ap, ◌∙◌}
-use Rattle.std.proofs.Math.Bool.{or-false, or_assoc}
-use Rattle.std.proofs.lemmas.List.Folds.{list_any-append}
-use Rattle.wasm_tree.specs.declared.types.BlockType.{BlockType}
+use Rattle.base_lists.proofs.Common.{◌≡◌, ℕ, Bool, ◌||◌, List, [], ◌++◌, Option, Some, None, Result, Ok, Err, sym, ap, ◌∙◌, or-false, or_assoc, list_any-append}
+use Rattle.wasm_tree_spec.specs.Prelude.{BlockType, Instr, out-Instr, Block, Loop, If, outs-Block, outs-Loop, outs-If, names_data, uses_data_in, uses_data, operands, operands_of, block_operands, held}
 use Rattle.wasm_tree.specs.declared.types.BlockType.TheVariants as block
-use Rattle.wasm_tree.specs.declared.instr.Instr.{Instr, out-Instr}
-use Rattle.wasm_tree.specs.declared.instr.Instr.TheVariants.{Block, Loop, If, outs-Block, outs-Loop, outs-If}
-use Rattle.wasm_tree.specs.DataUse.{names_data, uses_data_in, uses_data}
-use Rattle.wasm_tree.specs.Operands.{operands, operands_of, block_operands, held}
 use Rattle.wasm_tree.proofs.OperandLaws.{any_inside}
 use Rattle.wasm_read_spec.specs.declared.fault.Fault.{Fault}
 use Rattle.wasm_read_spec.specs.declared.token.Opener.{Opener}
 use Rattle.wasm_read_spec.specs.declared.token.Token.{Token}
 use Rattle.wasm_read_spec.specs.declared.token.Token.TheVariants.{Open, Else, End, Plain}
-use Rattle.wasm_read_spec.specs.Reading.{Fails, mapped_at, block_type_at}
+use Rattle.wasm_read_spec.specs.Prelude.{Fails, mapped_at, block_type_at}
 use Rattle.wasm_read_spec.proofs.Loops.{fails_through}
 use Rattle.wasm_read_items.specs.declared.pile.Pile.{Pile}
 use Rattle.wasm_read_items.specs.Piled.{with_instr, piled}

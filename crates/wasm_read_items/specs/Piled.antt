@@ -1,11 +1,10 @@
 -- What reading a body leaves on the pile of its instructions.
 use Rattle.std.specs.Prelude.{◌≡◌, ℕ, List, [], ◌∷◌, ◌++◌, Result, Ok, Err, Option, Some, None, ◌||◌}
-use Rattle.wasm_tree.specs.declared.instr.Instr.{Instr}
-use Rattle.wasm_tree.specs.DataUse.{uses_data_in}
+use Rattle.wasm_tree_spec.specs.Prelude.{Instr, uses_data_in}
 use Rattle.wasm_read_spec.specs.declared.fault.Fault.{Fault}
 use Rattle.wasm_read_spec.specs.declared.token.Token.{Token}
 use Rattle.wasm_read_spec.specs.declared.token.Token.TheVariants.{Open, Else, End, Plain}
-use Rattle.wasm_read_spec.specs.Reading.{Fails, mapped_at, block_type_at}
+use Rattle.wasm_read_spec.specs.Prelude.{Fails, mapped_at, block_type_at}
 use Rattle.wasm_read_items.specs.declared.pile.Pile.{Pile}
 use Rattle.wasm_read_items.specs.declared.pile.Kind.{Kind}
 use Rattle.wasm_read_items.specs.declared.pile.Kind.TheVariants as kind

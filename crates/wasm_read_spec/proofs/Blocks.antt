@@ -1,16 +1,14 @@
 -- Reading of blocks and sequences, step by step.
-use Rattle.std.proofs.Common.{◌≡◌, ℕ, zero, suc, ◌-◌, ◌<◌, ◌≤◌, List, [], ◌∷◌, ◌++◌, length, Ok, Err, true, false, Bool, refl, sym, ap, arith, append_assoc}
-use Rattle.wasm_bytes.specs.Reading.{◌>>=◌}
-use Rattle.wasm_tree.specs.declared.types.BlockType.{BlockType}
-use Rattle.wasm_tree.specs.declared.instr.Instr.{Instr}
-use Rattle.wasm_tree.specs.declared.which.Which.TheVariants.{Nesting}
+use Rattle.base_lists.proofs.Common.{◌≡◌, ℕ, zero, suc, ◌-◌, ◌<◌, ◌≤◌, List, [], ◌∷◌, ◌++◌, length, Ok, Err, true, false, Bool, refl, sym, ap, arith, append_assoc}
+use Rattle.wasm_bytes.specs.Prelude.{◌>>=◌}
+use Rattle.wasm_tree_spec.specs.Prelude.{BlockType, Instr, Nesting}
 use Rattle.wasm_read_spec.specs.declared.fault.Fault.{Fault}
 use Rattle.wasm_read_spec.specs.declared.fault.Fault.TheVariants.{NoMemory, Malformed, Unsupported, Limit}
 use Rattle.wasm_read_spec.specs.declared.token.Opener.{Opener}
 use Rattle.wasm_read_spec.specs.declared.token.Token.TheVariants.{Open, Else, End, Plain}
 use Rattle.wasm_read_spec.specs.declared.token.Sequence.{Sequence}
-use Rattle.wasm_read_spec.specs.Reading.{Fails}
-use Rattle.wasm_read_spec.specs.BodyReading.{ReadResult, behind, block_at, enclosed, token_at, sequence_at}
+use Rattle.wasm_read_spec.specs.Prelude.{Fails, ReadResult, behind, enclosed}
+use Rattle.wasm_read_spec.specs.BodyReading.{block_at, token_at, sequence_at}
 use Rattle.wasm_read_spec.proofs.Loops.{fails_through}
 
 pub behind_none : (r : ReadResult Sequence) → behind [] r ≡ r

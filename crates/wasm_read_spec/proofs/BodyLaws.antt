@@ -1,15 +1,10 @@
 -- Reading a sequence finds the tree that the tokens nest to, and nothing else.
-use Rattle.std.proofs.Common.{◌≡◌, ℕ, zero, suc, ◌<◌, ◌≤◌, List, [], ◌∷◌, ◌++◌, length, Ok, Err, Bool, true, false, cond, refl, sym, ap, ◌∙◌, subst, arith, append_assoc, append-nil, length-append, inl, inr, ⊎_elim, ◌⊎◌}
-use Rattle.std.proofs.Math.Dec.{eqb-suc-zero}
-use Rattle.wasm_bytes.specs.Joins.{Then, Each}
-use Rattle.wasm_bytes.specs.Reading.{IsBytes}
+use Rattle.base_lists.proofs.Common.{◌≡◌, ℕ, zero, suc, ◌<◌, ◌≤◌, List, [], ◌∷◌, ◌++◌, length, Ok, Err, Bool, true, false, cond, refl, sym, ap, ◌∙◌, subst, arith, append_assoc, append-nil, inl, inr, ⊎_elim, ◌⊎◌, eqb-suc-zero}
+use Rattle.std.proofs.Common.{length-append}
+use Rattle.wasm_bytes.specs.Prelude.{Then, Each, IsBytes}
 use Rattle.wasm_bytes.proofs.Lists.{Took, small_rest}
 use Rattle.wasm_bytes.proofs.Sized.{bind_ok, ok_pair}
-use Rattle.wasm_tree.specs.declared.types.BlockType.{BlockType}
-use Rattle.wasm_tree.specs.declared.instr.Instr.{Instr}
-use Rattle.wasm_tree.specs.declared.instr.Instr.TheVariants.{Block, Loop, If}
-use Rattle.wasm_tree.specs.declared.which.Which.TheVariants.{Nesting}
-use Rattle.wasm_tree.specs.Limits.{limit}
+use Rattle.wasm_tree_spec.specs.Prelude.{BlockType, Instr, Block, Loop, If, Nesting, limit}
 use Rattle.wasm_read_spec.specs.declared.fault.Fault.{Fault}
 use Rattle.wasm_read_spec.specs.declared.fault.Fault.TheVariants.{Malformed, Limit}
 use Rattle.wasm_read_spec.specs.declared.token.Opener.{Opener}
@@ -17,9 +12,8 @@ use Rattle.wasm_read_spec.specs.declared.token.Opener.TheVariants as opener
 use Rattle.wasm_read_spec.specs.declared.token.Token.{Token}
 use Rattle.wasm_read_spec.specs.declared.token.Token.TheVariants.{Open, Else, End, Plain}
 use Rattle.wasm_read_spec.specs.declared.token.Sequence.{Sequence}
-use Rattle.wasm_read_spec.specs.Tokens.{SpellsToken}
-use Rattle.wasm_read_spec.specs.Bodies.{depth_of}
-use Rattle.wasm_read_spec.specs.BodyReading.{ReadResult, behind, token_at, block_at, after_token, sequence_at, whole, body_at}
+use Rattle.wasm_read_spec.specs.Prelude.{SpellsToken, depth_of, ReadResult, behind, token_at, after_token, whole}
+use Rattle.wasm_read_spec.specs.BodyReading.{block_at, sequence_at, body_at}
 use Rattle.wasm_read_spec.proofs.Exact.{err_ok}
 use Rattle.wasm_read_spec.proofs.TokenLaws.{token_sound, token_complete}
 use Rattle.wasm_read_spec.proofs.Leaves.{of_token, flat}

@@ -1,15 +1,9 @@
 -- Reading a body tells the stops of its bytes, and no others; and so does reading what is inside an entry.
-use Rattle.std.proofs.Common.{◌≡◌, ℕ, zero, suc, ◌≤◌, List, [], ◌∷◌, ◌++◌, length, Result, Ok, Err, Bool, true, false, cond, ◌⊎◌, inl, inr, ⊎_elim, refl, sym, ap, ◌∙◌, subst, arith, append_assoc, length-append}
-use Rattle.std.specs.Prelude.{◌==◌}
-use Rattle.base_lists.proofs.Bools.{cond_is}
-use Rattle.wasm_bytes.specs.Joins.{Then, Each}
-use Rattle.wasm_bytes.specs.Reading.{◌>>=◌, IsBytes}
+use Rattle.base_lists.proofs.Common.{◌≡◌, ℕ, zero, suc, ◌≤◌, List, [], ◌∷◌, ◌++◌, length, Result, Ok, Err, Bool, true, false, cond, ◌⊎◌, inl, inr, ⊎_elim, refl, sym, ap, ◌∙◌, subst, arith, append_assoc, ◌==◌, cond_is}
+use Rattle.std.proofs.Common.{length-append}
+use Rattle.wasm_bytes.specs.Prelude.{Then, Each, ◌>>=◌, IsBytes}
 use Rattle.wasm_bytes.proofs.Lists.{Took, small_rest}
-use Rattle.wasm_tree.specs.declared.types.BlockType.{BlockType}
-use Rattle.wasm_tree.specs.declared.instr.Instr.{Instr}
-use Rattle.wasm_tree.specs.declared.instr.Instr.TheVariants.{Block, Loop, If}
-use Rattle.wasm_tree.specs.declared.which.Which.TheVariants.{Nesting}
-use Rattle.wasm_tree.specs.Limits.{limit}
+use Rattle.wasm_tree_spec.specs.Prelude.{BlockType, Instr, Block, Loop, If, Nesting, limit}
 use Rattle.wasm_read_spec.specs.declared.fault.Fault.{Fault}
 use Rattle.wasm_read_spec.specs.declared.fault.Fault.TheVariants.{Malformed, Limit}
 use Rattle.wasm_read_spec.specs.declared.token.Opener.{Opener}
@@ -17,10 +11,9 @@ use Rattle.wasm_read_spec.specs.declared.token.Opener.TheVariants as opener
 use Rattle.wasm_read_spec.specs.declared.token.Token.{Token}
 use Rattle.wasm_read_spec.specs.declared.token.Token.TheVariants.{Open, Else, End, Plain}
 use Rattle.wasm_read_spec.specs.declared.token.Sequence.{Sequence}
-use Rattle.wasm_read_spec.specs.Tokens.{SpellsToken}
-use Rattle.wasm_read_spec.specs.Stops.{Stop, Over, LocalsStop, TokenStops, LeaveOpen, nested, in_block, in_else, NestingStops, BodyStops, CodeStops}
-use Rattle.wasm_read_spec.specs.BodyReading.{ReadResult, behind, token_at, block_at, after_token, sequence_at, whole, body_at, closed, enclosed, code_at, code_of}
-use Rattle.wasm_read_spec.specs.Reading.{locals_at}
+use Rattle.wasm_read_spec.specs.Prelude.{SpellsToken, Stop, Over, ReadResult, behind, token_at, after_token, whole, enclosed, code_of, locals_at}
+use Rattle.wasm_read_spec.specs.Stops.{LocalsStop, TokenStops, LeaveOpen, nested, in_block, in_else, NestingStops, BodyStops, CodeStops}
+use Rattle.wasm_read_spec.specs.BodyReading.{block_at, sequence_at, body_at, closed, code_at}
 use Rattle.wasm_read_spec.proofs.TokenLaws.{token_sound, token_complete}
 use Rattle.wasm_read_spec.proofs.NestLaws.{to_in, from_in}
 use Rattle.wasm_read_spec.proofs.BodyLaws.{NestsIn, no_more, one_plain, tokens_split, tokens_join, long, flat_token, reads_to_else, sequence_complete, ended, took_join, one_token, block_sound, sequence_sound}

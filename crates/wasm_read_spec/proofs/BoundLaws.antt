@@ -1,27 +1,14 @@
 -- What is read is bounded, and names no memory but memory 0 where memories have no indices.
-use Rattle.std.proofs.Common.{◌≡◌, ℕ, ◌≤◌, List, [], ◌∷◌, length, map, slice_get, Bool, true, false, Option, Some, None, refl, sym, ap, ◌∙◌, subst, arith, length-append}
-use Rattle.std.specs.Prelude.{◌==◌}
-use Rattle.std.proofs.lemmas.Bool.{and_parts, and_from}
-use Rattle.std.proofs.lemmas.List.{length-map}
-use Rattle.base_lists.proofs.Each.{every_at}
-use Rattle.wasm_bytes.specs.Joins.{Each}
-use Rattle.wasm_bytes.specs.Frames.{Section}
-use Rattle.wasm_tree.specs.declared.types.FuncType.{FuncType}
-use Rattle.wasm_tree.specs.declared.module.Func.{Func}
-use Rattle.wasm_tree.specs.declared.module.Module.{Module}
-use Rattle.wasm_tree.specs.Spaces.{func_of, table_of, memory_of, global_of, imported_funcs, imported_tables, imported_memories, imported_globals}
-use Rattle.wasm_tree.specs.Bounds.{param_count, declared_count, IsBounded}
+use Rattle.base_lists.proofs.Common.{◌≡◌, ℕ, ◌≤◌, List, [], ◌∷◌, length, map, slice_get, Bool, true, false, Option, Some, None, refl, sym, ap, ◌∙◌, subst, arith, ◌==◌, and_parts, and_from, length-map, every_at, filter_map_most}
+use Rattle.std.proofs.Common.{length-append}
+use Rattle.wasm_bytes.specs.Prelude.{Each, Section}
+use Rattle.wasm_tree_spec.specs.Prelude.{FuncType, Func, Module, func_of, table_of, memory_of, global_of, imported_funcs, imported_tables, imported_memories, imported_globals, param_count, declared_count, IsBounded, memory_zero_all, memory_zero_funcs, limit, Imports, Exports, Locals, Parameters}
 use Rattle.wasm_tree.specs.OperandLaws.{BlockPasses, LoopPasses, IfPasses}
-use Rattle.wasm_tree.specs.MemoryZero.{memory_zero_all, memory_zero_funcs}
-use Rattle.base_lists.proofs.Filtered.{filter_map_most}
-use Rattle.wasm_tree.specs.Limits.{limit}
-use Rattle.wasm_tree.specs.declared.which.Which.TheVariants.{Types, Imports, Functions, Tables, Memories, Globals, Exports, ElementSegments, DataSegments, Locals, Parameters}
+use Rattle.wasm_tree.specs.declared.which.Which.TheVariants.{Types, Functions, Tables, Memories, Globals, ElementSegments, DataSegments}
 use Rattle.wasm_read_spec.specs.declared.parts.Parts.{Parts}
 use Rattle.base_lists.specs.Every.{Every}
-use Rattle.wasm_read_spec.specs.SpellingForms.{Never, Made, When, Any, Few, Limited, WhenSmall}
-use Rattle.wasm_read_spec.specs.Values.{SmallFuncType}
-use Rattle.wasm_read_spec.specs.Bodies.{SpellsEntry, SmallCode}
-use Rattle.wasm_read_spec.specs.Files.{nothing, with_types, with_imports, with_func_types, with_tables, with_mems, with_globals, with_exports, with_start, with_elems, with_codes, with_datas, with_count, SpellsCustom, section_form, small_form, SectionIsSmall, Contents, typed, tree_of, Spells, Within}
+use Rattle.wasm_read_spec.specs.Prelude.{Never, Made, When, Any, Few, Limited, WhenSmall, SmallFuncType, SpellsEntry, SmallCode, nothing, with_types, with_imports, with_func_types, with_tables, with_mems, with_globals, with_exports, with_start, with_elems, with_codes, with_datas, with_count, SpellsCustom, SectionIsSmall, Contents, typed, tree_of, Spells, Within}
+use Rattle.wasm_read_spec.specs.Files.{section_form, small_form}
 use Rattle.wasm_read_spec.proofs.NestLaws.{body_zero}
 
 -- each list of the parts is within its limit

@@ -1,30 +1,22 @@
 -- The first fault of a file is that which has its cause.
-use Rattle.std.proofs.Common.{◌≡◌, ℕ, suc, ◌+◌, List, [], ◌∷◌, ◌++◌, length, Result, Ok, Err, Bool, true, false, cond, Option, Some, None, ◌⊎◌, inl, inr, ⊎_elim, refl, sym, ap, ◌∙◌, subst, arith}
-use Rattle.std.proofs.lemmas.Bool.{cases_Bool}
-use Rattle.std.specs.Prelude.{◌↔◌}
+use Rattle.base_lists.proofs.Common.{◌≡◌, ℕ, suc, ◌+◌, List, [], ◌∷◌, ◌++◌, length, Result, Ok, Err, Bool, true, false, cond, Option, Some, None, ◌⊎◌, inl, inr, ⊎_elim, refl, sym, ap, ◌∙◌, subst, arith, cases_Bool, ◌↔◌, cond_is}
 use Rattle.base_lists.specs.Every.{Every}
-use Rattle.base_lists.proofs.Bools.{cond_is}
-use Rattle.wasm_bytes.specs.Reading.{IsBytes}
-use Rattle.wasm_bytes.specs.Frames.{Section, Framed}
+use Rattle.wasm_bytes.specs.Prelude.{IsBytes, Section, Framed}
 use Rattle.wasm_bytes.proofs.Lists.{bytes_rest}
-use Rattle.wasm_tree.specs.Spaces.{imported_funcs}
-use Rattle.wasm_tree.specs.declared.module.Func.{Func}
+use Rattle.wasm_tree_spec.specs.Prelude.{imported_funcs, Func, Which}
 use Rattle.wasm_read_spec.specs.declared.fault.Fault.{Fault}
 use Rattle.wasm_read_spec.specs.declared.fault.Fault.TheVariants as fault
 use Rattle.wasm_read_spec.specs.declared.fault.ReadFault.{ReadFault}
 use Rattle.wasm_read_spec.specs.declared.fault.ReadFault.TheVariants.{NoMemory, NotModule, Malformed, MalformedBody, Unsupported, Limit}
 use Rattle.wasm_read_spec.specs.declared.parts.Parts.{Parts}
-use Rattle.wasm_read_spec.specs.Files.{nothing, SectionIsSmall, Contents}
-use Rattle.wasm_read_spec.specs.Stops.{Stop, NotSupported, Over}
-use Rattle.wasm_read_spec.specs.BodyReading.{code_at}
-use Rattle.wasm_read_spec.specs.Contents.{placed, codes_at, section_at, contents_at, agrees, framed_at, parts_at, read_at, read_fault}
-use Rattle.wasm_read_spec.specs.Causes.{UpTo, EntryOf, InEntry, SectionStops, EntryStops, IsCode, MalformedContent, MalformedSection, FaultyWhole, Cause}
+use Rattle.wasm_read_spec.specs.Prelude.{nothing, SectionIsSmall, Contents, Stop, NotSupported, Over, code_at, placed, codes_at, agrees, framed_at, read_fault, EntryOf, Cause}
+use Rattle.wasm_read_spec.specs.Contents.{section_at, contents_at, parts_at, read_at}
+use Rattle.wasm_read_spec.specs.Causes.{UpTo, InEntry, SectionStops, EntryStops, IsCode, MalformedContent, MalformedSection, FaultyWhole}
 use Rattle.wasm_read_spec.proofs.Framing.{framed_reads, framed_sound, framed_fault, header_reads, bad_reads}
 use Rattle.wasm_read_spec.proofs.EntryLaws.{code_sound, code_complete, content_bytes}
 use Rattle.wasm_read_spec.proofs.SectionLaws.{section_right}
 use Rattle.wasm_read_spec.proofs.LimitLaws.{Got, code_gets}
 use Rattle.wasm_read_spec.proofs.SpelledLaws.{section_gets}
-use Rattle.wasm_tree.specs.declared.which.Which.{Which}
 use Rattle.wasm_read_spec.proofs.FileLaws.{AreBytes, framed_bytes, contents_sound, contents_complete, of_rules, rules_of, told}
 use Rattle.wasm_read_spec.proofs.Stopping.{bind_err, ok_err, same_err, fault_of}
 use Rattle.wasm_read_spec.proofs.BodyStops.{code_tells}

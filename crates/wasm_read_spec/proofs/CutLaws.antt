@@ -1,10 +1,9 @@
 -- A prefix that is framed has the first frames of the whole.
-use Rattle.std.proofs.Common.{◌≡◌, ℕ, List, [], ◌∷◌, ◌++◌, length, Bool, ◌⊎◌, inl, inr, refl, sym, ap, ◌∙◌, subst, arith, append_assoc, append-nil}
-use Rattle.std.specs.Prelude.{◌≢◌}
-use Rattle.wasm_bytes.specs.Joins.{Sized}
-use Rattle.wasm_bytes.specs.Frames.{Section, header, Frame, Frames, Framed, order_after}
-use Rattle.wasm_tree.specs.declared.module.Module.{Module}
-use Rattle.wasm_read_spec.specs.Files.{Spells}
+use Rattle.base_lists.proofs.Common.{◌≡◌, ℕ, List, [], ◌∷◌, ◌++◌, length, Bool, ◌⊎◌, inl, inr, refl, sym, ap, ◌∙◌, subst, arith, append_assoc, append-nil, ◌≢◌}
+use Rattle.wasm_bytes.specs.Prelude.{Sized, Section, header, Frames, Framed, order_after}
+use Rattle.wasm_bytes.specs.Frames.{Frame}
+use Rattle.wasm_tree_spec.specs.Prelude.{Module}
+use Rattle.wasm_read_spec.specs.Prelude.{Spells}
 use Rattle.wasm_read_spec.specs.Cut.{EndsWithAFrame}
 use Rattle.wasm_read_spec.proofs.Exact.{sized_exact}
 use Rattle.wasm_read_spec.proofs.EntryLaws.{Clear, clear_of}

@@ -1,25 +1,17 @@
 -- Code entries: what is read is what is spelled and small.
-use Rattle.std.proofs.Common.{◌≡◌, ℕ, zero, suc, ◌+◌, ◌≤◌, List, [], ◌∷◌, ◌++◌, length, Result, Ok, Err, Bool, cond, Option, Some, None, refl, sym, ap, ◌∙◌, subst, arith, append-nil}
-use Rattle.std.proofs.lemmas.Bool.{le-ltb}
-use Rattle.std.proofs.Math.Dec.{eqb-suc-zero}
-use Rattle.std.specs.Prelude.{◌==◌}
-use Rattle.wasm_bytes.specs.Joins.{U32, Each, Vector, Sized}
-use Rattle.wasm_bytes.specs.Reading.{IsBytes}
+use Rattle.base_lists.proofs.Common.{◌≡◌, ℕ, zero, suc, ◌+◌, ◌≤◌, List, [], ◌∷◌, ◌++◌, length, Result, Ok, Err, Bool, cond, Option, Some, None, refl, sym, ap, ◌∙◌, subst, arith, append-nil, le-ltb, eqb-suc-zero, ◌==◌}
+use Rattle.wasm_bytes.specs.Prelude.{U32, Each, Vector, Sized, IsBytes}
 use Rattle.wasm_bytes.proofs.Lists.{Took, small_rest}
 use Rattle.wasm_bytes.proofs.Sized.{bind_ok, ok_pair}
 use Rattle.wasm_tree.specs.declared.which.Which.TheVariants.{Functions}
-use Rattle.wasm_tree.specs.declared.module.LocalGroup.{LocalGroup}
-use Rattle.wasm_tree.specs.declared.module.Func.{Func}
-use Rattle.wasm_tree.specs.Limits.{limit}
+use Rattle.wasm_tree_spec.specs.Prelude.{LocalGroup, Func, limit}
 use Rattle.wasm_read_spec.specs.declared.fault.Fault.{Fault}
 use Rattle.wasm_read_spec.specs.declared.fault.ReadFault.{ReadFault}
 use Rattle.wasm_read_spec.specs.declared.fault.ReadFault.TheVariants.{Malformed, Limit}
 use Rattle.base_lists.specs.Every.{Every}
-use Rattle.wasm_read_spec.specs.SpellingForms.{Any, Few}
-use Rattle.wasm_read_spec.specs.Bodies.{SpellsGroup, SpellsCode, SpellsEntry, SmallCode}
-use Rattle.wasm_read_spec.specs.Reading.{u32_at, sized_at, locals_at, each_from}
-use Rattle.wasm_read_spec.specs.BodyReading.{body_at, code_of, code_at}
-use Rattle.wasm_read_spec.specs.Contents.{in_place, entry_at, next_func, codes_at}
+use Rattle.wasm_read_spec.specs.Prelude.{Any, Few, SpellsGroup, SpellsCode, SpellsEntry, SmallCode, u32_at, sized_at, locals_at, each_from, body_at, code_of, in_place, next_func}
+use Rattle.wasm_read_spec.specs.BodyReading.{code_at}
+use Rattle.wasm_read_spec.specs.Contents.{entry_at, codes_at}
 use Rattle.wasm_read_spec.proofs.Exact.{Exact, took_then, split, u32_exact, sized_exact, both_exact, mapped_exact, one_value, Along, each_sound, each_complete, within_most}
 use Rattle.wasm_read_spec.proofs.ItemLaws.{val_exact, locals_exact}
 use Rattle.wasm_read_spec.proofs.NestLaws.{body_found, body_read, body_clear}

@@ -1,24 +1,19 @@
 -- A reader that finds what is spelled and small, and nothing else; and how such readers are put together.
-use Rattle.std.proofs.Common.{◌≡◌, ℕ, zero, suc, ◌≤◌, List, [], ◌∷◌, ◌++◌, length, Result, Ok, Err, Bool, true, false, cond, ⊎_elim, refl, sym, ap, ◌∙◌, subst, arith, append_assoc}
-use Rattle.std.proofs.lemmas.Bool.{cases_lt, lt-ltb, le-ltb, eqb-true}
-use Rattle.std.proofs.lemmas.Str.{IsUtf8-from_is_utf8, is_utf8-from_IsUtf8}
-use Rattle.std.specs.Prelude.{nat_lt, ◌==◌, IsUtf8}
-use Rattle.std.specs.Str.{is_utf8}
+use Rattle.base_lists.proofs.Common.{◌≡◌, ℕ, zero, suc, ◌≤◌, List, [], ◌∷◌, ◌++◌, length, Result, Ok, Err, Bool, true, false, cond, ⊎_elim, refl, sym, ap, ◌∙◌, subst, arith, append_assoc, cases_lt, lt-ltb, le-ltb, eqb-true, IsUtf8-from_is_utf8, is_utf8-from_IsUtf8, nat_lt, ◌==◌, IsUtf8, is_utf8}
 use Rattle.wasm_bytes.specs.declared.cursor.Wrong.{Wrong}
 use Rattle.wasm_bytes.specs.declared.cursor.Wrong.TheVariants.{Spelling}
-use Rattle.wasm_bytes.specs.Numbers.{Signed, last_signed, join_signed}
-use Rattle.wasm_bytes.specs.Joins.{Then, U32, Each, Vector, Sized, Named}
-use Rattle.wasm_bytes.specs.Reading.{◌>>=◌, IsBytes, signed_at, name_at as text_at, sized_at as content_at}
+use Rattle.wasm_bytes.specs.Prelude.{Signed, last_signed, join_signed, Then, U32, Each, Vector, Sized, Named, ◌>>=◌, IsBytes}
+use Rattle.wasm_bytes.specs.Reading.{signed_at, name_at as text_at, sized_at as content_at}
 use Rattle.wasm_bytes.proofs.NumberLaws.{reading_of_spelled, spelled_of_reading, signed_ends}
 use Rattle.wasm_bytes.proofs.Lists.{Took, small_rest}
 use Rattle.wasm_bytes.proofs.Sized.{bind_ok, ok_pair, u32_sound, u32_complete, sized_sound, sized_complete}
-use Rattle.wasm_tree.specs.declared.which.Which.{Which}
-use Rattle.wasm_tree.specs.Limits.{limit}
+use Rattle.wasm_tree_spec.specs.Prelude.{Which, limit}
 use Rattle.wasm_read_spec.specs.declared.fault.Fault.{Fault}
 use Rattle.wasm_read_spec.specs.declared.fault.Fault.TheVariants.{Malformed, Limit}
 use Rattle.base_lists.specs.Every.{Every}
-use Rattle.wasm_read_spec.specs.SpellingForms.{S32, S64, Byte, Coded, Just, Never, Both, Made, Chosen, When, After, Closed, Any, Few}
-use Rattle.wasm_read_spec.specs.Reading.{Reader, or_malformed, byte_at, u32_at, s32_at, s64_at, name_at, sized_at, just_at, fault_at, pair_at, mapped_at, chosen_at, when_at, coded_at, tag_at, tagged_at, closed_at, each_from, each_at, list_at, vector_at}
+use Rattle.wasm_read_spec.specs.Prelude.{Byte, Never, Both, Made, When, After, Any, Few, Reader, or_malformed, byte_at, u32_at, name_at, sized_at, fault_at, pair_at, mapped_at, chosen_at, when_at, tagged_at, each_at}
+use Rattle.wasm_read_spec.specs.SpellingForms.{S32, S64, Coded, Just, Chosen, Closed}
+use Rattle.wasm_read_spec.specs.Reading.{s32_at, s64_at, just_at, coded_at, tag_at, closed_at, each_from, list_at, vector_at}
 
 -- ---- tools
 

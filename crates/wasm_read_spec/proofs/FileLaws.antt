@@ -1,19 +1,16 @@
 -- A file is read exactly where it spells a tree, within the limits.
-use Rattle.std.proofs.Common.{◌≡◌, ℕ, zero, suc, ◌+◌, List, [], ◌∷◌, ◌++◌, length, Result, Ok, Err, Bool, true, false, cond, Option, Some, None, ◌⊎◌, inl, inr, ⊎_elim, refl, sym, ap, ◌∙◌, subst, arith}
-use Rattle.std.proofs.lemmas.Bool.{eqb-true, and_parts}
-use Rattle.std.specs.Prelude.{◌==◌, ◌↔◌, IfOk, IfErr}
-use Rattle.wasm_bytes.specs.Reading.{IsBytes}
-use Rattle.wasm_bytes.specs.Frames.{Section, order_after, Frames, Framed}
+use Rattle.base_lists.proofs.Common.{◌≡◌, ℕ, zero, suc, ◌+◌, List, [], ◌∷◌, ◌++◌, length, Result, Ok, Err, Bool, true, false, cond, Option, Some, None, ◌⊎◌, inl, inr, ⊎_elim, refl, sym, ap, ◌∙◌, subst, arith, eqb-true, and_parts, ◌==◌, ◌↔◌, IfOk, IfErr}
+use Rattle.wasm_bytes.specs.Prelude.{IsBytes, Section, order_after, Frames, Framed}
 use Rattle.wasm_bytes.proofs.Lists.{bytes_rest}
 use Rattle.wasm_bytes.proofs.Sized.{bind_ok}
-use Rattle.wasm_tree.specs.declared.module.Module.{Module}
-use Rattle.wasm_tree.specs.DataUse.{any_uses_data}
+use Rattle.wasm_tree_spec.specs.Prelude.{Module, any_uses_data}
 use Rattle.wasm_read_spec.specs.declared.fault.ReadFault.{ReadFault}
 use Rattle.wasm_read_spec.specs.declared.fault.ReadFault.TheVariants.{NoMemory, NotModule, Malformed, MalformedBody, Unsupported, Limit}
 use Rattle.wasm_read_spec.specs.declared.parts.Parts.{Parts}
 use Rattle.base_lists.specs.Every.{Every}
-use Rattle.wasm_read_spec.specs.Files.{nothing, Contents, Counted, Rules, tree_of, Spells, SectionIsSmall, Within}
-use Rattle.wasm_read_spec.specs.Contents.{Fails, GivesAll, section_at, contents_at, counted, agrees, framed_at, parts_at, read_at, fault_of, read_fault}
+use Rattle.wasm_read_spec.specs.Prelude.{nothing, Contents, tree_of, Spells, SectionIsSmall, Within, section_at, framed_at, read_fault}
+use Rattle.wasm_read_spec.specs.Files.{Counted, Rules}
+use Rattle.wasm_read_spec.specs.Contents.{Fails, GivesAll, contents_at, counted, agrees, parts_at, read_at, fault_of}
 use Rattle.wasm_read_spec.proofs.Framing.{framed_reads, framed_sound}
 use Rattle.wasm_read_spec.proofs.SectionLaws.{section_right}
 

@@ -1,10 +1,8 @@
 -- What is read of the frames of a whole file is what it frames.
-use Rattle.std.proofs.Common.{◌≡◌, ℕ, ◌≤◌, List, [], ◌∷◌, ◌++◌, length, take, drop, Result, Ok, Err, Bool, true, false, cond, ◌⊎◌, inl, inr, ⊎_elim, refl, sym, ap, ◌∙◌, subst, arith, length-append}
-use Rattle.std.proofs.lemmas.Bool.{eqb-true, and_parts, cases_Bool}
-use Rattle.std.specs.Prelude.{◌==◌}
+use Rattle.base_lists.proofs.Common.{◌≡◌, ℕ, ◌≤◌, List, [], ◌∷◌, ◌++◌, length, take, drop, Result, Ok, Err, Bool, true, false, cond, ◌⊎◌, inl, inr, ⊎_elim, refl, sym, ap, ◌∙◌, subst, arith, eqb-true, and_parts, cases_Bool, ◌==◌}
+use Rattle.std.proofs.Common.{length-append}
 use Rattle.wasm_bytes.proofs.FramedLaws.{header_split, shorter}
-use Rattle.wasm_bytes.specs.Reading.{IsBytes}
-use Rattle.wasm_bytes.specs.Frames.{Section, header, HasHeader, Framed, FirstBad, frames_at}
+use Rattle.wasm_bytes.specs.Prelude.{IsBytes, Section, header, HasHeader, Framed, FirstBad, frames_at}
 use Rattle.wasm_bytes.proofs.Lists.{bytes_drop}
 use Rattle.wasm_bytes.proofs.FrameLaws.{frames_sound, frames_complete, bad_sound, bad_complete}
 use Rattle.wasm_read_spec.specs.declared.fault.ReadFault.{ReadFault}

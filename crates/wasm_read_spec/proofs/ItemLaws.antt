@@ -1,24 +1,20 @@
 -- The readers of types, constant expressions and what the sections hold find what is spelled and small, and nothing else.
-use Rattle.std.proofs.Common.{◌≡◌, ℕ, ◌+◌, ◌-◌, ◌≤◌, List, [], ◌∷◌, ◌++◌, length, refl, subst, arith, le-ltb, ◌∙◌, ap, sym}
-use Rattle.std.specs.Prelude.{◌==◌}
+use Rattle.base_lists.proofs.Common.{◌≡◌, ℕ, ◌+◌, ◌-◌, ◌≤◌, List, [], ◌∷◌, ◌++◌, length, refl, subst, arith, ◌∙◌, ap, sym, ◌==◌}
+use Rattle.std.proofs.Common.{le-ltb}
 use Rattle.std.proofs.lemmas.List.Sums.{sum-map, sum_by-cons}
-use Rattle.wasm_bytes.specs.Joins.{U32, Vector}
+use Rattle.wasm_bytes.specs.Prelude.{U32, Vector}
 use Rattle.wasm_bytes.proofs.Lists.{Took, small_rest}
 use Rattle.wasm_bytes.proofs.Sized.{bind_ok, ok_pair}
-use Rattle.wasm_tree.specs.declared.which.Which.TheVariants.{Parameters, Results, Locals}
+use Rattle.wasm_tree_spec.specs.Prelude.{Parameters, Results, Locals, LocalGroup, limit, declared_count}
 use Rattle.wasm_tree.specs.declared.module.ConstExpr.TheVariants as const
 use Rattle.wasm_tree.specs.declared.module.ImportDesc.TheVariants as import
 use Rattle.wasm_tree.specs.declared.module.ExportDesc.TheVariants as export
-use Rattle.wasm_tree.specs.declared.module.LocalGroup.{LocalGroup}
-use Rattle.wasm_tree.specs.Limits.{limit}
-use Rattle.wasm_tree.specs.Bounds.{declared_count}
 use Rattle.wasm_read_spec.specs.declared.fault.Fault.{Fault}
 use Rattle.wasm_read_spec.specs.declared.fault.Fault.TheVariants.{Malformed, Limit}
-use Rattle.wasm_read_spec.specs.SpellingForms.{Any}
-use Rattle.wasm_read_spec.specs.Values.{val_of_code, SpellsVal, ref_of_code, SpellsRef, SpellsFuncType, SmallFuncType, at_least, between, limits_form, SpellsLimits, SpellsTable, mut_of_code, SpellsGlobal, const_form, SpellsConst}
-use Rattle.wasm_read_spec.specs.Sections.{import_form, SpellsImport, SpellsGlobalDef, export_form, SpellsExport, FuncItems, ConstItems, elem0, elem1, elem2, elem3, elem5, elem6, elem7, elem_form, SpellsElem, data0, data1, data2, data_form, SpellsData}
-use Rattle.wasm_read_spec.specs.Bodies.{SpellsGroup}
-use Rattle.wasm_read_spec.specs.Reading.{u32_at, val_at, ref_at, func_type_of, func_type_at, limits_at, table_of, table_at, mut_at, global_of, global_at, const_fault, const_at, import_desc_at, import_of, import_at, global_def_of, global_def_at, export_desc_at, export_of, export_at, func_items_at, const_items_at, elem_at, data_at, local_at, with_group, locals_at}
+use Rattle.wasm_read_spec.specs.Prelude.{Any, val_of_code, SpellsVal, ref_of_code, SpellsRef, SpellsFuncType, SmallFuncType, at_least, between, SpellsLimits, SpellsTable, mut_of_code, SpellsGlobal, SpellsConst, SpellsImport, SpellsGlobalDef, SpellsExport, FuncItems, ConstItems, elem0, elem1, elem2, elem3, elem5, elem6, elem7, SpellsElem, data0, data1, data2, SpellsData, SpellsGroup, u32_at, func_type_of, with_group}
+use Rattle.wasm_read_spec.specs.Values.{limits_form, const_form}
+use Rattle.wasm_read_spec.specs.Sections.{import_form, export_form, elem_form, data_form}
+use Rattle.wasm_read_spec.specs.Reading.{val_at, ref_at, func_type_at, limits_at, table_of, table_at, mut_at, global_of, global_at, const_fault, const_at, import_desc_at, import_of, import_at, global_def_of, global_def_at, export_desc_at, export_of, export_at, func_items_at, const_items_at, elem_at, data_at, local_at, locals_at}
 use Rattle.wasm_read_spec.proofs.Exact.{Exact, took_then, split, byte_exact, u32_exact, s32_exact, s64_exact, sized_exact, name_exact, never_exact, pair_exact, both_exact, mapped_exact, made_exact, chosen_exact, when_exact, coded_exact, tagged_exact, closed_exact, list_exact, vector_exact, Along, each_sound, each_complete, within_most}
 
 -- ---- types

@@ -1,26 +1,17 @@
 -- The readers of types, constant expressions and what the sections hold tell the stops of their bytes, and no others.
-use Rattle.std.proofs.Common.{◌≡◌, ℕ, ◌+◌, ◌-◌, ◌<◌, ◌≤◌, List, [], ◌∷◌, ◌++◌, Result, Ok, Err, Bool, true, false, cond, ◌⊎◌, inl, inr, ⊎_elim, refl, sym, ap, ◌∙◌, subst, arith}
-use Rattle.std.proofs.lemmas.Bool.{cases_lt, lt-ltb, le-ltb}
-use Rattle.std.specs.Prelude.{IsTrue, nat_lt, nat_le, ◌==◌, ◌&&◌, ◌||◌}
-use Rattle.wasm_bytes.specs.Joins.{U32}
-use Rattle.wasm_bytes.specs.Reading.{◌>>=◌}
-use Rattle.wasm_tree.specs.declared.which.Which.TheVariants.{Parameters, Results, Locals}
-use Rattle.wasm_tree.specs.declared.types.ValType.TheVariants.{I32, I64, Ref}
+use Rattle.base_lists.proofs.Common.{◌≡◌, ℕ, ◌+◌, ◌-◌, ◌<◌, ◌≤◌, List, [], ◌∷◌, ◌++◌, Result, Ok, Err, Bool, true, false, cond, ◌⊎◌, inl, inr, ⊎_elim, refl, sym, ap, ◌∙◌, subst, arith, cases_lt, lt-ltb, le-ltb, IsTrue, nat_lt, nat_le, ◌==◌, ◌&&◌, ◌||◌}
+use Rattle.wasm_bytes.specs.Prelude.{U32, ◌>>=◌}
+use Rattle.wasm_tree_spec.specs.Prelude.{Parameters, Results, Locals, I32, I64, Ref, LocalGroup, limit, declared_count}
 use Rattle.wasm_tree.specs.declared.types.RefType.TheVariants as ref
 use Rattle.wasm_tree.specs.declared.module.ConstExpr.TheVariants as const
 use Rattle.wasm_tree.specs.declared.module.ImportDesc.TheVariants as import
 use Rattle.wasm_tree.specs.declared.module.ExportDesc.TheVariants as export
-use Rattle.wasm_tree.specs.declared.module.LocalGroup.{LocalGroup}
-use Rattle.wasm_tree.specs.Limits.{limit}
-use Rattle.wasm_tree.specs.Bounds.{declared_count}
 use Rattle.wasm_read_spec.specs.declared.fault.Fault.{Fault}
 use Rattle.wasm_read_spec.specs.declared.fault.Fault.TheVariants.{Malformed, Unsupported, Limit}
-use Rattle.wasm_read_spec.specs.SpellingForms.{Any, Byte}
+use Rattle.wasm_read_spec.specs.Prelude.{Any, Byte, elem0, elem1, elem2, elem3, elem5, elem6, elem7, data0, data1, data2, SpellsGroup, Stop, NotSupported, Over, NoStop, Reader, each_from, byte_at, pair_at, when_at, chosen_at, tagged_at, name_at, sized_at, fault_at, func_type_of, with_group}
 use Rattle.wasm_read_spec.specs.Values.{val_of_code, ref_of_code, mut_of_code}
-use Rattle.wasm_read_spec.specs.Sections.{elem0, elem1, elem2, elem3, elem5, elem6, elem7, data0, data1, data2}
-use Rattle.wasm_read_spec.specs.Bodies.{SpellsGroup}
-use Rattle.wasm_read_spec.specs.Stops.{Stop, NotSupported, Over, NoStop, ByteStops, BothStops, is_unsupported_val, ValStops, FuncTypeStops, is_unsupported_const, ConstStops, ChosenStops, BehindStops, import_stops, ImportStops, GlobalDefStops, ItemsStop, elem_stops, ElemStops, data_stops, DataStops, GroupStops, GroupsStop, LocalsStop}
-use Rattle.wasm_read_spec.specs.Reading.{Reader, each_from, byte_at, pair_at, when_at, chosen_at, tagged_at, s32_at, s64_at, const_from, import_of, export_of, global_def_of, name_at, sized_at, coded_at, fault_at, const_fault, val_at, ref_at, func_type_of, func_type_at, limits_at, table_of, table_at, mut_at, global_of, global_at, const_at, import_desc_at, import_at, global_def_at, export_desc_at, export_at, func_items_at, const_items_at, elem_at, data_at, local_at, with_group, locals_at}
+use Rattle.wasm_read_spec.specs.Stops.{ByteStops, BothStops, is_unsupported_val, ValStops, FuncTypeStops, is_unsupported_const, ConstStops, ChosenStops, BehindStops, import_stops, ImportStops, GlobalDefStops, ItemsStop, elem_stops, ElemStops, data_stops, DataStops, GroupStops, GroupsStop, LocalsStop}
+use Rattle.wasm_read_spec.specs.Reading.{s32_at, s64_at, const_from, import_of, export_of, global_def_of, coded_at, const_fault, val_at, ref_at, func_type_at, limits_at, table_of, table_at, mut_at, global_of, global_at, const_at, import_desc_at, import_at, global_def_at, export_desc_at, export_at, func_items_at, const_items_at, elem_at, data_at, local_at, locals_at}
 use Rattle.wasm_read_spec.proofs.Exact.{Exact, byte_exact, u32_exact, name_exact, made_exact, vector_exact}
 use Rattle.wasm_read_spec.proofs.ItemLaws.{val_exact, ref_exact, const_exact, global_exact, group_exact, small_group, along_sum, sum_along, declared_more}
 use Rattle.wasm_read_spec.proofs.Stopping.{same_err, Known, known_as, Tells, other_stops, or_tells, malformed_tells, unsupported_tells, pair_tells, mapped_tells, chosen_tells, when_tells, tagged_tells, closed_tells, state_behind, each_tells, u32_tells, list_tells, vector_tells}

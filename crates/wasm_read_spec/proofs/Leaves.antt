@@ -1,22 +1,14 @@
 -- What holds of each instruction that encloses no others holds of each that a token is.
-use Rattle.std.proofs.Common.{◌≡◌, ℕ, List, Bool, true, false, cond, Option, Some, None, ap, subst, rules, ℤ}
-use Rattle.std.specs.Prelude.{◌==◌, ◌&&◌, ◌||◌, nat_le}
+use Rattle.base_lists.proofs.Common.{◌≡◌, ℕ, List, Bool, true, false, cond, Option, Some, None, ap, subst, rules, ℤ, ◌==◌, ◌&&◌, ◌||◌, nat_le}
 use Rattle.wasm_num.specs.declared.UnOp.{UnOp}
 use Rattle.wasm_num.specs.declared.BinOp.{BinOp}
-use Rattle.wasm_tree.specs.declared.types.RefType.{RefType}
-use Rattle.wasm_tree.specs.declared.types.ValType.{ValType}
-use Rattle.wasm_tree.specs.declared.instr.LoadOp.{LoadOp}
-use Rattle.wasm_tree.specs.declared.instr.StoreOp.{StoreOp}
-use Rattle.wasm_tree.specs.declared.instr.MemArg.{MemArg}
-use Rattle.wasm_tree.specs.declared.instr.Instr.{Instr, the_lemmas}
-use Rattle.wasm_tree.specs.declared.instr.Instr.TheVariants.{Unreachable, Nop, Return, Drop, Select, RefIsNull, Br, BrIf, Call, LocalGet, LocalSet, LocalTee, GlobalGet, GlobalSet, TableGet, TableSet, RefFunc, DataDrop, ElemDrop, TableGrow, TableSize, TableFill, CallIndirect, TableInit, TableCopy, BrTable, SelectTyped, Load, Store, MemorySize, MemoryGrow, MemoryFill, MemoryInit, MemoryCopy, I32Const, I64Const, Un, Bin, RefNull}
+use Rattle.wasm_tree_spec.specs.Prelude.{RefType, ValType, LoadOp, StoreOp, MemArg, Instr, the_lemmas, Unreachable, Nop, Return, Drop, Select, RefIsNull, Br, BrIf, Call, LocalGet, LocalSet, LocalTee, GlobalGet, GlobalSet, TableGet, TableSet, RefFunc, DataDrop, ElemDrop, TableGrow, TableSize, TableFill, CallIndirect, TableInit, TableCopy, BrTable, SelectTyped, Load, Store, MemorySize, MemoryGrow, MemoryFill, MemoryInit, MemoryCopy, I32Const, I64Const, Un, Bin, RefNull}
 use Rattle.wasm_tree.specs.MemoryZero.{memory_zero}
 use Rattle.wasm_read_spec.specs.declared.token.Opener.TheVariants as opener
 use Rattle.wasm_read_spec.specs.declared.token.Token.{Token}
 use Rattle.wasm_read_spec.specs.declared.token.Token.TheVariants.{Plain}
-use Rattle.wasm_read_spec.specs.Operations.{un_of, bin_of, load_of, store_of}
-use Rattle.wasm_read_spec.specs.Tokens.{Form, plain, number, numbers, const32, const64, table, typed, access, memory, memories, with_memory, null, open', else', end', prefixed, unsupported, unknown, or_else, the_form, rest_form, sub_form, arg_form, SpellsMemArg, SpellsMemory, Simple, FollowsOpcode, SpellsToken}
-use Rattle.wasm_read_spec.specs.Bodies.{depth_of}
+use Rattle.wasm_read_spec.specs.Prelude.{un_of, bin_of, load_of, store_of, Form, plain, number, numbers, const32, const64, table, access, memory, memories, with_memory, null, open', else', end', prefixed, unsupported, unknown, SpellsMemArg, SpellsMemory, Simple, FollowsOpcode, SpellsToken, depth_of}
+use Rattle.wasm_read_spec.specs.Tokens.{typed, or_else, the_form, rest_form, sub_form, arg_form}
 
 -- a memory's index, which is 0 where memories have none
 abbrev pub Named : Bool → ℕ → Type 0

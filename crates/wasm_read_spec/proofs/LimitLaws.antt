@@ -1,18 +1,7 @@
 -- What is spelled is read, or a quantity in it is over its limit.
-use Rattle.std.proofs.Common.{◌≡◌, ℕ, zero, suc, ◌-◌, ◌≤◌, List, [], ◌∷◌, ◌++◌, length, max, Result, Ok, Err, Bool, true, false, cond, ◌⊎◌, inl, inr, ⊎_elim, refl, sym, ap, subst, arith, append-nil}
-use Rattle.std.proofs.lemmas.Bool.{cases_lt, lt-ltb, le-ltb}
-use Rattle.std.specs.Prelude.{nat_lt}
-use Rattle.wasm_bytes.specs.Joins.{U32, Each, Vector}
-use Rattle.wasm_bytes.specs.Reading.{◌>>=◌}
-use Rattle.wasm_tree.specs.declared.types.BlockType.{BlockType}
-use Rattle.wasm_tree.specs.declared.types.FuncType.{FuncType}
-use Rattle.wasm_tree.specs.declared.instr.Instr.{Instr}
-use Rattle.wasm_tree.specs.declared.instr.Instr.TheVariants.{If}
-use Rattle.wasm_tree.specs.declared.which.Which.{Which}
-use Rattle.wasm_tree.specs.declared.which.Which.TheVariants.{Nesting, Locals, Parameters, Results}
-use Rattle.wasm_tree.specs.declared.module.LocalGroup.{LocalGroup}
-use Rattle.wasm_tree.specs.declared.module.Func.{Func}
-use Rattle.wasm_tree.specs.Limits.{limit}
+use Rattle.base_lists.proofs.Common.{◌≡◌, ℕ, zero, suc, ◌-◌, ◌≤◌, List, [], ◌∷◌, ◌++◌, length, max, Result, Ok, Err, Bool, true, false, cond, ◌⊎◌, inl, inr, ⊎_elim, refl, sym, ap, subst, arith, append-nil, cases_lt, lt-ltb, le-ltb, nat_lt}
+use Rattle.wasm_bytes.specs.Prelude.{U32, Each, Vector, ◌>>=◌}
+use Rattle.wasm_tree_spec.specs.Prelude.{BlockType, FuncType, Instr, If, Which, Nesting, Locals, Parameters, Results, LocalGroup, Func, limit}
 use Rattle.wasm_read_spec.specs.declared.fault.Fault.{Fault}
 use Rattle.wasm_read_spec.specs.declared.fault.Fault.TheVariants as fault
 use Rattle.wasm_read_spec.specs.declared.token.Opener.{Opener}
@@ -20,11 +9,10 @@ use Rattle.wasm_read_spec.specs.declared.token.Opener.TheVariants as opener
 use Rattle.wasm_read_spec.specs.declared.token.Token.{Token}
 use Rattle.wasm_read_spec.specs.declared.token.Token.TheVariants.{Open, Else, End, Plain}
 use Rattle.wasm_read_spec.specs.declared.token.Sequence.{Sequence}
-use Rattle.wasm_read_spec.specs.SpellingForms.{Any, Both, After}
-use Rattle.wasm_read_spec.specs.Values.{SpellsVal, SpellsFuncType}
-use Rattle.wasm_read_spec.specs.Bodies.{SpellsGroup, SpellsBody, SpellsCode, depth}
-use Rattle.wasm_read_spec.specs.Reading.{Reader, tag_at, u32_at, val_at, pair_at, mapped_at, tagged_at, each_from, vector_at, func_type_of, func_type_at, local_at, with_group, locals_at}
-use Rattle.wasm_read_spec.specs.BodyReading.{ReadResult, behind, token_at, block_at, after_token, sequence_at, whole, body_at, closed, enclosed, code_at, code_of}
+use Rattle.wasm_read_spec.specs.Prelude.{Any, Both, After, SpellsVal, SpellsFuncType, SpellsGroup, SpellsBody, SpellsCode, Reader, tag_at, u32_at, val_at, pair_at, mapped_at, tagged_at, func_type_of, with_group, ReadResult, behind, token_at, after_token, whole, enclosed, code_of}
+use Rattle.wasm_read_spec.specs.Bodies.{depth}
+use Rattle.wasm_read_spec.specs.Reading.{each_from, vector_at, func_type_at, local_at, locals_at}
+use Rattle.wasm_read_spec.specs.BodyReading.{block_at, sequence_at, body_at, closed, code_at}
 use Rattle.wasm_read_spec.proofs.Exact.{Exact, split, u32_exact}
 use Rattle.wasm_read_spec.proofs.ItemLaws.{val_exact}
 use Rattle.wasm_read_spec.proofs.NestLaws.{to_in}

@@ -1,14 +1,12 @@
 -- Steps of the loops that read so many items.
-use Rattle.std.proofs.Common.{◌≡◌, ℕ, suc, ◌+◌, ◌-◌, ◌<◌, ◌≤◌, Bool, ◌||◌, List, [], ◌∷◌, ◌++◌, append-nil, Result, Ok, Err, refl, sym, ap, ◌∙◌, arith, append_assoc}
-use Rattle.std.specs.List.{list_any}
-use Rattle.std.proofs.Math.Bool.{or-false, or_assoc}
-use Rattle.std.proofs.lemmas.List.Folds.{list_any-append}
-use Rattle.wasm_bytes.specs.Reading.{◌>>=◌}
+use Rattle.base_lists.proofs.Common.{◌≡◌, ℕ, suc, ◌+◌, ◌-◌, ◌<◌, ◌≤◌, Bool, ◌||◌, List, [], ◌∷◌, ◌++◌, append-nil, Result, Ok, Err, refl, sym, ap, ◌∙◌, arith, append_assoc, list_any, or-false, or_assoc, list_any-append}
+use Rattle.wasm_bytes.specs.Prelude.{◌>>=◌}
 use Rattle.wasm_read_spec.specs.declared.fault.Fault.{Fault}
 use Rattle.wasm_read_spec.specs.declared.fault.Fault.TheVariants as fault
 use Rattle.wasm_read_spec.specs.declared.fault.ReadFault.{ReadFault}
 use Rattle.wasm_read_spec.specs.declared.fault.ReadFault.TheVariants.{NoMemory, NotModule, Malformed, MalformedBody, Unsupported, Limit}
-use Rattle.wasm_read_spec.specs.Reading.{Fails, each_from, with_front}
+use Rattle.wasm_read_spec.specs.Prelude.{Fails, with_front}
+use Rattle.wasm_read_spec.specs.Reading.{each_from}
 use Rattle.wasm_read_spec.specs.Contents.{Fails as FailsIn}
 
 pub front_none : {A E : Type 0} (r : Result (List A × List ℕ) E) → with_front [] r ≡ r

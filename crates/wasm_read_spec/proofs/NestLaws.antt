@@ -1,27 +1,17 @@
 -- Tokens that nest, with their depth and with the memories that they name; and whole bodies.
-use Rattle.std.proofs.Common.{◌≡◌, ℕ, zero, suc, ◌+◌, ◌≤◌, max, List, [], ◌∷◌, ◌++◌, length, Ok, Bool, true, false, refl, sym, ap, ◌∙◌, arith, rules, append-nil}
-use Rattle.std.specs.Prelude.{◌&&◌}
-use Rattle.wasm_bytes.specs.Joins.{Each}
-use Rattle.wasm_bytes.specs.Reading.{IsBytes}
+use Rattle.base_lists.proofs.Common.{◌≡◌, ℕ, zero, suc, ◌+◌, ◌≤◌, max, List, [], ◌∷◌, ◌++◌, length, Ok, Bool, true, false, refl, sym, ap, ◌∙◌, arith, rules, append-nil, ◌&&◌, list_all, and_from}
+use Rattle.wasm_bytes.specs.Prelude.{Each, IsBytes}
 use Rattle.wasm_bytes.proofs.Sized.{ok_pair}
-use Rattle.wasm_tree.specs.declared.types.BlockType.{BlockType}
-use Rattle.wasm_tree.specs.declared.instr.Instr.{Instr, the_lemmas}
-use Rattle.wasm_tree.specs.declared.instr.Instr.TheVariants.{Block, Loop, If}
+use Rattle.wasm_tree_spec.specs.Prelude.{BlockType, Instr, the_lemmas, Block, Loop, If, is_memory_zero, memory_zero_all, block_operands, limit, Nesting}
 use Rattle.wasm_tree.specs.declared.types.BlockType.TheVariants as block
-use Rattle.wasm_tree.specs.MemoryZero.{is_memory_zero, memory_zero, memory_zero_all}
+use Rattle.wasm_tree.specs.MemoryZero.{memory_zero}
 use Rattle.wasm_tree.specs.OperandLaws.{BlockPasses, LoopPasses, IfPasses}
-use Rattle.wasm_tree.specs.Operands.{block_operands}
-use Rattle.std.specs.List.{list_all}
-use Rattle.std.proofs.lemmas.Bool.{and_from}
-use Rattle.wasm_tree.specs.Limits.{limit}
-use Rattle.wasm_tree.specs.declared.which.Which.TheVariants.{Nesting}
 use Rattle.wasm_read_spec.specs.declared.fault.Fault.{Fault}
 use Rattle.wasm_read_spec.specs.declared.token.Token.{Token}
 use Rattle.wasm_read_spec.specs.declared.token.Token.TheVariants.{Open, Else, End, Plain}
 use Rattle.wasm_read_spec.specs.declared.token.Sequence.{Sequence}
-use Rattle.wasm_read_spec.specs.Tokens.{SpellsToken}
-use Rattle.wasm_read_spec.specs.Bodies.{Nests, no_more, one_plain, one_block, one_loop, one_if, one_if_else, SpellsBody, depth_of, depth}
-use Rattle.wasm_read_spec.specs.BodyReading.{body_at, sequence_at}
+use Rattle.wasm_read_spec.specs.Prelude.{SpellsToken, Nests, no_more, one_plain, one_block, one_loop, one_if, one_if_else, SpellsBody, depth_of, body_at, sequence_at}
+use Rattle.wasm_read_spec.specs.Bodies.{depth}
 use Rattle.wasm_read_spec.proofs.Leaves.{of_token, zero_memory}
 use Rattle.wasm_read_spec.proofs.BodyLaws.{NestsIn, no_more as none_in, one_plain as plain_in, one_block as block_in, one_loop as loop_in, one_if as if_in, one_if_else as if_else_in, body_sound, body_complete, body_reads}
 

@@ -1,21 +1,15 @@
 -- The place of a fault is one: the contents come to a stop in one section, and in the code section in one entry.
-use Rattle.std.proofs.Common.{◌≡◌, Bool, ℕ, suc, ◌+◌, List, [], ◌∷◌, ◌++◌, length, Result, Ok, Err, Option, Some, None, ⊎_elim, append_assoc, refl, sym, ap, ◌∙◌, subst, arith}
+use Rattle.base_lists.proofs.Common.{◌≡◌, Bool, ℕ, suc, ◌+◌, List, [], ◌∷◌, ◌++◌, length, Result, Ok, Err, Option, Some, None, ⊎_elim, append_assoc, refl, sym, ap, ◌∙◌, subst, arith}
 use Rattle.base_lists.specs.Every.{Every}
-use Rattle.wasm_bytes.specs.Joins.{U32, Each, Sized}
-use Rattle.wasm_bytes.specs.Reading.{IsBytes}
-use Rattle.wasm_bytes.specs.Frames.{Section}
-use Rattle.wasm_tree.specs.declared.module.Func.{Func}
-use Rattle.wasm_tree.specs.Spaces.{imported_funcs}
+use Rattle.wasm_bytes.specs.Prelude.{U32, Each, Sized, IsBytes, Section}
+use Rattle.wasm_tree_spec.specs.Prelude.{Func, imported_funcs}
 use Rattle.wasm_read_spec.specs.declared.fault.Fault.{Fault}
 use Rattle.wasm_read_spec.specs.declared.fault.ReadFault.{ReadFault}
 use Rattle.wasm_read_spec.specs.declared.parts.Parts.{Parts}
-use Rattle.wasm_read_spec.specs.Bodies.{SpellsEntry, SmallCode}
-use Rattle.wasm_read_spec.specs.Files.{nothing, SpellsSection, SectionIsSmall, Contents}
-use Rattle.wasm_read_spec.specs.Reading.{u32_at}
-use Rattle.wasm_read_spec.specs.Stops.{Stop, section_stops}
-use Rattle.wasm_read_spec.specs.BodyReading.{code_at}
-use Rattle.wasm_read_spec.specs.Contents.{placed, entry_at, section_at}
-use Rattle.wasm_read_spec.specs.Causes.{UpTo, EntryOf, InEntry, SectionStops, EntryStops, StopsAt}
+use Rattle.wasm_read_spec.specs.Prelude.{SpellsEntry, SmallCode, nothing, SectionIsSmall, Contents, u32_at, Stop, code_at, placed, entry_at, section_at, EntryOf}
+use Rattle.wasm_read_spec.specs.Files.{SpellsSection}
+use Rattle.wasm_read_spec.specs.Stops.{section_stops}
+use Rattle.wasm_read_spec.specs.Causes.{UpTo, InEntry, SectionStops, EntryStops, StopsAt}
 use Rattle.wasm_read_spec.proofs.Exact.{u32_exact}
 use Rattle.wasm_read_spec.proofs.SectionLaws.{section_right}
 use Rattle.wasm_read_spec.proofs.FileLaws.{one_framing}

@@ -1,20 +1,19 @@
 -- Small files, computed: the tree that their bytes spell, or their first fault. So what the laws ask for does hold somewhere, and each
 -- fault comes of some file: one of each kind, and one that spells a tree above a limit.
-use Rattle.std.proofs.Common.{◌≡◌, refl, ℕ, List, [], ◌∷◌, ◌++◌, false, Some, None}
-use Rattle.std.specs.Prelude.{Ok}
-use Rattle.wasm_tree.specs.declared.types.FuncType.{FuncType}
-use Rattle.wasm_tree.specs.declared.module.Module.{Module}
-use Rattle.wasm_tree.specs.declared.which.Which.TheVariants.{Types, Locals}
-use Rattle.wasm_bytes.specs.Frames.{header, frame_at, frames_at}
+use Rattle.base_lists.proofs.Common.{◌≡◌, refl, ℕ, List, [], ◌∷◌, ◌++◌, false, Some, None, Ok}
+use Rattle.wasm_tree_spec.specs.Prelude.{FuncType, Module, Locals}
+use Rattle.wasm_tree.specs.declared.which.Which.TheVariants.{Types}
+use Rattle.wasm_bytes.specs.Prelude.{header}
+use Rattle.wasm_bytes.specs.Frames.{frame_at, frames_at}
 use Rattle.wasm_bytes.specs.Reading.{unsigned_at}
 use Rattle.wasm_read_spec.specs.declared.fault.ReadFault.TheVariants.{NotModule, Malformed, MalformedBody, Unsupported, Limit}
 use Rattle.wasm_read_spec.specs.Values.{val_of_code}
 use Rattle.wasm_read_spec.specs.Tokens.{rest_form, the_form}
 use Rattle.wasm_read_spec.specs.Operations.{un_of, bin_of, load_of, store_of}
-use Rattle.wasm_read_spec.specs.Files.{nothing, tree_of}
+use Rattle.wasm_read_spec.specs.Prelude.{nothing, tree_of, read_fault}
 use Rattle.wasm_read_spec.specs.Reading.{each_from, func_type_at, list_at, local_at, locals_at, tag_at, val_at, vector_at, whole_at}
 use Rattle.wasm_read_spec.specs.BodyReading.{body_at, code_at, sequence_at, simple_of, token_at}
-use Rattle.wasm_read_spec.specs.Contents.{agrees, codes_at, contents_at, entry_at, framed_at, parts_at, read_at, read_fault, section_at}
+use Rattle.wasm_read_spec.specs.Contents.{agrees, codes_at, contents_at, entry_at, framed_at, parts_at, read_at, section_at}
 
 -- a type of no parameters and no results, and a function of it
 abbrev a_type : FuncType

@@ -1,26 +1,18 @@
 -- A section is read exactly where its content spells what it puts, within the limits.
-use Rattle.std.proofs.Common.{◌≡◌, ℕ, List, [], ◌∷◌, ◌++◌, length, Result, Ok, Err, Bool, true, false, None, ⊎_elim, refl, sym, ap, ◌∙◌, subst, append-nil}
-use Rattle.std.proofs.Math.Dec.{eqb-suc-zero}
-use Rattle.std.specs.Prelude.{◌==◌, if◌then◌else◌}
-use Rattle.base_lists.proofs.Bools.{cond_is}
-use Rattle.wasm_bytes.specs.Joins.{Vector}
-use Rattle.wasm_bytes.specs.Reading.{◌>>=◌, IsBytes}
+use Rattle.base_lists.proofs.Common.{◌≡◌, ℕ, List, [], ◌∷◌, ◌++◌, length, Result, Ok, Err, Bool, true, false, None, ⊎_elim, refl, sym, ap, ◌∙◌, subst, append-nil, eqb-suc-zero, ◌==◌, if◌then◌else◌, cond_is}
+use Rattle.wasm_bytes.specs.Prelude.{Vector, ◌>>=◌, IsBytes}
 use Rattle.wasm_bytes.proofs.Sized.{bind_ok}
-use Rattle.wasm_tree.specs.declared.which.Which.TheVariants.{Types, Imports, Functions, Tables, Memories, Globals, Exports, ElementSegments, DataSegments}
-use Rattle.wasm_tree.specs.declared.types.FuncType.{FuncType}
-use Rattle.wasm_tree.specs.Spaces.{imported_funcs}
-use Rattle.wasm_tree.specs.Limits.{limit}
+use Rattle.wasm_tree_spec.specs.Prelude.{Imports, Exports, FuncType, imported_funcs, limit}
+use Rattle.wasm_tree.specs.declared.which.Which.TheVariants.{Types, Functions, Tables, Memories, Globals, ElementSegments, DataSegments}
 use Rattle.wasm_read_spec.specs.declared.fault.Fault.{Fault}
 use Rattle.wasm_read_spec.specs.declared.fault.Fault.TheVariants as fault
 use Rattle.wasm_read_spec.specs.declared.fault.ReadFault.{ReadFault}
 use Rattle.wasm_read_spec.specs.declared.fault.ReadFault.TheVariants.{Malformed}
 use Rattle.wasm_read_spec.specs.declared.parts.Parts.{Parts}
-use Rattle.wasm_read_spec.specs.SpellingForms.{Never, Made, When, Any, Few, Limited, WhenSmall}
-use Rattle.wasm_read_spec.specs.Values.{SpellsFuncType}
-use Rattle.wasm_read_spec.specs.Bodies.{SpellsEntry, SmallCode}
-use Rattle.wasm_read_spec.specs.Files.{with_types, with_imports, with_func_types, with_tables, with_mems, with_globals, with_exports, with_start, with_elems, with_codes, with_datas, with_count, SpellsCustom, section_form, small_form}
-use Rattle.wasm_read_spec.specs.Reading.{Reader, name_at, func_type_of, whole_at}
-use Rattle.wasm_read_spec.specs.Contents.{in_place, codes_at, custom_at, put_at, section_at}
+use Rattle.wasm_read_spec.specs.Prelude.{Never, Made, When, Any, Few, Limited, WhenSmall, SpellsFuncType, SpellsEntry, SmallCode, with_types, with_imports, with_func_types, with_tables, with_mems, with_globals, with_exports, with_start, with_elems, with_codes, with_datas, with_count, SpellsCustom, Reader, name_at, func_type_of, in_place, codes_at, custom_at, put_at}
+use Rattle.wasm_read_spec.specs.Files.{section_form, small_form}
+use Rattle.wasm_read_spec.specs.Reading.{whole_at}
+use Rattle.wasm_read_spec.specs.Contents.{section_at}
 use Rattle.wasm_read_spec.proofs.Exact.{Exact, err_ok, u32_exact, name_exact, both_exact, mapped_exact, tagged_exact, list_exact, vector_exact}
 use Rattle.wasm_read_spec.proofs.ItemLaws.{val_exact, func_type_exact, import_exact, table_exact, limits_exact, global_def_exact, export_exact, elem_exact, data_exact}
 use Rattle.wasm_read_spec.proofs.EntryLaws.{Clear, clear_of, vector_clear, entry_clear, in_ok, codes_sound, codes_complete}

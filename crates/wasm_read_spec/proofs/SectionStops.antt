@@ -1,28 +1,19 @@
 -- Reading a section tells the stops of its content, and the code section besides the faults inside its entries.
-use Rattle.std.proofs.Common.{◌≡◌, ℕ, zero, suc, ◌+◌, ◌<◌, List, [], ◌∷◌, ◌++◌, length, Result, Ok, Err, Bool, true, false, cond, Option, Some, None, ◌⊎◌, inl, inr, ⊎_elim, refl, sym, ap, ◌∙◌, arith, append_assoc}
-use Rattle.std.proofs.lemmas.Bool.{eqb-true, lt-ltb, le-ltb, cases_lt}
-use Rattle.std.specs.Prelude.{◌==◌}
+use Rattle.base_lists.proofs.Common.{◌≡◌, ℕ, zero, suc, ◌+◌, ◌<◌, List, [], ◌∷◌, ◌++◌, length, Result, Ok, Err, Bool, true, false, cond, Option, Some, None, ◌⊎◌, inl, inr, ⊎_elim, refl, sym, ap, ◌∙◌, arith, append_assoc, eqb-true, lt-ltb, le-ltb, cases_lt, ◌==◌, cond_is}
 use Rattle.base_lists.specs.Every.{Every}
-use Rattle.base_lists.proofs.Bools.{cond_is}
-use Rattle.wasm_bytes.specs.Joins.{Each, Sized}
-use Rattle.wasm_bytes.specs.Reading.{◌>>=◌, IsBytes}
+use Rattle.wasm_bytes.specs.Prelude.{Each, Sized, ◌>>=◌, IsBytes}
 use Rattle.wasm_bytes.proofs.Lists.{small_rest}
-use Rattle.wasm_tree.specs.declared.which.Which.TheVariants.{Types, Imports, Functions, Tables, Memories, Globals, Exports, ElementSegments, DataSegments}
-use Rattle.wasm_tree.specs.declared.module.Func.{Func}
-use Rattle.wasm_tree.specs.Spaces.{imported_funcs}
-use Rattle.wasm_tree.specs.Limits.{limit}
+use Rattle.wasm_tree_spec.specs.Prelude.{Imports, Exports, Func, imported_funcs, limit}
+use Rattle.wasm_tree.specs.declared.which.Which.TheVariants.{Types, Functions, Tables, Memories, Globals, ElementSegments, DataSegments}
 use Rattle.wasm_read_spec.specs.declared.fault.Fault.{Fault}
 use Rattle.wasm_read_spec.specs.declared.fault.Fault.TheVariants as fault
 use Rattle.wasm_read_spec.specs.declared.fault.ReadFault.{ReadFault}
 use Rattle.wasm_read_spec.specs.declared.fault.ReadFault.TheVariants.{Malformed, Limit}
 use Rattle.wasm_read_spec.specs.declared.parts.Parts.{Parts}
-use Rattle.wasm_read_spec.specs.Bodies.{SpellsEntry, SmallCode}
-use Rattle.wasm_read_spec.specs.Files.{with_types, with_imports, with_func_types, with_tables, with_mems, with_globals, with_exports, with_start, with_elems, with_codes, with_datas, with_count}
-use Rattle.wasm_read_spec.specs.Stops.{Stop, Over, NoStop, WhenStops, VectorStops, section_stops}
-use Rattle.wasm_read_spec.specs.Causes.{EntryOf}
-use Rattle.wasm_read_spec.specs.Reading.{Reader, u32_at, name_at, sized_at, each_from, whole_at}
-use Rattle.wasm_read_spec.specs.BodyReading.{code_at}
-use Rattle.wasm_read_spec.specs.Contents.{placed, in_place, entry_at, next_func, codes_at, put_at, custom_at, section_at}
+use Rattle.wasm_read_spec.specs.Prelude.{SpellsEntry, SmallCode, with_types, with_imports, with_func_types, with_tables, with_mems, with_globals, with_exports, with_start, with_elems, with_codes, with_datas, with_count, Stop, Over, NoStop, EntryOf, Reader, u32_at, name_at, sized_at, code_at, placed, in_place, next_func, put_at, custom_at}
+use Rattle.wasm_read_spec.specs.Stops.{WhenStops, VectorStops, section_stops}
+use Rattle.wasm_read_spec.specs.Reading.{each_from, whole_at}
+use Rattle.wasm_read_spec.specs.Contents.{entry_at, codes_at, section_at}
 use Rattle.wasm_read_spec.proofs.Exact.{split, u32_exact, sized_exact}
 use Rattle.wasm_read_spec.proofs.ItemLaws.{func_type_exact, import_exact, table_exact, limits_exact, global_def_exact, export_exact, elem_exact, data_exact}
 use Rattle.wasm_read_spec.proofs.EntryLaws.{entry_exact, in_ok}

@@ -1,25 +1,17 @@
 -- What is spelled, a section or a file, is read, or a quantity in it is over its limit.
-use Rattle.std.proofs.Common.{ℕ, ◌+◌, List, [], ◌∷◌, ◌++◌, length, Result, Ok, Err, Bool, true, false, cond, Option, Some, None, inl, inr, refl, sym, ap, subst, append-nil}
-use Rattle.std.specs.Prelude.{◌==◌}
-use Rattle.wasm_bytes.specs.Joins.{Vector}
-use Rattle.wasm_bytes.specs.Reading.{◌>>=◌}
-use Rattle.wasm_bytes.specs.Frames.{Section}
-use Rattle.wasm_tree.specs.declared.which.Which.TheVariants.{Types, Imports, Functions, Tables, Memories, Globals, Exports, ElementSegments, DataSegments}
-use Rattle.wasm_tree.specs.declared.module.Func.{Func}
-use Rattle.wasm_tree.specs.declared.module.Module.{Module}
-use Rattle.wasm_tree.specs.Spaces.{imported_funcs}
-use Rattle.wasm_tree.specs.Limits.{limit}
+use Rattle.base_lists.proofs.Common.{ℕ, ◌+◌, List, [], ◌∷◌, ◌++◌, length, Result, Ok, Err, Bool, true, false, cond, Option, Some, None, inl, inr, refl, sym, ap, subst, append-nil, ◌==◌}
+use Rattle.wasm_bytes.specs.Prelude.{Vector, ◌>>=◌, Section}
+use Rattle.wasm_tree_spec.specs.Prelude.{Imports, Exports, Func, Module, imported_funcs, limit}
+use Rattle.wasm_tree.specs.declared.which.Which.TheVariants.{Types, Functions, Tables, Memories, Globals, ElementSegments, DataSegments}
 use Rattle.wasm_read_spec.specs.declared.fault.Fault.{Fault}
 use Rattle.wasm_read_spec.specs.declared.fault.Fault.TheVariants as fault
 use Rattle.wasm_read_spec.specs.declared.fault.ReadFault.{ReadFault}
 use Rattle.wasm_read_spec.specs.declared.fault.ReadFault.TheVariants.{Limit, Malformed}
 use Rattle.wasm_read_spec.specs.declared.parts.Parts.{Parts}
-use Rattle.wasm_read_spec.specs.SpellingForms.{Made, When}
-use Rattle.wasm_read_spec.specs.Bodies.{SpellsEntry}
-use Rattle.wasm_read_spec.specs.Files.{nothing, with_types, with_imports, with_func_types, with_tables, with_mems, with_globals, with_exports, with_start, with_elems, with_codes, with_datas, with_count, SpellsCustom, section_form, Contents, Spells}
-use Rattle.wasm_read_spec.specs.Reading.{Reader, u32_at, sized_at, each_from, whole_at}
-use Rattle.wasm_read_spec.specs.BodyReading.{code_at}
-use Rattle.wasm_read_spec.specs.Contents.{in_place, entry_at, next_func, codes_at, custom_at, put_at, section_at, contents_at, framed_at, agrees, parts_at, read_at}
+use Rattle.wasm_read_spec.specs.Prelude.{Made, When, SpellsEntry, nothing, with_types, with_imports, with_func_types, with_tables, with_mems, with_globals, with_exports, with_start, with_elems, with_codes, with_datas, with_count, SpellsCustom, Contents, Spells, Reader, u32_at, sized_at, each_from, code_at, in_place, next_func, custom_at, put_at, framed_at, agrees}
+use Rattle.wasm_read_spec.specs.Files.{section_form}
+use Rattle.wasm_read_spec.specs.Reading.{whole_at}
+use Rattle.wasm_read_spec.specs.Contents.{entry_at, codes_at, section_at, contents_at, parts_at, read_at}
 use Rattle.wasm_read_spec.proofs.Exact.{u32_exact, sized_exact, name_exact}
 use Rattle.wasm_read_spec.proofs.ItemLaws.{import_exact, table_exact, limits_exact, global_def_exact, export_exact, elem_exact, data_exact}
 use Rattle.wasm_read_spec.proofs.Framing.{framed_reads}

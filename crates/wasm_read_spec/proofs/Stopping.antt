@@ -1,19 +1,15 @@
 -- A reader that tells the stops of its bytes, and no others; and how such readers are put together.
-use Rattle.std.proofs.Common.{◌≡◌, ℕ, zero, suc, ◌<◌, List, [], ◌∷◌, ◌++◌, length, Result, Ok, Err, Bool, true, false, cond, ◌⊎◌, inl, inr, ⊎_elim, refl, sym, ap, subst, arith}
-use Rattle.std.proofs.lemmas.Bool.{cases_lt, lt-ltb, le-ltb}
-use Rattle.std.specs.Prelude.{nat_lt, ◌==◌}
+use Rattle.base_lists.proofs.Common.{◌≡◌, ℕ, zero, suc, ◌<◌, List, [], ◌∷◌, ◌++◌, length, Result, Ok, Err, Bool, true, false, cond, ◌⊎◌, inl, inr, ⊎_elim, refl, sym, ap, subst, arith, cases_lt, lt-ltb, le-ltb, nat_lt, ◌==◌}
 use Rattle.wasm_bytes.specs.declared.cursor.Wrong.{Wrong}
-use Rattle.wasm_bytes.specs.Joins.{Then, Each}
-use Rattle.wasm_bytes.specs.Reading.{◌>>=◌, IsBytes}
+use Rattle.wasm_bytes.specs.Prelude.{Then, Each, ◌>>=◌, IsBytes}
 use Rattle.wasm_bytes.proofs.Lists.{small_rest}
 use Rattle.wasm_bytes.proofs.Sized.{ok_pair}
-use Rattle.wasm_tree.specs.declared.which.Which.{Which}
-use Rattle.wasm_tree.specs.Limits.{limit}
+use Rattle.wasm_tree_spec.specs.Prelude.{Which, limit}
 use Rattle.wasm_read_spec.specs.declared.fault.Fault.{Fault}
 use Rattle.wasm_read_spec.specs.declared.fault.Fault.TheVariants.{Malformed, Unsupported, Limit}
-use Rattle.wasm_read_spec.specs.SpellingForms.{Any}
-use Rattle.wasm_read_spec.specs.Stops.{Stop, NotSupported, Over, NoStop, AfterStops, ChosenStops, BothStops, WhenStops, EachStops, ListStops, CountedStops, VectorStops}
-use Rattle.wasm_read_spec.specs.Reading.{Reader, or_malformed, u32_at, just_at, fault_at, pair_at, mapped_at, chosen_at, when_at, tag_at, tagged_at, closed_at, each_from, each_at, list_at, vector_at}
+use Rattle.wasm_read_spec.specs.Prelude.{Any, Stop, NotSupported, Over, NoStop, Reader, or_malformed, u32_at, fault_at, pair_at, mapped_at, chosen_at, when_at, tagged_at, each_at}
+use Rattle.wasm_read_spec.specs.Stops.{AfterStops, ChosenStops, BothStops, WhenStops, EachStops, ListStops, CountedStops, VectorStops}
+use Rattle.wasm_read_spec.specs.Reading.{just_at, tag_at, closed_at, each_from, list_at, vector_at}
 use Rattle.wasm_read_spec.proofs.Exact.{Exact, u32_exact, took_then, split, Along, along_every, every_along}
 
 pub bind_err : {A B E : Type 0} (r : Result A E) (f : A → Result B E) (e : E) → (r >>= f) ≡ Err e → (r ≡ Err e) ⊎ ((x : A) × (r ≡ Ok x) × (f x ≡ Err e))

@@ -1,26 +1,20 @@
 -- Tokens: what is read is what is spelled.
-use Rattle.std.proofs.Common.{◌≡◌, ℕ, ◌<◌, ◌≤◌, List, [], ◌∷◌, ◌++◌, Result, Ok, Bool, true, false, cond, Option, Some, None, ◌⊎◌, inl, inr, ⊎_elim, refl, ap, ◌∙◌, subst, arith, le-ltb, eqb, leb, ℤ, pos, negsuc, ◌-ℤ◌}
-use Rattle.std.proofs.lemmas.Int.{ints}
-use Rattle.std.proofs.lemmas.Bool.{cases_lt, eqb-true, ne_eqb}
-use Rattle.std.specs.Prelude.{◌&&◌, nat_lt}
-use Rattle.base_lists.proofs.Bools.{and_false, cond_is}
-use Rattle.wasm_bytes.specs.Numbers.{Signed}
-use Rattle.wasm_bytes.specs.Reading.{◌>>=◌, IsBytes, signed_at}
+use Rattle.base_lists.proofs.Common.{◌≡◌, ℕ, ◌<◌, ◌≤◌, List, [], ◌∷◌, ◌++◌, Result, Ok, Bool, true, false, cond, Option, Some, None, ◌⊎◌, inl, inr, ⊎_elim, refl, ap, ◌∙◌, subst, arith, ℤ, pos, negsuc, ◌-ℤ◌, ints, cases_lt, eqb-true, ne_eqb, ◌&&◌, nat_lt, and_false, cond_is}
+use Rattle.std.proofs.Common.{le-ltb, eqb, leb}
+use Rattle.wasm_bytes.specs.Prelude.{Signed, ◌>>=◌, IsBytes, signed_at}
 use Rattle.wasm_bytes.proofs.Lists.{Took}
 use Rattle.wasm_bytes.proofs.Sized.{bind_ok, ok_pair}
-use Rattle.wasm_tree.specs.declared.types.ValType.{ValType}
-use Rattle.wasm_tree.specs.declared.types.BlockType.{BlockType}
-use Rattle.wasm_tree.specs.declared.types.BlockType.TheVariants.{Empty, Value, Index}
-use Rattle.wasm_tree.specs.declared.instr.Instr.TheVariants.{BrTable, SelectTyped, I32Const, I64Const, RefNull}
+use Rattle.wasm_tree_spec.specs.Prelude.{ValType, BlockType, Value, BrTable, SelectTyped, I32Const, I64Const, RefNull}
+use Rattle.wasm_tree.specs.declared.types.BlockType.TheVariants.{Empty, Index}
 use Rattle.wasm_read_spec.specs.declared.fault.Fault.{Fault}
 use Rattle.wasm_read_spec.specs.declared.fault.Fault.TheVariants.{Malformed, Unsupported}
 use Rattle.wasm_read_spec.specs.declared.token.Token.{Token}
 use Rattle.wasm_read_spec.specs.declared.token.Token.TheVariants.{Open, Else, End, Plain}
-use Rattle.wasm_read_spec.specs.SpellingForms.{Any}
-use Rattle.wasm_read_spec.specs.Values.{val_of_code, SpellsBlockType}
-use Rattle.wasm_read_spec.specs.Tokens.{Form, plain, number, numbers, const32, const64, table, typed, access, memory, memories, with_memory, null, open', else', end', prefixed, unsupported, unknown, the_form, sub_form, arg_of, arg_in, arg_form, SpellsMemArg, SpellsMemory, Simple, FollowsOpcode, SpellsToken}
-use Rattle.wasm_read_spec.specs.Reading.{or_malformed, mapped_at, val_at, index_of, block_type_at}
-use Rattle.wasm_read_spec.specs.BodyReading.{arg_at, memory_at, simple_of, prefixed_at, token_of, token_at}
+use Rattle.wasm_read_spec.specs.Prelude.{Any, SpellsBlockType, Form, plain, number, numbers, const32, const64, table, access, memory, memories, with_memory, null, open', else', end', prefixed, unsupported, unknown, the_form, sub_form, SpellsMemArg, SpellsMemory, Simple, FollowsOpcode, SpellsToken, or_malformed, mapped_at, val_at, token_of}
+use Rattle.wasm_read_spec.specs.Values.{val_of_code}
+use Rattle.wasm_read_spec.specs.Tokens.{typed, arg_of, arg_in, arg_form}
+use Rattle.wasm_read_spec.specs.Reading.{index_of, block_type_at}
+use Rattle.wasm_read_spec.specs.BodyReading.{arg_at, memory_at, simple_of, prefixed_at, token_at}
 use Rattle.wasm_read_spec.proofs.Exact.{Exact, err_ok, byte_exact, u32_exact, s32_exact, s33_exact, s64_exact, just_exact, never_exact, both_exact, made_exact, chosen_exact, when_exact, tagged_exact, list_exact}
 use Rattle.wasm_read_spec.proofs.ItemLaws.{val_exact, ref_exact}
 

@@ -1,17 +1,15 @@
 -- The readers of tokens tell the stops of their bytes, and no others.
-use Rattle.std.proofs.Common.{◌≡◌, ℕ, List, [], ◌∷◌, Err, Bool, true, false, inl, ⊎_elim, refl, sym, ap, ◌∙◌, arith, ℤ, pos, negsuc}
-use Rattle.std.proofs.lemmas.Bool.{and_parts}
-use Rattle.std.specs.Prelude.{nat_lt, nat_le, ◌==◌, ◌&&◌}
-use Rattle.base_lists.proofs.Bools.{cond_is}
-use Rattle.wasm_bytes.specs.Reading.{◌>>=◌, IsBytes, signed_at}
-use Rattle.wasm_tree.specs.declared.types.BlockType.TheVariants.{Value}
+use Rattle.base_lists.proofs.Common.{◌≡◌, ℕ, List, [], ◌∷◌, Err, Bool, true, false, inl, ⊎_elim, refl, sym, ap, ◌∙◌, arith, ℤ, pos, negsuc, and_parts, nat_lt, nat_le, ◌==◌, ◌&&◌, cond_is}
+use Rattle.wasm_bytes.specs.Prelude.{◌>>=◌, IsBytes, signed_at}
+use Rattle.wasm_tree_spec.specs.Prelude.{Value}
 use Rattle.wasm_read_spec.specs.declared.fault.Fault.{Fault}
 use Rattle.wasm_read_spec.specs.declared.fault.Fault.TheVariants.{Malformed}
 use Rattle.wasm_read_spec.specs.declared.token.Token.TheVariants.{Else, End, Plain}
-use Rattle.wasm_read_spec.specs.Tokens.{Form, plain, number, numbers, const32, const64, table, typed, access, memory, memories, with_memory, null, open', else', end', prefixed, unsupported, unknown, the_form, sub_form}
-use Rattle.wasm_read_spec.specs.Stops.{NoStop, is_unsupported_val, ValStops, SimpleStops, FollowsStop, TokenStops}
-use Rattle.wasm_read_spec.specs.Reading.{or_malformed, u32_at, list_at, val_at, index_of, mapped_at, block_type_at}
-use Rattle.wasm_read_spec.specs.BodyReading.{arg_at, memory_at, simple_of, prefixed_at, token_of, token_at}
+use Rattle.wasm_read_spec.specs.Prelude.{Form, plain, number, numbers, const32, const64, table, access, memory, memories, with_memory, null, open', else', end', prefixed, unsupported, unknown, the_form, sub_form, NoStop, or_malformed, u32_at, list_at, val_at, mapped_at, token_of}
+use Rattle.wasm_read_spec.specs.Tokens.{typed}
+use Rattle.wasm_read_spec.specs.Stops.{is_unsupported_val, ValStops, SimpleStops, FollowsStop, TokenStops}
+use Rattle.wasm_read_spec.specs.Reading.{index_of, block_type_at}
+use Rattle.wasm_read_spec.specs.BodyReading.{arg_at, memory_at, simple_of, prefixed_at, token_at}
 use Rattle.wasm_read_spec.proofs.Exact.{byte_exact, u32_exact, list_exact}
 use Rattle.wasm_read_spec.proofs.ItemLaws.{val_exact}
 use Rattle.wasm_read_spec.proofs.TokenLaws.{memory_exact}

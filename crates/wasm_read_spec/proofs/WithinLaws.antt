@@ -1,14 +1,11 @@
 -- A file that spells a tree is within the limits where no quantity in it is over its limit.
-use Rattle.std.proofs.Common.{◌≡◌, List, ℕ, Bool, Option, Some, None, inl, inr, sym, ap, ◌∙◌}
-use Rattle.std.specs.Prelude.{◌↔◌}
-use Rattle.wasm_bytes.specs.Reading.{IsBytes}
-use Rattle.wasm_tree.specs.declared.which.Which.{Which}
-use Rattle.wasm_tree.specs.declared.module.Module.{Module}
+use Rattle.base_lists.proofs.Common.{◌≡◌, List, ℕ, Bool, Option, Some, None, inl, inr, sym, ap, ◌∙◌, ◌↔◌}
+use Rattle.wasm_bytes.specs.Prelude.{IsBytes}
+use Rattle.wasm_tree_spec.specs.Prelude.{Which, Module}
 use Rattle.wasm_read_spec.specs.declared.fault.ReadFault.{ReadFault}
 use Rattle.wasm_read_spec.specs.declared.fault.ReadFault.TheVariants.{Limit}
-use Rattle.wasm_read_spec.specs.Files.{Spells, Within}
-use Rattle.wasm_read_spec.specs.Contents.{read_at, fault_of as told_fault}
-use Rattle.wasm_read_spec.specs.Causes.{Cause}
+use Rattle.wasm_read_spec.specs.Prelude.{Spells, Within, read_at, Cause}
+use Rattle.wasm_read_spec.specs.Contents.{fault_of as told_fault}
 use Rattle.wasm_read_spec.proofs.FileLaws.{tree_found, tree_read}
 use Rattle.wasm_read_spec.proofs.LimitLaws.{Got}
 use Rattle.wasm_read_spec.proofs.SpelledLaws.{read_got}

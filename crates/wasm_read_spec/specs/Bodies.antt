@@ -1,15 +1,8 @@
 -- Tokens and trees, and code entries (Core 2.0, 5.4.1, 5.4.9 and 5.5.13).
 use Rattle.std.specs.Prelude.{◌≡◌, ℕ, suc, ◌≤◌, max, List, [], ◌∷◌, ◌++◌, map, Bool}
-use Rattle.wasm_bytes.specs.Joins.{U32, Each, Vector, Sized}
-use Rattle.wasm_tree.specs.declared.types.BlockType.{BlockType}
-use Rattle.wasm_tree.specs.declared.instr.Instr.{Instr, fold-Instr}
+use Rattle.wasm_bytes.specs.Prelude.{U32, Each, Vector, Sized}
+use Rattle.wasm_tree_spec.specs.Prelude.{BlockType, Instr, fold-Instr, Block, Loop, If, LocalGroup, Func, limit, Locals, Nesting, declared_count}
 use Rattle.wasm_tree.specs.declared.instr.Instr.TheOpen.{Instr-F}
-use Rattle.wasm_tree.specs.declared.instr.Instr.TheVariants.{Block, Loop, If}
-use Rattle.wasm_tree.specs.declared.module.LocalGroup.{LocalGroup}
-use Rattle.wasm_tree.specs.declared.module.Func.{Func}
-use Rattle.wasm_tree.specs.Limits.{limit}
-use Rattle.wasm_tree.specs.declared.which.Which.TheVariants.{Locals, Nesting}
-use Rattle.wasm_tree.specs.Bounds.{declared_count}
 use Rattle.wasm_read_spec.specs.declared.token.Opener.TheVariants as opener
 use Rattle.wasm_read_spec.specs.declared.token.Token.{Token}
 use Rattle.wasm_read_spec.specs.declared.token.Token.TheVariants.{Open, Else, End, Plain}

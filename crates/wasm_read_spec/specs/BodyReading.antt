@@ -1,14 +1,7 @@
 -- Reading tokens and nesting them, in the order of the bytes.
 use Rattle.std.specs.Prelude.{ℕ, zero, suc, length, List, [], ◌∷◌, ◌++◌, Bool, true, false, Result, Ok, Err, nat_lt, ◌==◌, if◌then◌else◌}
-use Rattle.wasm_bytes.specs.Reading.{◌>>=◌}
-use Rattle.wasm_tree.specs.declared.which.Which.TheVariants.{Nesting}
-use Rattle.wasm_tree.specs.declared.types.BlockType.{BlockType}
-use Rattle.wasm_tree.specs.declared.instr.MemArg.{MemArg}
-use Rattle.wasm_tree.specs.declared.instr.Instr.{Instr}
-use Rattle.wasm_tree.specs.declared.instr.Instr.TheVariants.{Block, Loop, If, BrTable, SelectTyped, I32Const, I64Const, RefNull}
-use Rattle.wasm_tree.specs.declared.module.LocalGroup.{LocalGroup}
-use Rattle.wasm_tree.specs.declared.module.Func.{Func}
-use Rattle.wasm_tree.specs.Limits.{limit}
+use Rattle.wasm_bytes.specs.Prelude.{◌>>=◌}
+use Rattle.wasm_tree_spec.specs.Prelude.{Nesting, BlockType, MemArg, Instr, Block, Loop, If, BrTable, SelectTyped, I32Const, I64Const, RefNull, LocalGroup, Func, limit}
 use Rattle.wasm_read_spec.specs.declared.fault.Fault.{Fault}
 use Rattle.wasm_read_spec.specs.declared.fault.Fault.TheVariants.{Malformed, Unsupported, Limit}
 use Rattle.wasm_read_spec.specs.declared.token.Opener.{Opener}

@@ -2,12 +2,9 @@
 -- at fault, everything before the place is spelled and within the limits. There stand the first bytes of a form that is not supported, or a quantity over its limit; or the place is malformed: it is neither
 -- spelled, nor does it come to such a stop.
 use Rattle.std.specs.Prelude.{◌≡◌, ℕ, ◌+◌, ◌<◌, ◌≤◌, ◌⊎◌, List, ◌∷◌, ◌++◌, length, Bool, Option, Some, None}
-use Rattle.wasm_bytes.specs.Joins.{U32, Each, Sized}
-use Rattle.wasm_bytes.specs.Frames.{Section, HasHeader, Framed, FirstBad}
+use Rattle.wasm_bytes.specs.Prelude.{U32, Each, Sized, Section, HasHeader, Framed, FirstBad}
 use Rattle.wasm_tree.specs.declared.which.Which.TheVariants.{Functions}
-use Rattle.wasm_tree.specs.declared.module.Func.{Func}
-use Rattle.wasm_tree.specs.Limits.{limit}
-use Rattle.wasm_tree.specs.Spaces.{imported_funcs}
+use Rattle.wasm_tree_spec.specs.Prelude.{Func, limit, imported_funcs}
 use Rattle.wasm_read_spec.specs.declared.fault.ReadFault.{ReadFault}
 use Rattle.wasm_read_spec.specs.declared.fault.ReadFault.TheVariants.{NoMemory, NotModule, Malformed, MalformedBody, Unsupported, Limit}
 use Rattle.wasm_read_spec.specs.declared.parts.Parts.{Parts}

@@ -1,7 +1,7 @@
 -- Files that are cut short.
 use Rattle.std.specs.Prelude.{◌≡◌, ◌≢◌, ◌⊎◌, ℕ, List, [], ◌∷◌, ◌++◌, Bool}
-use Rattle.wasm_bytes.specs.Frames.{Section, header, Framed}
-use Rattle.wasm_tree.specs.declared.module.Module.{Module}
+use Rattle.wasm_bytes.specs.Prelude.{Section, header, Framed}
+use Rattle.wasm_tree_spec.specs.Prelude.{Module}
 use Rattle.wasm_read_spec.specs.Files.{Spells}
 
 -- the first bytes of a file end where one of its frames ends

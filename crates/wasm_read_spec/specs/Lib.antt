@@ -11,3 +11,4 @@ pub mod Contents
 pub mod Stops
 pub mod Causes
 pub mod Cut
+pub mod Prelude

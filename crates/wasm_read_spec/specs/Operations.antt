@@ -4,9 +4,8 @@ use Rattle.wasm_num.specs.declared.UnOp.{UnOp}
 use Rattle.wasm_num.specs.declared.UnOp.TheVariants as un
 use Rattle.wasm_num.specs.declared.BinOp.{BinOp}
 use Rattle.wasm_num.specs.declared.BinOp.TheVariants as bin
-use Rattle.wasm_tree.specs.declared.instr.LoadOp.{LoadOp}
+use Rattle.wasm_tree_spec.specs.Prelude.{LoadOp, StoreOp}
 use Rattle.wasm_tree.specs.declared.instr.LoadOp.TheVariants as load
-use Rattle.wasm_tree.specs.declared.instr.StoreOp.{StoreOp}
 use Rattle.wasm_tree.specs.declared.instr.StoreOp.TheVariants as store
 
 unfoldable pub un_of : ℕ → Option UnOp

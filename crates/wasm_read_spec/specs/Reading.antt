@@ -2,30 +2,13 @@
 use Rattle.std.specs.Prelude.{◌≡◌, ℕ, zero, suc, ◌+◌, ◌-◌, List, [], ◌∷◌, ◌++◌, length, Bool, Result, Ok, Err, nat_lt, nat_le, ◌==◌, ◌&&◌, if◌then◌else◌, ℤ, pos, negsuc}
 use Rattle.std.specs.Borrow.{Bor}
 use Rattle.wasm_bytes.specs.declared.cursor.Wrong.{Wrong}
-use Rattle.wasm_bytes.specs.Reading.{◌>>=◌, unsigned_at, signed_at, name_at as text_at, sized_at as content_at, byte_at as first_at}
-use Rattle.wasm_tree.specs.declared.which.Which.{Which}
-use Rattle.wasm_tree.specs.declared.which.Which.TheVariants.{Parameters, Results, Locals}
-use Rattle.wasm_tree.specs.declared.types.ValType.{ValType}
-use Rattle.wasm_tree.specs.declared.types.RefType.{RefType}
-use Rattle.wasm_tree.specs.declared.types.FuncType.{FuncType}
-use Rattle.wasm_tree.specs.declared.types.Limits.{Limits}
-use Rattle.wasm_tree.specs.declared.types.TableType.{TableType}
-use Rattle.wasm_tree.specs.declared.types.GlobalType.{GlobalType}
-use Rattle.wasm_tree.specs.declared.types.BlockType.{BlockType}
+use Rattle.wasm_bytes.specs.Prelude.{◌>>=◌, unsigned_at, signed_at}
+use Rattle.wasm_bytes.specs.Reading.{name_at as text_at, sized_at as content_at, byte_at as first_at}
+use Rattle.wasm_tree_spec.specs.Prelude.{Which, Parameters, Results, Locals, ValType, RefType, FuncType, Limits, TableType, GlobalType, BlockType, ConstExpr, ImportDesc, Import, ExportDesc, Export, GlobalDef, ElemSeg, DataSeg, LocalGroup, limit}
 use Rattle.wasm_tree.specs.declared.types.BlockType.TheVariants as bt
-use Rattle.wasm_tree.specs.declared.module.ConstExpr.{ConstExpr}
 use Rattle.wasm_tree.specs.declared.module.ConstExpr.TheVariants as const
-use Rattle.wasm_tree.specs.declared.module.ImportDesc.{ImportDesc}
 use Rattle.wasm_tree.specs.declared.module.ImportDesc.TheVariants as import
-use Rattle.wasm_tree.specs.declared.module.Import.{Import}
-use Rattle.wasm_tree.specs.declared.module.ExportDesc.{ExportDesc}
 use Rattle.wasm_tree.specs.declared.module.ExportDesc.TheVariants as export
-use Rattle.wasm_tree.specs.declared.module.Export.{Export}
-use Rattle.wasm_tree.specs.declared.module.GlobalDef.{GlobalDef}
-use Rattle.wasm_tree.specs.declared.module.ElemSeg.{ElemSeg}
-use Rattle.wasm_tree.specs.declared.module.DataSeg.{DataSeg}
-use Rattle.wasm_tree.specs.declared.module.LocalGroup.{LocalGroup}
-use Rattle.wasm_tree.specs.Limits.{limit}
 use Rattle.wasm_read_spec.specs.declared.fault.Fault.{Fault}
 use Rattle.wasm_read_spec.specs.declared.fault.Fault.TheVariants.{NoMemory, Malformed, Unsupported, Limit}
 use Rattle.wasm_read_spec.specs.Values.{val_of_code, ref_of_code, mut_of_code, at_least, between}

@@ -1,22 +1,13 @@
 -- What the sections hold, but for the code section (Core 2.0, 5.5).
 use Rattle.std.specs.Prelude.{ℕ, List, ◌==◌}
-use Rattle.wasm_bytes.specs.Joins.{U32, Vector, Sized, Named}
-use Rattle.wasm_tree.specs.declared.types.RefType.{RefType}
+use Rattle.wasm_bytes.specs.Prelude.{U32, Vector, Sized, Named}
+use Rattle.wasm_tree_spec.specs.Prelude.{RefType, ImportDesc, Import, ExportDesc, Export, GlobalDef, ConstExpr, ElemMode, ElemSeg, DataSeg}
 use Rattle.wasm_tree.specs.declared.types.RefType.TheVariants as ref
-use Rattle.wasm_tree.specs.declared.module.ImportDesc.{ImportDesc}
 use Rattle.wasm_tree.specs.declared.module.ImportDesc.TheVariants as import
-use Rattle.wasm_tree.specs.declared.module.Import.{Import}
-use Rattle.wasm_tree.specs.declared.module.ExportDesc.{ExportDesc}
 use Rattle.wasm_tree.specs.declared.module.ExportDesc.TheVariants as export
-use Rattle.wasm_tree.specs.declared.module.Export.{Export}
-use Rattle.wasm_tree.specs.declared.module.GlobalDef.{GlobalDef}
-use Rattle.wasm_tree.specs.declared.module.ConstExpr.{ConstExpr}
 use Rattle.wasm_tree.specs.declared.module.ConstExpr.TheVariants as const
-use Rattle.wasm_tree.specs.declared.module.ElemMode.{ElemMode}
 use Rattle.wasm_tree.specs.declared.module.ElemMode.TheVariants as elem
-use Rattle.wasm_tree.specs.declared.module.ElemSeg.{ElemSeg}
 use Rattle.wasm_tree.specs.declared.module.DataMode.TheVariants as data'
-use Rattle.wasm_tree.specs.declared.module.DataSeg.{DataSeg}
 use Rattle.wasm_read_spec.specs.SpellingForms.{Byte, Never, Both, Made, Chosen, When, After}
 use Rattle.wasm_read_spec.specs.Values.{SpellsRef, SpellsLimits, SpellsTable, SpellsGlobal, SpellsConst}
 

@@ -1,8 +1,7 @@
 -- Words for spellings that are made of others, besides those of wasm_bytes: relations between a whole list of bytes and a value.
 use Rattle.std.specs.Prelude.{◌≡◌, ℕ, ◌≤◌, List, [], ◌∷◌, length, Bool, true, false, Result, Ok, ℤ}
 use Rattle.base_lists.specs.Every.{Every}
-use Rattle.wasm_bytes.specs.Numbers.{Signed}
-use Rattle.wasm_bytes.specs.Joins.{Then}
+use Rattle.wasm_bytes.specs.Prelude.{Signed, Then}
 use Rattle.wasm_read_spec.specs.declared.fault.Fault.{Fault}
 
 abbrev pub S32 : List ℕ → ℤ → Type 0

@@ -1,21 +1,10 @@
 -- Types and constant expressions (Core 2.0, 5.3 and 5.4.9).
 use Rattle.std.specs.Prelude.{◌≡◌, ℕ, List, [], ◌∷◌, Bool, true, false, Result, Ok, Err, Some, None, nat_le, ◌==◌, ◌&&◌, if◌then◌else◌, pos}
-use Rattle.wasm_bytes.specs.Numbers.{Signed}
-use Rattle.wasm_bytes.specs.Joins.{U32, Vector}
-use Rattle.wasm_tree.specs.declared.types.RefType.{RefType}
+use Rattle.wasm_bytes.specs.Prelude.{Signed, U32, Vector}
+use Rattle.wasm_tree_spec.specs.Prelude.{RefType, ValType, I32, I64, Ref, FuncType, Limits, TableType, GlobalType, BlockType, ConstExpr, limit, Parameters, Results}
 use Rattle.wasm_tree.specs.declared.types.RefType.TheVariants as ref
-use Rattle.wasm_tree.specs.declared.types.ValType.{ValType}
-use Rattle.wasm_tree.specs.declared.types.ValType.TheVariants.{I32, I64, Ref}
-use Rattle.wasm_tree.specs.declared.types.FuncType.{FuncType}
-use Rattle.wasm_tree.specs.declared.types.Limits.{Limits}
-use Rattle.wasm_tree.specs.declared.types.TableType.{TableType}
-use Rattle.wasm_tree.specs.declared.types.GlobalType.{GlobalType}
-use Rattle.wasm_tree.specs.declared.types.BlockType.{BlockType}
 use Rattle.wasm_tree.specs.declared.types.BlockType.TheVariants as bt
-use Rattle.wasm_tree.specs.declared.module.ConstExpr.{ConstExpr}
 use Rattle.wasm_tree.specs.declared.module.ConstExpr.TheVariants as const
-use Rattle.wasm_tree.specs.Limits.{limit}
-use Rattle.wasm_tree.specs.declared.which.Which.TheVariants.{Parameters, Results}
 use Rattle.wasm_read_spec.specs.declared.fault.Fault.{Fault}
 use Rattle.wasm_read_spec.specs.declared.fault.Fault.TheVariants.{Malformed, Unsupported}
 use Rattle.wasm_read_spec.specs.SpellingForms.{S32, S64, Byte, Coded, Never, Both, Made, Chosen, When, After, Closed, Few, Any}

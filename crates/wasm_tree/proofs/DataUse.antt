@@ -1,7 +1,5 @@
 -- A block, a loop or an if names no data segment itself.
-use Rattle.std.proofs.Common.{◌≡◌, Bool, false, ◌||◌, List, refl, ap, ◌∙◌}
-use Rattle.std.specs.List.{list_any}
-use Rattle.std.proofs.lemmas.List.Folds.{list_any-append}
+use Rattle.base_lists.proofs.Common.{◌≡◌, Bool, false, ◌||◌, List, refl, ap, ◌∙◌, list_any, list_any-append}
 use Rattle.wasm_tree.specs.declared.types.BlockType.{BlockType}
 use Rattle.wasm_tree.specs.declared.types.BlockType.TheVariants as block
 use Rattle.wasm_tree.specs.declared.instr.Instr.{Instr}

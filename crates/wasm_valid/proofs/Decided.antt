@@ -1,35 +1,18 @@
 -- All items of a module hold, or there is a first that does not.
-use Rattle.std.proofs.Common.{◌≡◌, ◌∙◌, refl, sym, ap, subst, Bool, true, false, ℕ, zero, suc, ◌<◌, ◌≤◌, ltb, List, [], ◌∷◌, ◌++◌, map, take, length, Option, Some, None, slice_get, Contains, ◌⊎◌, inl, inr, arith}
-use Rattle.std.proofs.lemmas.Bool.Decides.{nat_tests}
-use Rattle.std.specs.Str.{bytes_eq}
-use Rattle.std.proofs.lemmas.Slice.Eq.{bytes_eq-Decides}
-use Rattle.wasm_tree.specs.declared.types.RefType.{RefType}
+use Rattle.base_lists.proofs.Common.{◌≡◌, ◌∙◌, refl, sym, ap, subst, Bool, true, false, ℕ, zero, suc, ◌<◌, ◌≤◌, ltb, List, [], ◌∷◌, ◌++◌, map, take, length, Option, Some, None, slice_get, Contains, ◌⊎◌, inl, inr, arith, nat_tests, bytes_eq, bytes_eq-Decides}
+use Rattle.wasm_tree_spec.specs.Prelude.{RefType, ValType, I32, I64, Ref, FuncType, Limits, ImportDesc, ExportDesc, ElemMode, DataMode, ConstExpr, Func, Export, Module, funcs_of, tables_of, memories_of, globals_of, type_of_func}
 use Rattle.wasm_tree.specs.declared.types.RefType.TheVariants as reft
-use Rattle.wasm_tree.specs.declared.types.ValType.{ValType}
-use Rattle.wasm_tree.specs.declared.types.ValType.TheVariants.{I32, I64, Ref}
-use Rattle.wasm_tree.specs.declared.types.FuncType.{FuncType}
-use Rattle.wasm_tree.specs.declared.types.Limits.{Limits}
-use Rattle.wasm_tree.specs.declared.module.ImportDesc.{ImportDesc}
 use Rattle.wasm_tree.specs.declared.module.ImportDesc.TheVariants as imported
-use Rattle.wasm_tree.specs.declared.module.ExportDesc.{ExportDesc}
 use Rattle.wasm_tree.specs.declared.module.ExportDesc.TheVariants as exported
-use Rattle.wasm_tree.specs.declared.module.ElemMode.{ElemMode}
 use Rattle.wasm_tree.specs.declared.module.ElemMode.TheVariants as elem
-use Rattle.wasm_tree.specs.declared.module.DataMode.{DataMode}
 use Rattle.wasm_tree.specs.declared.module.DataMode.TheVariants as «data»
-use Rattle.wasm_tree.specs.declared.module.ConstExpr.{ConstExpr}
-use Rattle.wasm_tree.specs.declared.module.Func.{Func}
-use Rattle.wasm_tree.specs.declared.module.Export.{Export}
-use Rattle.wasm_tree.specs.declared.module.Module.{Module}
-use Rattle.wasm_tree.specs.Spaces.{funcs_of, tables_of, memories_of, globals_of, type_of_func}
 use Rattle.wasm_valid.specs.declared.kinds.ItemKind.{ItemKind}
 use Rattle.wasm_valid.specs.declared.kinds.ItemKind.TheVariants as kind
 use Rattle.wasm_valid.specs.declared.kinds.Invalid.{Invalid}
 use Rattle.wasm_valid_bodies.specs.Typing.{WellTyped}
-use Rattle.wasm_valid.specs.Constants.{const_type}
-use Rattle.wasm_valid.specs.SpaceTypes.{table_types}
-use Rattle.wasm_valid.specs.Validity.{MostIsAtLeast, MostIsAtMost, LimitsHold, PagesHold, ImportHolds, InSpace, ElemModeHolds, DataModeHolds, body_context, HoldsAt, Item, EachHolds}
-use Rattle.wasm_valid.specs.First.{IsFirstOf, index_of}
+use Rattle.wasm_valid.specs.Prelude.{const_type, table_types, LimitsHold, ImportHolds, InSpace, ElemModeHolds, DataModeHolds, body_context, HoldsAt, Item, EachHolds, index_of}
+use Rattle.wasm_valid.specs.Validity.{MostIsAtLeast, MostIsAtMost, PagesHold}
+use Rattle.wasm_valid.specs.First.{IsFirstOf}
 use Rattle.wasm_valid_bodies.proofs.Decided.{typed_or_not}
 
 abbrev Either : Type 0 → Type 0

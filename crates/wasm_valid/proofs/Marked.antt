@@ -1,11 +1,7 @@
 -- Marks at the functions that are named.
-use Rattle.std.proofs.Common.{◌≡◌, ℕ, zero, suc, ◌+◌, ◌<◌, ◌≢◌, Bool, true, false, ◌||◌, nat_eq, List, [], ◌∷◌, ◌++◌, length, drop, get_or, refl, sym, ap, ◌∙◌, arith, append_assoc, append-nil, zero-add, eq-eqb}
-use Rattle.std.specs.Prelude.{slice_set, replicate}
-use Rattle.std.specs.List.{flat_map, list_any}
-use Rattle.std.proofs.lemmas.List.{at_drop_more}
-use Rattle.std.proofs.lemmas.List.Folds.{list_any-append}
-use Rattle.std.proofs.lemmas.Bool.Decides.{nat_tests}
-use Rattle.wasm_valid.specs.Named.{named_from, marked_all}
+use Rattle.base_lists.proofs.Common.{◌≡◌, ℕ, zero, suc, ◌+◌, ◌<◌, ◌≢◌, Bool, true, false, ◌||◌, nat_eq, List, [], ◌∷◌, ◌++◌, length, drop, get_or, refl, sym, ap, ◌∙◌, arith, append_assoc, append-nil, zero-add, slice_set, replicate, flat_map, list_any, at_drop_more, list_any-append, nat_tests}
+use Rattle.std.proofs.Common.{eq-eqb}
+use Rattle.wasm_valid.specs.Prelude.{named_from, marked_all}
 
 pub marked_append : (marks : List Bool) (rs qs : List ℕ) → marked_all marks (rs ++ qs) ≡ marked_all (marked_all marks rs) qs
 marked_append marks [] qs = refl

@@ -1,26 +1,14 @@
 -- Code that is well typed where there is at most one memory names memory 0 alone.
-use Rattle.std.proofs.Common.{◌≡◌, ℕ, ◌≤◌, true, IsTrue, nat_eq, nat_lt, List, [], ◌∷◌, Some, refl, subst, arith}
-use Rattle.std.specs.Prelude.{slice_get}
-use Rattle.std.proofs.lemmas.Bool.Decides.{nat_tests}
-use Rattle.std.proofs.lemmas.Option.{slice_get_within, cond_some}
+use Rattle.base_lists.proofs.Common.{◌≡◌, ℕ, ◌≤◌, true, IsTrue, nat_eq, nat_lt, List, [], ◌∷◌, Some, refl, subst, arith, slice_get, nat_tests, slice_get_within, left_true, right_true, list_all_from}
+use Rattle.std.proofs.lemmas.Option.{cond_some}
 use Rattle.base_lists.specs.Every.{Every}
-use Rattle.base_lists.proofs.Bools.{left_true, right_true}
-use Rattle.base_lists.proofs.Each.{list_all_from}
-use Rattle.wasm_tree.specs.declared.types.BlockType.{BlockType}
+use Rattle.wasm_tree_spec.specs.Prelude.{BlockType, Func, Module, Operand, Instr, Row_of-Instr, end_of-Instr, more_of-Instr, Block', Loop', If', Call, CallIndirect, GlobalGet, GlobalSet, TableGet, TableSet, Load, Store, MemorySize, MemoryGrow, RefFunc, MemoryInit, DataDrop, MemoryCopy, MemoryFill, TableInit, ElemDrop, TableCopy, TableGrow, TableSize, TableFill, Layers, RowLayers, ListLayers, is_memory_zero, memory_zero_all, memory_zero_funcs, PassesLayerByLayer, operands, block_operands}
 use Rattle.wasm_tree.specs.declared.types.BlockType.TheVariants as block
-use Rattle.wasm_tree.specs.declared.module.Func.{Func}
-use Rattle.wasm_tree.specs.declared.module.Module.{Module}
-use Rattle.wasm_tree.specs.declared.space.Operand.{Operand}
-use Rattle.wasm_tree.specs.declared.instr.Instr.{Instr, out-Instr, Row_of-Instr, end_of-Instr, more_of-Instr}
+use Rattle.wasm_tree.specs.declared.instr.Instr.{out-Instr}
 use Rattle.wasm_tree.specs.declared.instr.Instr.TheOpen.{Instr-F}
-use Rattle.wasm_tree.specs.declared.instr.Instr.TheVariants.{Block', Loop', If', Call, CallIndirect, GlobalGet, GlobalSet, TableGet, TableSet, Load, Store, MemorySize, MemoryGrow, RefFunc, MemoryInit, DataDrop, MemoryCopy, MemoryFill, TableInit, ElemDrop, TableCopy, TableGrow, TableSize, TableFill}
-use Rattle.wasm_tree.specs.Layers.{Layers, RowLayers, ListLayers}
-use Rattle.wasm_tree.specs.MemoryZero.{is_memory_zero, memory_zero_all, memory_zero_funcs}
-use Rattle.wasm_tree.specs.OperandLaws.{PassesLayerByLayer}
-use Rattle.wasm_tree.specs.Operands.{operands, block_operands}
 use Rattle.wasm_valid_bodies.specs.Typing.{Stack, Effect, Context, under, effect_of, Fits, Leads, LeadsAll}
 use Rattle.wasm_valid.specs.declared.kinds.ItemKind.TheVariants as kind
-use Rattle.wasm_valid.specs.Validity.{HoldsAt, IsValid, IsSingle}
+use Rattle.wasm_valid.specs.Prelude.{HoldsAt, IsValid, IsSingle}
 use Rattle.wasm_valid.proofs.Order.{each_item}
 
 -- the one memory

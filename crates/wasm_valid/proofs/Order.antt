@@ -1,15 +1,11 @@
 -- Items that are tested one after another.
-use Rattle.std.proofs.Common.{◌≡◌, ℕ, zero, suc, ◌+◌, ◌<◌, Bool, true, false, List, [], ◌∷◌, ◌++◌, length, take, get_or, Option, Some, refl, sym, ap, ◌∙◌, subst, arith, append_assoc, append-nil, zero-add, add-zero}
-use Rattle.std.specs.Prelude.{slice_get}
-use Rattle.std.specs.List.{flat_map}
-use Rattle.std.proofs.lemmas.Grind.{flat_map-append}
-use Rattle.std.proofs.lemmas.List.{take_more}
-use Rattle.wasm_tree.specs.declared.module.Module.{Module}
+use Rattle.base_lists.proofs.Common.{◌≡◌, ℕ, zero, suc, ◌+◌, ◌<◌, Bool, true, false, List, [], ◌∷◌, ◌++◌, length, take, get_or, Option, Some, refl, sym, ap, ◌∙◌, subst, arith, append_assoc, append-nil, zero-add, add-zero, slice_get, flat_map, flat_map-append, take_more}
+use Rattle.wasm_tree_spec.specs.Prelude.{Module}
 use Rattle.wasm_valid.specs.declared.kinds.ItemKind.{ItemKind}
 use Rattle.wasm_valid.specs.declared.kinds.ItemKind.TheVariants as kind
 use Rattle.wasm_valid.specs.declared.kinds.Invalid.{Invalid}
-use Rattle.wasm_valid.specs.Validity.{Item, item, span, order, items, count_of, HoldsAt, EachHolds, IsValid, IsSingle}
-use Rattle.wasm_valid.specs.First.{index_of, IsFirstOf, IsAnswer}
+use Rattle.wasm_valid.specs.Prelude.{Item, item, span, order, items, count_of, HoldsAt, EachHolds, IsValid, IsSingle, index_of}
+use Rattle.wasm_valid.specs.First.{IsFirstOf, IsAnswer}
 
 pub each_append : (m : Module) (xs ys : List Item) → EachHolds m xs → EachHolds m ys → EachHolds m (xs ++ ys)
 each_append m [] ys a b = b

@@ -1,20 +1,12 @@
 -- Names that came before.
-use Rattle.std.proofs.Common.{◌≡◌, ℕ, zero, suc, ◌+◌, ◌<◌, ◌↔◌, Bool, true, false, cond, is_some, IsTrue, ◌||◌, List, [], ◌∷◌, ◌++◌, length, take, drop, get_or, map, Option, Some, refl, sym, ap, ◌∙◌, subst, append_assoc, append-nil}
-use Rattle.std.specs.Prelude.{slice_get, unwrap_or, Contains}
-use Rattle.std.specs.List.{list_any}
-use Rattle.std.specs.Str.{bytes_eq}
+use Rattle.base_lists.proofs.Common.{◌≡◌, ℕ, zero, suc, ◌+◌, ◌<◌, ◌↔◌, Bool, true, false, cond, is_some, IsTrue, ◌||◌, List, [], ◌∷◌, ◌++◌, length, take, drop, get_or, map, Option, Some, refl, sym, ap, ◌∙◌, subst, append_assoc, append-nil, slice_get, Contains, list_any, bytes_eq, bytes_eq-Decides, take-map, at_drop_more, same_tests, mapped_more, list_any-append}
+use Rattle.std.specs.Prelude.{unwrap_or}
 use Rattle.std.specs.Cmp.{IsEquivalence}
-use Rattle.std.proofs.lemmas.Slice.Eq.{bytes_eq-Decides}
 use Rattle.std.proofs.lemmas.Map.Views.{list_any-from_Contains, Contains-from_any}
-use Rattle.std.proofs.lemmas.List.{take-map, at_drop_more}
-use Rattle.base_lists.proofs.Bools.{same_tests}
-use Rattle.base_lists.proofs.Walk.{mapped_more}
-use Rattle.std.proofs.lemmas.List.Folds.{list_any-append}
-use Rattle.wasm_tree.specs.declared.module.Export.{Export}
-use Rattle.wasm_tree.specs.declared.module.Module.{Module}
+use Rattle.wasm_tree_spec.specs.Prelude.{Export, Module}
 use Rattle.wasm_valid.specs.declared.kinds.ItemKind.TheVariants as kind
 use Rattle.wasm_valid.specs.Names.{repeats_after}
-use Rattle.wasm_valid.specs.Validity.{InSpace, HoldsAt}
+use Rattle.wasm_valid.specs.Prelude.{InSpace, HoldsAt}
 
 pub equivalence : IsEquivalence bytes_eq
 equivalence = record {

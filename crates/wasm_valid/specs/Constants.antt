@@ -2,12 +2,8 @@
 use Rattle.std.specs.Prelude.{◌&&◌, not, nat_lt, length, Option, Some, slice_get}
 use Rattle.base_lists.specs.Options.{◌>>=◌}
 use Rattle.wasm_tree.specs.declared.types.RefType.TheVariants.{Func as func_ref}
-use Rattle.wasm_tree.specs.declared.types.ValType.{ValType}
-use Rattle.wasm_tree.specs.declared.types.ValType.TheVariants.{I32, I64, Ref}
-use Rattle.wasm_tree.specs.declared.module.ConstExpr.{ConstExpr}
+use Rattle.wasm_tree_spec.specs.Prelude.{ValType, I32, I64, Ref, ConstExpr, Module, funcs_of, globals_of, imported_globals}
 use Rattle.wasm_tree.specs.declared.module.ConstExpr.TheVariants as expr
-use Rattle.wasm_tree.specs.declared.module.Module.{Module}
-use Rattle.wasm_tree.specs.Spaces.{funcs_of, globals_of, imported_globals}
 use Rattle.wasm_valid_bodies.specs.Typing.{only}
 
 -- the type of a constant expression: `ref.func` needs the function, `global.get` an imported immutable global

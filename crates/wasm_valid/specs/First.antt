@@ -1,7 +1,6 @@
 -- The first invalid item.
 use Rattle.std.specs.Prelude.{◌≡◌, ℕ, ◌+◌, Bool, List, ◌∷◌, ◌++◌, length, Option, Some, None}
-use Rattle.wasm_tree.specs.declared.module.Module.{Module}
-use Rattle.wasm_tree.specs.Spaces.{imported_funcs, imported_tables, imported_memories, imported_globals, memories_of}
+use Rattle.wasm_tree_spec.specs.Prelude.{Module, imported_funcs, imported_tables, imported_memories, imported_globals, memories_of}
 use Rattle.wasm_valid.specs.declared.kinds.ItemKind.{ItemKind}
 use Rattle.wasm_valid.specs.declared.kinds.ItemKind.TheVariants as kind
 use Rattle.wasm_valid.specs.declared.kinds.Invalid.{Invalid}

@@ -5,3 +5,4 @@ pub mod SpaceTypes
 pub mod Validity
 pub mod First
 pub mod Rejection
+pub mod Prelude

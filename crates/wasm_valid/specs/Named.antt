@@ -2,15 +2,9 @@
 -- (WebAssembly Core 2.0, section 3.4.10, the context's refs).
 use Rattle.std.specs.Prelude.{ℕ, zero, suc, Bool, true, slice_set, List, [], ◌∷◌, ◌++◌, length, nat_eq, Option, Some, None}
 use Rattle.std.specs.List.{filter_map, flat_map, list_any}
-use Rattle.wasm_tree.specs.declared.module.ConstExpr.{ConstExpr}
+use Rattle.wasm_tree_spec.specs.Prelude.{ConstExpr, ExportDesc, ElemSeg, GlobalDef, Export, Module, funcs_of}
 use Rattle.wasm_tree.specs.declared.module.ConstExpr.TheVariants as expr
-use Rattle.wasm_tree.specs.declared.module.ExportDesc.{ExportDesc}
 use Rattle.wasm_tree.specs.declared.module.ExportDesc.TheVariants as exported
-use Rattle.wasm_tree.specs.declared.module.ElemSeg.{ElemSeg}
-use Rattle.wasm_tree.specs.declared.module.GlobalDef.{GlobalDef}
-use Rattle.wasm_tree.specs.declared.module.Export.{Export}
-use Rattle.wasm_tree.specs.declared.module.Module.{Module}
-use Rattle.wasm_tree.specs.Spaces.{funcs_of}
 
 abbrev pub const_func : ConstExpr → Option ℕ
 const_func (expr.Func func) = Some func

@@ -1,6 +1,6 @@
 -- Why a module is handed back.
 use Rattle.std.specs.Prelude.{◌≡◌, false}
-use Rattle.wasm_tree.specs.declared.module.Module.{Module}
+use Rattle.wasm_tree_spec.specs.Prelude.{Module}
 use Rattle.wasm_valid.specs.declared.validation.Rejected.{Rejected}
 use Rattle.wasm_valid.specs.declared.validation.Rejected.TheVariants.{Invalid, NoMemory}
 use Rattle.wasm_valid.specs.First.{IsFirstInvalid}

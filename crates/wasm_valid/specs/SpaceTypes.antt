@@ -1,9 +1,6 @@
 -- The reference types of tables and element segments.
 use Rattle.std.specs.Prelude.{List, map}
-use Rattle.wasm_tree.specs.declared.types.RefType.{RefType}
-use Rattle.wasm_tree.specs.declared.module.ElemSeg.{ElemSeg}
-use Rattle.wasm_tree.specs.declared.module.Module.{Module}
-use Rattle.wasm_tree.specs.Spaces.{tables_of}
+use Rattle.wasm_tree_spec.specs.Prelude.{RefType, ElemSeg, Module, tables_of}
 
 -- the reference type of each table, and of each element segment
 abbrev pub table_types : Module → List RefType

@@ -1,13 +1,9 @@
 -- What an instruction does to the kept stack is what it does to the stacks that it denotes.
-use Rattle.std.proofs.Common.{arith, ◌≡◌, ℕ, suc, Bool, true, false, cond, ◌&&◌, nat_eq, is_some, List, [], ◌∷◌, ◌++◌, map, reverse, length, Option, Some, None, refl, sym, ap, ◌∙◌, subst, eq-eqb, option_and_then, option_map}
-use Rattle.std.proofs.lemmas.List.{length-reverse}
-use Rattle.std.proofs.lemmas.Bool.{eqb-true, and_parts}
+use Rattle.base_lists.proofs.Common.{arith, ◌≡◌, ℕ, suc, Bool, true, false, cond, ◌&&◌, nat_eq, is_some, List, [], ◌∷◌, ◌++◌, map, reverse, length, Option, Some, None, refl, sym, ap, ◌∙◌, subst, option_and_then, option_map, length-reverse, eqb-true, and_parts, option_map_is, and_then_is, is_some_there}
+use Rattle.std.proofs.Common.{eq-eqb}
 use Rattle.std.proofs.lemmas.Option.{cond_some}
-use Rattle.base_lists.proofs.Options.{option_map_is, and_then_is, is_some_there}
-use Rattle.wasm_tree.specs.declared.types.ValType.{ValType}
-use Rattle.wasm_tree.specs.declared.types.ValType.TheVariants.{I32, I64, Ref}
+use Rattle.wasm_tree_spec.specs.Prelude.{ValType, I32, I64, Ref, same_type}
 use Rattle.wasm_valid_bodies.specs.Typing.{Operand, Stack, Matches, AllMatch, EachMatches, operands, IsNumber, IsReference, Effect, Gives, Leaves, Drops, Selects, TestsNull, Branches, Acts}
-use Rattle.wasm_tree.specs.SameTypes.{same_type}
 use Rattle.wasm_valid_bodies.specs.Tracking.{IsInstance, Instance, Concrete, fits_type, pop_one, below_type, pop_type, pop_all, is_number, is_reference, join, number_of, chosen, all_pop, arity, select_rest, select_two, test_top, act}
 use Rattle.wasm_valid_bodies.proofs.Pops.{fits-matches, pop_type-on, pop_all-on, pop_all-back, padded}
 

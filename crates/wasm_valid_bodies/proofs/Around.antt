@@ -1,6 +1,5 @@
 -- A block leaves the operands of the blocks around it as they are.
-use Rattle.std.proofs.Common.{◌≡◌, Bool, ◌++◌, take, drop, Option, Result, IfOk, sym, ap, ◌∙◌}
-use Rattle.std.proofs.lemmas.Result.{IfOk-weaker}
+use Rattle.base_lists.proofs.Common.{◌≡◌, Bool, ◌++◌, take, drop, Option, Result, IfOk, sym, ap, ◌∙◌, IfOk-weaker}
 use Rattle.std.specs.Bool.{OnTrue}
 use Rattle.std.specs.declared.alloc.AllocError.{AllocError}
 use Rattle.wasm_valid_bodies.specs.declared.kept.Kept.{Kept}

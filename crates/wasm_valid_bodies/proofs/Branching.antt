@@ -1,10 +1,8 @@
 -- A branch to several labels.
-use Rattle.std.proofs.Common.{◌≡◌, ℕ, suc, ◌<◌, Bool, true, false, cond, ◌&&◌, nat_eq, is_some, List, [], ◌∷◌, reverse, length, drop, get_or, Option, Some, None, refl, sym, ap, ◌∙◌, subst, arith, ◌≤◌, drop-cons, length-drop, add-one, ◌+◌, option_and_then, option_map}
+use Rattle.base_lists.proofs.Common.{◌≡◌, ℕ, suc, ◌<◌, Bool, true, false, cond, ◌&&◌, nat_eq, is_some, List, [], ◌∷◌, reverse, length, drop, get_or, Option, Some, None, refl, sym, ap, ◌∙◌, subst, arith, ◌≤◌, drop-cons, add-one, ◌+◌, option_and_then, option_map, slice_get, right_true, and_false}
+use Rattle.std.proofs.Common.{length-drop}
 use Rattle.std.proofs.lemmas.List.{nil_from_length}
-use Rattle.std.specs.Prelude.{slice_get}
-use Rattle.base_lists.proofs.Bools.{right_true, and_false}
-use Rattle.wasm_tree.specs.declared.types.ValType.{ValType}
-use Rattle.wasm_tree.specs.declared.types.ValType.TheVariants.{I32}
+use Rattle.wasm_tree_spec.specs.Prelude.{ValType, I32}
 use Rattle.wasm_valid_bodies.specs.Typing.{Stack, labels_at, Branches}
 use Rattle.wasm_valid_bodies.specs.Tracking.{pop_type, pop_all, all_pop, arity, answer_of, allows_types, allows_all}
 

@@ -1,8 +1,6 @@
 -- A body is well typed or it is not.
-use Rattle.std.proofs.Common.{◌≡◌, ◌∙◌, refl, sym, ap, subst, Bool, true, false, List, [], ◌∷◌, ◌++◌, append-nil, map, reverse, length, Option, Some, None, ◌⊎◌, inl, inr}
-use Rattle.wasm_tree.specs.declared.types.ValType.{ValType}
-use Rattle.wasm_tree.specs.declared.types.ValType.TheVariants.{I32}
-use Rattle.wasm_tree.specs.declared.instr.Instr.{Instr, Row_of-Instr, end_of-Instr, more_of-Instr}
+use Rattle.base_lists.proofs.Common.{◌≡◌, ◌∙◌, refl, sym, ap, subst, Bool, true, false, List, [], ◌∷◌, ◌++◌, append-nil, map, reverse, length, Option, Some, None, ◌⊎◌, inl, inr}
+use Rattle.wasm_tree_spec.specs.Prelude.{ValType, I32, Instr, Row_of-Instr, end_of-Instr, more_of-Instr}
 use Rattle.wasm_tree.specs.declared.instr.Instr.{Block', Loop', If'}
 use Rattle.wasm_valid_bodies.specs.Typing.{Stack, operands, Effect, Gives, Acts, Signature, Context, under, signature_of, effect_of, Ends, Fits, Leads, LeadsAll, WellTyped}
 use Rattle.wasm_valid_bodies.specs.Tracking.{Instance, Concrete, StepsTo, TracksStep, pop_all, act, answer_of}

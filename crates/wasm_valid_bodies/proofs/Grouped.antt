@@ -1,9 +1,6 @@
 -- The type of a declared local is that of the first group that ends above it.
-use Rattle.std.proofs.Common.{◌≡◌, ℕ, zero, suc, ◌+◌, ◌-◌, ◌<◌, ◌≤◌, arith, List, [], ◌∷◌, ◌++◌, length, Some, refl, sym, ap, ◌∙◌, subst}
-use Rattle.std.specs.Prelude.{slice_get, slice_index, replicate, option_map}
-use Rattle.std.proofs.lemmas.List.{length-replicate}
-use Rattle.wasm_tree.specs.declared.types.ValType.{ValType}
-use Rattle.wasm_tree.specs.declared.module.LocalGroup.{LocalGroup}
+use Rattle.base_lists.proofs.Common.{◌≡◌, ℕ, zero, suc, ◌+◌, ◌-◌, ◌<◌, ◌≤◌, arith, List, [], ◌∷◌, ◌++◌, length, Some, refl, sym, ap, ◌∙◌, subst, slice_get, slice_index, replicate, option_map, length-replicate}
+use Rattle.wasm_tree_spec.specs.Prelude.{ValType, LocalGroup}
 use Rattle.wasm_valid_bodies.specs.Groups.{declared_types, locals_of, ends_of, IsAscending, IsFirstAbove}
 
 behind : {A : Type 0} (xs ys : List A) (i j : ℕ) → i ≡ length xs + j → slice_get (xs ++ ys) i ≡ slice_get ys j

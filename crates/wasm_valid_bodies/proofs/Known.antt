@@ -1,12 +1,8 @@
 -- The operands of the innermost block, in the list that holds those of all blocks.
-use Rattle.std.proofs.Common.{◌≡◌, ℕ, suc, ◌+◌, ◌<◌, ◌≤◌, nat_le, Bool, true, false, cond, ◌&&◌, ◌||◌, is_some, List, [], ◌∷◌, ◌++◌, map, reverse, length, take, drop, Option, Some, None, refl, sym, ap, ◌∙◌, subst, arith, append-nil, option_and_then}
-use Rattle.std.proofs.lemmas.List.{length-append, reverse-append, reverse-reverse, length-reverse, length-map, length-take-le, length-drop, map-append, append_assoc, take-append-drop, take-append-le, drop-append-le, drop_all}
-use Rattle.std.proofs.lemmas.Bool.{lt-leb}
+use Rattle.base_lists.proofs.Common.{◌≡◌, ℕ, suc, ◌+◌, ◌<◌, ◌≤◌, nat_le, Bool, true, false, cond, ◌&&◌, ◌||◌, is_some, List, [], ◌∷◌, ◌++◌, map, reverse, length, take, drop, Option, Some, None, refl, sym, ap, ◌∙◌, subst, arith, append-nil, option_and_then, length-append, reverse-append, length-reverse, length-map, length-take-le, length-drop, map-append, take-append-drop, take-append-le, drop_all, lt-leb, same_tests, each_same_is, each_same_self}
+use Rattle.std.proofs.lemmas.List.{reverse-reverse, append_assoc, drop-append-le}
 use Rattle.std.proofs.Math.Seq.{drop-append_seam}
-use Rattle.base_lists.proofs.Bools.{same_tests}
-use Rattle.base_lists.proofs.Same.{each_same_is, each_same_self}
-use Rattle.wasm_tree.specs.declared.types.ValType.{ValType}
-use Rattle.wasm_tree.specs.SameTypes.{same_type, same_types}
+use Rattle.wasm_tree_spec.specs.Prelude.{ValType, same_type, same_types}
 use Rattle.wasm_valid_bodies.specs.Typing.{Stack, operands}
 use Rattle.wasm_valid_bodies.specs.Tracking.{fits_type, pop_all}
 use Rattle.wasm_valid_bodies.specs.Kept.{lowest, when}

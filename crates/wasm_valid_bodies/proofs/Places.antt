@@ -1,8 +1,6 @@
 -- What stands at a place of a list.
-use Rattle.std.proofs.Common.{◌≡◌, ℕ, zero, suc, ◌+◌, ◌-◌, arith, Bool, true, false, List, [], ◌∷◌, map, reverse, length, get_or, Some, sym, ap, ◌∙◌}
-use Rattle.std.specs.Prelude.{slice_get, slice_set, replicate, option_map}
-use Rattle.std.proofs.lemmas.List.{get_or-reverse, length-reverse}
-use Rattle.std.proofs.lemmas.Option.{slice_get-get_or, get_or_from_slice_get, slice_get-map}
+use Rattle.base_lists.proofs.Common.{◌≡◌, ℕ, zero, suc, ◌+◌, ◌-◌, arith, Bool, true, false, List, [], ◌∷◌, map, reverse, length, get_or, Some, sym, ap, ◌∙◌, slice_get, slice_set, replicate, option_map, length-reverse, slice_get-get_or, get_or_from_slice_get, slice_get-map}
+use Rattle.std.proofs.lemmas.List.{get_or-reverse}
 
 pub reverse_at : {A : Type 0} (xs : List A) (i k : ℕ) (x : A) → suc (k + i) ≡ length xs → slice_get xs k ≡ Some x → slice_get (reverse xs) i ≡ Some x
 reverse_at xs i k x e g =

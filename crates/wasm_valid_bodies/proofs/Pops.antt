@@ -1,7 +1,6 @@
 -- Operands are taken off the kept stack exactly where they can be taken off the stacks that it denotes.
-use Rattle.std.proofs.Common.{arith, ◌≡◌, ℕ, zero, suc, Bool, true, false, cond, List, [], ◌∷◌, ◌++◌, length, Some, None, refl, sym, ap, ◌∙◌, subst, option_and_then}
-use Rattle.wasm_tree.specs.declared.types.ValType.{ValType}
-use Rattle.wasm_tree.specs.SameTypes.{same_type}
+use Rattle.base_lists.proofs.Common.{arith, ◌≡◌, ℕ, zero, suc, Bool, true, false, cond, List, [], ◌∷◌, ◌++◌, length, Some, None, refl, sym, ap, ◌∙◌, subst, option_and_then}
+use Rattle.wasm_tree_spec.specs.Prelude.{ValType, same_type}
 use Rattle.wasm_valid_bodies.specs.Typing.{Operand, Stack, Matches, AllMatch}
 use Rattle.wasm_valid_bodies.specs.Tracking.{IsInstance, Instance, Concrete, fits_type, pop_type, pop_all}
 

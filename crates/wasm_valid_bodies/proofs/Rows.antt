@@ -1,5 +1,5 @@
 -- The instructions of a block, as a row and as a list.
-use Rattle.wasm_tree.specs.declared.instr.Instr.{Row_of-Instr, items-the_row-Instr, end_of-Instr, more_of-Instr}
+use Rattle.wasm_tree_spec.specs.Prelude.{Row_of-Instr, items-the_row-Instr, end_of-Instr, more_of-Instr}
 use Rattle.wasm_valid_bodies.specs.Typing.{Context, Stack, Leads, LeadsAll}
 
 pub to_list : {n : _} (c : Context) (is : Row_of-Instr n) (s t : Stack) → Leads c is s t → LeadsAll c (items-the_row-Instr n is) s t

@@ -1,15 +1,10 @@
 -- The checker's steps, from one instruction to a body.
-use Rattle.std.proofs.Common.{◌≡◌, ℕ, suc, ◌+◌, ◌<◌, ◌≤◌, ◌↔◌, Bool, true, false, IsTrue, List, [], ◌∷◌, ◌++◌, map, reverse, length, drop, get_or, Option, Some, None, Result, IfOk, refl, sym, ap, ◌∙◌, subst, arith, drop-cons, append-nil}
-use Rattle.std.proofs.lemmas.List.{drop_all}
-use Rattle.wasm_tree.specs.declared.types.ValType.{ValType}
-use Rattle.wasm_tree.specs.declared.types.ValType.TheVariants.{I32}
-use Rattle.wasm_tree.specs.declared.types.BlockType.{BlockType}
-use Rattle.wasm_tree.specs.declared.instr.Instr.{Instr, Block, Block', Loop, Loop', If, If', items_hidden-the_row-Instr-0, roll-out-Instr}
+use Rattle.base_lists.proofs.Common.{◌≡◌, ℕ, suc, ◌+◌, ◌<◌, ◌≤◌, ◌↔◌, Bool, true, false, IsTrue, List, [], ◌∷◌, ◌++◌, map, reverse, length, drop, get_or, Option, Some, None, Result, IfOk, refl, sym, ap, ◌∙◌, subst, arith, drop-cons, append-nil, drop_all, IfOk-weaker, Ok, Err}
+use Rattle.wasm_tree_spec.specs.Prelude.{ValType, I32, BlockType, Instr, roll-out-Instr}
+use Rattle.wasm_tree.specs.declared.instr.Instr.{Block, Block', Loop, Loop', If, If', items_hidden-the_row-Instr-0}
 use Rattle.wasm_tree.specs.declared.instr.Instr.TheBlock.{hidden-the_row-Instr-0, shown-the_row-Instr-0}
 use Rattle.wasm_tree.specs.declared.instr.Instr.TheViews.{roll-Instr, outs-Block', rolls-Block, outs-Loop', rolls-Loop, outs-If', rolls-If}
-use Rattle.std.proofs.lemmas.Result.{IfOk-weaker}
 use Rattle.std.specs.Bool.{OnTrue}
-use Rattle.std.specs.Prelude.{Ok, Err}
 use Rattle.std.specs.declared.alloc.AllocError.{AllocError}
 use Rattle.wasm_valid_bodies.specs.Typing.{Stack, AllMatch, operands, Effect, Gives, Acts, Signature, Context, under, signature_of, effect_of, Ends, ActsAs, Fits, Leads, LeadsAll, WellTyped}
 use Rattle.wasm_valid_bodies.specs.Tracking.{Instance, Concrete, StepsTo, Fails, TracksStep, pop_all, act, answer_of}

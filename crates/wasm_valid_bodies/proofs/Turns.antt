@@ -1,7 +1,6 @@
 -- What is taken off and put on, as the type of an instruction says.
-use Rattle.std.proofs.Common.{◌≡◌, Bool, List, [], ◌∷◌, ◌++◌, reverse, Option, Some, None, ap, sym, ◌∙◌, option_and_then, option_map}
-use Rattle.std.proofs.lemmas.List.{reverse-append}
-use Rattle.wasm_tree.specs.declared.types.ValType.{ValType}
+use Rattle.base_lists.proofs.Common.{◌≡◌, Bool, List, [], ◌∷◌, ◌++◌, reverse, Option, Some, None, ap, sym, ◌∙◌, option_and_then, option_map, reverse-append}
+use Rattle.wasm_tree_spec.specs.Prelude.{ValType}
 use Rattle.wasm_valid_bodies.specs.Typing.{Stack, operands, Gives}
 use Rattle.wasm_valid_bodies.specs.Tracking.{pop_type, pop_all, act}
 

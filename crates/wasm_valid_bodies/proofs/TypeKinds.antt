@@ -1,11 +1,7 @@
 -- Value types by their kinds: one for each number type, and one for all reference types.
-use Rattle.std.proofs.Common.{◌≡◌, true, false, refl}
-use Rattle.std.specs.Prelude.{min}
-use Rattle.wasm_tree.specs.declared.types.RefType.{RefType}
+use Rattle.base_lists.proofs.Common.{◌≡◌, true, false, refl, min}
+use Rattle.wasm_tree_spec.specs.Prelude.{RefType, ValType, I32, I64, Ref, same_type}
 use Rattle.wasm_tree.specs.declared.types.RefType.TheVariants as reft
-use Rattle.wasm_tree.specs.declared.types.ValType.{ValType}
-use Rattle.wasm_tree.specs.declared.types.ValType.TheVariants.{I32, I64, Ref}
-use Rattle.wasm_tree.specs.SameTypes.{same_type}
 use Rattle.wasm_valid_bodies.specs.Tracking.{letter}
 
 pub other_kinds : (a b : ValType) → (min (letter a) 2 ≡ min (letter b) 2 → ⊥) → same_type a b ≡ false

@@ -1,8 +1,7 @@
 -- The locals of a function: its parameters, and then its declared locals, group by group (WebAssembly Core 2.0, sections 3.4.1 and 5.5.13).
 use Rattle.std.specs.Prelude.{ℕ, ◌+◌, ◌<◌, ◌≤◌, List, [], ◌∷◌, ◌++◌, length, replicate, slice_index}
 use Rattle.std.specs.List.{flat_map}
-use Rattle.wasm_tree.specs.declared.types.ValType.{ValType}
-use Rattle.wasm_tree.specs.declared.module.LocalGroup.{LocalGroup}
+use Rattle.wasm_tree_spec.specs.Prelude.{ValType, LocalGroup}
 
 -- the types of the declared locals, each written out
 abbrev pub declared_types : List LocalGroup → List ValType

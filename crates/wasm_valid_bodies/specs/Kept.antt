@@ -1,6 +1,6 @@
 -- What the checker's stack in memory denotes.
 use Rattle.std.specs.Prelude.{◌≡◌, Bool, true, false, List, [], ◌∷◌, ◌++◌, take, drop, Option, Some, None}
-use Rattle.wasm_tree.specs.declared.types.ValType.{ValType}
+use Rattle.wasm_tree_spec.specs.Prelude.{ValType}
 use Rattle.wasm_valid_bodies.specs.declared.kept.Kept.{Kept}
 use Rattle.wasm_valid_bodies.specs.declared.kept.Outer.{Outer}
 use Rattle.wasm_valid_bodies.specs.Typing.{Stack, Effect, operands}

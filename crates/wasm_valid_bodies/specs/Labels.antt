@@ -1,6 +1,6 @@
 -- The labels as a list, the innermost first.
 use Rattle.std.specs.Prelude.{List, map, reverse}
-use Rattle.wasm_tree.specs.declared.types.ValType.{ValType}
+use Rattle.wasm_tree_spec.specs.Prelude.{ValType}
 use Rattle.wasm_valid_bodies.specs.declared.labels.Labels.{Labels}
 
 abbrev pub label_list : Labels → List (List ValType)

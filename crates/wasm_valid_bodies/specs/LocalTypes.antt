@@ -1,6 +1,6 @@
 -- What the locals in memory denote.
 use Rattle.std.specs.Prelude.{List}
-use Rattle.wasm_tree.specs.declared.types.ValType.{ValType}
+use Rattle.wasm_tree_spec.specs.Prelude.{ValType}
 use Rattle.wasm_valid_bodies.specs.declared.locals.Locals.{Locals}
 use Rattle.wasm_valid_bodies.specs.Groups.{locals_of}
 

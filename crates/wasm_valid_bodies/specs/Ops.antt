@@ -1,15 +1,12 @@
 -- The types of the operators (WebAssembly Core 2.0, sections 3.3.1 and 3.3.7).
 use Rattle.std.specs.Prelude.{ℕ}
-use Rattle.wasm_tree.specs.declared.types.ValType.{ValType}
-use Rattle.wasm_tree.specs.declared.types.ValType.TheVariants.{I32, I64}
+use Rattle.wasm_tree_spec.specs.Prelude.{ValType, I32, I64, LoadOp, I32Load, StoreOp, I32Store, I32Store8}
 use Rattle.wasm_num.specs.declared.UnOp.{UnOp}
 use Rattle.wasm_num.specs.declared.BinOp.{BinOp}
 use Rattle.wasm_num.specs.Operations.{un_from, un_to, bin_from, bin_to}
 use Rattle.wasm_tree.specs.Numbers.{value_type}
-use Rattle.wasm_tree.specs.declared.instr.LoadOp.{LoadOp}
-use Rattle.wasm_tree.specs.declared.instr.LoadOp.TheVariants.{I32Load, I64Load, I32Load8S, I32Load8U, I32Load16S, I32Load16U, I64Load8S, I64Load8U, I64Load16S, I64Load16U, I64Load32S, I64Load32U}
-use Rattle.wasm_tree.specs.declared.instr.StoreOp.{StoreOp}
-use Rattle.wasm_tree.specs.declared.instr.StoreOp.TheVariants.{I32Store, I64Store, I32Store8, I32Store16, I64Store8, I64Store16, I64Store32}
+use Rattle.wasm_tree.specs.declared.instr.LoadOp.TheVariants.{I64Load, I32Load8S, I32Load8U, I32Load16S, I32Load16U, I64Load8S, I64Load8U, I64Load16S, I64Load16U, I64Load32S, I64Load32U}
+use Rattle.wasm_tree.specs.declared.instr.StoreOp.TheVariants.{I64Store, I32Store16, I64Store8, I64Store16, I64Store32}
 
 abbrev pub un_operand : UnOp → ValType
 un_operand op = value_type (un_from op)

@@ -1,6 +1,6 @@
 -- What a body can name, where these labels are open.
 use Rattle.std.specs.Prelude.{List}
-use Rattle.wasm_tree.specs.declared.types.ValType.{ValType}
+use Rattle.wasm_tree_spec.specs.Prelude.{ValType}
 use Rattle.wasm_valid_bodies.specs.declared.scope.Scope.{Scope}
 use Rattle.wasm_valid_bodies.specs.declared.scope.Shape.{Shape}
 use Rattle.wasm_valid_bodies.specs.Typing.{Context, Signature}

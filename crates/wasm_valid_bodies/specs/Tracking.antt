@@ -2,10 +2,8 @@
 use Rattle.std.specs.Prelude.{◌≡◌, ℕ, Bool, true, false, cond, ◌&&◌, nat_eq, is_some, List, [], ◌∷◌, ◌++◌, reverse, length, Option, Some, None, slice_get, option_map}
 use Rattle.base_lists.specs.Options.{◌>>=◌}
 use Rattle.wasm_tree.specs.declared.types.RefType.TheVariants.{Func, Extern}
-use Rattle.wasm_tree.specs.declared.types.ValType.{ValType}
-use Rattle.wasm_tree.specs.declared.types.ValType.TheVariants.{I32, I64, Ref}
+use Rattle.wasm_tree_spec.specs.Prelude.{ValType, I32, I64, Ref, same_type}
 use Rattle.wasm_valid_bodies.specs.Typing.{Operand, Stack, operands, Effect, Gives, Leaves, Drops, Selects, TestsNull, Branches}
-use Rattle.wasm_tree.specs.SameTypes.{same_type}
 
 -- s is one of the stacks that are kept as xs: a type denotes itself, a bottom for any operand
 abbrev pub IsInstance : Operand → Operand → Type 0

@@ -1,6 +1,5 @@
 -- Bytes that are put behind others and turned stand before them, where all are read from the last to the first.
-use Rattle.std.proofs.Common.{◌≡◌, ◌∙◌, ap, ap₂, ℕ, ◌-◌, List, ◌++◌, length, take, drop, reverse, append-nil, ◌≤◌, arith}
-use Rattle.std.proofs.lemmas.List.{length-drop, take_all, drop_all}
+use Rattle.base_lists.proofs.Common.{◌≡◌, ◌∙◌, ap, ap₂, ℕ, ◌-◌, List, ◌++◌, length, take, drop, reverse, append-nil, ◌≤◌, arith, length-drop, take_all, drop_all}
 
 -- nothing is behind what is turned
 pub turned : (all : List ℕ) (n : ℕ) → n ≤ length all → take n all ++ (reverse (take (length all - n) (drop n all)) ++ drop (length all - n) (drop n all)) ≡ take n all ++ reverse (drop n all)

@@ -1,15 +1,8 @@
 -- Code whose parts are in range is in range.
-use Rattle.std.proofs.Common.{◌≡◌, ◌∙◌, ap, ℕ, List, [], ◌∷◌, true, ◌&&◌, ◌^◌, Result, Ok, Err, refl, rules}
-use Rattle.std.specs.Prelude.{OnOk, IsTrue}
-use Rattle.std.specs.List.{list_all, push}
-use Rattle.std.proofs.lemmas.Bool.{and_from, lt-ltb}
-use Rattle.std.proofs.lemmas.List.Folds.{list_all-append}
+use Rattle.base_lists.proofs.Common.{◌≡◌, ◌∙◌, ap, ℕ, List, [], ◌∷◌, true, ◌&&◌, ◌^◌, Result, Ok, Err, refl, rules, OnOk, IsTrue, list_all, and_from, lt-ltb, list_all-append, left_true, right_true}
+use Rattle.std.specs.List.{push}
 use Rattle.base_lists.specs.Every.{Every}
-use Rattle.base_lists.proofs.Bools.{left_true, right_true}
-use Rattle.wasm_tree.specs.declared.types.BlockType.{BlockType}
-use Rattle.wasm_tree.specs.declared.instr.Instr.{Instr, the_lemmas}
-use Rattle.wasm_tree.specs.declared.instr.Instr.TheVariants.{Block, Loop, If, BrTable, outs-Block, outs-Loop, outs-If}
-use Rattle.wasm_tree.specs.Operands.{block_operands, held, operands_pass, all_operands_pass}
+use Rattle.wasm_tree_spec.specs.Prelude.{BlockType, Instr, the_lemmas, Block, Loop, If, BrTable, outs-Block, outs-Loop, outs-If, block_operands, held, operands_pass, all_operands_pass}
 use Rattle.wasm_tree.proofs.OperandLaws.{block_passes, loop_passes, if_passes}
 use Rattle.wasm_write_proof.specs.Ranges.{small, IsU32, small_operand, small_numbers, numbers_in, all_numbers_in, in_range, all_in_range}
 use Rattle.wasm_write_proof.proofs.Inside.{numbers_inside}

@@ -1,14 +1,11 @@
 -- Steps of a loop that spells or tests one item at a time.
-use Rattle.std.specs.List.{list_any, push}
-use Rattle.std.proofs.Common.{◌≡◌, ◌||◌, Bool, ℕ, zero, suc, ◌+◌, ◌<◌, List, [], ◌∷◌, ◌++◌, true, false, map, take, get_or, length, append_assoc, append-nil, refl, sym, subst, ap, ◌∙◌, arith}
-use Rattle.std.proofs.lemmas.List.{map-append, take_more}
+use Rattle.base_lists.proofs.Common.{list_any, ◌≡◌, ◌||◌, Bool, ℕ, zero, suc, ◌+◌, ◌<◌, List, [], ◌∷◌, ◌++◌, true, false, map, take, get_or, length, append_assoc, append-nil, refl, sym, subst, ap, ◌∙◌, arith, map-append, take_more, and_false, left_true, right_true}
+use Rattle.std.specs.List.{push}
 use Rattle.base_lists.specs.Every.{Every}
 use Rattle.wasm_write_proof.specs.Ranges.{in_range, all_in_range}
-use Rattle.wasm_tree.specs.declared.instr.Instr.{Instr}
-use Rattle.base_lists.proofs.Bools.{and_false, left_true, right_true}
+use Rattle.wasm_tree_spec.specs.Prelude.{Instr, ConstExpr}
 use Rattle.wasm_write.proofs.InRange.{push_in_range}
 use Rattle.wasm_write_spec.specs.PlainValues.{joined, each_text, is_func, all_funcs}
-use Rattle.wasm_tree.specs.declared.module.ConstExpr.{ConstExpr}
 
 joined_push : (ts : List (List ℕ)) (t : List ℕ) → joined (ts ++ t ∷ []) ≡ joined ts ++ t
 joined_push [] t = append-nil t

@@ -1,6 +1,6 @@
 -- The canonical encoding of a module, from its parts.
-use Rattle.std.proofs.Common.{◌≡◌, ◌++◌, refl}
-use Rattle.wasm_tree.specs.declared.module.Module.{Module}
+use Rattle.base_lists.proofs.Common.{◌≡◌, ◌++◌, refl}
+use Rattle.wasm_tree_spec.specs.Prelude.{Module}
 use Rattle.wasm_write_spec.specs.PlainValues.{data_text}
 use Rattle.wasm_write_spec.specs.PlainCode.{entry_text}
 use Rattle.wasm_write_spec.specs.Plain.{list_section, count_section, plain}

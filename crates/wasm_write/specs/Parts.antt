@@ -1,11 +1,8 @@
 -- Parts of the canonical encoding of a module.
 use Rattle.std.specs.Prelude.{ℕ, List, ◌++◌}
-use Rattle.wasm_bytes.specs.Writing.{u32_text}
-use Rattle.wasm_bytes.specs.Frames.{header}
+use Rattle.wasm_bytes.specs.Prelude.{u32_text, header}
 use Rattle.base_lists.specs.Every.{Every}
-use Rattle.wasm_tree.specs.declared.types.TableType.{TableType}
-use Rattle.wasm_tree.specs.declared.module.GlobalDef.{GlobalDef}
-use Rattle.wasm_tree.specs.declared.module.Module.{Module}
+use Rattle.wasm_tree_spec.specs.Prelude.{TableType, GlobalDef, Module}
 use Rattle.wasm_write_proof.specs.Ranges.{MaxInRange, LimitsInRange, ConstInRange, ImportInRange, ExportInRange, ElemInRange, TypeInRange}
 use Rattle.wasm_write_spec.specs.PlainValues.{func_type_text, import_text, table_text, limits_text, global_text, export_text, elem_text}
 use Rattle.wasm_write_spec.specs.Plain.{list_section, start_section}

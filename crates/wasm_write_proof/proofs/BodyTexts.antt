@@ -1,30 +1,25 @@
 -- The plain texts of bodies spell them.
-use Rattle.std.proofs.Common.{◌≡◌, ℕ, suc, ◌+◌, ◌<◌, ◌^◌, List, [], ◌∷◌, ◌++◌, map, length, length-append, true, false, refl, sym, ap, ◌∙◌, subst, arith, append_assoc, append-nil}
-use Rattle.std.specs.Prelude.{nat_eq, ◌&&◌}
-use Rattle.std.specs.List.{list_all}
-use Rattle.std.proofs.lemmas.Bool.{eqb-true}
-use Rattle.base_lists.proofs.Bools.{left_true, right_true}
-use Rattle.wasm_bytes.specs.Writing.{u32_text, s32_text, s64_text, unsigned_text}
-use Rattle.wasm_bytes.specs.Joins.{U32, Each, Vector}
+use Rattle.base_lists.proofs.Common.{◌≡◌, ℕ, suc, ◌+◌, ◌<◌, ◌^◌, List, [], ◌∷◌, ◌++◌, map, length, true, false, refl, sym, ap, ◌∙◌, subst, arith, append_assoc, append-nil, nat_eq, ◌&&◌, list_all, eqb-true, left_true, right_true}
+use Rattle.std.proofs.Common.{length-append}
+use Rattle.wasm_bytes.specs.Prelude.{u32_text, s32_text, s64_text, U32, Each, Vector}
+use Rattle.wasm_bytes.specs.Writing.{unsigned_text}
 use Rattle.wasm_num.specs.declared.UnOp.{UnOp}
 use Rattle.wasm_num.specs.declared.UnOp.TheVariants as un
 use Rattle.wasm_num.specs.declared.BinOp.{BinOp}
 use Rattle.wasm_num.specs.declared.BinOp.TheVariants as bin
-use Rattle.wasm_tree.specs.declared.instr.LoadOp.{LoadOp}
+use Rattle.wasm_tree_spec.specs.Prelude.{LoadOp, StoreOp, MemArg, Instr, map-Instr, Unreachable, Nop, Br, BrIf, BrTable, Return, Call, CallIndirect, Drop, Select, SelectTyped, LocalGet, LocalSet, LocalTee, GlobalGet, GlobalSet, TableGet, TableSet, Load, Store, MemorySize, MemoryGrow, I32Const, I64Const, Un, Bin, RefNull, RefIsNull, RefFunc, MemoryInit, DataDrop, MemoryCopy, MemoryFill, TableInit, ElemDrop, TableCopy, TableGrow, TableSize, TableFill}
 use Rattle.wasm_tree.specs.declared.instr.LoadOp.TheVariants as load
-use Rattle.wasm_tree.specs.declared.instr.StoreOp.{StoreOp}
 use Rattle.wasm_tree.specs.declared.instr.StoreOp.TheVariants as store
-use Rattle.wasm_tree.specs.declared.instr.MemArg.{MemArg}
-use Rattle.wasm_tree.specs.declared.instr.Instr.{Instr, map-Instr, ind-Instr, fold-roll-Instr, out-roll-Instr, roll-Instr}
+use Rattle.wasm_tree.specs.declared.instr.Instr.{ind-Instr, fold-roll-Instr, out-roll-Instr, roll-Instr}
 use Rattle.wasm_tree.specs.declared.instr.Instr.TheOpen.{Instr-F}
-use Rattle.wasm_tree.specs.declared.instr.Instr.TheVariants.{Unreachable, Nop, Br, BrIf, BrTable, Return, Call, CallIndirect, Drop, Select, SelectTyped, LocalGet, LocalSet, LocalTee, GlobalGet, GlobalSet, TableGet, TableSet, Load, Store, MemorySize, MemoryGrow, I32Const, I64Const, Un, Bin, RefNull, RefIsNull, RefFunc, MemoryInit, DataDrop, MemoryCopy, MemoryFill, TableInit, ElemDrop, TableCopy, TableGrow, TableSize, TableFill, rolls-Unreachable, rolls-Nop, rolls-Block, rolls-Loop, rolls-If, rolls-Br, rolls-BrIf, rolls-BrTable, rolls-Return, rolls-Call, rolls-CallIndirect, rolls-Drop, rolls-Select, rolls-SelectTyped, rolls-LocalGet, rolls-LocalSet, rolls-LocalTee, rolls-GlobalGet, rolls-GlobalSet, rolls-TableGet, rolls-TableSet, rolls-Load, rolls-Store, rolls-MemorySize, rolls-MemoryGrow, rolls-I32Const, rolls-I64Const, rolls-Un, rolls-Bin, rolls-RefNull, rolls-RefIsNull, rolls-RefFunc, rolls-MemoryInit, rolls-DataDrop, rolls-MemoryCopy, rolls-MemoryFill, rolls-TableInit, rolls-ElemDrop, rolls-TableCopy, rolls-TableGrow, rolls-TableSize, rolls-TableFill}
+use Rattle.wasm_tree.specs.declared.instr.Instr.TheVariants.{rolls-Unreachable, rolls-Nop, rolls-Block, rolls-Loop, rolls-If, rolls-Br, rolls-BrIf, rolls-BrTable, rolls-Return, rolls-Call, rolls-CallIndirect, rolls-Drop, rolls-Select, rolls-SelectTyped, rolls-LocalGet, rolls-LocalSet, rolls-LocalTee, rolls-GlobalGet, rolls-GlobalSet, rolls-TableGet, rolls-TableSet, rolls-Load, rolls-Store, rolls-MemorySize, rolls-MemoryGrow, rolls-I32Const, rolls-I64Const, rolls-Un, rolls-Bin, rolls-RefNull, rolls-RefIsNull, rolls-RefFunc, rolls-MemoryInit, rolls-DataDrop, rolls-MemoryCopy, rolls-MemoryFill, rolls-TableInit, rolls-ElemDrop, rolls-TableCopy, rolls-TableGrow, rolls-TableSize, rolls-TableFill}
 use Rattle.wasm_read_spec.specs.declared.token.Opener.TheVariants as opener
 use Rattle.wasm_read_spec.specs.declared.token.Token.{Token}
 use Rattle.wasm_read_spec.specs.declared.token.Token.TheVariants.{Open, Else, End, Plain}
 use Rattle.base_lists.specs.Every.{Every}
 use Rattle.wasm_read_spec.specs.Operations.{un_of, bin_of, load_of, store_of}
-use Rattle.wasm_read_spec.specs.Tokens.{plain, access, the_form, rest_form, sub_form, arg_form, SpellsMemArg, SpellsMemory, FollowsOpcode, SpellsToken}
-use Rattle.wasm_read_spec.specs.Bodies.{Nests, no_more, one_plain, one_block, one_loop, one_if, one_if_else, SpellsBody}
+use Rattle.wasm_read_spec.specs.Prelude.{plain, access, SpellsMemArg, SpellsMemory, FollowsOpcode, SpellsToken, Nests, no_more, one_plain, one_block, one_loop, one_if, one_if_else, SpellsBody}
+use Rattle.wasm_read_spec.specs.Tokens.{the_form, rest_form, sub_form, arg_form}
 use Rattle.wasm_write_spec.specs.PlainValues.{vector_text, ref_text, val_text, block_type_text}
 use Rattle.wasm_write_spec.specs.PlainCode.{un_code, bin_code, load_code, store_code, mem_arg_text, instr_step, instr_text, instrs_text, body_text}
 use Rattle.wasm_write_proof.specs.Ranges.{small, spellable, all_spellable}

@@ -1,12 +1,10 @@
 -- The plain texts of code entries spell them, and data is used in them as in the functions.
-use Rattle.std.proofs.Common.{◌≡◌, ◌<◌, ◌^◌, List, [], ◌∷◌, map, length, length-append, true, false, ◌||◌, refl, ap, arith}
+use Rattle.base_lists.proofs.Common.{◌≡◌, ◌<◌, ◌^◌, List, [], ◌∷◌, map, length, true, false, ◌||◌, refl, ap, arith, left_true, right_true}
+use Rattle.std.proofs.Common.{length-append}
 use Rattle.base_lists.specs.Every.{Every}
-use Rattle.base_lists.proofs.Bools.{left_true, right_true}
-use Rattle.wasm_bytes.specs.Writing.{u32_text}
-use Rattle.wasm_tree.specs.declared.module.LocalGroup.{LocalGroup}
-use Rattle.wasm_tree.specs.declared.module.Func.{Func}
-use Rattle.wasm_read_spec.specs.Bodies.{SpellsGroup, SpellsCode, SpellsEntry}
-use Rattle.wasm_tree.specs.DataUse.{uses_data, any_uses_data}
+use Rattle.wasm_bytes.specs.Prelude.{u32_text}
+use Rattle.wasm_tree_spec.specs.Prelude.{LocalGroup, Func, uses_data, any_uses_data, memory_zero_all, memory_zero_funcs}
+use Rattle.wasm_read_spec.specs.Prelude.{SpellsGroup, SpellsCode, SpellsEntry}
 use Rattle.wasm_write_spec.specs.PlainValues.{vector_text, val_text}
 use Rattle.wasm_write_spec.specs.PlainCode.{group_text, body_text, code_text, entry_text}
 use Rattle.wasm_write_proof.specs.Ranges.{IsU32, FuncInRange}
@@ -14,7 +12,6 @@ use Rattle.wasm_write_proof.proofs.Parts.{u32_some, u32_spells, sized_spells, ve
 use Rattle.wasm_write_proof.proofs.ItemTexts.{val_spells}
 use Rattle.wasm_write_proof.proofs.BodyTexts.{body_spells}
 use Rattle.wasm_write_proof.proofs.Inside.{spellable_of}
-use Rattle.wasm_tree.specs.MemoryZero.{memory_zero_all, memory_zero_funcs}
 
 group_spells : (g : LocalGroup) → IsU32 g.count → SpellsGroup (group_text g) g
 unfolding group_text

@@ -1,32 +1,14 @@
 -- The plain text of a module spells it.
-use Rattle.std.proofs.Common.{◌≡◌, ℕ, zero, suc, ◌/◌, ◌<◌, ◌≤◌, ◌^◌, List, [], ◌∷◌, ◌++◌, map, length, length-append, Bool, true, false, Option, Some, None, refl, sym, ap, ◌∙◌, subst, arith, append_assoc, append-nil, ⊎_elim}
-use Rattle.std.specs.Prelude.{if◌then◌else◌, IsTrue}
-use Rattle.std.proofs.lemmas.Bool.{lt-ltb, le-ltb, cases_lt}
-use Rattle.std.proofs.lemmas.List.{length-map}
-use Rattle.wasm_bytes.specs.Writing.{u32_text, unsigned_text, sized_text}
-use Rattle.wasm_bytes.specs.Joins.{U32, Vector}
-use Rattle.wasm_bytes.specs.Frames.{Section, header, may_follow, order_after, Frames}
-use Rattle.wasm_tree.specs.declared.types.FuncType.{FuncType}
-use Rattle.wasm_tree.specs.declared.types.Limits.{Limits}
-use Rattle.wasm_tree.specs.declared.types.TableType.{TableType}
-use Rattle.wasm_tree.specs.declared.module.Func.{Func}
-use Rattle.wasm_tree.specs.declared.module.Import.{Import}
-use Rattle.wasm_tree.specs.declared.module.GlobalDef.{GlobalDef}
-use Rattle.wasm_tree.specs.declared.module.Export.{Export}
-use Rattle.wasm_tree.specs.declared.module.ElemSeg.{ElemSeg}
-use Rattle.wasm_tree.specs.declared.module.DataSeg.{DataSeg}
-use Rattle.wasm_tree.specs.declared.module.Module.{Module}
+use Rattle.base_lists.proofs.Common.{◌≡◌, ℕ, zero, suc, ◌/◌, ◌<◌, ◌≤◌, ◌^◌, List, [], ◌∷◌, ◌++◌, map, length, Bool, true, false, Option, Some, None, refl, sym, ap, ◌∙◌, subst, arith, append_assoc, append-nil, ⊎_elim, if◌then◌else◌, IsTrue, lt-ltb, le-ltb, cases_lt, length-map}
+use Rattle.std.proofs.Common.{length-append}
+use Rattle.wasm_bytes.specs.Prelude.{u32_text, sized_text, U32, Vector, Section, header, may_follow, order_after, Frames}
+use Rattle.wasm_bytes.specs.Writing.{unsigned_text}
+use Rattle.wasm_tree_spec.specs.Prelude.{FuncType, Limits, TableType, Func, Import, GlobalDef, Export, ElemSeg, DataSeg, Module, any_uses_data, memory_zero_funcs, limit, Imports, Exports}
 use Rattle.wasm_read_spec.specs.declared.parts.Parts.{Parts}
 use Rattle.base_lists.specs.Every.{Every}
-use Rattle.wasm_read_spec.specs.Values.{SmallFuncType, SpellsFuncType, SpellsTable, SpellsLimits}
-use Rattle.wasm_read_spec.specs.Sections.{SpellsImport, SpellsGlobalDef, SpellsExport, SpellsElem, SpellsData}
-use Rattle.wasm_read_spec.specs.Bodies.{SpellsEntry, SmallCode}
-use Rattle.wasm_tree.specs.DataUse.{any_uses_data}
-use Rattle.wasm_tree.specs.MemoryZero.{memory_zero_funcs}
-use Rattle.wasm_tree.specs.Limits.{limit}
-use Rattle.wasm_tree.specs.declared.which.Which.TheVariants.{Types, Imports, Functions, Tables, Memories, Globals, Exports, ElementSegments, DataSegments}
-use Rattle.wasm_read_spec.specs.SpellingForms.{Any, Few, Limited}
-use Rattle.wasm_read_spec.specs.Files.{SectionIsSmall, Within, small_form, nothing, with_types, with_imports, with_func_types, with_tables, with_mems, with_globals, with_exports, with_elems, with_codes, with_datas, section_form, Contents, Counted, Rules, typed, tree_of, Spells}
+use Rattle.wasm_read_spec.specs.Prelude.{SmallFuncType, SpellsFuncType, SpellsTable, SpellsLimits, SpellsImport, SpellsGlobalDef, SpellsExport, SpellsElem, SpellsData, SpellsEntry, SmallCode, Any, Few, Limited, SectionIsSmall, Within, nothing, with_types, with_imports, with_func_types, with_tables, with_mems, with_globals, with_exports, with_elems, with_codes, with_datas, Contents, typed, tree_of, Spells}
+use Rattle.wasm_tree.specs.declared.which.Which.TheVariants.{Types, Functions, Tables, Memories, Globals, ElementSegments, DataSegments}
+use Rattle.wasm_read_spec.specs.Files.{small_form, section_form, Counted, Rules}
 use Rattle.wasm_write_spec.specs.PlainValues.{each_text, vector_text, func_type_text, import_text, table_text, limits_text, global_text, export_text, elem_text, data_text}
 use Rattle.wasm_write_spec.specs.PlainCode.{entry_text}
 use Rattle.wasm_write_spec.specs.Plain.{section_text, list_section, start_section, count_section, plain}

@@ -1,32 +1,18 @@
 -- The plain texts of types, constant expressions and what the sections hold spell them.
-use Rattle.std.proofs.Common.{◌≡◌, ℕ, ◌<◌, ◌^◌, List, [], ◌∷◌, ◌++◌, length, length-append, Bool, true, false, Option, Some, None, refl, arith, append_assoc}
-use Rattle.std.specs.Prelude.{IsUtf8}
-use Rattle.wasm_bytes.specs.Writing.{u32_text, s32_text, s64_text, sized_text}
-use Rattle.wasm_bytes.specs.Joins.{Then, Vector, Named}
-use Rattle.wasm_tree.specs.declared.types.RefType.{RefType}
+use Rattle.base_lists.proofs.Common.{◌≡◌, ℕ, ◌<◌, ◌^◌, List, [], ◌∷◌, ◌++◌, length, Bool, true, false, Option, Some, None, refl, arith, append_assoc, IsUtf8}
+use Rattle.std.proofs.Common.{length-append}
+use Rattle.wasm_bytes.specs.Prelude.{u32_text, s32_text, s64_text, sized_text, Then, Vector, Named}
+use Rattle.wasm_tree_spec.specs.Prelude.{RefType, ValType, I32, I64, Ref, FuncType, Limits, TableType, GlobalType, BlockType, ImportDesc, Import, ExportDesc, Export, ConstExpr, GlobalDef, block_operands}
 use Rattle.wasm_tree.specs.declared.types.RefType.TheVariants as ref
-use Rattle.wasm_tree.specs.declared.types.ValType.{ValType}
-use Rattle.wasm_tree.specs.declared.types.ValType.TheVariants.{I32, I64, Ref}
-use Rattle.wasm_tree.specs.declared.types.FuncType.{FuncType}
-use Rattle.wasm_tree.specs.declared.types.Limits.{Limits}
-use Rattle.wasm_tree.specs.declared.types.TableType.{TableType}
-use Rattle.wasm_tree.specs.declared.types.GlobalType.{GlobalType}
-use Rattle.wasm_tree.specs.declared.types.BlockType.{BlockType}
 use Rattle.wasm_tree.specs.declared.types.BlockType.TheVariants as block
-use Rattle.wasm_tree.specs.declared.module.ImportDesc.{ImportDesc}
 use Rattle.wasm_tree.specs.declared.module.ImportDesc.TheVariants as import
-use Rattle.wasm_tree.specs.declared.module.Import.{Import}
-use Rattle.wasm_tree.specs.declared.module.ExportDesc.{ExportDesc}
 use Rattle.wasm_tree.specs.declared.module.ExportDesc.TheVariants as export
-use Rattle.wasm_tree.specs.declared.module.Export.{Export}
-use Rattle.wasm_tree.specs.declared.module.ConstExpr.{ConstExpr}
 use Rattle.wasm_tree.specs.declared.module.ConstExpr.TheVariants as const
-use Rattle.wasm_tree.specs.declared.module.GlobalDef.{GlobalDef}
 use Rattle.wasm_read_spec.specs.SpellingForms.{Coded}
-use Rattle.wasm_read_spec.specs.Values.{val_of_code as val_of, ref_of_code as ref_of, mut_of_code, SpellsVal, SpellsRef, SpellsFuncType, limits_form, SpellsLimits, SpellsTable, SpellsGlobal, SpellsBlockType, const_form, SpellsConst}
-use Rattle.wasm_read_spec.specs.Sections.{import_form, SpellsImport, SpellsGlobalDef, export_form, SpellsExport}
+use Rattle.wasm_read_spec.specs.Prelude.{SpellsVal, SpellsRef, SpellsFuncType, SpellsLimits, SpellsTable, SpellsGlobal, SpellsBlockType, SpellsConst, SpellsImport, SpellsGlobalDef, SpellsExport}
+use Rattle.wasm_read_spec.specs.Values.{val_of_code as val_of, ref_of_code as ref_of, mut_of_code, limits_form, const_form}
+use Rattle.wasm_read_spec.specs.Sections.{import_form, export_form}
 use Rattle.wasm_write_spec.specs.PlainValues.{vector_text, ref_code, val_code, ref_text, val_text, func_type_text, max_text, limits_text, table_text, mutable_code, global_type_text, block_type_text, const_text, import_desc_text, import_text, global_text, export_desc_text, export_text}
-use Rattle.wasm_tree.specs.Operands.{block_operands}
 use Rattle.base_lists.specs.Every.{Every}
 use Rattle.wasm_write_proof.specs.Ranges.{spelled_operand, IsU32, MaxInRange, LimitsInRange, ConstInRange, ImportDescInRange, ImportInRange, ExportDescInRange, ExportInRange}
 use Rattle.wasm_write_proof.proofs.Parts.{below, u32_some, u32_spells, index_spells, s32_spells, s64_spells, sized_spells, vector_spells, every_of}

@@ -1,13 +1,10 @@
 -- Each number that is spelled is in the range of its type.
-use Rattle.std.proofs.Common.{◌≡◌, ℕ, ◌-◌, ◌<◌, ◌^◌, List, [], ◌∷◌, Bool, true, false, Some, ℤ, pos, negsuc, ◌-ℤ◌, sym, subst, arith, ⊎_elim}
-use Rattle.std.proofs.lemmas.Bool.{cases_lt, lt-ltb, le-ltb}
-use Rattle.std.proofs.lemmas.Int.{ints}
-use Rattle.std.proofs.lemmas.Nat.{pow_pos}
-use Rattle.wasm_bytes.specs.Numbers.{Unsigned, Signed, IsWithin, last_unsigned, last_signed}
-use Rattle.wasm_bytes.specs.Joins.{U32, Each, Vector}
+use Rattle.base_lists.proofs.Common.{◌≡◌, ℕ, ◌-◌, ◌<◌, ◌^◌, List, [], ◌∷◌, Bool, true, false, Some, ℤ, pos, negsuc, ◌-ℤ◌, sym, subst, arith, ⊎_elim, cases_lt, lt-ltb, le-ltb, ints, pow_pos}
+use Rattle.wasm_bytes.specs.Prelude.{Signed, IsWithin, last_unsigned, last_signed, U32, Each, Vector}
+use Rattle.wasm_bytes.specs.Numbers.{Unsigned}
 use Rattle.wasm_bytes.proofs.Sizes.{joined, joined_signed}
 use Rattle.base_lists.specs.Every.{Every}
-use Rattle.wasm_read_spec.specs.SpellingForms.{Made, When, Never}
+use Rattle.wasm_read_spec.specs.Prelude.{Made, When, Never}
 use Rattle.wasm_write_proof.specs.Ranges.{small, small_signed, IsU32}
 
 last_in : (bits b n : ℕ) → last_unsigned bits b ≡ Some n → n < 2 ^ bits

@@ -1,11 +1,8 @@
 -- Spellings of numbers, vectors and sized contents by their plain texts.
-use Rattle.std.proofs.Common.{◌≡◌, ℕ, ◌<◌, ◌≤◌, ◌^◌, List, [], ◌∷◌, ◌++◌, map, length, length-append, true, ℤ, pos, negsuc, refl, sym, ap, ◌∙◌, subst, arith, append_assoc, ⊎_elim}
-use Rattle.std.proofs.lemmas.Bool.{ltb-true, lt-ltb, le-ltb, cases_lt}
-use Rattle.std.proofs.lemmas.Int.{ints}
-use Rattle.std.proofs.lemmas.List.{length-map}
-use Rattle.wasm_bytes.specs.Numbers.{Signed, IsWithin}
-use Rattle.wasm_bytes.specs.Writing.{u32_text, s32_text, s33_text, s64_text, sized_text, unsigned_text}
-use Rattle.wasm_bytes.specs.Joins.{U32, Each, Vector, Sized}
+use Rattle.base_lists.proofs.Common.{◌≡◌, ℕ, ◌<◌, ◌≤◌, ◌^◌, List, [], ◌∷◌, ◌++◌, map, length, true, ℤ, pos, negsuc, refl, sym, ap, ◌∙◌, subst, arith, append_assoc, ⊎_elim, ltb-true, lt-ltb, le-ltb, cases_lt, ints, length-map}
+use Rattle.std.proofs.Common.{length-append}
+use Rattle.wasm_bytes.specs.Prelude.{Signed, IsWithin, u32_text, s32_text, s64_text, sized_text, U32, Each, Vector, Sized}
+use Rattle.wasm_bytes.specs.Writing.{s33_text, unsigned_text}
 use Rattle.wasm_bytes.proofs.Shortest.{u32_shortest}
 use Rattle.wasm_bytes.proofs.SignedShortest.{signed_spells}
 use Rattle.wasm_write_spec.specs.PlainValues.{each_text, vector_text}

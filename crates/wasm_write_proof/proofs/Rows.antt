@@ -1,12 +1,7 @@
 -- Numbers in range and past it, computed, and modules that are in range and out of it.
-use Rattle.std.proofs.Common.{◌≡◌, ℕ, length, replicate, refl, sym, ◌∙◌, List, [], ◌∷◌, Bool, true, false, None, arith}
-use Rattle.std.specs.Prelude.{pos}
-use Rattle.wasm_tree.specs.declared.instr.Instr.{Instr, out-Instr, fold_out-Instr}
-use Rattle.wasm_tree.specs.declared.instr.Instr.TheVariants.{Br, I32Const, MemorySize}
-use Rattle.wasm_tree.specs.declared.module.Module.{Module}
-use Rattle.wasm_tree.specs.Operands.{all_pass_step}
-use Rattle.wasm_tree.specs.declared.types.ValType.{ValType}
-use Rattle.wasm_tree.specs.declared.types.ValType.TheVariants.{I32}
+use Rattle.base_lists.proofs.Common.{◌≡◌, ℕ, length, replicate, refl, sym, ◌∙◌, List, [], ◌∷◌, Bool, true, false, None, arith, pos}
+use Rattle.wasm_tree_spec.specs.Prelude.{Instr, fold_out-Instr, Br, I32Const, MemorySize, Module, all_pass_step, ValType, I32}
+use Rattle.wasm_tree.specs.declared.instr.Instr.{out-Instr}
 use Rattle.wasm_write_spec.specs.PlainValues.{vector_text, func_type_text, val_code}
 use Rattle.wasm_bytes.specs.Writing.{unsigned_text}
 use Rattle.wasm_write_proof.specs.SmallSizes.{SmallSection, SmallSizes}

@@ -1,24 +1,15 @@
 -- The plain texts of element and data segments spell them.
-use Rattle.std.proofs.Common.{◌≡◌, ℕ, ◌<◌, ◌≤◌, ◌^◌, List, [], ◌∷◌, ◌++◌, length, length-append, true, true≢false, ◌&&◌, ⊎_elim, refl, sym, arith, append_assoc}
-use Rattle.std.specs.Prelude.{◌==◌}
-use Rattle.std.proofs.lemmas.Bool.{eqb-true, cases_Bool}
-use Rattle.base_lists.proofs.Bools.{left_true, right_true}
-use Rattle.wasm_bytes.specs.Writing.{u32_text, sized_text}
-use Rattle.wasm_bytes.specs.Joins.{U32, Sized}
-use Rattle.wasm_tree.specs.declared.types.RefType.{RefType}
+use Rattle.base_lists.proofs.Common.{◌≡◌, ℕ, ◌<◌, ◌≤◌, ◌^◌, List, [], ◌∷◌, ◌++◌, length, true, true≢false, ◌&&◌, ⊎_elim, refl, sym, arith, append_assoc, ◌==◌, eqb-true, cases_Bool, left_true, right_true}
+use Rattle.std.proofs.Common.{length-append}
+use Rattle.wasm_bytes.specs.Prelude.{u32_text, sized_text, U32, Sized}
+use Rattle.wasm_tree_spec.specs.Prelude.{RefType, ConstExpr, ElemMode, ElemSeg, DataMode, DataSeg}
 use Rattle.wasm_tree.specs.declared.types.RefType.TheVariants as ref
-use Rattle.wasm_tree.specs.declared.module.ConstExpr.{ConstExpr}
 use Rattle.wasm_tree.specs.declared.module.ConstExpr.TheVariants as const
-use Rattle.wasm_tree.specs.declared.module.ElemMode.{ElemMode}
 use Rattle.wasm_tree.specs.declared.module.ElemMode.TheVariants as elem
-use Rattle.wasm_tree.specs.declared.module.ElemSeg.{ElemSeg}
-use Rattle.wasm_tree.specs.declared.module.DataMode.{DataMode}
 use Rattle.wasm_tree.specs.declared.module.DataMode.TheVariants as segment
-use Rattle.wasm_tree.specs.declared.module.DataSeg.{DataSeg}
 use Rattle.base_lists.specs.Every.{Every}
-use Rattle.wasm_read_spec.specs.SpellingForms.{Made}
-use Rattle.wasm_read_spec.specs.Values.{SpellsConst}
-use Rattle.wasm_read_spec.specs.Sections.{FuncItems, ConstItems, elem_of, elem_form, SpellsElem, data_form, SpellsData}
+use Rattle.wasm_read_spec.specs.Prelude.{Made, SpellsConst, FuncItems, ConstItems, SpellsElem, SpellsData}
+use Rattle.wasm_read_spec.specs.Sections.{elem_of, elem_form, data_form}
 use Rattle.wasm_write_spec.specs.PlainValues.{ref_code, ref_text, const_text, is_func, func_of, is_funcref, all_funcs, by_index, index_items, const_items, active_by_index, active_by_const, mode_by_index, mode_by_const, elem_text, data_mode_text, data_text}
 use Rattle.wasm_write_proof.specs.Ranges.{IsU32, ConstInRange, ElemModeInRange, ElemInRange, DataModeInRange}
 use Rattle.wasm_write_proof.proofs.Parts.{u32_some, u32_spells, flag_spells, sized_spells, vector_spells, every_with}

@@ -1,20 +1,13 @@
 -- Where the canonical encoding of a module has fewer than 2^32 bytes, each vector and each written size is below 2^32.
-use Rattle.std.proofs.Common.{◌≡◌, ℕ, suc, ◌+◌, ◌<◌, ◌^◌, List, [], ◌∷◌, ◌++◌, map, length, length-append, Bool, true, refl, ap, ◌∙◌, subst, arith, append-nil, ⊎_elim}
-use Rattle.std.specs.List.{list_all}
-use Rattle.std.proofs.lemmas.List.Folds.{list_all-map}
-use Rattle.std.proofs.lemmas.Bool.{and_from, cases_Bool}
-use Rattle.wasm_bytes.specs.Writing.{u32_text, unsigned_text, sized_text}
-use Rattle.wasm_tree.specs.declared.types.FuncType.{FuncType}
-use Rattle.wasm_tree.specs.declared.instr.Instr.{Instr, map-Instr, ind-Instr, fold-roll-Instr, roll-Instr}
+use Rattle.base_lists.proofs.Common.{◌≡◌, ℕ, suc, ◌+◌, ◌<◌, ◌^◌, List, [], ◌∷◌, ◌++◌, map, length, Bool, true, refl, ap, ◌∙◌, subst, arith, append-nil, ⊎_elim, list_all, list_all-map, and_from, cases_Bool}
+use Rattle.std.proofs.Common.{length-append}
+use Rattle.wasm_bytes.specs.Prelude.{u32_text, sized_text}
+use Rattle.wasm_bytes.specs.Writing.{unsigned_text}
+use Rattle.wasm_tree_spec.specs.Prelude.{FuncType, Instr, map-Instr, Import, Export, ElemSeg, DataSeg, Func, Module}
+use Rattle.wasm_tree.specs.declared.instr.Instr.{ind-Instr, fold-roll-Instr, roll-Instr}
 use Rattle.wasm_tree.specs.declared.instr.Instr.TheOpen.{Instr-F}
-use Rattle.wasm_tree.specs.declared.module.Import.{Import}
-use Rattle.wasm_tree.specs.declared.module.Export.{Export}
-use Rattle.wasm_tree.specs.declared.module.ElemSeg.{ElemSeg}
-use Rattle.wasm_tree.specs.declared.module.DataSeg.{DataSeg}
-use Rattle.wasm_tree.specs.declared.module.Func.{Func}
-use Rattle.wasm_tree.specs.declared.module.Module.{Module}
 use Rattle.base_lists.specs.Every.{Every}
-use Rattle.wasm_read_spec.specs.SpellingForms.{Any}
+use Rattle.wasm_read_spec.specs.Prelude.{Any}
 use Rattle.wasm_write_spec.specs.PlainValues.{vector_text, val_text, block_type_text, func_type_text, import_desc_text, import_text, table_text, limits_text, global_text, export_desc_text, export_text, const_text, func_of, by_index, index_items, const_items, elem_text, data_mode_text, data_text}
 use Rattle.wasm_write_spec.specs.PlainCode.{instr_step, instr_text, instrs_text, body_text, group_text, code_text, entry_text}
 use Rattle.wasm_write_spec.specs.Plain.{list_section, plain}

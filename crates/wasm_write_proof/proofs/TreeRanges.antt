@@ -1,25 +1,17 @@
 -- What is spelled in a file is in range.
-use Rattle.std.proofs.Common.{◌≡◌, ℕ, List, [], ◌∷◌, sym, subst, arith, true, false}
-use Rattle.std.specs.Prelude.{◌==◌}
-use Rattle.wasm_bytes.specs.Joins.{U32, Vector}
-use Rattle.wasm_bytes.specs.Frames.{Section}
-use Rattle.wasm_tree.specs.declared.types.TableType.{TableType}
+use Rattle.base_lists.proofs.Common.{◌≡◌, ℕ, List, [], ◌∷◌, sym, subst, arith, true, false, ◌==◌}
+use Rattle.wasm_bytes.specs.Prelude.{U32, Vector, Section, Sized}
+use Rattle.wasm_tree_spec.specs.Prelude.{TableType, GlobalDef, DataSeg, LocalGroup, Func, Module}
 use Rattle.wasm_tree.specs.declared.module.ImportDesc.TheVariants as import
 use Rattle.wasm_tree.specs.declared.module.ExportDesc.TheVariants as export
 use Rattle.wasm_tree.specs.declared.module.ConstExpr.TheVariants as const
-use Rattle.wasm_tree.specs.declared.module.GlobalDef.{GlobalDef}
-use Rattle.wasm_tree.specs.declared.module.DataSeg.{DataSeg}
-use Rattle.wasm_tree.specs.declared.module.LocalGroup.{LocalGroup}
-use Rattle.wasm_tree.specs.declared.module.Func.{Func}
-use Rattle.wasm_tree.specs.declared.module.Module.{Module}
 use Rattle.wasm_read_spec.specs.declared.parts.Parts.{Parts}
 use Rattle.base_lists.specs.Every.{Every}
-use Rattle.wasm_read_spec.specs.SpellingForms.{Made, Both, After, S32, S64}
-use Rattle.wasm_read_spec.specs.Values.{SpellsRef, SpellsFuncType, at_least, between, limits_form, SpellsLimits, SpellsTable, SpellsGlobal, const_form, SpellsConst}
-use Rattle.wasm_read_spec.specs.Sections.{import_form, SpellsImport, SpellsGlobalDef, export_form, SpellsExport, FuncItems, ConstItems, elem0, elem1, elem2, elem3, elem5, elem6, elem7, elem_form, SpellsElem, data0, data1, data2, data_form, SpellsData}
-use Rattle.wasm_read_spec.specs.Bodies.{SpellsGroup, SpellsEntry}
-use Rattle.wasm_read_spec.specs.Files.{nothing, with_types, with_imports, with_func_types, with_tables, with_mems, with_globals, with_exports, with_start, with_elems, with_codes, with_datas, with_count, section_form, Contents, typed, tree_of, Spells}
-use Rattle.wasm_bytes.specs.Joins.{Sized}
+use Rattle.wasm_read_spec.specs.Prelude.{Made, Both, After, SpellsRef, SpellsFuncType, at_least, between, SpellsLimits, SpellsTable, SpellsGlobal, SpellsConst, SpellsImport, SpellsGlobalDef, SpellsExport, FuncItems, ConstItems, elem0, elem1, elem2, elem3, elem5, elem6, elem7, SpellsElem, data0, data1, data2, SpellsData, SpellsGroup, SpellsEntry, nothing, with_types, with_imports, with_func_types, with_tables, with_mems, with_globals, with_exports, with_start, with_elems, with_codes, with_datas, with_count, Contents, typed, tree_of, Spells}
+use Rattle.wasm_read_spec.specs.SpellingForms.{S32, S64}
+use Rattle.wasm_read_spec.specs.Values.{limits_form, const_form}
+use Rattle.wasm_read_spec.specs.Sections.{import_form, export_form, elem_form, data_form}
+use Rattle.wasm_read_spec.specs.Files.{section_form}
 use Rattle.wasm_write_proof.specs.Ranges.{all_in_range, IsU32, MaxInRange, LimitsInRange, ConstInRange, ImportDescInRange, ImportInRange, ExportDescInRange, ExportInRange, ElemInRange, DataModeInRange, FuncInRange, InRange}
 use Rattle.wasm_write_proof.proofs.NumberRanges.{u32_in, signed_in, Says, says_when, says_made, says_never, says_vector}
 use Rattle.wasm_write_proof.proofs.BodyRanges.{body_in}

@@ -1,17 +1,10 @@
 -- Each vector of a module and each size that its canonical encoding writes is below 2^32 (Core 2.0, 5.1.3 and 5.5.2).
 use Rattle.std.specs.Prelude.{ℕ, ◌^◌, ◌<◌, List, length, Bool, true, ◌&&◌, IsTrue}
 use Rattle.std.specs.List.{list_all}
-use Rattle.wasm_tree.specs.declared.types.FuncType.{FuncType}
-use Rattle.wasm_tree.specs.declared.instr.Instr.{Instr, fold-Instr}
+use Rattle.wasm_tree_spec.specs.Prelude.{FuncType, Instr, fold-Instr, Import, Export, ElemSeg, DataSeg, Func, Module}
 use Rattle.wasm_tree.specs.declared.instr.Instr.TheOpen.{Instr-F}
-use Rattle.wasm_tree.specs.declared.module.Import.{Import}
-use Rattle.wasm_tree.specs.declared.module.Export.{Export}
-use Rattle.wasm_tree.specs.declared.module.ElemSeg.{ElemSeg}
-use Rattle.wasm_tree.specs.declared.module.DataSeg.{DataSeg}
-use Rattle.wasm_tree.specs.declared.module.Func.{Func}
-use Rattle.wasm_tree.specs.declared.module.Module.{Module}
 use Rattle.base_lists.specs.Every.{Every}
-use Rattle.wasm_bytes.specs.Writing.{u32_text}
+use Rattle.wasm_bytes.specs.Prelude.{u32_text}
 use Rattle.wasm_write_spec.specs.PlainValues.{vector_text, func_type_text, import_text, table_text, limits_text, global_text, export_text, elem_text, data_text}
 use Rattle.wasm_write_spec.specs.PlainCode.{code_text, entry_text}
 use Rattle.wasm_write_proof.specs.Ranges.{small}

@@ -1,11 +1,8 @@
 -- What a file may have is within its limits in a tree: how many things there are of each kind, the parameters and results of types, and the locals and the nesting of functions.
 use Rattle.std.specs.Prelude.{◌≤◌, length}
-use Rattle.wasm_tree.specs.declared.module.Module.{Module}
-use Rattle.wasm_tree.specs.declared.which.Which.TheVariants.{Types, Imports, Functions, Tables, Memories, Globals, Exports, ElementSegments, DataSegments}
-use Rattle.wasm_tree.specs.Limits.{limit}
-use Rattle.wasm_read_spec.specs.SpellingForms.{Few}
-use Rattle.wasm_read_spec.specs.Values.{SmallFuncType}
-use Rattle.wasm_read_spec.specs.Bodies.{SmallCode}
+use Rattle.wasm_tree_spec.specs.Prelude.{Module, Imports, Exports, limit}
+use Rattle.wasm_tree.specs.declared.which.Which.TheVariants.{Types, Functions, Tables, Memories, Globals, ElementSegments, DataSegments}
+use Rattle.wasm_read_spec.specs.Prelude.{Few, SmallFuncType, SmallCode}
 
 pub record WithinLimits (m : Module) : Type 0 where
   pub types : Few (limit Types) SmallFuncType m.types

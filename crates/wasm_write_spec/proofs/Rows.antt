@@ -1,34 +1,23 @@
 -- Small modules and their parts, spelled: the bytes that the standard's grammar gives (Core 2.0, chapter 5), written by hand; a memory
 -- other than 0 is named as where there are several.
-use Rattle.std.proofs.Common.{◌≡◌, refl, ℕ, List, [], ◌∷◌, Bool, false, true, Option, Some, None}
-use Rattle.std.specs.Prelude.{map, pos, negsuc}
+use Rattle.base_lists.proofs.Common.{◌≡◌, refl, ℕ, List, [], ◌∷◌, Bool, false, true, Option, Some, None, map, pos, negsuc}
 use Rattle.wasm_num.specs.declared.UnOp.TheVariants as un
 use Rattle.wasm_num.specs.declared.BinOp.TheVariants as bin
-use Rattle.wasm_tree.specs.declared.types.RefType.{RefType}
+use Rattle.wasm_tree_spec.specs.Prelude.{RefType, Limits, MemArg, Instr, fold_out-Instr, Func, ConstExpr, ElemMode, ElemSeg, DataMode, DataSeg, Module, any_pass_step, names_data}
 use Rattle.wasm_tree.specs.declared.types.RefType.TheVariants as ref
 use Rattle.wasm_tree.specs.declared.types.ValType.TheVariants as valt
 use Rattle.wasm_tree.specs.declared.types.BlockType.TheVariants as bt
-use Rattle.wasm_tree.specs.declared.types.Limits.{Limits}
 use Rattle.wasm_tree.specs.declared.instr.LoadOp.TheVariants as load
 use Rattle.wasm_tree.specs.declared.instr.StoreOp.TheVariants as store
-use Rattle.wasm_tree.specs.declared.instr.MemArg.{MemArg}
-use Rattle.wasm_tree.specs.declared.instr.Instr.{Instr, out-Instr, fold_out-Instr}
+use Rattle.wasm_tree.specs.declared.instr.Instr.{out-Instr}
 use Rattle.wasm_tree.specs.declared.instr.Instr.TheVariants as i
-use Rattle.wasm_tree.specs.declared.module.Func.{Func}
 use Rattle.wasm_tree.specs.declared.module.ImportDesc.TheVariants as import
 use Rattle.wasm_tree.specs.declared.module.ExportDesc.TheVariants as export
-use Rattle.wasm_tree.specs.declared.module.ConstExpr.{ConstExpr}
 use Rattle.wasm_tree.specs.declared.module.ConstExpr.TheVariants as const
-use Rattle.wasm_tree.specs.declared.module.ElemMode.{ElemMode}
 use Rattle.wasm_tree.specs.declared.module.ElemMode.TheVariants as elem
-use Rattle.wasm_tree.specs.declared.module.ElemSeg.{ElemSeg}
-use Rattle.wasm_tree.specs.declared.module.DataMode.{DataMode}
 use Rattle.wasm_tree.specs.declared.module.DataMode.TheVariants as segment
-use Rattle.wasm_tree.specs.declared.module.DataSeg.{DataSeg}
-use Rattle.wasm_tree.specs.declared.module.Module.{Module}
-use Rattle.wasm_tree.specs.Operands.{any_pass_step}
-use Rattle.wasm_tree.specs.DataUse.{names_data}
-use Rattle.wasm_bytes.specs.Writing.{u32_text, unsigned_text, signed_text}
+use Rattle.wasm_bytes.specs.Prelude.{u32_text}
+use Rattle.wasm_bytes.specs.Writing.{unsigned_text, signed_text}
 use Rattle.wasm_write_spec.specs.PlainValues.{ref_code, val_code, func_type_text, limits_text, table_text, global_type_text, global_text, block_type_text, const_text, import_text, import_desc_text, export_text, export_desc_text, is_func, func_of, is_funcref, index_items, const_items, elem_text, data_text}
 use Rattle.wasm_write_spec.specs.PlainCode.{un_code, bin_code, load_code, store_code, group_text, instr_step, instrs_text, entry_text}
 use Rattle.wasm_write_spec.specs.Plain.{plain}

@@ -1,10 +1,8 @@
 -- The canonical encoding of a module (Core 2.0, 5.5): the sections in their order, none of them empty or custom, each number in its
 -- shortest spelling, and a data count exactly where a body has memory.init or data.drop.
 use Rattle.std.specs.Prelude.{ℕ, List, [], ◌∷◌, ◌++◌, length, Option, Some, None, if◌then◌else◌}
-use Rattle.wasm_bytes.specs.Writing.{u32_text, sized_text}
-use Rattle.wasm_bytes.specs.Frames.{header}
-use Rattle.wasm_tree.specs.declared.module.Module.{Module}
-use Rattle.wasm_tree.specs.DataUse.{any_uses_data}
+use Rattle.wasm_bytes.specs.Prelude.{u32_text, sized_text, header}
+use Rattle.wasm_tree_spec.specs.Prelude.{Module, any_uses_data}
 use Rattle.wasm_write_spec.specs.PlainValues.{vector_text, func_type_text, import_text, table_text, limits_text, global_text, export_text, elem_text, data_text}
 use Rattle.wasm_write_spec.specs.PlainCode.{entry_text}
 

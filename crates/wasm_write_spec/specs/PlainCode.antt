@@ -1,19 +1,14 @@
 -- The canonical encoding of bodies and code entries (Core 2.0, 5.4 and 5.5.13).
 use Rattle.std.specs.Prelude.{ℕ, ◌+◌, List, [], ◌∷◌, ◌++◌, map, ◌==◌, if◌then◌else◌}
-use Rattle.wasm_bytes.specs.Writing.{u32_text, s32_text, s64_text, sized_text}
+use Rattle.wasm_bytes.specs.Prelude.{u32_text, s32_text, s64_text, sized_text}
 use Rattle.wasm_num.specs.declared.UnOp.{UnOp}
 use Rattle.wasm_num.specs.declared.UnOp.TheVariants as un
 use Rattle.wasm_num.specs.declared.BinOp.{BinOp}
 use Rattle.wasm_num.specs.declared.BinOp.TheVariants as bin
-use Rattle.wasm_tree.specs.declared.instr.LoadOp.{LoadOp}
+use Rattle.wasm_tree_spec.specs.Prelude.{LoadOp, StoreOp, MemArg, Instr, fold-Instr, LocalGroup, Func}
 use Rattle.wasm_tree.specs.declared.instr.LoadOp.TheVariants as load
-use Rattle.wasm_tree.specs.declared.instr.StoreOp.{StoreOp}
 use Rattle.wasm_tree.specs.declared.instr.StoreOp.TheVariants as store
-use Rattle.wasm_tree.specs.declared.instr.MemArg.{MemArg}
-use Rattle.wasm_tree.specs.declared.instr.Instr.{Instr, fold-Instr}
 use Rattle.wasm_tree.specs.declared.instr.Instr.TheOpen.{Instr-F}
-use Rattle.wasm_tree.specs.declared.module.LocalGroup.{LocalGroup}
-use Rattle.wasm_tree.specs.declared.module.Func.{Func}
 use Rattle.wasm_write_spec.specs.PlainValues.{joined, vector_text, ref_text, val_text, block_type_text}
 
 -- ---- opcodes

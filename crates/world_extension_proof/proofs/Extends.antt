@@ -1,12 +1,8 @@
 -- Stores that extend others: nothing written is the least, one after the other, and one place that is written.
-use Rattle.std.proofs.Common.{◌≡◌, ℕ, ◌≤◌, List, length, refl, sym, ap, subst, ◌∙◌, arith, slice_set, slice_get, Some}
+use Rattle.base_lists.proofs.Common.{◌≡◌, ℕ, ◌≤◌, List, length, refl, sym, ap, subst, ◌∙◌, arith, slice_set, slice_get, Some, length-set, set_at, set_other, slice_get_within}
 use native.Mathlib.Decide.{ℕ_discrete}
-use Rattle.wasm_meaning.specs.State.{Table, Memory, Global, Store, Change, Keep, SetGlobal, SetMemory, SetTable, DropElem, DropData}
-use Rattle.wasm_meaning.specs.Step.{changed, no_items, no_bytes}
+use Rattle.wasm_meaning.specs.Prelude.{Table, Memory, Global, Store, Change, Keep, SetGlobal, SetMemory, SetTable, DropElem, DropData, changed, no_items, no_bytes}
 use Rattle.world_extension_proof.specs.Extends.{TableExtends, MemoryExtends, GlobalExtends, EachExtends, Extends}
-use Rattle.std.proofs.lemmas.List.{length-set}
-use Rattle.base_lists.proofs.Places.{set_at, set_other}
-use Rattle.std.proofs.lemmas.Option.{slice_get_within}
 pub use Rattle.world_simulation.proofs.Copied.{overwritten_length}
 
 pub table_stays : (t : Table) → TableExtends t t

@@ -1,29 +1,15 @@
 -- A module that is added extends the store, and so does a step under a loader.
-use Rattle.std.proofs.Common.{◌≡◌, ℕ, ◌≤◌, List, [], ◌∷◌, ◌++◌, length, Option, Some, None, Bool, true, false, cond, option_and_then, unwrap_or, refl, ap, subst, ◌∙◌, arith, slice_get}
-use Rattle.base_lists.proofs.Places.{append_at_left}
-use Rattle.wasm_tree.specs.declared.module.ConstExpr.{ConstExpr}
-use Rattle.wasm_tree.specs.declared.module.ElemMode.{ElemMode}
+use Rattle.base_lists.proofs.Common.{◌≡◌, ℕ, ◌≤◌, List, [], ◌∷◌, ◌++◌, length, Option, Some, None, Bool, true, false, cond, option_and_then, unwrap_or, refl, ap, subst, ◌∙◌, arith, slice_get, append_at_left, and_then_is, same_Some}
+use Rattle.wasm_tree_spec.specs.Prelude.{ConstExpr, ElemMode, ElemSeg, DataMode, DataSeg, Module}
 use Rattle.wasm_tree.specs.declared.module.ElemMode.TheVariants as elem
-use Rattle.wasm_tree.specs.declared.module.ElemSeg.{ElemSeg}
-use Rattle.wasm_tree.specs.declared.module.DataMode.{DataMode}
 use Rattle.wasm_tree.specs.declared.module.DataMode.TheVariants as data'
-use Rattle.wasm_tree.specs.declared.module.DataSeg.{DataSeg}
-use Rattle.wasm_tree.specs.declared.module.Module.{Module}
-use Rattle.wasm_meaning.specs.Outcomes.{Gives, Traps, IllTyped, overwrite}
-use Rattle.wasm_meaning.specs.State.{RefVal, Val, Inst, Table, Memory, Store, Entry, Ran, CallsOwn, WaitsGrowth, CallsPlaceholder, EndsCall, SetTable, SetMemory, DropElem, DropData}
-use Rattle.wasm_meaning.specs.Step.{changed}
-use Rattle.wasm_meaning.specs.World.{Filled, PlacedSegment, joined_stores, segments_in, or_trapped, copy_slots, run_elem_with, copy_bytes, run_data_with, and_then, one_by_one}
-use Rattle.wasm_meaning.specs.Sequential.{Added, added, own_segments}
-use Rattle.wasm_meaning.specs.Run.{Run, Event, Transition, Steps, Makes, made, transition, run_after}
-use Rattle.wasm_meaning.specs.Loader.{LoaderWorld, LoaderRun, secondary_of, loader_with, secondary_added, store_loaded, call_answered, secondary_called, placeholder_called, loader_made}
-use Rattle.base_lists.proofs.Options.{and_then_is}
-use Rattle.index_remap.specs.RelatedRuns.{IsBegun}
-use Rattle.world_simulation.specs.Segments.{offset_in}
+use Rattle.wasm_meaning.specs.Prelude.{Gives, Traps, IllTyped, overwrite, RefVal, Val, Inst, Table, Memory, Store, Entry, Ran, CallsOwn, WaitsGrowth, CallsPlaceholder, EndsCall, SetTable, SetMemory, DropElem, DropData, changed, Filled, PlacedSegment, joined_stores, segments_in, or_trapped, copy_slots, run_elem_with, copy_bytes, run_data_with, and_then, one_by_one, Added, added, own_segments, Run, Event, Transition, Steps, Makes, made, transition, run_after, LoaderWorld, LoaderRun, secondary_of, store_loaded, loader_made, StepsWriteWhatTheyTouch}
+use Rattle.wasm_meaning.specs.Loader.{loader_with, secondary_added, call_answered, secondary_called, placeholder_called}
+use Rattle.index_remap.specs.Prelude.{IsBegun}
+use Rattle.world_simulation.specs.Prelude.{offset_in}
 use Rattle.world_simulation.proofs.Added.{added_is}
 use Rattle.world_simulation.proofs.Copied.{then_holds, overwritten_length}
-use Rattle.std.proofs.lemmas.Option.{same_Some}
 use Rattle.wasm_meaning.proofs.Outcomes.{stopped}
-use Rattle.wasm_meaning.specs.Touched.{StepsWriteWhatTheyTouch}
 use Rattle.world_extension_proof.specs.Extends.{TableExtends, MemoryExtends, GlobalExtends, EachExtends, Extends, StaysIn, Kept, AddedModulesExtend, LoaderKept, LoadersExtend}
 use Rattle.world_extension_proof.proofs.Extends
 use Rattle.world_extension_proof.proofs.Extends.{stays, table_stays, memory_stays, global_stays, each_stays, each_then, table, memory, elem_drops, data_drops, changed_extends}

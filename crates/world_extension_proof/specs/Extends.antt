@@ -1,13 +1,8 @@
 -- What a run leaves of what is in its store: once it is instantiated each step only extends the store (WebAssembly Core 2.0, section 4.2.3).
 use Rattle.std.specs.Prelude.{◌≡◌, ℕ, ◌≤◌, false, List, length, Option, Some, slice_get}
-use Rattle.wasm_tree.specs.declared.module.Module.{Module}
-use Rattle.wasm_meaning.specs.Outcomes.{Gives}
-use Rattle.wasm_meaning.specs.State.{Val, Func, Table, Memory, Global, Store, Entry, CallsPlaceholder}
-use Rattle.wasm_meaning.specs.Environment.{ExternalValue}
-use Rattle.wasm_meaning.specs.Sequential.{Added, added}
-use Rattle.wasm_meaning.specs.Run.{Run, Event, Out, Steps, transition, tick}
-use Rattle.wasm_meaning.specs.Loader.{LoaderWorld, LoaderRun, tick_loader}
-use Rattle.index_remap.specs.RelatedRuns.{IsBegun}
+use Rattle.wasm_tree_spec.specs.Prelude.{Module}
+use Rattle.wasm_meaning.specs.Prelude.{Gives, Val, Func, Table, Memory, Global, Store, Entry, CallsPlaceholder, ExternalValue, Added, added, Run, Event, Out, Steps, transition, tick, LoaderWorld, LoaderRun, tick_loader}
+use Rattle.index_remap.specs.Prelude.{IsBegun}
 
 -- ---- stores ----
 

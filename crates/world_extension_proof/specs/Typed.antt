@@ -1,17 +1,9 @@
 -- Instances in which each index names what the module says of it: so it is when a module is instantiated, and so it stays (WebAssembly Core 2.0, section 4.5.1).
 use Rattle.std.specs.Prelude.{◌≡◌, ℕ, true, List, Option, Some, slice_get}
-use Rattle.wasm_tree.specs.declared.types.Limits.{Limits}
-use Rattle.wasm_tree.specs.declared.types.TableType.{TableType}
-use Rattle.wasm_tree.specs.declared.types.GlobalType.{GlobalType}
-use Rattle.wasm_tree.specs.declared.module.ImportDesc.{ImportDesc}
+use Rattle.wasm_tree_spec.specs.Prelude.{Limits, TableType, GlobalType, ImportDesc, Module, funcs_of, tables_of, memories_of, globals_of}
 use Rattle.wasm_tree.specs.declared.module.ImportDesc.TheVariants as im
 use Rattle.wasm_tree.specs.declared.module.ExportDesc.TheVariants as ex
-use Rattle.wasm_tree.specs.declared.module.Module.{Module}
-use Rattle.wasm_tree.specs.Spaces.{funcs_of, tables_of, memories_of, globals_of}
-use Rattle.wasm_meaning.specs.State.{Inst, Store}
-use Rattle.wasm_meaning.specs.Environment.{ExternalValue}
-use Rattle.wasm_meaning.specs.World.{address_in, is_match}
-use Rattle.wasm_meaning.specs.Sequential.{Added, added}
+use Rattle.wasm_meaning.specs.Prelude.{Inst, Store, ExternalValue, address_in, is_match, Added, added}
 use Rattle.world_extension_proof.specs.Extends.{StaysIn}
 
 -- something is there, which in this store is what an import of this kind and type asks for

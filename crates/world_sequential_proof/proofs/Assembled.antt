@@ -1,22 +1,12 @@
 -- All of it together: what a world that begins well gives to the sequential run.
-use Rattle.std.proofs.Common.{◌≡◌, ◌∙◌, refl, sym, ap, ap₂, subst, ℕ, suc, ◌+◌, ◌*◌, ◌<◌, List, [], ◌∷◌, length, Some, None, Bool, true, false, cond, arith}
-use Rattle.std.specs.Prelude.{◌↔◌}
-use Rattle.wasm_tree.specs.declared.types.ValType.{ValType}
-use Rattle.wasm_tree.specs.declared.types.FuncType.{FuncType}
-use Rattle.wasm_tree.specs.declared.module.Module.{Module}
-use Rattle.wasm_tree.specs.Spaces.{type_of_func}
+use Rattle.base_lists.proofs.Common.{◌≡◌, ◌∙◌, refl, sym, ap, ap₂, subst, ℕ, suc, ◌+◌, ◌*◌, ◌<◌, List, [], ◌∷◌, length, Some, None, Bool, true, false, cond, arith, ◌↔◌, and_then_is, same_Some}
+use Rattle.wasm_tree_spec.specs.Prelude.{ValType, FuncType, Module, type_of_func}
 use Rattle.wasm_valid.specs.declared.kinds.ItemKind.{ItemKind}
 use Rattle.wasm_valid.specs.declared.kinds.ItemKind.TheVariants as kind
-use Rattle.wasm_valid.specs.Validity.{IsValid, HoldsAt, count_of, start_count}
-use Rattle.wasm_meaning.specs.State.{Text, Inst, Store}
-use Rattle.wasm_meaning.specs.Linking.{Part, sites}
-use Rattle.wasm_meaning.specs.Environment.{Environment, ExternalValue, all_of}
-use Rattle.wasm_meaning.specs.World.{World, Begun, own_store, inst_of, insts_from, stores_from, seen_as, all_there, is_matched, segments, begun, instantiate}
-use Rattle.wasm_meaning.specs.Run.{IsPrefix, fresh_run, tick, events_of}
-use Rattle.wasm_meaning.specs.StartFrames.{StartDependsOnlyOnItsFrames}
-use Rattle.wasm_meaning.specs.Sequential.{events_sequential}
-use Rattle.index_remap.specs.Laws.{CodeIsRelatedToItself, RelatedTicksAgree, OthersStay}
-use Rattle.world_simulation.specs.Owned.{OwnEntitiesCorrespond}
+use Rattle.wasm_valid.specs.Prelude.{IsValid, HoldsAt, count_of, start_count}
+use Rattle.wasm_meaning.specs.Prelude.{Text, Inst, Store, Part, sites, Environment, ExternalValue, all_of, World, Begun, own_store, inst_of, insts_from, stores_from, seen_as, all_there, is_matched, segments, begun, instantiate, IsPrefix, fresh_run, tick, events_of, StartDependsOnlyOnItsFrames, events_sequential}
+use Rattle.index_remap.specs.Prelude.{CodeIsRelatedToItself, RelatedTicksAgree, OthersStay}
+use Rattle.world_simulation.specs.Prelude.{OwnEntitiesCorrespond}
 use Rattle.world_extension_proof.specs.Extends.{StepsExtend}
 use Rattle.world_sequential_proof.specs.Laws.{SequentialInstantiationIsEquivalent}
 use Rattle.world_sequential_proof.proofs.Making.{nothing_to_nothing}
@@ -27,8 +17,6 @@ use Rattle.world_sequential_proof.proofs.FillSegments.{FilledUpto, none_active}
 use Rattle.world_sequential_proof.proofs.FillGiven.{laid, store_same, sites_there}
 use Rattle.world_sequential_proof.proofs.FillValid.{valid_constants, valid_exports}
 use Rattle.world_sequential_proof.proofs.FillWorld.{fill_laws}
-use Rattle.base_lists.proofs.Options.{and_then_is}
-use Rattle.std.proofs.lemmas.Option.{same_Some}
 use Rattle.index_remap.proofs.SlotCalls.{func_type_is}
 
 insts_size : (env : Environment) (all : List Part) (p : ℕ) (ps : List Part) (is : List Inst) → insts_from env all p ps ≡ Some is → length is ≡ length ps

@@ -1,21 +1,11 @@
 -- Until the first start the parts are added one after the other, their segments with them, and then the stores stand beside one another.
-use Rattle.std.proofs.Common.{◌≡◌, ◌∙◌, refl, sym, ap, subst, ℕ, zero, suc, ◌+◌, ◌-◌, ◌<◌, ◌≤◌, List, [], ◌∷◌, ◌++◌, map, length, Some, None, false, ◌⊎◌, inl, inr, arith, drop, option_and_then, slice_get, Option}
-use Rattle.wasm_tree.specs.declared.space.Space.TheVariants.{Functions, Tables, Memories, Globals, DataSegments, ElementSegments}
-use Rattle.std.proofs.lemmas.Bool.{cases_lt}
-use Rattle.wasm_tree.specs.declared.types.FuncType.{FuncType}
-use Rattle.wasm_tree.specs.declared.module.Module.{Module}
-use Rattle.wasm_meaning.specs.State.{Text, Inst, Func, Own, Global, Data, Store, Opening}
-use Rattle.wasm_meaning.specs.Linking.{Part, module_at}
-use Rattle.wasm_meaning.specs.Environment.{Environment, Offer, ExternalValue, flat, owned_of}
-use Rattle.wasm_meaning.specs.World.{World, base, own_store, const_value, joined_stores, all_there, starts_of, seen_as, segments, defined_before}
-use Rattle.wasm_meaning.specs.Run.{Pending, Move, Run}
-use Rattle.wasm_meaning.specs.StartFrames.{StartDependsOnlyOnItsFrames}
-use Rattle.wasm_meaning.specs.Sequential.{SequentialRun, view_over, own_segments, goes_on, tick_sequential, HasNoActive}
-use Rattle.index_remap.specs.Related.{Pairing, BothRel, both, ListRel, nil, cons, opening, FuncRel, TableRel, GlobalRel, ElemRel}
+use Rattle.base_lists.proofs.Common.{◌≡◌, ◌∙◌, refl, sym, ap, subst, ℕ, zero, suc, ◌+◌, ◌-◌, ◌<◌, ◌≤◌, List, [], ◌∷◌, ◌++◌, map, length, Some, None, false, ◌⊎◌, inl, inr, arith, drop, option_and_then, slice_get, Option, cases_lt, length-append, append_left, append_right}
+use Rattle.wasm_tree_spec.specs.Prelude.{Functions, Tables, Memories, Globals, DataSegments, ElementSegments, FuncType, Module}
+use Rattle.wasm_meaning.specs.Prelude.{Text, Inst, Func, Own, Global, Data, Store, Opening, Part, module_at, Environment, Offer, ExternalValue, flat, owned_of, World, base, own_store, const_value, joined_stores, all_there, starts_of, seen_as, segments, defined_before, Pending, Move, Run, StartDependsOnlyOnItsFrames, SequentialRun, view_over, own_segments, goes_on, tick_sequential, HasNoActive}
+use Rattle.index_remap.specs.Prelude.{Pairing, BothRel, both, ListRel, nil, cons, opening, FuncRel, TableRel, GlobalRel, ElemRel, CodeIsRelatedToItself, RelatedTicksAgree, OthersStay}
 use Rattle.index_remap.specs.Related as to
-use Rattle.index_remap.specs.Laws.{CodeIsRelatedToItself, RelatedTicksAgree, OthersStay}
 use Rattle.index_remap.proofs.Rel.{append_rel}
-use Rattle.world_simulation.specs.Owned.{OwnCorrespond}
+use Rattle.world_simulation.specs.Prelude.{OwnCorrespond}
 use Rattle.world_extension_proof.specs.Extends.{TableExtends, MemoryExtends, GlobalExtends, EachExtends, Extends, StepsExtend}
 use Rattle.world_extension_proof.proofs.Extends.{stays}
 use Rattle.world_extension_proof.proofs.Extends as extends
@@ -27,8 +17,6 @@ use Rattle.world_sequential_proof.proofs.Beside.{both_list, Beside, stores_relat
 use Rattle.world_sequential_proof.proofs.Filling.{own_fill, all_fill}
 use Rattle.world_sequential_proof.proofs.Given.{IsGiven, IsTurn, starts_from, filled_in, turned}
 use Rattle.world_sequential_proof.proofs.Waiting.{within, adds_closed, adds_sound}
-use Rattle.std.proofs.lemmas.List.{length-append}
-use Rattle.base_lists.proofs.Places.{append_left, append_right}
 
 -- ---- joined stores ----
 

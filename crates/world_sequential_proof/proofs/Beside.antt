@@ -1,22 +1,11 @@
 -- The store of parts that are instantiated sequentially beside the store of all parts at once: what the first parts have corresponds, and the rest is as it was allocated.
-use Rattle.std.proofs.Common.{◌≡◌, ◌∙◌, refl, sym, ap, subst, ℕ, zero, suc, ◌+◌, ◌-◌, ◌<◌, ◌≤◌, List, [], ◌∷◌, ◌++◌, length, Some, true, ◌⊎◌, inl, inr, arith, slice_get, Option}
-use Rattle.wasm_tree.specs.declared.space.Space.{Space}
-use Rattle.wasm_tree.specs.declared.space.Space.TheVariants.{Functions, Tables, Memories, Globals, ElementSegments, DataSegments}
-use Rattle.std.proofs.lemmas.Bool.{cases_lt}
-use Rattle.wasm_tree.specs.declared.types.FuncType.{FuncType}
-use Rattle.wasm_tree.specs.declared.module.Module.{Module}
-use Rattle.wasm_meaning.specs.State.{Inst, Func, Memory, Data, Store}
-use Rattle.wasm_meaning.specs.Control.{type_at, own_at}
-use Rattle.wasm_meaning.specs.Linking.{Part, module_at}
-use Rattle.wasm_meaning.specs.Environment.{Environment}
-use Rattle.wasm_meaning.specs.World.{own_store, base, joined_stores, part_store, defined_before}
-use Rattle.index_remap.specs.Related.{Pairing, BothRel, both, ListRel, nil, cons, FuncRel, TableRel, GlobalRel, ElemRel, StoreRel}
-use Rattle.index_remap.specs.Laws.{CodeIsRelatedToItself}
+use Rattle.base_lists.proofs.Common.{◌≡◌, ◌∙◌, refl, sym, ap, subst, ℕ, zero, suc, ◌+◌, ◌-◌, ◌<◌, ◌≤◌, List, [], ◌∷◌, ◌++◌, length, Some, true, ◌⊎◌, inl, inr, arith, slice_get, Option, cases_lt, length-append, append_left, append_right, slice_get_there}
+use Rattle.wasm_tree_spec.specs.Prelude.{Space, Functions, Tables, Memories, Globals, ElementSegments, DataSegments, FuncType, Module}
+use Rattle.wasm_meaning.specs.Prelude.{Inst, Func, Memory, Data, Store, type_at, own_at, Part, module_at, Environment, own_store, base, joined_stores, part_store, defined_before}
+use Rattle.index_remap.specs.Prelude.{Pairing, BothRel, both, ListRel, nil, cons, FuncRel, TableRel, GlobalRel, ElemRel, StoreRel, CodeIsRelatedToItself}
 use Rattle.world_sequential_proof.proofs.Reached.{count_upto, is_reached, reaching, reached_at, reached_is}
 use Rattle.world_sequential_proof.proofs.OnePart.{Sized}
 use Rattle.world_sequential_proof.proofs.Closed.{table_more, global_more, elem_more, Closed, Sound, own_func, code, Reaches, func_self}
-use Rattle.std.proofs.lemmas.List.{length-append}
-use Rattle.base_lists.proofs.Places.{append_left, append_right, slice_get_there}
 use Rattle.index_remap.proofs.Rel.{both_map}
 use Rattle.world_simulation.proofs.Stored.{type_same, own_same}
 use Rattle.wasm_meaning.proofs.Counts.{defined_next}

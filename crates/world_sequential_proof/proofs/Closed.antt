@@ -1,30 +1,14 @@
 -- A store that refers to nothing beyond what the environment and the first parts have, and what a part adds to it.
-use Rattle.std.proofs.Common.{◌≡◌, ◌∙◌, refl, ap, subst, ℕ, suc, ◌<◌, List, [], ◌∷◌, map, Option, Some, option_and_then, slice_get}
-use Rattle.wasm_tree.specs.declared.space.Space.{Space}
-use Rattle.wasm_tree.specs.declared.space.Space.TheVariants.{Functions, Tables, Memories, Globals, ElementSegments, DataSegments}
-use Rattle.wasm_tree.specs.declared.types.FuncType.{FuncType}
-use Rattle.wasm_tree.specs.declared.instr.Instr.{Instr}
-use Rattle.wasm_tree.specs.declared.module.ConstExpr.{ConstExpr}
+use Rattle.base_lists.proofs.Common.{◌≡◌, ◌∙◌, refl, ap, subst, ℕ, suc, ◌<◌, List, [], ◌∷◌, map, Option, Some, option_and_then, slice_get, and_then_is, same_Some}
+use Rattle.wasm_tree_spec.specs.Prelude.{Space, Functions, Tables, Memories, Globals, ElementSegments, DataSegments, FuncType, Instr, ConstExpr, GlobalDef, ElemSeg, ElemMode, Module}
 use Rattle.wasm_tree.specs.declared.module.ConstExpr.TheVariants as const
 use Rattle.wasm_tree.specs.declared.module.Func as tree
-use Rattle.wasm_tree.specs.declared.module.GlobalDef.{GlobalDef}
-use Rattle.wasm_tree.specs.declared.module.ElemSeg.{ElemSeg}
-use Rattle.wasm_tree.specs.declared.module.ElemMode.{ElemMode}
 use Rattle.wasm_tree.specs.declared.module.ElemMode.TheVariants as elem
-use Rattle.wasm_tree.specs.declared.module.Module.{Module}
-use Rattle.wasm_meaning.specs.Outcomes.{copies}
-use Rattle.wasm_meaning.specs.State.{RefVal, Val, Num, Ref, Inst, Func, Code, Own, Table, Global, Elem, Store}
-use Rattle.wasm_meaning.specs.Values.{null_of, ref_of}
-use Rattle.wasm_meaning.specs.Linking.{Part}
-use Rattle.wasm_meaning.specs.Environment.{Environment}
-use Rattle.wasm_meaning.specs.World.{all_there, new_func, global_with, new_elem, elem_with, store_with, const_value}
-use Rattle.index_remap.specs.Related.{Pairing, none, some, ListRel, nil, cons, RefRel, func, extern, ValRel, number, reference, FuncRel, defined, own, TableRel, GlobalRel, ElemRel}
-use Rattle.index_remap.specs.Laws.{NamesItself, CodeIsRelatedToItself}
+use Rattle.wasm_meaning.specs.Prelude.{copies, RefVal, Val, Num, Ref, Inst, Func, Code, Own, Table, Global, Elem, Store, null_of, ref_of, Part, Environment, all_there, new_func, global_with, new_elem, elem_with, store_with, const_value}
+use Rattle.index_remap.specs.Prelude.{Pairing, none, some, ListRel, nil, cons, RefRel, func, extern, ValRel, number, reference, FuncRel, defined, own, TableRel, GlobalRel, ElemRel, NamesItself, CodeIsRelatedToItself}
 use Rattle.index_remap.proofs.Rel.{copies_rel}
 use Rattle.world_sequential_proof.proofs.ExternalValues.{space_in}
 use Rattle.world_sequential_proof.proofs.Reached.{count_upto, is_reached, reaching, reached_at}
-use Rattle.base_lists.proofs.Options.{and_then_is}
-use Rattle.std.proofs.lemmas.Option.{same_Some}
 use Rattle.world_simulation.proofs.Owned.{null_rel}
 
 -- ---- more is reached later ----

@@ -1,22 +1,11 @@
 -- A part's instance has addresses of the environment's entities and of what parts up to it define, where each joined import leads to an earlier part.
-use Rattle.std.proofs.Common.{◌≡◌, ◌∙◌, refl, sym, ap, subst, ℕ, zero, suc, ◌+◌, ◌<◌, ◌≤◌, List, [], ◌∷◌, ◌++◌, length, Option, Some, None, ◌⊎◌, inl, inr, arith, option_and_then, slice_get}
-use Rattle.wasm_tree.specs.declared.space.Space.{Space}
-use Rattle.wasm_tree.specs.declared.space.Space.TheVariants.{Functions, Tables, Memories, Globals, Types, ElementSegments, DataSegments}
-use Rattle.wasm_tree.specs.declared.module.Import.{Import}
-use Rattle.wasm_tree.specs.declared.module.Module.{Module}
-use Rattle.wasm_meaning.specs.State.{Inst}
-use Rattle.wasm_meaning.specs.Paths.{walk, walk_on}
-use Rattle.wasm_meaning.specs.Linking.{Part, Entity, imports_of, module_at, import_at, export_named, source_of, joined, joined_step, import_step, sites, end_of}
-use Rattle.wasm_tree.specs.Spaces.{index_of_export, space_of_export}
-use Rattle.wasm_meaning.specs.Environment.{Environment, ExternalValue, owned_of, owned_at}
-use Rattle.wasm_meaning.specs.World.{own_key, defined_count, base, external_value_at, address_of, imported_external_value, external_value_of, all_there, numbers, insts_from, address_in}
-use Rattle.wasm_meaning.specs.Sequential.{JoinsEarlier}
-use Rattle.world_simulation.specs.Owned.{OwnEntitiesCorrespond}
+use Rattle.base_lists.proofs.Common.{◌≡◌, ◌∙◌, refl, sym, ap, subst, ℕ, zero, suc, ◌+◌, ◌<◌, ◌≤◌, List, [], ◌∷◌, ◌++◌, length, Option, Some, None, ◌⊎◌, inl, inr, arith, option_and_then, slice_get, and_then_is, same_Some}
+use Rattle.wasm_tree_spec.specs.Prelude.{Space, Functions, Tables, Memories, Globals, Types, ElementSegments, DataSegments, Import, Module, index_of_export, space_of_export}
+use Rattle.wasm_meaning.specs.Prelude.{Inst, walk, walk_on, Part, Entity, imports_of, module_at, import_at, export_named, source_of, joined, joined_step, import_step, sites, end_of, Environment, ExternalValue, owned_of, owned_at, own_key, defined_count, base, external_value_at, address_of, imported_external_value, external_value_of, all_there, numbers, insts_from, address_in, JoinsEarlier}
+use Rattle.world_simulation.specs.Prelude.{OwnEntitiesCorrespond}
 use Rattle.world_sequential_proof.proofs.ExternalValues.{inst_at, space_is, space_in, in_space, address_is, held_external}
 use Rattle.world_sequential_proof.proofs.Joined.{stays_own, joins, inst_of_part}
 use Rattle.world_sequential_proof.proofs.Reached.{defined_more, own_low}
-use Rattle.base_lists.proofs.Options.{and_then_is}
-use Rattle.std.proofs.lemmas.Option.{same_Some}
 use Rattle.world_simulation.proofs.Instancing.{inst_is}
 use Rattle.wasm_meaning.proofs.Counts.{defined_next}
 use Rattle.index_remap_proof.proofs.Lists.{all_there_back}

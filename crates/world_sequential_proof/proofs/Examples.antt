@@ -1,31 +1,19 @@
 -- Two worlds of which the law of parts that are instantiated sequentially speaks: all that it asks holds of them together, and what is seen of both ways to run them is computed.
-use Rattle.std.proofs.Common.{◌≡◌, refl, sym, ap, subst, ◌∙◌, ℕ, zero, suc, ◌+◌, List, [], ◌∷◌, slice_get, Some, None, true, arith}
-use Rattle.std.specs.Prelude.{pos, Contains}
-use Rattle.std.proofs.lemmas.Option.{same_Some}
+use Rattle.base_lists.proofs.Common.{◌≡◌, refl, sym, ap, subst, ◌∙◌, ℕ, zero, suc, ◌+◌, List, [], ◌∷◌, slice_get, Some, None, true, arith, pos, Contains, same_Some}
 use Rattle.wasm_tree.specs.declared.types.RefType.TheVariants as reft
 use Rattle.wasm_tree.specs.declared.types.ValType.TheVariants as valt
-use Rattle.wasm_tree.specs.declared.types.FuncType.{FuncType}
-use Rattle.wasm_tree.specs.declared.types.TableType.{TableType}
-use Rattle.wasm_tree.specs.declared.instr.Instr.{Instr, out-Instr}
+use Rattle.wasm_tree_spec.specs.Prelude.{FuncType, TableType, Instr, Func, Import, ConstExpr, Module}
+use Rattle.wasm_tree.specs.declared.instr.Instr.{out-Instr}
 use Rattle.wasm_tree.specs.declared.instr.Instr.TheVariants as i
-use Rattle.wasm_tree.specs.declared.module.Func.{Func}
-use Rattle.wasm_tree.specs.declared.module.Import.{Import}
 use Rattle.wasm_tree.specs.declared.module.ImportDesc.TheVariants as im
 use Rattle.wasm_tree.specs.declared.module.ExportDesc.TheVariants as ex
-use Rattle.wasm_tree.specs.declared.module.ConstExpr.{ConstExpr}
 use Rattle.wasm_tree.specs.declared.module.ConstExpr.TheVariants as const
 use Rattle.wasm_tree.specs.declared.module.ElemMode.TheVariants as elem
-use Rattle.wasm_tree.specs.declared.module.Module.{Module}
 use Rattle.wasm_num.specs.Operations.{wrapped}
 use Rattle.wasm_valid_bodies.specs.Typing.{Stack, Gives}
-use Rattle.wasm_valid.specs.Constants.{const_type}
-use Rattle.wasm_valid.specs.Validity.{IsValid}
-use Rattle.wasm_meaning.specs.State.{Text}
-use Rattle.wasm_meaning.specs.Linking.{Part, Entity, module_at, joined}
-use Rattle.wasm_meaning.specs.Environment.{Environment, is_environment, Number}
-use Rattle.wasm_meaning.specs.World.{World}
-use Rattle.wasm_meaning.specs.Run.{Event, Linked, Asked, Returned, Move, Call, Answer, IsPrefix, events}
-use Rattle.wasm_meaning.specs.Sequential.{events_sequential, JoinsEarlier, NoLateSegments, HasNoActive, BeginsWell}
+use Rattle.wasm_valid.specs.Prelude.{const_type, IsValid}
+use Rattle.wasm_meaning.specs.Prelude.{Text, Part, Entity, module_at, joined, Environment, is_environment, Number, World, Event, Linked, Asked, Returned, Move, Call, Answer, IsPrefix, events, events_sequential, JoinsEarlier, NoLateSegments, HasNoActive}
+use Rattle.wasm_meaning.specs.Sequential.{BeginsWell}
 use Rattle.world_sequential_proof.specs.Laws.{SequentialInstantiationIsEquivalent}
 
 -- ---- what is common ----

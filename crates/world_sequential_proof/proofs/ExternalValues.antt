@@ -1,25 +1,11 @@
 -- What the imports of a part denote is the same whether all parts are instantiated at once or the part's turn has come, where each joined import leads to
 -- an earlier part.
-use Rattle.std.proofs.Common.{◌≡◌, ◌∙◌, refl, sym, ap, ap₂, ℕ, zero, suc, ◌+◌, ◌-◌, List, [], ◌∷◌, ◌++◌, length, Option, Some, None, cond, arith, option_and_then, slice_get, true}
-use Rattle.wasm_tree.specs.declared.space.Space.{Space}
-use Rattle.wasm_tree.specs.declared.space.Space.TheVariants.{Functions, Tables, Memories, Globals, DataSegments, ElementSegments, Types}
-use Rattle.wasm_tree.specs.Operands.{same_space}
-use Rattle.wasm_tree.specs.declared.module.Import.{Import}
-use Rattle.wasm_tree.specs.declared.module.ImportDesc.{ImportDesc}
+use Rattle.base_lists.proofs.Common.{◌≡◌, ◌∙◌, refl, sym, ap, ap₂, ℕ, zero, suc, ◌+◌, ◌-◌, List, [], ◌∷◌, ◌++◌, length, Option, Some, None, cond, arith, option_and_then, slice_get, true, and_then_is, all_there_at, all_there_length, same_Some, append_at_left, append_right, slice_get_none}
+use Rattle.wasm_tree_spec.specs.Prelude.{Space, Functions, Tables, Memories, Globals, DataSegments, ElementSegments, Types, same_space, Import, ImportDesc, ExportDesc, Module, index_of_export, space_of_export, space_of_import}
 use Rattle.wasm_tree.specs.declared.module.ImportDesc.TheVariants as im
-use Rattle.wasm_tree.specs.declared.module.ExportDesc.{ExportDesc}
 use Rattle.wasm_tree.specs.declared.module.ExportDesc.TheVariants as ex
-use Rattle.wasm_tree.specs.declared.module.Module.{Module}
-use Rattle.wasm_meaning.specs.State.{Inst}
-use Rattle.wasm_meaning.specs.Paths.{PathStep, EndsWith, LeadsTo, walk, walk_on}
-use Rattle.wasm_meaning.specs.Linking.{Part, Site, Entity, End, places, has_kind, imports_of, module_at, imported_as, import_step, sites, end_of}
-use Rattle.wasm_tree.specs.Spaces.{index_of_export, space_of_export, space_of_import}
-use Rattle.wasm_meaning.specs.Environment.{Environment, ExternalValue, FuncAt, TableAt, MemoryAt, GlobalAt}
-use Rattle.wasm_meaning.specs.World.{defined_count, base, external_value_at, address_of, defined_addresses, defined_external_value, imported_external_value, all_there, numbers, space, inst_of, insts_from, address_in}
-use Rattle.wasm_meaning.specs.Sequential.{addresses_of}
-use Rattle.base_lists.proofs.Options.{and_then_is, all_there_at, all_there_length}
-use Rattle.std.proofs.lemmas.Option.{same_Some}
-use Rattle.base_lists.proofs.Places.{append_at_left, append_right, slice_get_none}
+use Rattle.wasm_meaning.specs.Prelude.{Inst, PathStep, EndsWith, LeadsTo, walk, walk_on, Part, Site, Entity, End, places, has_kind, imports_of, module_at, imported_as, import_step, sites, end_of, Environment, ExternalValue, FuncAt, TableAt, MemoryAt, GlobalAt, defined_count, base, external_value_at, address_of, defined_external_value, imported_external_value, all_there, numbers, space, inst_of, insts_from, address_in, addresses_of}
+use Rattle.wasm_meaning.specs.World.{defined_addresses}
 use Rattle.merge_valid_proof.specs.Ended.{is_external}
 use Rattle.world_simulation.proofs.Instancing.{IsInst}
 use Rattle.world_simulation.proofs.Alone.{func_thing}

@@ -1,22 +1,11 @@
 -- What a part adds to the store as its turn comes is what it adds where all parts are allocated at once.
-use Rattle.std.proofs.Common.{◌≡◌, ◌∙◌, refl, sym, ap, ap₂, ℕ, suc, List, [], ◌∷◌, ◌*◌, map, length, Option, Some, true, false, option_and_then, slice_get}
-use Rattle.wasm_tree.specs.declared.module.ConstExpr.{ConstExpr}
-use Rattle.wasm_tree.specs.declared.module.GlobalDef.{GlobalDef}
-use Rattle.wasm_tree.specs.declared.module.ElemSeg.{ElemSeg}
+use Rattle.base_lists.proofs.Common.{◌≡◌, ◌∙◌, refl, sym, ap, ap₂, ℕ, suc, List, [], ◌∷◌, ◌*◌, map, length, Option, Some, true, false, option_and_then, slice_get, and_then_is}
+use Rattle.wasm_tree_spec.specs.Prelude.{ConstExpr, GlobalDef, ElemSeg, DataSeg, Module}
 use Rattle.wasm_tree.specs.declared.module.ElemMode.TheVariants as elem
-use Rattle.wasm_tree.specs.declared.module.DataSeg.{DataSeg}
 use Rattle.wasm_tree.specs.declared.module.DataMode.TheVariants as data'
-use Rattle.wasm_tree.specs.declared.module.Module.{Module}
-use Rattle.wasm_meaning.specs.Outcomes.{copies}
-use Rattle.wasm_meaning.specs.State.{Val, Inst, Func, Global, Elem, Store}
-use Rattle.wasm_meaning.specs.Values.{ref_of, null_of}
-use Rattle.wasm_meaning.specs.Linking.{Part, module_at, sites}
-use Rattle.wasm_meaning.specs.Environment.{Environment, all_of}
-use Rattle.wasm_meaning.specs.World.{all_there, is_matched, insts_from, own_store, stores_from, part_store, store_with, new_func, global_with, elem_with, new_elem, const_value, value_of}
-use Rattle.wasm_meaning.specs.Sequential.{JoinsEarlier}
+use Rattle.wasm_meaning.specs.Prelude.{copies, Val, Inst, Func, Global, Elem, Store, ref_of, null_of, Part, module_at, sites, Environment, all_of, all_there, is_matched, insts_from, own_store, stores_from, part_store, store_with, new_func, global_with, elem_with, new_elem, const_value, value_of, JoinsEarlier}
 use Rattle.world_sequential_proof.proofs.Joined.{ExportsThere}
 use Rattle.world_sequential_proof.proofs.FillValues.{Constant, HoldsFixed, value_given}
-use Rattle.base_lists.proofs.Options.{and_then_is}
 
 -- the constant expressions of a module
 pub record Constants (m : Module) : Type 0 where

@@ -1,17 +1,8 @@
 -- The addresses of a part's imports are lower than those of what it defines, and these lower than those of what later parts define.
-use Rattle.std.proofs.Common.{◌≡◌, ◌∙◌, sym, ap, ap₂, subst, ℕ, zero, suc, ◌+◌, ◌-◌, ◌<◌, List, length, Some, ◌⊎◌, inl, inr, arith, option_and_then, slice_get, true, refl}
-use Rattle.wasm_tree.specs.declared.space.Space.{Space}
-use Rattle.wasm_tree.specs.declared.module.Import.{Import}
-use Rattle.wasm_tree.specs.declared.module.ImportDesc.{ImportDesc}
+use Rattle.base_lists.proofs.Common.{◌≡◌, ◌∙◌, sym, ap, ap₂, subst, ℕ, zero, suc, ◌+◌, ◌-◌, ◌<◌, List, length, Some, ◌⊎◌, inl, inr, arith, option_and_then, slice_get, true, refl, and_then_is, all_there_at, same_Some, append_at_left, place_back}
+use Rattle.wasm_tree_spec.specs.Prelude.{Space, Import, ImportDesc, Module, index_of_export, space_of_export, space_of_import, Functions, Tables, Memories, Globals, same_space}
 use Rattle.wasm_tree.specs.declared.module.ImportDesc.TheVariants as im
-use Rattle.wasm_tree.specs.declared.module.Module.{Module}
-use Rattle.wasm_meaning.specs.State.{Pair, Inst}
-use Rattle.wasm_meaning.specs.Paths.{walk_on, walk}
-use Rattle.wasm_meaning.specs.Linking.{Part, Site, Entity, End, Defined, Outside, imports_of, module_at, import_at, pair_of, import_step, end_of, sites, has_kind}
-use Rattle.wasm_tree.specs.Spaces.{index_of_export, space_of_export, space_of_import}
-use Rattle.wasm_meaning.specs.Environment.{Environment, ExternalValue, OwnKey}
-use Rattle.wasm_meaning.specs.World.{all_there, defined_count, own_count, base, external_value_at, address_of, import_type, own_key_of, own_key, external_value_of, imported_external_value, numbers}
-use Rattle.wasm_meaning.specs.Sequential.{JoinsEarlier}
+use Rattle.wasm_meaning.specs.Prelude.{Pair, Inst, walk_on, walk, Part, Site, Entity, End, Defined, Outside, imports_of, module_at, import_at, pair_of, import_step, end_of, sites, has_kind, Environment, ExternalValue, OwnKey, all_there, defined_count, own_count, base, external_value_at, address_of, import_type, own_key_of, own_key, external_value_of, imported_external_value, numbers, JoinsEarlier}
 use Rattle.world_simulation.proofs.Defined.{defined_at}
 use Rattle.world_sequential_proof.proofs.ExternalValues.{space_in, in_space, space_is, held_external}
 use Rattle.world_sequential_proof.proofs.Joined.{ExportsThere}
@@ -20,14 +11,8 @@ use Rattle.world_sequential_proof.proofs.EarlierParts.{append_back, same_thing}
 use Rattle.index_remap_proof.proofs.Lists.{all_there_back}
 use Rattle.world_sequential_proof.proofs.FillOwned.{kind_of_key, own_at}
 use Rattle.world_sequential_proof.proofs.FillPaths.{LowInside, Low, inside, outside, ends_low}
-use Rattle.base_lists.proofs.Options.{and_then_is, all_there_at}
-use Rattle.std.proofs.lemmas.Option.{same_Some}
-use Rattle.base_lists.proofs.Places.{append_at_left}
-use Rattle.wasm_tree.specs.declared.space.Space.TheVariants.{Functions, Tables, Memories, Globals}
 use Rattle.merge_valid_proof.specs.Ended.{is_external}
-use Rattle.base_lists.proofs.Filtered.{place_back}
 use Rattle.base_lists.specs.Places.{places}
-use Rattle.wasm_tree.specs.Operands.{same_space}
 use Rattle.world_simulation.proofs.Instancing.{IsInst}
 use Rattle.wasm_meaning.proofs.Counts.{defined_next}
 

@@ -1,19 +1,12 @@
 -- Active segments of data are a matter of memories and of segments of data alone.
-use Rattle.std.proofs.Common.{◌≡◌, ◌∙◌, refl, ap, ℕ, ◌<◌, List, [], ◌∷◌, map, Option, Some, false, option_and_then, slice_get, slice_set, None}
-use Rattle.wasm_tree.specs.declared.module.ConstExpr.{ConstExpr}
-use Rattle.wasm_tree.specs.declared.module.DataSeg.{DataSeg}
-use Rattle.wasm_tree.specs.declared.module.DataMode.{DataMode}
+use Rattle.base_lists.proofs.Common.{◌≡◌, ◌∙◌, refl, ap, ℕ, ◌<◌, List, [], ◌∷◌, map, Option, Some, false, option_and_then, slice_get, slice_set, None, and_then_is}
+use Rattle.wasm_tree_spec.specs.Prelude.{ConstExpr, DataSeg, DataMode}
 use Rattle.wasm_tree.specs.declared.module.DataMode.TheVariants as data'
 use Rattle.wasm_num.specs.Operations.{W32}
-use Rattle.wasm_meaning.specs.Outcomes.{overwrite}
-use Rattle.wasm_meaning.specs.State.{Val, Inst, Memory, Data, Store}
-use Rattle.wasm_meaning.specs.Values.{num_of}
-use Rattle.wasm_meaning.specs.Step.{no_bytes}
-use Rattle.wasm_meaning.specs.World.{Filled, PlacedSegment, copy_bytes, run_data_with, and_then, one_by_one}
+use Rattle.wasm_meaning.specs.Prelude.{overwrite, Val, Inst, Memory, Data, Store, num_of, no_bytes, Filled, PlacedSegment, copy_bytes, run_data_with, and_then, one_by_one}
 use Rattle.wasm_meaning.specs.Sequential.{is_active_data}
 use Rattle.world_sequential_proof.proofs.FillRuns.{Job, Skip, Fill, run, runs, LowJob, low_skip, low_fill, LowJobs, Kept, kept_skip, kept_fill, KeptAll}
 use Rattle.world_sequential_proof.proofs.FillTurns.{Turned, goes_on, stops, or_turned}
-use Rattle.base_lists.proofs.Options.{and_then_is}
 use Rattle.world_sequential_proof.proofs.FillJobs.{jobs, task_job, jobs_low, jobs_kept}
 
 abbrev pub memory_fill : Memory → Data → ℕ → Option Memory

@@ -1,14 +1,7 @@
 -- The stores of parts that are instantiated sequentially where no code has run, for the sequential run: how the store at once is laid out, what a part adds, and what its segments do.
-use Rattle.std.proofs.Common.{◌≡◌, ◌∙◌, refl, sym, ap, ap₂, subst, ℕ, zero, suc, ◌+◌, ◌-◌, ◌<◌, ◌≤◌, List, [], ◌∷◌, length, Option, Some, true, false, arith, option_and_then, slice_get, None}
-use Rattle.wasm_tree.specs.declared.module.ConstExpr.{ConstExpr}
-use Rattle.wasm_tree.specs.declared.module.Module.{Module}
-use Rattle.wasm_meaning.specs.Outcomes.{overwrite}
-use Rattle.wasm_meaning.specs.State.{RefVal, Inst, Table, Memory, Elem, Data, Store}
-use Rattle.wasm_meaning.specs.Step.{no_items, no_bytes}
-use Rattle.wasm_meaning.specs.Linking.{Part, Read, module_at, sites_in, sites_from, sites, read_of}
-use Rattle.wasm_meaning.specs.Environment.{Environment, all_of}
-use Rattle.wasm_meaning.specs.World.{is_matched, insts_from, own_store, stores_from, part_store, joined_stores, store_with, const_value, value_of, segments}
-use Rattle.wasm_meaning.specs.Sequential.{JoinsEarlier}
+use Rattle.base_lists.proofs.Common.{◌≡◌, ◌∙◌, refl, sym, ap, ap₂, subst, ℕ, zero, suc, ◌+◌, ◌-◌, ◌<◌, ◌≤◌, List, [], ◌∷◌, length, Option, Some, true, false, arith, option_and_then, slice_get, None, slice_get_within, same_Some, and_then_is, append_at_left, append_right, append_left}
+use Rattle.wasm_tree_spec.specs.Prelude.{ConstExpr, Module}
+use Rattle.wasm_meaning.specs.Prelude.{overwrite, RefVal, Inst, Table, Memory, Elem, Data, Store, no_items, no_bytes, Part, Read, module_at, sites_in, sites_from, sites, read_of, Environment, all_of, is_matched, insts_from, own_store, stores_from, part_store, joined_stores, store_with, const_value, value_of, segments, JoinsEarlier}
 use Rattle.world_extension_proof.specs.Extends.{TableExtends, MemoryExtends, EachExtends}
 use Rattle.world_extension_proof.proofs.Extends.{each_then, each_put, each_stays, table_stays, memory_stays, global_stays}
 use Rattle.world_simulation.proofs.Copied.{overwritten_length}
@@ -24,9 +17,6 @@ use Rattle.world_sequential_proof.proofs.FillData.{memory_fill}
 use Rattle.world_sequential_proof.proofs.FillSegments.{FilledUpto, first_elems, first_datas}
 use Rattle.world_sequential_proof.proofs.FillNext
 use Rattle.world_sequential_proof.proofs.FillNext.{Next}
-use Rattle.std.proofs.lemmas.Option.{slice_get_within, same_Some}
-use Rattle.base_lists.proofs.Options.{and_then_is}
-use Rattle.base_lists.proofs.Places.{append_at_left, append_right, append_left}
 use Rattle.merge_valid_proof.proofs.Linked.{site_in}
 use Rattle.wasm_meaning.proofs.Counts.{module_there}
 

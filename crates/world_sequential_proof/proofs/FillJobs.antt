@@ -1,12 +1,8 @@
 -- The segments of parts, of elements or of data, as jobs.
-use Rattle.std.proofs.Common.{◌≡◌, ◌∙◌, refl, sym, ap, ap₂, ℕ, suc, ◌+◌, ◌<◌, List, [], ◌∷◌, ◌++◌, map, length, Option, Some, None, Bool, true, false, cond, arith, option_and_then, slice_get}
-use Rattle.std.proofs.lemmas.List.{map-append}
-use Rattle.wasm_tree.specs.declared.module.ConstExpr.{ConstExpr}
-use Rattle.wasm_tree.specs.declared.module.Module.{Module}
-use Rattle.wasm_meaning.specs.State.{Val, Inst}
-use Rattle.wasm_meaning.specs.Linking.{Part, module_at}
-use Rattle.wasm_meaning.specs.Environment.{Environment, any_of}
-use Rattle.wasm_meaning.specs.World.{PlacedSegment, segments_in, value_of}
+use Rattle.base_lists.proofs.Common.{◌≡◌, ◌∙◌, refl, sym, ap, ap₂, ℕ, suc, ◌+◌, ◌<◌, List, [], ◌∷◌, ◌++◌, map, length, Option, Some, None, Bool, true, false, cond, arith, option_and_then, slice_get, map-append}
+use Rattle.wasm_tree_spec.specs.Prelude.{ConstExpr, Module}
+use Rattle.wasm_meaning.specs.Prelude.{Val, Inst, Part, module_at, Environment, PlacedSegment, segments_in, value_of}
+use Rattle.wasm_meaning.specs.Environment.{any_of}
 use Rattle.world_sequential_proof.proofs.FillRuns.{Job, Skip, run, runs, rest_jobs, LowJob, LowJobs, low_none, low_more, Kept, KeptAll, kept_none, kept_more}
 
 abbrev or_no_jobs : Option (List Job) → List Job

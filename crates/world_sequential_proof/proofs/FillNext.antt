@@ -1,13 +1,7 @@
 -- The next part's active segments, as its turn comes: what they do at once, with those of the parts before it and none of later ones.
-use Rattle.std.proofs.Common.{◌≡◌, ◌∙◌, refl, sym, ap, ap₂, ℕ, suc, List, ◌++◌, length, Some, true, false, append_assoc, arith, slice_get}
-use Rattle.wasm_tree.specs.declared.space.Space.TheVariants.{Tables, Memories, DataSegments, ElementSegments}
-use Rattle.wasm_tree.specs.declared.module.Module.{Module}
-use Rattle.wasm_meaning.specs.State.{Inst, Table, Memory, Elem, Data, Store}
-use Rattle.wasm_meaning.specs.Step.{no_items, no_bytes}
-use Rattle.wasm_meaning.specs.Linking.{Part, module_at, sites}
-use Rattle.wasm_meaning.specs.Environment.{Environment, all_of}
-use Rattle.wasm_meaning.specs.World.{base, is_matched, insts_from, own_store, stores_from, part_store, joined_stores, const_value, value_of, placed_elems, placed_datas, segments, defined_before}
-use Rattle.wasm_meaning.specs.Sequential.{JoinsEarlier, own_segments}
+use Rattle.base_lists.proofs.Common.{◌≡◌, ◌∙◌, refl, sym, ap, ap₂, ℕ, suc, List, ◌++◌, length, Some, true, false, append_assoc, arith, slice_get}
+use Rattle.wasm_tree_spec.specs.Prelude.{Tables, Memories, DataSegments, ElementSegments, Module}
+use Rattle.wasm_meaning.specs.Prelude.{Inst, Table, Memory, Elem, Data, Store, no_items, no_bytes, Part, module_at, sites, Environment, all_of, base, is_matched, insts_from, own_store, stores_from, part_store, joined_stores, const_value, value_of, placed_elems, placed_datas, segments, defined_before, JoinsEarlier, own_segments}
 use Rattle.world_sequential_proof.proofs.Joined.{ExportsThere}
 use Rattle.world_sequential_proof.proofs.FillAddresses.{numbers_low, space_low}
 use Rattle.world_sequential_proof.proofs.FillStores.{rest_from, rest_next, Lengths, lengths_next}

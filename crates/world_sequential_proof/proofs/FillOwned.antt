@@ -1,10 +1,7 @@
 -- The environment's own entities have addresses of their kind, below the number of what it has.
-use Rattle.std.proofs.Common.{◌≡◌, ◌∙◌, refl, sym, ap, subst, ℕ, suc, ◌+◌, ◌<◌, List, [], ◌∷◌, ◌++◌, map, length, Option, Some, None, Bool, true, false, cond, ◌⊎◌, inl, inr, arith}
-use Rattle.wasm_tree.specs.declared.space.Space.{Space}
-use Rattle.wasm_tree.specs.declared.space.Space.TheVariants.{Functions, Tables, Memories, Globals}
-use Rattle.wasm_meaning.specs.Environment.{Environment, Offer, OwnKey, FuncKey, TableKey, MemoryKey, GlobalKey, ExternalValue, FuncAt, TableAt, MemoryAt, GlobalAt, Owned, same_key, look_up, owned_at, owned_of, addressed, flat, one_if}
-use Rattle.wasm_meaning.specs.World.{own_count, external_value_at}
-use Rattle.std.proofs.lemmas.List.{length-append}
+use Rattle.base_lists.proofs.Common.{◌≡◌, ◌∙◌, refl, sym, ap, subst, ℕ, suc, ◌+◌, ◌<◌, List, [], ◌∷◌, ◌++◌, map, length, Option, Some, None, Bool, true, false, cond, ◌⊎◌, inl, inr, arith, length-append}
+use Rattle.wasm_tree_spec.specs.Prelude.{Space, Functions, Tables, Memories, Globals}
+use Rattle.wasm_meaning.specs.Prelude.{Environment, Offer, OwnKey, FuncKey, TableKey, MemoryKey, GlobalKey, ExternalValue, FuncAt, TableAt, MemoryAt, GlobalAt, Owned, same_key, look_up, owned_at, owned_of, addressed, flat, one_if, own_count, external_value_at}
 
 abbrev pub kind_of_key : OwnKey → Space
 kind_of_key (FuncKey p t) = Functions

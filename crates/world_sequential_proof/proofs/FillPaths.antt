@@ -1,16 +1,8 @@
 -- Where each joined import leads to an earlier part, an import ends with what an earlier part defines, or with an import that stays.
-use Rattle.std.proofs.Common.{◌≡◌, ◌∙◌, refl, sym, ap, subst, ℕ, zero, suc, ◌+◌, ◌<◌, ◌≤◌, List, length, Option, Some, None, arith, option_and_then, slice_get}
-use Rattle.wasm_tree.specs.declared.module.Import.{Import}
-use Rattle.wasm_tree.specs.declared.module.Module.{Module}
-use Rattle.wasm_meaning.specs.Paths.{PathStep, EndsWith, LeadsTo, walk, walk_on}
-use Rattle.wasm_meaning.specs.Linking.{Part, Site, Entity, End, Defined, Outside, imports_of, module_at, import_at, export_named, source_of, joined, imported_as, entity_step, joined_step, import_step, end_of, sites}
-use Rattle.wasm_tree.specs.Spaces.{index_of_export, space_of_export}
-use Rattle.wasm_meaning.specs.World.{defined_count}
-use Rattle.wasm_meaning.specs.Sequential.{JoinsEarlier}
+use Rattle.base_lists.proofs.Common.{◌≡◌, ◌∙◌, refl, sym, ap, subst, ℕ, zero, suc, ◌+◌, ◌<◌, ◌≤◌, List, length, Option, Some, None, arith, option_and_then, slice_get, slice_get_none, and_then_is, same_Some}
+use Rattle.wasm_tree_spec.specs.Prelude.{Import, Module, index_of_export, space_of_export}
+use Rattle.wasm_meaning.specs.Prelude.{PathStep, EndsWith, LeadsTo, walk, walk_on, Part, Site, Entity, End, Defined, Outside, imports_of, module_at, import_at, export_named, source_of, joined, imported_as, entity_step, joined_step, import_step, end_of, sites, defined_count, JoinsEarlier}
 use Rattle.world_sequential_proof.proofs.Joined.{ExportsThere}
-use Rattle.base_lists.proofs.Places.{slice_get_none}
-use Rattle.base_lists.proofs.Options.{and_then_is}
-use Rattle.std.proofs.lemmas.Option.{same_Some}
 
 -- the end of an import of part p
 pub record LowInside (parts : List Part) (p : ℕ) (e : Entity) : Type 0 where

@@ -1,10 +1,7 @@
 -- Segments that are copied part by part, as a matter of two lists alone: what is written to, and the segments, which are dropped.
 -- What stands behind all that is written stays, and does not matter.
-use Rattle.std.proofs.Common.{◌≡◌, ◌∙◌, refl, sym, ap, ap₂, subst, ℕ, zero, suc, ◌-◌, ◌<◌, ◌≤◌, List, [], ◌∷◌, ◌++◌, length, Option, Some, None, append_assoc, arith, option_and_then, slice_get, slice_set}
-use Rattle.std.proofs.lemmas.List.{length-set, set-append_left}
-use Rattle.base_lists.proofs.Places.{append_left}
-use Rattle.base_lists.proofs.Options.{and_then_is}
-use Rattle.std.proofs.lemmas.Option.{same_Some}
+use Rattle.base_lists.proofs.Common.{◌≡◌, ◌∙◌, refl, sym, ap, ap₂, subst, ℕ, zero, suc, ◌-◌, ◌<◌, ◌≤◌, List, [], ◌∷◌, ◌++◌, length, Option, Some, None, append_assoc, arith, option_and_then, slice_get, slice_set, length-set, append_left, and_then_is, same_Some}
+use Rattle.std.proofs.lemmas.List.{set-append_left}
 
 -- a segment, where it goes and from where on; or one that is not copied
 pub data Job : Type 0 where

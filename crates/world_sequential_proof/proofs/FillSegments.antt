@@ -1,22 +1,15 @@
 -- Active segments that are copied as each part's turn comes do what they do where all parts are instantiated at once.
-use Rattle.std.proofs.Common.{◌≡◌, ◌∙◌, refl, sym, ap, ap₂, ℕ, ◌≤◌, List, ◌++◌, map, length, Option, Some, false, arith, slice_get}
-use Rattle.wasm_tree.specs.declared.module.ConstExpr.{ConstExpr}
-use Rattle.wasm_tree.specs.declared.module.ElemSeg.{ElemSeg}
-use Rattle.wasm_tree.specs.declared.module.DataSeg.{DataSeg}
-use Rattle.wasm_tree.specs.declared.module.Module.{Module}
-use Rattle.wasm_meaning.specs.State.{Val, Inst, Table, Memory, Elem, Data, Store}
-use Rattle.wasm_meaning.specs.Step.{no_items, no_bytes}
-use Rattle.wasm_meaning.specs.Linking.{Part, module_at}
-use Rattle.wasm_meaning.specs.Environment.{Environment, any_of}
-use Rattle.wasm_meaning.specs.World.{Filled, PlacedSegment, own_store, stores_from, joined_stores, value_of, segments_in, placed_elems, placed_datas, and_then, one_by_one, segments}
-use Rattle.wasm_meaning.specs.Sequential.{HasNoActive, is_active_elem, is_active_data, own_segments}
+use Rattle.base_lists.proofs.Common.{◌≡◌, ◌∙◌, refl, sym, ap, ap₂, ℕ, ◌≤◌, List, ◌++◌, map, length, Option, Some, false, arith, slice_get, append_left}
+use Rattle.wasm_tree_spec.specs.Prelude.{ConstExpr, ElemSeg, DataSeg, Module}
+use Rattle.wasm_meaning.specs.Prelude.{Val, Inst, Table, Memory, Elem, Data, Store, no_items, no_bytes, Part, module_at, Environment, Filled, PlacedSegment, own_store, stores_from, joined_stores, value_of, segments_in, placed_elems, placed_datas, and_then, one_by_one, segments, HasNoActive, own_segments}
+use Rattle.wasm_meaning.specs.Environment.{any_of}
+use Rattle.wasm_meaning.specs.Sequential.{is_active_elem, is_active_data}
 use Rattle.world_sequential_proof.proofs.FillStores.{rest_from, Lengths, lengths_first, allocated_whole}
 use Rattle.world_sequential_proof.proofs.FillValues.{HoldsFixed}
 use Rattle.world_sequential_proof.proofs.FillRuns.{Job, first_jobs, rest_jobs, all_runs}
 use Rattle.world_sequential_proof.proofs.FillTurns.{Turned, goes_on, stops, turned_some, turned_not, table_fill, with_tables, elem_runs, elem_segment, elem_jobs, elem_task_job, elem_turn, elems_turned, elem_skips}
 use Rattle.world_sequential_proof.proofs.FillData.{memory_fill, data_runs, data_segment, data_jobs, data_task_job, data_turn, datas_turned, data_skips}
 use Rattle.world_sequential_proof.proofs.FillJobs.{tasks_jobs, jobs_skip, jobs_of, jobs_at, jobs_none, all_by_part}
-use Rattle.base_lists.proofs.Places.{append_left}
 
 -- ---- elements, then data ----
 

@@ -1,17 +1,8 @@
 -- The store of all parts at once is what the first of them add, then what the rest add.
-use Rattle.std.proofs.Common.{◌≡◌, ◌∙◌, refl, sym, ap, ap₂, subst, ℕ, zero, suc, ◌+◌, ◌-◌, ◌<◌, ◌≤◌, List, [], ◌∷◌, ◌++◌, length, Option, Some, None, append_assoc, arith, option_and_then, slice_get, append-nil}
-use Rattle.wasm_tree.specs.declared.space.Space.{Space}
-use Rattle.wasm_tree.specs.declared.space.Space.TheVariants.{Functions, Tables, Memories, Globals, DataSegments, ElementSegments}
-use Rattle.wasm_tree.specs.declared.module.ConstExpr.{ConstExpr}
-use Rattle.wasm_tree.specs.declared.module.Module.{Module}
-use Rattle.wasm_meaning.specs.State.{Val, Inst, Store}
-use Rattle.wasm_meaning.specs.Linking.{Part, module_at}
-use Rattle.wasm_meaning.specs.Environment.{Environment}
-use Rattle.wasm_meaning.specs.World.{base, defined_before, all_there, new_func, global_with, elem_with, store_with, part_store, joined_stores, own_store, stores_from}
+use Rattle.base_lists.proofs.Common.{◌≡◌, ◌∙◌, refl, sym, ap, ap₂, subst, ℕ, zero, suc, ◌+◌, ◌-◌, ◌<◌, ◌≤◌, List, [], ◌∷◌, ◌++◌, length, Option, Some, None, append_assoc, arith, option_and_then, slice_get, append-nil, length-append, length-map, and_then_is, all_there_length, same_Some}
+use Rattle.wasm_tree_spec.specs.Prelude.{Space, Functions, Tables, Memories, Globals, DataSegments, ElementSegments, ConstExpr, Module}
+use Rattle.wasm_meaning.specs.Prelude.{Val, Inst, Store, Part, module_at, Environment, base, defined_before, all_there, new_func, global_with, elem_with, store_with, part_store, joined_stores, own_store, stores_from}
 use Rattle.world_sequential_proof.proofs.FillAddresses.{base_next}
-use Rattle.std.proofs.lemmas.List.{length-append, length-map}
-use Rattle.base_lists.proofs.Options.{and_then_is, all_there_length}
-use Rattle.std.proofs.lemmas.Option.{same_Some}
 use Rattle.wasm_meaning.proofs.Counts.{defined_next, module_there}
 
 abbrev pub no_store : Store

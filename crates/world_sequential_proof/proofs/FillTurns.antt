@@ -1,19 +1,11 @@
 -- Active segments of elements are a matter of tables and of segments of elements alone.
-use Rattle.std.proofs.Common.{◌≡◌, ◌∙◌, refl, ap, ℕ, ◌<◌, List, [], ◌∷◌, map, Option, Some, None, true, false, option_and_then, slice_get, slice_set}
-use Rattle.wasm_tree.specs.declared.module.ConstExpr.{ConstExpr}
-use Rattle.wasm_tree.specs.declared.module.ElemSeg.{ElemSeg}
-use Rattle.wasm_tree.specs.declared.module.ElemMode.{ElemMode}
+use Rattle.base_lists.proofs.Common.{◌≡◌, ◌∙◌, refl, ap, ℕ, ◌<◌, List, [], ◌∷◌, map, Option, Some, None, true, false, option_and_then, slice_get, slice_set, and_then_is, same_Some}
+use Rattle.wasm_tree_spec.specs.Prelude.{ConstExpr, ElemSeg, ElemMode}
 use Rattle.wasm_tree.specs.declared.module.ElemMode.TheVariants as elem
 use Rattle.wasm_num.specs.Operations.{W32}
-use Rattle.wasm_meaning.specs.Outcomes.{overwrite}
-use Rattle.wasm_meaning.specs.State.{RefVal, Val, Inst, Table, Elem, Store}
-use Rattle.wasm_meaning.specs.Values.{num_of}
-use Rattle.wasm_meaning.specs.Step.{no_items}
-use Rattle.wasm_meaning.specs.World.{Filled, PlacedSegment, or_trapped, copy_slots, run_elem_with, and_then, one_by_one}
+use Rattle.wasm_meaning.specs.Prelude.{overwrite, RefVal, Val, Inst, Table, Elem, Store, num_of, no_items, Filled, PlacedSegment, or_trapped, copy_slots, run_elem_with, and_then, one_by_one}
 use Rattle.wasm_meaning.specs.Sequential.{is_active_elem}
 use Rattle.world_sequential_proof.proofs.FillRuns.{Job, Skip, Fill, run, runs, LowJob, low_skip, low_fill, LowJobs, Kept, kept_skip, kept_fill, KeptAll}
-use Rattle.base_lists.proofs.Options.{and_then_is}
-use Rattle.std.proofs.lemmas.Option.{same_Some}
 use Rattle.world_sequential_proof.proofs.FillJobs.{jobs, task_job, jobs_low, jobs_kept}
 
 -- with the lists that come out set into the store; or a segment was out of bounds

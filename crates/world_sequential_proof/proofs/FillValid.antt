@@ -1,39 +1,16 @@
 -- What valid parts give: their constant expressions read imports that are not mutable, and what they export is there.
-use Rattle.std.proofs.Common.{◌≡◌, ◌∙◌, refl, sym, ap, subst, ℕ, zero, suc, ◌+◌, ◌<◌, List, [], ◌∷◌, ◌++◌, map, length, Option, Some, None, Bool, true, false, cond, arith, option_and_then}
-use Rattle.wasm_tree.specs.declared.space.Space.{Space}
-use Rattle.wasm_tree.specs.declared.space.Space.TheVariants.{Functions, Tables, Memories, Globals}
-use Rattle.wasm_tree.specs.Operands.{same_space}
-use Rattle.std.specs.Prelude.{◌↔◌, ◌&&◌, not, nat_lt, slice_get}
-use Rattle.std.specs.List.{filter_map, cons_option}
-use Rattle.std.proofs.lemmas.Bool.{ltb-true, and_parts, not-true}
-use Rattle.wasm_tree.specs.declared.types.ValType.{ValType}
-use Rattle.wasm_tree.specs.declared.types.ValType.TheVariants.{Ref}
-use Rattle.wasm_tree.specs.declared.types.GlobalType.{GlobalType}
-use Rattle.wasm_tree.specs.declared.module.Import.{Import}
-use Rattle.wasm_tree.specs.declared.module.ImportDesc.{ImportDesc}
+use Rattle.base_lists.proofs.Common.{◌≡◌, ◌∙◌, refl, sym, ap, subst, ℕ, zero, suc, ◌+◌, ◌<◌, List, [], ◌∷◌, ◌++◌, map, length, Option, Some, None, Bool, true, false, cond, arith, option_and_then, ◌↔◌, ◌&&◌, not, nat_lt, slice_get, filter_map, cons_option, ltb-true, and_parts, not-true, length-append, length-map, slice_get_within, same_Some}
+use Rattle.wasm_tree_spec.specs.Prelude.{Space, Functions, Tables, Memories, Globals, same_space, ValType, Ref, GlobalType, Import, ImportDesc, Export, ExportDesc, ConstExpr, GlobalDef, ElemSeg, DataSeg, Module, func_of, table_of, memory_of, global_of, imported_globals, globals_of, index_of_export, space_of_export, space_of_import}
 use Rattle.wasm_tree.specs.declared.module.ImportDesc.TheVariants as im
-use Rattle.wasm_tree.specs.declared.module.Export.{Export}
-use Rattle.wasm_tree.specs.declared.module.ExportDesc.{ExportDesc}
 use Rattle.wasm_tree.specs.declared.module.ExportDesc.TheVariants as ex
-use Rattle.wasm_tree.specs.declared.module.ConstExpr.{ConstExpr}
-use Rattle.wasm_tree.specs.declared.module.GlobalDef.{GlobalDef}
-use Rattle.wasm_tree.specs.declared.module.ElemSeg.{ElemSeg}
-use Rattle.wasm_tree.specs.declared.module.DataSeg.{DataSeg}
-use Rattle.wasm_tree.specs.declared.module.Module.{Module}
-use Rattle.wasm_tree.specs.Spaces.{func_of, table_of, memory_of, global_of, imported_globals, globals_of, index_of_export, space_of_export, space_of_import}
 use Rattle.wasm_valid_bodies.specs.Typing.{only}
 use Rattle.wasm_valid.specs.declared.kinds.ItemKind.{ItemKind}
 use Rattle.wasm_valid.specs.declared.kinds.ItemKind.TheVariants as kind
-use Rattle.wasm_valid.specs.Constants.{const_type}
-use Rattle.wasm_valid.specs.Validity.{IsValid, HoldsAt, count_of, InSpace, ElemModeHolds, DataModeHolds}
-use Rattle.wasm_meaning.specs.State.{Text}
-use Rattle.wasm_meaning.specs.Linking.{Part, places, has_kind, same_text, imports_of, module_at, export_named}
-use Rattle.wasm_meaning.specs.World.{is_there, defined_count}
+use Rattle.wasm_valid.specs.Prelude.{const_type, IsValid, HoldsAt, count_of, InSpace, ElemModeHolds, DataModeHolds}
+use Rattle.wasm_meaning.specs.Prelude.{Text, Part, places, has_kind, same_text, imports_of, module_at, export_named, is_there, defined_count}
 use Rattle.world_sequential_proof.proofs.Joined.{ExportsThere}
 use Rattle.world_sequential_proof.proofs.FillValues.{ReadsImport, Constant}
 use Rattle.world_sequential_proof.proofs.FillAdded.{Constants}
-use Rattle.std.proofs.lemmas.List.{length-append, length-map}
-use Rattle.std.proofs.lemmas.Option.{slice_get_within, same_Some}
 
 -- ---- lists ----
 

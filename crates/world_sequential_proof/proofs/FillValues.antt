@@ -1,30 +1,14 @@
 -- A constant expression of a part has one value, whether it is read from the store as the part's turn comes or along its path through joined globals.
-use Rattle.std.proofs.Common.{◌≡◌, ◌∙◌, refl, sym, ap, ap₂, subst, ℕ, zero, suc, ◌+◌, ◌-◌, ◌<◌, List, [], ◌∷◌, ◌++◌, length, Option, Some, None, Bool, true, false, cond, ◌⊎◌, inl, inr, arith, option_and_then, slice_get, unwrap_or, ◌&&◌}
-use Rattle.wasm_tree.specs.declared.space.Space.{Space}
-use Rattle.wasm_tree.specs.declared.space.Space.TheVariants.{Globals}
-use Rattle.wasm_tree.specs.Operands.{same_space}
-use Rattle.wasm_tree.specs.declared.types.GlobalType.{GlobalType}
-use Rattle.wasm_tree.specs.declared.module.Import.{Import}
+use Rattle.base_lists.proofs.Common.{◌≡◌, ◌∙◌, refl, sym, ap, ap₂, subst, ℕ, zero, suc, ◌+◌, ◌-◌, ◌<◌, List, [], ◌∷◌, ◌++◌, length, Option, Some, None, Bool, true, false, cond, ◌⊎◌, inl, inr, arith, option_and_then, slice_get, unwrap_or, ◌&&◌, slice_get_within, same_Some, append_left, append_right, and_then_is}
+use Rattle.wasm_tree_spec.specs.Prelude.{Space, Globals, same_space, GlobalType, Import, ConstExpr, Module, index_of_export, space_of_import}
 use Rattle.wasm_tree.specs.declared.module.ImportDesc.TheVariants as im
-use Rattle.wasm_tree.specs.declared.module.ConstExpr.{ConstExpr}
 use Rattle.wasm_tree.specs.declared.module.ConstExpr.TheVariants as const
-use Rattle.wasm_tree.specs.declared.module.Module.{Module}
-use Rattle.wasm_meaning.specs.State.{Val, Inst, Global, Store}
-use Rattle.wasm_meaning.specs.Values.{same_type}
-use Rattle.wasm_meaning.specs.Paths.{PathStep, EndsWith, LeadsTo, walk, walk_on}
-use Rattle.wasm_meaning.specs.Linking.{Part, Site, End, Defined, Outside, Read, places, has_kind, space_index, imports_of, module_at, import_at, sites_in, sites_from, sites, end_of, global_import, initial, outside_read, end_step, read_step, initials_from, read_of}
-use Rattle.wasm_tree.specs.Spaces.{index_of_export, space_of_import}
-use Rattle.wasm_meaning.specs.Environment.{Environment, GlobalAt, own_globals, all_of}
-use Rattle.wasm_meaning.specs.World.{all_there, base, same_bool, is_match, is_matched, imported_external_value, insts_from, inst_of, own_store, stores_from, global_with, new_func, elem_with, const_value, value_of_read, value_of, address_of, joined_stores}
-use Rattle.wasm_meaning.specs.Sequential.{JoinsEarlier}
+use Rattle.wasm_meaning.specs.Prelude.{Val, Inst, Global, Store, same_type, PathStep, EndsWith, LeadsTo, walk, walk_on, Part, Site, End, Defined, Outside, Read, places, has_kind, space_index, imports_of, module_at, import_at, sites_in, sites_from, sites, end_of, global_import, initial, outside_read, end_step, read_step, initials_from, read_of, Environment, GlobalAt, own_globals, all_of, all_there, base, same_bool, is_match, is_matched, imported_external_value, insts_from, inst_of, own_store, stores_from, global_with, new_func, elem_with, const_value, value_of_read, value_of, address_of, joined_stores, JoinsEarlier}
 use Rattle.world_sequential_proof.proofs.ExternalValues.{inst_at, walk_more, thing_has}
 use Rattle.world_sequential_proof.proofs.Joined.{ExportsThere}
 use Rattle.world_sequential_proof.proofs.FillAddresses.{AtDefined, AtOwn, HasAddress, import_address, imported_at, imported_low}
 use Rattle.index_remap_proof.proofs.Lists.{all_there_back}
 use Rattle.world_sequential_proof.proofs.FillStores.{adds, rest_from, rest_next, first_stores, part_adds, inst_there, allocated_whole, first_parts}
-use Rattle.std.proofs.lemmas.Option.{slice_get_within, same_Some}
-use Rattle.base_lists.proofs.Places.{append_left, append_right}
-use Rattle.base_lists.proofs.Options.{and_then_is}
 use Rattle.merge_valid_proof.proofs.Same.{kind_same}
 use Rattle.world_simulation.proofs.Instancing.{IsInst, inst_is}
 use Rattle.wasm_meaning.proofs.Counts.{module_there}

@@ -1,13 +1,8 @@
 -- What the sequential run asks of stores whose first parts' segments were copied.
-use Rattle.std.proofs.Common.{◌≡◌, ◌∙◌, sym, ap, subst, ℕ, zero, suc, ◌+◌, ◌-◌, ◌≤◌, List, length, Some, false, arith, slice_get}
-use Rattle.wasm_tree.specs.declared.module.Module.{Module}
-use Rattle.wasm_meaning.specs.State.{Text, Inst, Store}
-use Rattle.wasm_meaning.specs.Linking.{module_at}
-use Rattle.wasm_meaning.specs.Environment.{Environment, ExternalValue}
-use Rattle.wasm_meaning.specs.World.{World, own_store, stores_from, const_value, joined_stores, all_there, seen_as, segments}
-use Rattle.wasm_meaning.specs.StartFrames.{StartDependsOnlyOnItsFrames}
-use Rattle.wasm_meaning.specs.Sequential.{own_segments, HasNoActive}
-use Rattle.index_remap.specs.Laws.{CodeIsRelatedToItself, RelatedTicksAgree, OthersStay}
+use Rattle.base_lists.proofs.Common.{◌≡◌, ◌∙◌, sym, ap, subst, ℕ, zero, suc, ◌+◌, ◌-◌, ◌≤◌, List, length, Some, false, arith, slice_get}
+use Rattle.wasm_tree_spec.specs.Prelude.{Module}
+use Rattle.wasm_meaning.specs.Prelude.{Text, Inst, Store, module_at, Environment, ExternalValue, World, own_store, stores_from, const_value, joined_stores, all_there, seen_as, segments, StartDependsOnlyOnItsFrames, own_segments, HasNoActive}
+use Rattle.index_remap.specs.Prelude.{CodeIsRelatedToItself, RelatedTicksAgree, OthersStay}
 use Rattle.world_extension_proof.specs.Extends.{StepsExtend}
 use Rattle.world_sequential_proof.proofs.Given.{IsGiven}
 use Rattle.world_sequential_proof.proofs.Begins.{FillLaws}

@@ -1,23 +1,11 @@
 -- Segments that are copied extend the store, and refer to nothing that it does not.
-use Rattle.std.proofs.Common.{◌≡◌, refl, subst, ℕ, List, [], ◌∷◌, Option, Some, None, Bool, true, false, cond, arith, option_and_then, slice_get}
-use Rattle.wasm_tree.specs.declared.module.ConstExpr.{ConstExpr}
-use Rattle.wasm_tree.specs.declared.module.ElemSeg.{ElemSeg}
-use Rattle.wasm_tree.specs.declared.module.ElemMode.{ElemMode}
+use Rattle.base_lists.proofs.Common.{◌≡◌, refl, subst, ℕ, List, [], ◌∷◌, Option, Some, None, Bool, true, false, cond, arith, option_and_then, slice_get}
+use Rattle.wasm_tree_spec.specs.Prelude.{ConstExpr, ElemSeg, ElemMode, DataSeg, DataMode, Module}
 use Rattle.wasm_tree.specs.declared.module.ElemMode.TheVariants as elem
-use Rattle.wasm_tree.specs.declared.module.DataSeg.{DataSeg}
-use Rattle.wasm_tree.specs.declared.module.DataMode.{DataMode}
 use Rattle.wasm_tree.specs.declared.module.DataMode.TheVariants as data'
-use Rattle.wasm_tree.specs.declared.module.Module.{Module}
 use Rattle.wasm_num.specs.Operations.{W32}
-use Rattle.wasm_meaning.specs.Outcomes.{overwrite}
-use Rattle.wasm_meaning.specs.State.{RefVal, Val, Inst, Table, Memory, Elem, Data, Store, SetTable, SetMemory, DropElem, DropData}
-use Rattle.wasm_meaning.specs.Values.{num_of}
-use Rattle.wasm_meaning.specs.Step.{changed}
-use Rattle.wasm_meaning.specs.Linking.{Part}
-use Rattle.wasm_meaning.specs.Environment.{Environment}
-use Rattle.wasm_meaning.specs.World.{Filled, PlacedSegment, or_trapped, copy_slots, copy_elem, run_elem_with, run_elem, copy_bytes, copy_data, run_data_with, run_data, and_then, one_by_one, placed_elems, placed_datas, segments_in, segments}
-use Rattle.wasm_meaning.specs.Sequential.{own_segments}
-use Rattle.index_remap.specs.Related.{OptRel, some, Pairing, ListRel, nil}
+use Rattle.wasm_meaning.specs.Prelude.{overwrite, RefVal, Val, Inst, Table, Memory, Elem, Data, Store, SetTable, SetMemory, DropElem, DropData, num_of, changed, Part, Environment, Filled, PlacedSegment, or_trapped, copy_slots, copy_elem, run_elem_with, run_elem, copy_bytes, copy_data, run_data_with, run_data, and_then, one_by_one, placed_elems, placed_datas, segments_in, segments, own_segments}
+use Rattle.index_remap.specs.Prelude.{OptRel, some, Pairing, ListRel, nil}
 use Rattle.index_remap.proofs.Rel.{put_rel, overwrite_rel, get_rel}
 use Rattle.world_extension_proof.proofs.Extends
 use Rattle.world_extension_proof.specs.Extends.{Extends}

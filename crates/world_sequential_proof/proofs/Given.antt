@@ -1,20 +1,13 @@
 -- What is known of a world whose parts are to be instantiated sequentially, and what its next part's turn comes to.
-use Rattle.std.proofs.Common.{◌≡◌, ◌∙◌, refl, sym, ap, ap₂, ℕ, zero, suc, List, [], ◌∷◌, ◌++◌, map, length, Option, Some, None, true, false, cond, arith, drop, option_and_then, slice_get}
-use Rattle.wasm_tree.specs.declared.module.ConstExpr.{ConstExpr}
-use Rattle.wasm_tree.specs.declared.module.Module.{Module}
-use Rattle.wasm_meaning.specs.State.{Val, Inst, Func, Store, Opening}
-use Rattle.wasm_meaning.specs.Control.{type_of_func}
-use Rattle.wasm_meaning.specs.Linking.{Part, module_at, sites}
-use Rattle.wasm_meaning.specs.Environment.{Environment, owned_of, all_of}
-use Rattle.wasm_meaning.specs.World.{World, Filled, store_with, const_value, joined_stores, all_there, insts_from, is_matched, start_in, starts_of}
-use Rattle.wasm_meaning.specs.Run.{InstanceTrapped}
-use Rattle.wasm_meaning.specs.Sequential.{Made, next_inst, closed_by, added, added_as, external_value_for, own_segments, SequentialRun, goes_on, part_added, turn_at, tick_sequential, JoinsEarlier, HasNoActive, NoLateSegments}
-use Rattle.world_simulation.specs.Owned.{OwnEntitiesCorrespond}
+use Rattle.base_lists.proofs.Common.{◌≡◌, ◌∙◌, refl, sym, ap, ap₂, ℕ, zero, suc, List, [], ◌∷◌, ◌++◌, map, length, Option, Some, None, true, false, cond, arith, drop, option_and_then, slice_get, same_Some}
+use Rattle.wasm_tree_spec.specs.Prelude.{ConstExpr, Module}
+use Rattle.wasm_meaning.specs.Prelude.{Val, Inst, Func, Store, Opening, type_of_func, Part, module_at, sites, Environment, owned_of, all_of, World, Filled, store_with, const_value, joined_stores, all_there, insts_from, is_matched, start_in, starts_of, InstanceTrapped, next_inst, added, added_as, external_value_for, own_segments, SequentialRun, goes_on, tick_sequential, JoinsEarlier, HasNoActive, NoLateSegments}
+use Rattle.wasm_meaning.specs.Sequential.{Made, closed_by, part_added, turn_at}
+use Rattle.world_simulation.specs.Prelude.{OwnEntitiesCorrespond}
 use Rattle.world_sequential_proof.proofs.Joined.{ExportsThere, made_upto}
 use Rattle.world_sequential_proof.proofs.OnePart.{Sized, Holds, SitesThere, comes}
 use Rattle.world_sequential_proof.proofs.Beside.{Laid}
 use Rattle.world_sequential_proof.proofs.Making.{nothing_to_nothing}
-use Rattle.std.proofs.lemmas.Option.{same_Some}
 
 pub record IsGiven (env : Environment) (w : World) (insts : List Inst) (allocated : Store) : Type 0 where
   pub laid : Laid env w.parts insts allocated

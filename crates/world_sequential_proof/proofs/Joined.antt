@@ -1,17 +1,10 @@
 -- What an import of a part is joined with among the parts before it is what it is joined with among all, where each joined import leads to an earlier part.
-use Rattle.std.proofs.Common.{◌≡◌, ◌∙◌, refl, sym, ap, ap₂, ℕ, zero, suc, ◌+◌, ◌<◌, ◌≤◌, List, [], ◌∷◌, length, Option, Some, None, Bool, true, false, cond, arith, option_and_then, slice_get}
-use Rattle.wasm_tree.specs.declared.module.Import.{Import}
-use Rattle.wasm_tree.specs.declared.module.ExportDesc.{ExportDesc}
-use Rattle.wasm_tree.specs.declared.module.Module.{Module}
-use Rattle.wasm_meaning.specs.State.{Text, Inst}
-use Rattle.wasm_meaning.specs.Linking.{Part, Site, Entity, End, Defined, Outside, imports_of, module_at, import_at, is_named, export_named, first_place, source_of, joined, imported_as, entity_step, joined_step, import_step, end_of}
-use Rattle.wasm_tree.specs.Spaces.{index_of_export, space_of_export}
-use Rattle.wasm_meaning.specs.Environment.{Environment, ExternalValue, owned_of, owned_at}
-use Rattle.wasm_meaning.specs.World.{defined_count, own_key, external_value_of, imported_external_value, insts_from, inst_of, address_in}
-use Rattle.wasm_meaning.specs.Sequential.{Made, made_named, exported_by, external_value_or_own, external_value_for, JoinsEarlier}
+use Rattle.base_lists.proofs.Common.{◌≡◌, ◌∙◌, refl, sym, ap, ap₂, ℕ, zero, suc, ◌+◌, ◌<◌, ◌≤◌, List, [], ◌∷◌, length, Option, Some, None, Bool, true, false, cond, arith, option_and_then, slice_get, and_then_is, same_Some}
+use Rattle.wasm_tree_spec.specs.Prelude.{Import, ExportDesc, Module, index_of_export, space_of_export}
+use Rattle.wasm_meaning.specs.Prelude.{Text, Inst, Part, Site, Entity, End, Defined, Outside, imports_of, module_at, import_at, export_named, first_place, source_of, joined, imported_as, entity_step, joined_step, import_step, end_of, Environment, ExternalValue, owned_of, owned_at, defined_count, own_key, external_value_of, imported_external_value, insts_from, inst_of, address_in, external_value_for, JoinsEarlier}
+use Rattle.wasm_meaning.specs.Linking.{is_named}
+use Rattle.wasm_meaning.specs.Sequential.{Made, made_named, exported_by, external_value_or_own}
 use Rattle.world_sequential_proof.proofs.ExternalValues.{inst_at, goes_to, ends_at, defined_is, imported_is}
-use Rattle.base_lists.proofs.Options.{and_then_is}
-use Rattle.std.proofs.lemmas.Option.{same_Some}
 use Rattle.world_simulation.proofs.Instancing.{inst_is}
 
 -- the first parts, each with its instance

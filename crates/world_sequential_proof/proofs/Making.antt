@@ -1,25 +1,11 @@
 -- While a start is made, the sequential run and the run at once make the same steps.
-use Rattle.std.proofs.Common.{◌≡◌, ◌∙◌, refl, sym, ap, subst, ℕ, ◌<◌, ◌≤◌, List, [], ◌∷◌, ◌++◌, length, Option, Some, None, arith, slice_get}
-use Rattle.wasm_tree.specs.declared.space.Space.{Space}
-use Rattle.wasm_tree.specs.declared.space.Space.TheVariants.{Functions, Tables, Memories, Globals, ElementSegments, DataSegments}
-use Rattle.wasm_tree.specs.declared.types.FuncType.{FuncType}
-use Rattle.wasm_tree.specs.declared.types.ValType.{ValType}
-use Rattle.wasm_tree.specs.declared.instr.Instr.{Instr}
+use Rattle.base_lists.proofs.Common.{◌≡◌, ◌∙◌, refl, sym, ap, subst, ℕ, ◌<◌, ◌≤◌, List, [], ◌∷◌, ◌++◌, length, Option, Some, None, arith, slice_get, length-append}
+use Rattle.wasm_tree_spec.specs.Prelude.{Space, Functions, Tables, Memories, Globals, ElementSegments, DataSegments, FuncType, ValType, Instr}
 use Rattle.base_lists.specs.Options.{◌>>=◌}
-use Rattle.wasm_meaning.specs.Outcomes.{Gives, bind, or_ill_typed}
-use Rattle.wasm_meaning.specs.State.{Text, Inst, Func, Code, Own, Placeholder, Store, Entry, Running, Opening, Waiting}
-use Rattle.wasm_meaning.specs.Control.{type_of_func}
-use Rattle.wasm_meaning.specs.Values.{zeros}
-use Rattle.wasm_meaning.specs.Step.{enter}
-use Rattle.wasm_meaning.specs.Linking.{Part}
-use Rattle.wasm_meaning.specs.Environment.{Environment, ExternalValue, owned_of, received_all}
-use Rattle.wasm_meaning.specs.World.{base}
-use Rattle.wasm_meaning.specs.Run.{Event, Asked, Phase, Pending, Closed, Run, Out, Steps, made, nothing_in, or_closed, transition_at, tick}
-use Rattle.wasm_meaning.specs.StartFrames.{IsBottom, GivesNothing, a_frame, a_call, over, AgreeOnFrames, goes_on, ended, trapped, StartDependsOnlyOnItsFrames}
-use Rattle.index_remap.specs.Related.{Pairing, ListRel, nil, cons, EntryRel, opening}
+use Rattle.wasm_meaning.specs.Prelude.{Gives, bind, or_ill_typed, Text, Inst, Func, Code, Own, Placeholder, Store, Entry, Running, Opening, Waiting, type_of_func, zeros, enter, Part, Environment, ExternalValue, owned_of, received_all, base, Event, Asked, Phase, Pending, Closed, Run, Out, Steps, made, nothing_in, or_closed, transition_at, tick, IsBottom, GivesNothing, a_frame, a_call, over, AgreeOnFrames, ended, trapped, StartDependsOnlyOnItsFrames}
+use Rattle.wasm_meaning.specs.StartFrames.{goes_on}
+use Rattle.index_remap.specs.Prelude.{Pairing, ListRel, nil, cons, EntryRel, opening, pending, RunRel, OutRel, KeepsOthers, HasNoPartner, IsBegun, EntryByEntry, RelatedTicksAgree, OthersStay}
 use Rattle.index_remap.specs.Related as to
-use Rattle.index_remap.specs.RelatedRuns.{pending, RunRel, OutRel, KeepsOthers, HasNoPartner, IsBegun}
-use Rattle.index_remap.specs.Laws.{EntryByEntry, RelatedTicksAgree, OthersStay}
 use Rattle.index_remap.proofs.Rel.{length_rel}
 use Rattle.world_extension_proof.specs.Extends.{Extends, Kept, StepsExtend}
 use Rattle.world_extension_proof.proofs.Extends.{and_then}
@@ -27,7 +13,6 @@ use Rattle.world_sequential_proof.proofs.Reached.{is_reached, reaching, reached_
 use Rattle.world_sequential_proof.proofs.OnePart.{Sized}
 use Rattle.world_sequential_proof.proofs.Closed.{Sound, own_func, code}
 use Rattle.world_sequential_proof.proofs.Beside.{Untouched, Beside}
-use Rattle.std.proofs.lemmas.List.{length-append}
 
 -- ---- the opening of a start ----
 

@@ -1,26 +1,13 @@
 -- When a part's turn comes its imports are there and match, and its instance is the one that it has at once.
-use Rattle.std.proofs.Common.{◌≡◌, ◌∙◌, refl, sym, ap, ap₂, ℕ, suc, ◌+◌, ◌<◌, ◌≤◌, List, [], ◌∷◌, ◌++◌, length, Option, Some, None, Bool, true, false, arith, option_and_then, slice_get, unwrap_or, ◌&&◌}
-use Rattle.wasm_tree.specs.declared.space.Space.TheVariants.{Functions, Tables, Memories, Globals, DataSegments, ElementSegments}
-use Rattle.std.specs.Prelude.{nat_le}
-use Rattle.std.proofs.lemmas.Bool.{leb-true, le-leb, and_parts}
-use Rattle.wasm_tree.specs.declared.types.Limits.{Limits}
-use Rattle.wasm_tree.specs.declared.module.Import.{Import}
-use Rattle.wasm_tree.specs.declared.module.ImportDesc.{ImportDesc}
+use Rattle.base_lists.proofs.Common.{◌≡◌, ◌∙◌, refl, sym, ap, ap₂, ℕ, suc, ◌+◌, ◌<◌, ◌≤◌, List, [], ◌∷◌, ◌++◌, length, Option, Some, None, Bool, true, false, arith, option_and_then, slice_get, unwrap_or, ◌&&◌, nat_le, leb-true, le-leb, and_parts, and_then_is, same_Some}
+use Rattle.wasm_tree_spec.specs.Prelude.{Functions, Tables, Memories, Globals, DataSegments, ElementSegments, Limits, Import, ImportDesc, Module}
 use Rattle.wasm_tree.specs.declared.module.ImportDesc.TheVariants as im
-use Rattle.wasm_tree.specs.declared.module.Module.{Module}
-use Rattle.wasm_meaning.specs.State.{Inst, Table, Memory, Global, Store}
-use Rattle.wasm_meaning.specs.Control.{type_at}
-use Rattle.wasm_meaning.specs.Linking.{Part, Site, module_at, import_at, sites}
-use Rattle.wasm_meaning.specs.Environment.{Environment, ExternalValue, FuncAt, TableAt, MemoryAt, GlobalAt, owned_of, all_of}
-use Rattle.wasm_meaning.specs.World.{defined_count, base, imported_external_value, all_there, numbers, insts_from, is_match, is_matched, meets, meets_most, defined_before}
-use Rattle.wasm_meaning.specs.Sequential.{next_inst, all_match, external_value_for, JoinsEarlier}
-use Rattle.world_simulation.specs.Owned.{OwnEntitiesCorrespond}
+use Rattle.wasm_meaning.specs.Prelude.{Inst, Table, Memory, Global, Store, type_at, Part, Site, module_at, import_at, sites, Environment, ExternalValue, FuncAt, TableAt, MemoryAt, GlobalAt, owned_of, all_of, defined_count, base, imported_external_value, all_there, numbers, insts_from, is_match, is_matched, meets, meets_most, defined_before, next_inst, all_match, external_value_for, JoinsEarlier}
+use Rattle.world_simulation.specs.Prelude.{OwnEntitiesCorrespond}
 use Rattle.world_extension_proof.specs.Extends.{TableExtends, MemoryExtends, GlobalExtends}
 use Rattle.world_sequential_proof.proofs.ExternalValues.{space_is, each_from, gathered}
 use Rattle.world_sequential_proof.proofs.Joined.{ExportsThere, made_upto, thing_same, inst_of_part}
 use Rattle.world_sequential_proof.proofs.EarlierParts.{thing_low}
-use Rattle.base_lists.proofs.Options.{and_then_is}
-use Rattle.std.proofs.lemmas.Option.{same_Some}
 use Rattle.world_simulation.proofs.Instancing.{inst_is}
 use Rattle.world_simulation.proofs.Places.{all_each}
 use Rattle.world_extension_proof.proofs.Typed.{meets_more}

@@ -1,26 +1,13 @@
 -- After the starts: a closed run stays closed, and a view that opens shows what the parts have.
-use Rattle.std.proofs.Common.{◌≡◌, ◌∙◌, refl, sym, ap, subst, ℕ, ◌<◌, List, [], ◌∷◌, Option, Some, None, Bool, true, false, cond, option_and_then, slice_get}
-use Rattle.wasm_tree.specs.declared.space.Space.TheVariants.{Functions, Tables, Memories, Globals}
-use Rattle.std.specs.Prelude.{nat_eq}
-use Rattle.wasm_tree.specs.declared.module.ExportDesc.{ExportDesc}
+use Rattle.base_lists.proofs.Common.{◌≡◌, ◌∙◌, refl, sym, ap, subst, ℕ, ◌<◌, List, [], ◌∷◌, Option, Some, None, Bool, true, false, cond, option_and_then, slice_get, nat_eq, and_then_is, same_Some}
+use Rattle.wasm_tree_spec.specs.Prelude.{Functions, Tables, Memories, Globals, ExportDesc, Space}
 use Rattle.wasm_tree.specs.declared.module.ExportDesc.TheVariants as ex
-use Rattle.wasm_meaning.specs.Outcomes.{overwrite}
-use Rattle.wasm_meaning.specs.State.{Text, Inst}
-use Rattle.wasm_meaning.specs.Memory.{memory_may_grow}
-use Rattle.wasm_meaning.specs.Tables.{table_may_grow}
-use Rattle.wasm_meaning.specs.Linking.{Part, Entity}
-use Rattle.wasm_meaning.specs.Environment.{Environment, ExternalValue, FuncAt, TableAt, MemoryAt, GlobalAt, Shown, received, received_ref}
-use Rattle.wasm_meaning.specs.World.{base, all_there, address_in, seen_as}
+use Rattle.wasm_meaning.specs.Prelude.{overwrite, Text, Inst, memory_may_grow, table_may_grow, Part, Entity, Environment, ExternalValue, FuncAt, TableAt, MemoryAt, GlobalAt, Shown, received, received_ref, base, all_there, address_in, seen_as, Event, Move, Call, Invoke, Take, Answer, Refuse, Grant, Deny, Get, Size, Set, Extend, Place, Phase, Closed, Run, Out, Transition, made, place_at, shows, got, size_of, does, byte_of, set, extended, moved, or_bad, is_taken_closed, closed_move, transition_at, tick}
 use Rattle.wasm_meaning.specs.Run
-use Rattle.wasm_meaning.specs.Run.{Event, Move, Call, Invoke, Take, Answer, Refuse, Grant, Deny, Get, Size, Set, Extend, Place, Phase, Closed, Run, Out, Transition, made, place_at, shows, got, size_of, does, byte_of, set, extended, moved, or_bad, is_taken_closed, closed_move, transition_at, tick}
-use Rattle.index_remap.specs.Related.{ListRel, nil, cons}
-use Rattle.index_remap.specs.RelatedRuns.{ExternalValueRel, a_func, a_table, a_memory, a_global, KeyRel}
+use Rattle.index_remap.specs.Prelude.{ListRel, nil, cons, ExternalValueRel, a_func, a_table, a_memory, a_global, KeyRel}
 use Rattle.index_remap.proofs.Rel.{IfThere, absent, present, with_there, either_all}
 use Rattle.world_sequential_proof.proofs.ExternalValues.{space_in}
 use Rattle.world_sequential_proof.proofs.Reached.{reaching, reached_at}
-use Rattle.base_lists.proofs.Options.{and_then_is}
-use Rattle.std.proofs.lemmas.Option.{same_Some}
-use Rattle.wasm_tree.specs.declared.space.Space.{Space}
 
 -- ---- a closed run ----
 

@@ -1,17 +1,9 @@
 -- The addresses that the environment and the first parts have, each of which is related to itself.
-use Rattle.std.proofs.Common.{◌≡◌, ◌∙◌, refl, sym, ap₂, subst, ℕ, zero, suc, ◌<◌, ◌≤◌, List, [], ◌∷◌, Some, Bool, true, false, cond, arith, ◌&&◌}
-use Rattle.wasm_tree.specs.declared.space.Space.{Space}
-use Rattle.wasm_tree.specs.declared.space.Space.TheVariants.{Functions, Tables, Memories, Globals}
-use Rattle.std.specs.Prelude.{nat_eq, nat_lt}
-use Rattle.std.proofs.lemmas.Bool.{ltb-true, lt-ltb, eq-eqb, eqb-true}
-use Rattle.wasm_meaning.specs.Linking.{Part}
-use Rattle.wasm_meaning.specs.Environment.{Environment, OwnKey, Owned, owned_of, owned_at, look_up, same_key, ExternalValue, FuncAt, TableAt, MemoryAt, GlobalAt}
-use Rattle.wasm_meaning.specs.World.{defined_before, base, address_of}
-use Rattle.index_remap.specs.Related.{Pairing, OneToOne, ListRel, nil, cons}
-use Rattle.index_remap.specs.RelatedRuns.{ExternalValueRel, a_func, a_table, a_memory, a_global, KeyRel}
-use Rattle.index_remap.specs.Laws.{passed}
-use Rattle.world_simulation.specs.Owned.{SharesOwn, OwnEntitiesCorrespond}
-use Rattle.std.proofs.lemmas.Option.{same_Some}
+use Rattle.base_lists.proofs.Common.{◌≡◌, ◌∙◌, refl, sym, ap₂, subst, ℕ, zero, suc, ◌<◌, ◌≤◌, List, [], ◌∷◌, Some, Bool, true, false, cond, arith, ◌&&◌, nat_eq, nat_lt, ltb-true, lt-ltb, eq-eqb, eqb-true, same_Some}
+use Rattle.wasm_tree_spec.specs.Prelude.{Space, Functions, Tables, Memories, Globals}
+use Rattle.wasm_meaning.specs.Prelude.{Part, Environment, OwnKey, Owned, owned_of, owned_at, look_up, same_key, ExternalValue, FuncAt, TableAt, MemoryAt, GlobalAt, defined_before, base, address_of}
+use Rattle.index_remap.specs.Prelude.{Pairing, OneToOne, ListRel, nil, cons, ExternalValueRel, a_func, a_table, a_memory, a_global, KeyRel, passed}
+use Rattle.world_simulation.specs.Prelude.{SharesOwn, OwnEntitiesCorrespond}
 
 abbrev pub count_upto : Environment → List Part → ℕ → Space → ℕ
 count_upto env parts p k = base env parts k p

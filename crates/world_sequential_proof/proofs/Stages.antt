@@ -1,19 +1,9 @@
 -- The stages of a run whose parts are instantiated sequentially beside the run of the world at once: parts are added, a start is made, the view opens.
-use Rattle.std.proofs.Common.{◌≡◌, ◌∙◌, refl, sym, ap, ap₂, subst, ℕ, zero, suc, ◌+◌, ◌<◌, ◌≤◌, List, [], ◌∷◌, ◌++◌, length, Option, Some, None, false, ◌⊎◌, inl, inr, arith, drop, option_and_then, slice_get, unwrap_or}
-use Rattle.wasm_tree.specs.declared.space.Space.TheVariants.{Functions}
-use Rattle.std.proofs.lemmas.Bool.{cases_lt}
-use Rattle.wasm_tree.specs.declared.module.Module.{Module}
-use Rattle.wasm_meaning.specs.State.{Text, Inst, Func, Store, Entry, Running, Opening, Waiting}
-use Rattle.wasm_meaning.specs.Control.{type_of_func}
-use Rattle.wasm_meaning.specs.Linking.{Part, module_at}
-use Rattle.wasm_meaning.specs.Environment.{Environment, ExternalValue}
-use Rattle.wasm_meaning.specs.World.{World, Begun, base, all_there, joined_stores, start_in, starts_of, one_place, seen_as}
-use Rattle.wasm_meaning.specs.Run.{Event, Phase, Pending, Opened, Closed, Run, Out, made, transition_at, tick}
-use Rattle.wasm_meaning.specs.StartFrames.{GivesNothing, a_frame, a_call, over, StartDependsOnlyOnItsFrames}
-use Rattle.wasm_meaning.specs.Sequential.{SequentialRun, view_over, goes_on, with_run, turn_at, tick_sequential, HasNoActive}
-use Rattle.index_remap.specs.Related.{ListRel, nil}
-use Rattle.index_remap.specs.RelatedRuns.{opened, RunRel, OutRel}
-use Rattle.index_remap.specs.Laws.{CodeIsRelatedToItself, EntryByEntry, RelatedTicksAgree, OthersStay}
+use Rattle.base_lists.proofs.Common.{◌≡◌, ◌∙◌, refl, sym, ap, ap₂, subst, ℕ, zero, suc, ◌+◌, ◌<◌, ◌≤◌, List, [], ◌∷◌, ◌++◌, length, Option, Some, None, false, ◌⊎◌, inl, inr, arith, drop, option_and_then, slice_get, unwrap_or, cases_lt, slice_get_there}
+use Rattle.wasm_tree_spec.specs.Prelude.{Functions, Module, Space}
+use Rattle.wasm_meaning.specs.Prelude.{Text, Inst, Func, Store, Entry, Running, Opening, Waiting, type_of_func, Part, module_at, Environment, ExternalValue, World, Begun, base, all_there, joined_stores, start_in, starts_of, one_place, seen_as, Event, Phase, Pending, Opened, Closed, Run, Out, made, transition_at, tick, GivesNothing, a_frame, a_call, over, StartDependsOnlyOnItsFrames, SequentialRun, view_over, goes_on, tick_sequential, HasNoActive}
+use Rattle.wasm_meaning.specs.Sequential.{with_run, turn_at}
+use Rattle.index_remap.specs.Prelude.{ListRel, nil, opened, RunRel, OutRel, CodeIsRelatedToItself, EntryByEntry, RelatedTicksAgree, OthersStay}
 use Rattle.base_simulation.proofs.LedRuns.{Leads, both, second}
 use Rattle.world_extension_proof.specs.Extends.{StepsExtend}
 use Rattle.world_sequential_proof.proofs.ExternalValues.{space_in}
@@ -24,8 +14,6 @@ use Rattle.world_sequential_proof.proofs.Making.{nothing_to_nothing, opening_bot
 use Rattle.world_sequential_proof.proofs.Given.{IsGiven, IsTurn, made_all, starts_from, starts_next, starts_end, filled_in, turned, next_turn}
 use Rattle.world_sequential_proof.proofs.Waiting.{holds_of, abreast_next, within}
 use Rattle.world_sequential_proof.proofs.Over.{closed_stays, view_self}
-use Rattle.base_lists.proofs.Places.{slice_get_there}
-use Rattle.wasm_tree.specs.declared.space.Space.{Space}
 
 -- a start that is being made keeps its part's turn
 turn_runs : (q : SequentialRun) (es cs : List Entry) → GivesNothing es → q.run.entries ≡ es ++ cs → tick_sequential q ≡ with_run q (tick q.run)

@@ -1,31 +1,15 @@
 -- The start of a valid part is a function that takes nothing and gives nothing.
-use Rattle.std.proofs.Common.{◌≡◌, ◌∙◌, sym, ap, ap₂, ℕ, zero, suc, ◌+◌, ◌≤◌, List, [], ◌∷◌, ◌++◌, map, length, Option, Some, true, ◌⊎◌, inl, inr, arith, unwrap_or, false}
-use Rattle.wasm_tree.specs.declared.space.Space.TheVariants.{Functions}
-use Rattle.std.specs.Prelude.{slice_get, option_and_then}
-use Rattle.wasm_tree.specs.declared.types.FuncType.{FuncType}
+use Rattle.base_lists.proofs.Common.{◌≡◌, ◌∙◌, sym, ap, ap₂, ℕ, zero, suc, ◌+◌, ◌≤◌, List, [], ◌∷◌, ◌++◌, map, length, Option, Some, true, ◌⊎◌, inl, inr, arith, unwrap_or, false, slice_get, option_and_then, slice_get_within, same_Some, map_from, append_from, slice_get_there, append_at_left, append_right, place_of, places_many, and_then_is, unwrap_or_false_is, all_there_at, all_there_length, numbers_at}
+use Rattle.wasm_tree_spec.specs.Prelude.{Functions, FuncType, Import, Module, func_of, imported_funcs, funcs_of, type_of_func}
 use Rattle.wasm_tree.specs.declared.module.Func as tree
-use Rattle.wasm_tree.specs.declared.module.Import.{Import}
 use Rattle.wasm_tree.specs.declared.module.ImportDesc.TheVariants as im
-use Rattle.wasm_tree.specs.declared.module.Module.{Module}
-use Rattle.wasm_tree.specs.Spaces.{func_of, imported_funcs, funcs_of, type_of_func}
-use Rattle.wasm_meaning.specs.State.{Inst, Func, Store}
-use Rattle.wasm_meaning.specs.Values.{same_func_type}
+use Rattle.wasm_meaning.specs.Prelude.{Inst, Func, Store, same_func_type, type_at, Part, has_kind, imports_of, module_at, import_at, sites, Environment, ExternalValue, FuncAt, all_of, base, address_of, import_type, imported_external_value, all_there, numbers, insts_from, new_func, global_with, elem_with, value_of, is_match, is_matched, JoinsEarlier}
 use Rattle.wasm_meaning.specs.Control as control
-use Rattle.wasm_meaning.specs.Control.{type_at}
-use Rattle.wasm_meaning.specs.Linking.{Part, has_kind, imports_of, module_at, import_at, sites}
-use Rattle.wasm_meaning.specs.Environment.{Environment, ExternalValue, FuncAt, all_of}
-use Rattle.wasm_meaning.specs.World.{base, address_of, import_type, imported_external_value, all_there, numbers, insts_from, new_func, global_with, elem_with, value_of, is_match, is_matched}
-use Rattle.wasm_meaning.specs.Sequential.{JoinsEarlier}
-use Rattle.index_remap.specs.Laws.{CodeIsRelatedToItself}
-use Rattle.std.proofs.lemmas.Option.{slice_get_within, same_Some}
+use Rattle.index_remap.specs.Prelude.{CodeIsRelatedToItself}
 use Rattle.world_sequential_proof.proofs.ExternalValues.{space_is}
 use Rattle.world_sequential_proof.proofs.Joined.{ExportsThere, inst_of_part}
 use Rattle.world_sequential_proof.proofs.OnePart.{SitesThere}
 use Rattle.world_sequential_proof.proofs.Beside.{Laid, at_allocated_funcs}
-use Rattle.base_lists.proofs.Places.{map_from, append_from, slice_get_there, append_at_left, append_right}
-use Rattle.base_lists.proofs.Filtered.{place_of, places_many}
-use Rattle.base_lists.proofs.Options.{and_then_is, unwrap_or_false_is, all_there_at, all_there_length}
-use Rattle.base_lists.proofs.Numbers.{numbers_at}
 use Rattle.world_simulation.proofs.Places.{some_then, all_each}
 use Rattle.world_simulation.proofs.Instancing.{IsInst, inst_is}
 use Rattle.world_simulation.proofs.Alone.{func_kind, func_desc, func_thing}

@@ -1,16 +1,8 @@
 -- Between starts: a part's turn comes, and the stores stay beside one another.
-use Rattle.std.proofs.Common.{◌≡◌, ◌∙◌, refl, sym, ap, subst, ℕ, zero, suc, ◌<◌, ◌≤◌, List, [], ◌∷◌, length, Some, arith, drop, option_and_then, slice_get, None, Option}
-use Rattle.wasm_tree.specs.declared.space.Space.TheVariants.{Functions, Tables, Memories, Globals, DataSegments, ElementSegments}
-use Rattle.wasm_meaning.specs.State.{RefVal, FuncRef, Val, Ref, Inst, Func, Table, Memory, Global, Store}
-use Rattle.wasm_meaning.specs.Linking.{Part, module_at}
-use Rattle.wasm_meaning.specs.Environment.{Environment, ExternalValue}
-use Rattle.wasm_meaning.specs.World.{World, joined_stores, defined_before}
-use Rattle.wasm_meaning.specs.Run.{Run}
-use Rattle.wasm_meaning.specs.StartFrames.{StartDependsOnlyOnItsFrames}
-use Rattle.wasm_meaning.specs.Sequential.{SequentialRun, goes_on}
-use Rattle.index_remap.specs.Related.{BothRel, both, none, some, RefRel, func, extern, ValRel, number, reference, nil, cons, opening, TableRel, GlobalRel}
-use Rattle.index_remap.specs.RelatedRuns.{ExternalValueRel, a_func, a_table, a_memory, a_global, KeyRel, pending}
-use Rattle.index_remap.specs.Laws.{CodeIsRelatedToItself, RelatedTicksAgree, OthersStay}
+use Rattle.base_lists.proofs.Common.{◌≡◌, ◌∙◌, refl, sym, ap, subst, ℕ, zero, suc, ◌<◌, ◌≤◌, List, [], ◌∷◌, length, Some, arith, drop, option_and_then, slice_get, None, Option}
+use Rattle.wasm_tree_spec.specs.Prelude.{Functions, Tables, Memories, Globals, DataSegments, ElementSegments}
+use Rattle.wasm_meaning.specs.Prelude.{RefVal, FuncRef, Val, Ref, Inst, Func, Table, Memory, Global, Store, Part, module_at, Environment, ExternalValue, World, joined_stores, defined_before, Run, StartDependsOnlyOnItsFrames, SequentialRun, goes_on}
+use Rattle.index_remap.specs.Prelude.{BothRel, both, none, some, RefRel, func, extern, ValRel, number, reference, nil, cons, opening, TableRel, GlobalRel, ExternalValueRel, a_func, a_table, a_memory, a_global, KeyRel, pending, CodeIsRelatedToItself, RelatedTicksAgree, OthersStay}
 use Rattle.index_remap.proofs.Rel.{length_rel}
 use Rattle.world_extension_proof.specs.Extends.{TableExtends, MemoryExtends, GlobalExtends, Extends, StepsExtend}
 use Rattle.world_sequential_proof.proofs.Joined.{inst_of_part}

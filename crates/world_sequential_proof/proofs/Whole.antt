@@ -1,18 +1,10 @@
 -- The whole run: parts that are instantiated sequentially show what the world shows at once.
-use Rattle.std.proofs.Common.{◌≡◌, ◌∙◌, refl, sym, ap, ap₂, subst, ℕ, zero, suc, ◌+◌, ◌*◌, ◌<◌, ◌≤◌, List, [], ◌∷◌, ◌++◌, length, Option, Some, None, false, cond, ◌⊎◌, inl, inr, arith, drop, option_and_then, slice_get, unwrap_or}
-use Rattle.std.proofs.lemmas.Bool.{cases_lt}
-use Rattle.wasm_tree.specs.declared.module.Module.{Module}
-use Rattle.wasm_meaning.specs.State.{Text, Inst, Store, Opening}
-use Rattle.wasm_meaning.specs.Linking.{Part, Entity, module_at}
-use Rattle.wasm_meaning.specs.Environment.{Environment, ExternalValue, owned_of}
-use Rattle.wasm_meaning.specs.World.{World, Begun, own_store, begun, all_there, start_in, starts_of, seen_as, segments}
-use Rattle.wasm_meaning.specs.Run.{InstanceTrapped, Pending, Closed, Move, Run, IsPrefix, fresh_run, tick, events_of}
-use Rattle.wasm_meaning.specs.StartFrames.{StartDependsOnlyOnItsFrames}
-use Rattle.wasm_meaning.specs.Sequential.{SequentialRun, view_over, goes_on, before_parts, tick_sequential, events_sequential, HasNoActive}
+use Rattle.base_lists.proofs.Common.{◌≡◌, ◌∙◌, refl, sym, ap, ap₂, subst, ℕ, zero, suc, ◌+◌, ◌*◌, ◌<◌, ◌≤◌, List, [], ◌∷◌, ◌++◌, length, Option, Some, None, false, cond, ◌⊎◌, inl, inr, arith, drop, option_and_then, slice_get, unwrap_or, cases_lt, slice_get_there}
+use Rattle.wasm_tree_spec.specs.Prelude.{Module}
+use Rattle.wasm_meaning.specs.Prelude.{Text, Inst, Store, Opening, Part, Entity, module_at, Environment, ExternalValue, owned_of, World, Begun, own_store, begun, all_there, start_in, starts_of, seen_as, segments, InstanceTrapped, Pending, Closed, Move, Run, IsPrefix, fresh_run, tick, events_of, StartDependsOnlyOnItsFrames, SequentialRun, view_over, goes_on, tick_sequential, events_sequential, HasNoActive}
+use Rattle.wasm_meaning.specs.Sequential.{before_parts}
 use Rattle.base_simulation.proofs.Prefixes.{in_more_steps}
-use Rattle.index_remap.specs.Related.{nil, cons, opening}
-use Rattle.index_remap.specs.RelatedRuns.{pending}
-use Rattle.index_remap.specs.Laws.{CodeIsRelatedToItself, RelatedTicksAgree, OthersStay}
+use Rattle.index_remap.specs.Prelude.{nil, cons, opening, pending, CodeIsRelatedToItself, RelatedTicksAgree, OthersStay}
 use Rattle.base_simulation.proofs.LedRuns.{Leads, both, second, led_traces_are_equal}
 use Rattle.world_extension_proof.specs.Extends.{Extends, StepsExtend}
 use Rattle.world_extension_proof.proofs.Extends.{stays}
@@ -25,7 +17,6 @@ use Rattle.world_sequential_proof.proofs.Waiting.{within}
 use Rattle.world_sequential_proof.proofs.Stages.{Waits, Stage, added_stage}
 use Rattle.world_sequential_proof.proofs.Stages as stages
 use Rattle.world_sequential_proof.proofs.Begins.{FillLaws, Fills, Advances, advances, beside_after, own_related, own_sound}
-use Rattle.base_lists.proofs.Places.{slice_get_there}
 
 -- a view over no parts is empty
 no_view : (vs : List (Text × Entity)) → unwrap_or (all_there (seen_as []) vs) [] ≡ []

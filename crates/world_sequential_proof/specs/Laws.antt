@@ -1,11 +1,9 @@
 -- That parts which are instantiated sequentially show what they show at once.
 use Rattle.std.specs.Prelude.{◌≡◌, ℕ, ◌+◌, ◌*◌, ◌<◌, length, Some}
-use Rattle.wasm_tree.specs.declared.module.Module.{Module}
-use Rattle.wasm_valid.specs.Validity.{IsValid}
-use Rattle.wasm_meaning.specs.Linking.{module_at}
-use Rattle.wasm_meaning.specs.World.{World}
-use Rattle.wasm_meaning.specs.Run.{Same, events}
-use Rattle.wasm_meaning.specs.Sequential.{events_sequential, JoinsEarlier, NoLateSegments, BeginsWell}
+use Rattle.wasm_tree_spec.specs.Prelude.{Module}
+use Rattle.wasm_valid.specs.Prelude.{IsValid}
+use Rattle.wasm_meaning.specs.Prelude.{module_at, World, Same, events, events_sequential, JoinsEarlier, NoLateSegments}
+use Rattle.wasm_meaning.specs.Sequential.{BeginsWell}
 
 -- In each environment that links the world at once, where no segment traps, and by each list of moves: whatever is seen in n steps of the world at once is seen
 -- in so many more where its parts are instantiated sequentially, and the other way round.

@@ -1,26 +1,11 @@
 -- Two related stores stay related where a module is added to one of them and its segments write only what is related to nothing.
-use Rattle.std.proofs.Common.{◌≡◌, ℕ, zero, suc, ◌≤◌, List, [], ◌∷◌, ◌++◌, length, Option, Some, None, Bool, true, false, cond, refl, sym, ap, subst, ◌∙◌, arith, slice_get}
-use Rattle.std.proofs.lemmas.Option.{slice_get_within}
-use Rattle.base_lists.proofs.Options.{and_then_is}
-use Rattle.base_lists.proofs.Places.{append_at_left}
-use Rattle.wasm_tree.specs.declared.space.Space.{Space}
-use Rattle.wasm_tree.specs.declared.space.Space.TheVariants.{Functions, Tables, Memories, ElementSegments, DataSegments}
-use Rattle.wasm_tree.specs.declared.module.ConstExpr.{ConstExpr}
-use Rattle.wasm_tree.specs.declared.module.ElemMode.{ElemMode}
+use Rattle.base_lists.proofs.Common.{◌≡◌, ℕ, zero, suc, ◌≤◌, List, [], ◌∷◌, ◌++◌, length, Option, Some, None, Bool, true, false, cond, refl, sym, ap, subst, ◌∙◌, arith, slice_get, slice_get_within, and_then_is, append_at_left}
+use Rattle.wasm_tree_spec.specs.Prelude.{Space, Functions, Tables, Memories, ElementSegments, DataSegments, ConstExpr, ElemMode, ElemSeg, DataMode, DataSeg, Module}
 use Rattle.wasm_tree.specs.declared.module.ElemMode.TheVariants as elem
-use Rattle.wasm_tree.specs.declared.module.ElemSeg.{ElemSeg}
-use Rattle.wasm_tree.specs.declared.module.DataMode.{DataMode}
 use Rattle.wasm_tree.specs.declared.module.DataMode.TheVariants as data'
-use Rattle.wasm_tree.specs.declared.module.DataSeg.{DataSeg}
-use Rattle.wasm_tree.specs.declared.module.Module.{Module}
-use Rattle.wasm_meaning.specs.Outcomes.{overwrite}
-use Rattle.wasm_meaning.specs.State.{RefVal, Val, Inst, Table, Memory, Store}
-use Rattle.wasm_meaning.specs.Environment.{ExternalValue}
-use Rattle.wasm_meaning.specs.World.{Filled, PlacedSegment, numbers, const_value, store_with, joined_stores, segments_in, copy_slots, run_elem_with, copy_bytes, run_data_with, and_then, one_by_one}
-use Rattle.wasm_meaning.specs.Sequential.{Added, added, added_as, own_segments, next_inst, all_match}
-use Rattle.index_remap.specs.Related.{Pairing, BothRel, both, StoreRel}
-use Rattle.index_remap.specs.RelatedRuns.{turned, HasNoPartner}
-use Rattle.world_simulation.specs.Segments.{offset_in}
+use Rattle.wasm_meaning.specs.Prelude.{overwrite, RefVal, Val, Inst, Table, Memory, Store, ExternalValue, Filled, PlacedSegment, numbers, const_value, store_with, joined_stores, segments_in, copy_slots, run_elem_with, copy_bytes, run_data_with, and_then, one_by_one, Added, added, added_as, own_segments, next_inst, all_match}
+use Rattle.index_remap.specs.Prelude.{Pairing, BothRel, both, StoreRel, turned, HasNoPartner}
+use Rattle.world_simulation.specs.Prelude.{offset_in}
 use Rattle.world_simulation.specs.Added.{WritesAlone}
 use Rattle.world_simulation.proofs.Copied.{then_holds, Kept, nothing_kept, table_kept, memory_kept}
 use Rattle.world_simulation.proofs.Ordered.{in_first, in_second, first_apart, second_apart, kept_rel, task_at, task_inst}

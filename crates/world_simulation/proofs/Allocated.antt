@@ -1,23 +1,10 @@
 -- What a part adds to the store stands there at the addresses of the part.
-use Rattle.std.proofs.Common.{◌≡◌, ℕ, zero, suc, ◌+◌, false, List, [], ◌∷◌, ◌++◌, map, length, Option, Some, refl, sym, ap, ap₂, ◌∙◌, arith, option_and_then, slice_get}
-use Rattle.std.proofs.lemmas.Option.{same_Some, slice_get_within}
-use Rattle.std.proofs.lemmas.List.{length-append}
-use Rattle.base_lists.proofs.Places.{append_left, append_right}
-use Rattle.wasm_tree.specs.declared.space.Space.{Space}
-use Rattle.wasm_tree.specs.declared.space.Space.TheVariants.{Functions, Tables, Memories, Globals, ElementSegments, DataSegments}
-use Rattle.wasm_tree.specs.declared.module.ConstExpr.{ConstExpr}
-use Rattle.wasm_tree.specs.declared.module.DataSeg.{DataSeg}
+use Rattle.base_lists.proofs.Common.{◌≡◌, ℕ, zero, suc, ◌+◌, false, List, [], ◌∷◌, ◌++◌, map, length, Option, Some, refl, sym, ap, ap₂, ◌∙◌, arith, option_and_then, slice_get, same_Some, slice_get_within, length-append, append_left, append_right, and_then_is, all_there_length, all_there_from}
+use Rattle.wasm_tree_spec.specs.Prelude.{Space, Functions, Tables, Memories, Globals, ElementSegments, DataSegments, ConstExpr, DataSeg, GlobalDef, ElemSeg, Module}
 use Rattle.wasm_tree.specs.declared.module.Func as tree
-use Rattle.wasm_tree.specs.declared.module.GlobalDef.{GlobalDef}
-use Rattle.wasm_tree.specs.declared.module.ElemSeg.{ElemSeg}
-use Rattle.wasm_tree.specs.declared.module.Module.{Module}
-use Rattle.wasm_meaning.specs.State.{Val, Inst, Func, Global, Elem, Data, Store}
-use Rattle.wasm_meaning.specs.Linking.{Part, module_at}
-use Rattle.wasm_meaning.specs.Environment.{Environment}
-use Rattle.wasm_meaning.specs.World.{defined_count, defined_before, all_there, new_func, new_global, global_with, elem_of, elem_with, value_of, store_with, part_store, joined_stores, stores_from}
+use Rattle.wasm_meaning.specs.Prelude.{Val, Inst, Func, Global, Elem, Data, Store, Part, module_at, Environment, defined_count, defined_before, all_there, new_func, new_global, global_with, elem_of, elem_with, value_of, store_with, part_store, joined_stores, stores_from}
 pub use Rattle.world_simulation.specs.Leaves.{new_table, new_memory}
 use Rattle.world_simulation.proofs.Places.{map_length}
-use Rattle.base_lists.proofs.Options.{and_then_is, all_there_length, all_there_from}
 
 -- ---- what one part adds ----
 

@@ -1,24 +1,10 @@
 -- A module alone: its imports all stay, so what they denote and what is read through them is a matter of its types and imports.
-use Rattle.std.proofs.Common.{◌≡◌, ℕ, ◌+◌, List, ◌++◌, length, Option, Some, None, is_some, refl, ap, ap₂, ◌∙◌, arith, option_and_then, slice_get}
-use Rattle.wasm_tree.specs.declared.space.Space.{Space}
-use Rattle.wasm_tree.specs.declared.space.Space.TheVariants.{Functions, Tables, Memories, Globals}
-use Rattle.wasm_tree.specs.Operands.{same_space}
-use Rattle.wasm_tree.specs.declared.module.Import.{Import}
-use Rattle.wasm_tree.specs.declared.module.ImportDesc.{ImportDesc}
+use Rattle.base_lists.proofs.Common.{◌≡◌, ℕ, ◌+◌, List, ◌++◌, length, Option, Some, None, is_some, refl, ap, ap₂, ◌∙◌, arith, option_and_then, slice_get, same_Some, all_there_same, places_many}
+use Rattle.wasm_tree_spec.specs.Prelude.{Space, Functions, Tables, Memories, Globals, same_space, Import, ImportDesc, ConstExpr, Module, func_of, table_of, memory_of, global_of, imported_funcs, imported_tables, imported_memories, imported_globals, space_of_import}
 use Rattle.wasm_tree.specs.declared.module.ImportDesc.TheVariants as im
-use Rattle.wasm_tree.specs.declared.module.ConstExpr.{ConstExpr}
 use Rattle.wasm_tree.specs.declared.module.ConstExpr.TheVariants as const
-use Rattle.wasm_tree.specs.declared.module.Module.{Module}
-use Rattle.std.proofs.lemmas.Option.{same_Some}
-use Rattle.base_lists.proofs.Options.{all_there_same}
-use Rattle.base_lists.proofs.Filtered.{places_many}
-use Rattle.wasm_tree.specs.Spaces.{func_of, table_of, memory_of, global_of, imported_funcs, imported_tables, imported_memories, imported_globals, space_of_import}
-use Rattle.wasm_meaning.specs.State.{Pair}
-use Rattle.wasm_meaning.specs.Paths.{walk, walk_on}
-use Rattle.wasm_meaning.specs.Linking.{sites, joined, joined_step, import_step, read_step, initials_from, Outside, Read, places, has_kind, imports_of, pair_of, end_of, global_import, end_step, read_of, space_index}
-use Rattle.wasm_meaning.specs.Environment.{Environment, owned_of, owned_at, ExternalValue, FuncAt}
-use Rattle.wasm_meaning.specs.World.{own_key_of, outside_external_value, imported_external_value, external_value_of, address_of, numbers, own_count, defined_count, space}
-use Rattle.world_simulation.specs.Alone.{one, site, key_in, external_value_in, addresses, read_in}
+use Rattle.wasm_meaning.specs.Prelude.{Pair, walk, walk_on, sites, joined, joined_step, import_step, read_step, initials_from, Outside, Read, places, has_kind, imports_of, pair_of, end_of, global_import, end_step, read_of, space_index, Environment, owned_of, owned_at, ExternalValue, FuncAt, own_key_of, outside_external_value, imported_external_value, external_value_of, address_of, numbers, own_count, defined_count, space}
+use Rattle.world_simulation.specs.Prelude.{one, site, key_in, external_value_in, addresses, read_in}
 
 -- ---- what an import denotes ----
 

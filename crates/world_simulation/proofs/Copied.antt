@@ -1,26 +1,12 @@
 -- Segments are copied into two related stores.
-use Rattle.std.proofs.Common.{◌≡◌, ℕ, zero, suc, ◌+◌, ◌*◌, ◌≤◌, List, [], ◌∷◌, ◌++◌, length, Option, Some, None, true, false, refl, sym, ap, ◌∙◌, arith, option_and_then, slice_get, slice_set}
+use Rattle.base_lists.proofs.Common.{◌≡◌, ℕ, zero, suc, ◌+◌, ◌*◌, ◌≤◌, List, [], ◌∷◌, ◌++◌, length, Option, Some, None, true, false, refl, sym, ap, ◌∙◌, arith, option_and_then, slice_get, slice_set, slice_get_within, length-append, set_at, set_other}
 use native.Mathlib.Decide.{ℕ_discrete}
-use Rattle.std.proofs.lemmas.Option.{slice_get_within}
-use Rattle.std.proofs.lemmas.List.{length-append}
-use Rattle.base_lists.proofs.Places.{set_at, set_other}
-use Rattle.wasm_tree.specs.declared.space.Space.{Space}
-use Rattle.wasm_tree.specs.declared.space.Space.TheVariants.{Tables, Memories, ElementSegments, DataSegments}
-use Rattle.wasm_tree.specs.declared.module.ConstExpr.{ConstExpr}
-use Rattle.wasm_tree.specs.declared.module.ElemMode.{ElemMode}
+use Rattle.wasm_tree_spec.specs.Prelude.{Space, Tables, Memories, ElementSegments, DataSegments, ConstExpr, ElemMode, ElemSeg, DataMode, DataSeg}
 use Rattle.wasm_tree.specs.declared.module.ElemMode.TheVariants as elem
-use Rattle.wasm_tree.specs.declared.module.ElemSeg.{ElemSeg}
-use Rattle.wasm_tree.specs.declared.module.DataMode.{DataMode}
 use Rattle.wasm_tree.specs.declared.module.DataMode.TheVariants as data'
-use Rattle.wasm_tree.specs.declared.module.DataSeg.{DataSeg}
-use Rattle.wasm_meaning.specs.Outcomes.{split_at, overwrite}
-use Rattle.wasm_meaning.specs.State.{RefVal, Val, Inst, Table, Memory, Elem, Data, Store, SetTable, SetMemory, DropElem, DropData}
-use Rattle.wasm_meaning.specs.Step.{changed, no_items, no_bytes}
-use Rattle.wasm_meaning.specs.Environment.{Environment}
-use Rattle.wasm_meaning.specs.World.{Filled, PlacedSegment, or_trapped, copy_slots, copy_elem, run_elem_with, copy_bytes, copy_data, run_data_with}
+use Rattle.wasm_meaning.specs.Prelude.{split_at, overwrite, RefVal, Val, Inst, Table, Memory, Elem, Data, Store, SetTable, SetMemory, DropElem, DropData, changed, no_items, no_bytes, Environment, Filled, PlacedSegment, or_trapped, copy_slots, copy_elem, run_elem_with, copy_bytes, copy_data, run_data_with}
 use Rattle.index_remap.proofs.Rel.{there, at_put_there}
-use Rattle.world_simulation.specs.Definitions.{Instantiated, DefinedAt, values_in}
-use Rattle.world_simulation.specs.Segments.{InOrder, ElemsPartner, ElemAlone, DatasPartner, DataAlone, offset_in}
+use Rattle.world_simulation.specs.Prelude.{Instantiated, DefinedAt, values_in, InOrder, ElemsPartner, ElemAlone, DatasPartner, DataAlone, offset_in}
 use Rattle.world_simulation.specs.Segments as segments
 use Rattle.wasm_meaning.proofs.Slices.{split_lengths}
 

@@ -1,14 +1,8 @@
 -- Segments that are copied one after the other: what stands at each address is overwritten in order, and each segment that is copied is dropped.
-use Rattle.std.proofs.Common.{◌≡◌, ◌≢◌, ℕ, zero, suc, ◌+◌, ◌<◌, List, [], ◌∷◌, Option, Some, None, Bool, true, false, cond, ◌⊎◌, inl, inr, refl, sym, ap, subst, ◌∙◌, arith, slice_get, slice_set}
-use Rattle.std.specs.Prelude.{nat_eq}
-use Rattle.std.proofs.lemmas.Bool.Decides.{eqb_tells}
-use Rattle.std.proofs.lemmas.Option.{same_Some, slice_get_within}
+use Rattle.base_lists.proofs.Common.{◌≡◌, ◌≢◌, ℕ, zero, suc, ◌+◌, ◌<◌, List, [], ◌∷◌, Option, Some, None, Bool, true, false, cond, ◌⊎◌, inl, inr, refl, sym, ap, subst, ◌∙◌, arith, slice_get, slice_set, nat_eq, eqb_tells, same_Some, slice_get_within, set_at, set_other}
 use Rattle.base_lists.specs.Options.{◌>>=◌}
-use Rattle.base_lists.proofs.Places.{set_at, set_other}
-use Rattle.wasm_meaning.specs.Outcomes.{overwrite}
-use Rattle.wasm_meaning.specs.State.{Store}
-use Rattle.wasm_meaning.specs.World.{Filled, or_trapped, and_then}
-use Rattle.world_simulation.specs.Leaves.{Copy, nothing, contents, over, all_over}
+use Rattle.wasm_meaning.specs.Prelude.{overwrite, Store, Filled, or_trapped, and_then}
+use Rattle.world_simulation.specs.Prelude.{Copy, nothing, contents, over, all_over}
 
 -- where both go on, each does
 pub then_went : (f : Filled) (g : Store → Filled) → (and_then f g).trapped ≡ false → (f.trapped ≡ false) × ((g f.store).trapped ≡ false) × ((and_then f g).store ≡ (g f.store).store)

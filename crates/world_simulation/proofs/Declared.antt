@@ -1,19 +1,12 @@
 -- A module with its references declared: it has perhaps one more element segment, which is declarative and is allocated wherever the module is.
-use Rattle.std.proofs.Common.{◌≡◌, ℕ, zero, suc, ◌+◌, ◌<◌, List, [], ◌∷◌, ◌++◌, map, length, Some, ◌&&◌, refl, sym, arith, append-nil}
-use Rattle.std.specs.Prelude.{not, slice_get}
-use Rattle.std.specs.List.{range_with_len}
-use Rattle.base_lists.proofs.Filtered.{kept_is}
-use Rattle.base_lists.proofs.Places.{slice_get_there}
+use Rattle.base_lists.proofs.Common.{◌≡◌, ℕ, zero, suc, ◌+◌, ◌<◌, List, [], ◌∷◌, ◌++◌, map, length, Some, ◌&&◌, refl, sym, arith, append-nil, not, slice_get, range_with_len, kept_is, slice_get_there}
 use Rattle.wasm_tree.specs.declared.module.ConstExpr.TheVariants as const
 use Rattle.wasm_tree.specs.declared.module.ElemMode.TheVariants as elem
-use Rattle.wasm_tree.specs.declared.module.ElemSeg.{ElemSeg}
-use Rattle.wasm_tree.specs.declared.module.Module.{Module}
-use Rattle.wasm_tree.specs.Spaces.{funcs_of}
-use Rattle.wasm_meaning.specs.State.{RefVal, FuncRef, Inst, Elem}
-use Rattle.wasm_meaning.specs.Environment.{Environment}
-use Rattle.wasm_meaning.specs.World.{all_there, new_elem, ref_value, elem_of}
-use Rattle.index_remap.specs.References.{is_among, body_refs, outside_refs, declared_refs, with_declared, declaring}
-use Rattle.world_simulation.specs.Alone.{one}
+use Rattle.wasm_tree_spec.specs.Prelude.{ElemSeg, Module, funcs_of}
+use Rattle.wasm_meaning.specs.Prelude.{RefVal, FuncRef, Inst, Elem, Environment, all_there, new_elem, elem_of}
+use Rattle.wasm_meaning.specs.World.{ref_value}
+use Rattle.index_remap.specs.Prelude.{is_among, body_refs, outside_refs, declared_refs, with_declared, declaring}
+use Rattle.world_simulation.specs.Prelude.{one}
 
 -- the segment that declares references, if there are any
 abbrev pub last_segments : List ℕ → List ElemSeg

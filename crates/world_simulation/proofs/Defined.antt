@@ -1,13 +1,7 @@
 -- Where what a part defines is.
-use Rattle.std.proofs.Common.{◌≡◌, ℕ, suc, ◌+◌, ◌-◌, ◌<◌, ◌≤◌, List, [], ◌∷◌, length, Some, ◌⊎◌, inl, inr, refl, arith}
-use Rattle.std.proofs.lemmas.Bool.{cases_lt}
-use Rattle.wasm_tree.specs.declared.space.Space.{Space}
-use Rattle.base_lists.proofs.Numbers.{numbers_at}
-use Rattle.wasm_tree.specs.declared.module.Module.{Module}
-use Rattle.wasm_tree.specs.Spaces.{space_of_export, index_of_export}
-use Rattle.wasm_meaning.specs.Linking.{Part, Entity, module_at, imports_of}
-use Rattle.wasm_meaning.specs.Environment.{Environment}
-use Rattle.wasm_meaning.specs.World.{own_count, base, defined_before, defined_count, defined_external_value, external_value_at}
+use Rattle.base_lists.proofs.Common.{◌≡◌, ℕ, suc, ◌+◌, ◌-◌, ◌<◌, ◌≤◌, List, [], ◌∷◌, length, Some, ◌⊎◌, inl, inr, refl, arith, cases_lt, numbers_at}
+use Rattle.wasm_tree_spec.specs.Prelude.{Space, Module, space_of_export, index_of_export}
+use Rattle.wasm_meaning.specs.Prelude.{Part, Entity, module_at, imports_of, Environment, own_count, base, defined_before, defined_count, defined_external_value, external_value_at}
 
 -- what a part defines is at the next addresses of its kind
 pub defined_at : (env : Environment) (parts : List Part) (e : Entity) (m : Module) → module_at parts e.part ≡ Some m → index_of_export e.what - length (imports_of (space_of_export e.what) m) < defined_count (space_of_export e.what) m →

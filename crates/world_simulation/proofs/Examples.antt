@@ -1,15 +1,11 @@
 -- A module with a function that nothing else names, which calls another and is called by none; and one whose function is called.
-use Rattle.std.proofs.Common.{◌≡◌, ℕ, zero, suc, List, [], ◌∷◌, Some, None, true, false, refl, slice_get}
-use Rattle.std.proofs.lemmas.Option.{same_Some}
-use Rattle.wasm_tree.specs.declared.instr.Instr.{Instr, out-Instr}
-use Rattle.wasm_tree.specs.declared.instr.Instr.TheVariants.{Call}
-use Rattle.wasm_tree.specs.declared.module.Func.{Func}
-use Rattle.wasm_tree.specs.declared.module.Export.{Export}
+use Rattle.base_lists.proofs.Common.{◌≡◌, ℕ, zero, suc, List, [], ◌∷◌, Some, None, true, false, refl, slice_get, same_Some}
+use Rattle.wasm_tree_spec.specs.Prelude.{Instr, Call, Func, Export, Module}
+use Rattle.wasm_tree.specs.declared.instr.Instr.{out-Instr}
 use Rattle.wasm_tree.specs.declared.module.ExportDesc.TheVariants as ex
-use Rattle.wasm_tree.specs.declared.module.Module.{Module}
 use Rattle.index_remap_proof.specs.Indices.{FuncNamesOnly, ExportNamesOnly}
 use Rattle.world_simulation.specs.Unreachable.{closing, others, rest, IsUnreachable}
-use Rattle.index_remap.specs.Renumbered.{renumbered_tree}
+use Rattle.index_remap.specs.Prelude.{renumbered_tree}
 
 -- a function from nothing to nothing that calls these
 calling : List Instr → Func

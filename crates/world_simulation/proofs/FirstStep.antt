@@ -1,14 +1,10 @@
 -- The first step of a run, which instantiates its world.
-use Rattle.std.proofs.Common.{◌≡◌, ℕ, zero, suc, List, [], ◌∷◌, Option, Some, None, Bool, true, false, cond, refl}
-use Rattle.wasm_tree.specs.declared.space.Space.{Space}
-use Rattle.wasm_meaning.specs.State.{Opening}
-use Rattle.wasm_meaning.specs.Environment.{Environment}
-use Rattle.wasm_meaning.specs.World.{Begun}
-use Rattle.wasm_meaning.specs.Run.{Event, InstanceTrapped, Move, Pending, Closed, Out, tick, events_of, fresh_run}
+use Rattle.base_lists.proofs.Common.{◌≡◌, ℕ, zero, suc, List, [], ◌∷◌, Option, Some, None, Bool, true, false, cond, refl}
+use Rattle.wasm_tree_spec.specs.Prelude.{Space}
+use Rattle.wasm_meaning.specs.Prelude.{Opening, Environment, Begun, Event, InstanceTrapped, Move, Pending, Closed, Out, tick, events_of, fresh_run}
 use Rattle.base_simulation.specs.Machines.{noted}
-use Rattle.index_remap.specs.Related.{Pairing, OneToOne, OptRel, none, some, nil}
-use Rattle.index_remap.specs.RelatedRuns.{BegunRel, pending, closed}
-use Rattle.index_remap.specs.Laws.{passed, EntryByEntry, RelatedRunsHaveEqualTraces}
+use Rattle.index_remap.specs.Prelude.{Pairing, OneToOne, OptRel, none, some, nil, BegunRel, pending, closed, passed, EntryByEntry}
+use Rattle.index_remap.specs.Laws.{RelatedRunsHaveEqualTraces}
 
 module _ (law : RelatedRunsHaveEqualTraces) (of : Space → ℕ → ℕ → Bool) (apart : OneToOne (passed of of [])) (env : Environment) (moves : List Move) where
   abbrev R : Pairing

@@ -1,20 +1,11 @@
 -- What is copied into tables and memories has nothing to do with the functions of a store.
-use Rattle.std.proofs.Common.{◌≡◌, ℕ, List, [], ◌∷◌, Option, Some, None, Bool, true, false, cond, refl, ap, ◌∙◌, slice_get}
+use Rattle.base_lists.proofs.Common.{◌≡◌, ℕ, List, [], ◌∷◌, Option, Some, None, Bool, true, false, cond, refl, ap, ◌∙◌, slice_get}
 use Rattle.base_lists.specs.Options.{◌>>=◌}
-use Rattle.wasm_tree.specs.declared.module.ConstExpr.{ConstExpr}
-use Rattle.wasm_tree.specs.declared.module.ElemSeg.{ElemSeg}
-use Rattle.wasm_tree.specs.declared.module.ElemMode.{ElemMode}
+use Rattle.wasm_tree_spec.specs.Prelude.{ConstExpr, ElemSeg, ElemMode, DataSeg, DataMode, Module}
 use Rattle.wasm_tree.specs.declared.module.ElemMode.TheVariants as elem
-use Rattle.wasm_tree.specs.declared.module.DataSeg.{DataSeg}
-use Rattle.wasm_tree.specs.declared.module.DataMode.{DataMode}
 use Rattle.wasm_tree.specs.declared.module.DataMode.TheVariants as data'
-use Rattle.wasm_tree.specs.declared.module.Module.{Module}
 use Rattle.wasm_num.specs.Operations.{W32}
-use Rattle.wasm_meaning.specs.Outcomes.{overwrite}
-use Rattle.wasm_meaning.specs.State.{RefVal, Val, Inst, Func, Table, Memory, Store}
-use Rattle.wasm_meaning.specs.Values.{num_of}
-use Rattle.wasm_meaning.specs.World.{Filled, PlacedSegment, segments_in, or_trapped, copy_slots, copy_elem, run_elem_with, copy_bytes, copy_data, run_data_with, and_then, one_by_one}
-use Rattle.wasm_meaning.specs.Sequential.{own_segments}
+use Rattle.wasm_meaning.specs.Prelude.{overwrite, RefVal, Val, Inst, Func, Table, Memory, Store, num_of, Filled, PlacedSegment, segments_in, or_trapped, copy_slots, copy_elem, run_elem_with, copy_bytes, copy_data, run_data_with, and_then, one_by_one, own_segments}
 
 -- the store with other functions
 abbrev pub with_funcs : List Func → Store → Store

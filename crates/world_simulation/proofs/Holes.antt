@@ -1,25 +1,13 @@
 -- Lists and index spaces from which one entry is taken: those before it stay, and those behind it go down by one.
-use Rattle.std.proofs.Common.{◌≡◌, ℕ, zero, suc, ◌+◌, ◌-◌, ◌<◌, ◌≤◌, List, [], ◌∷◌, ◌++◌, map, length, Some, Bool, true, false, cond, ◌&&◌, ◌⊎◌, inl, inr, refl, sym, ap, subst, ◌∙◌, arith, length-append, ap₂}
-use Rattle.std.specs.Prelude.{slice_get, slice_index, nat_eq, nat_lt}
-use Rattle.std.proofs.lemmas.Bool.{cases_lt, ltb-true, eqb-true}
-use Rattle.std.proofs.lemmas.Option.{slice_get_within}
-use Rattle.std.proofs.lemmas.Bool.Decides.{nat_tests}
-use Rattle.base_lists.proofs.Bools.{left_true, right_true}
-use Rattle.base_lists.proofs.Numbers.{length-numbers, numbers_at, numbers_index}
-use Rattle.base_lists.proofs.Places.{append_left, append_right, map_at, append_at_left, slice_get_there, slice_index_is, append_from}
-use Rattle.wasm_meaning.specs.World.{numbers, PlacedSegment, segments_in, own_count, defined_count}
-use Rattle.index_remap.specs.Related.{OptRel, some, ListRel}
+use Rattle.base_lists.proofs.Common.{◌≡◌, ℕ, zero, suc, ◌+◌, ◌-◌, ◌<◌, ◌≤◌, List, [], ◌∷◌, ◌++◌, map, length, Some, Bool, true, false, cond, ◌&&◌, ◌⊎◌, inl, inr, refl, sym, ap, subst, ◌∙◌, arith, ap₂, slice_get, slice_index, nat_eq, nat_lt, cases_lt, ltb-true, eqb-true, slice_get_within, nat_tests, left_true, right_true, length-numbers, numbers_at, numbers_index, append_left, append_right, map_at, append_at_left, slice_get_there, slice_index_is, append_from}
+use Rattle.std.proofs.Common.{length-append}
+use Rattle.wasm_meaning.specs.Prelude.{numbers, PlacedSegment, segments_in, own_count, defined_count, Inst, Environment}
+use Rattle.index_remap.specs.Prelude.{OptRel, some, ListRel, has}
 use Rattle.world_simulation.specs.Unreachable.{without}
 use Rattle.world_simulation.proofs.Places.{opt_at, map_length, number_is}
-use Rattle.wasm_meaning.specs.State.{Inst}
-use Rattle.index_remap.specs.Renumbered.{has}
-use Rattle.world_simulation.specs.Segments.{InOrder, both}
-use Rattle.wasm_tree.specs.declared.space.Space.{Space}
-use Rattle.wasm_meaning.specs.Environment.{Environment}
-use Rattle.wasm_tree.specs.declared.module.Module.{Module}
-use Rattle.world_simulation.specs.Definitions.{FuncsCorrespond, GlobalsCorrespond, ElemsCorrespond, Partners, DefinitionsCorrespond, Instantiated, values_in}
+use Rattle.world_simulation.specs.Prelude.{InOrder, both, FuncsCorrespond, GlobalsCorrespond, ElemsCorrespond, Partners, DefinitionsCorrespond, Instantiated, values_in, one}
+use Rattle.wasm_tree_spec.specs.Prelude.{Space, Module}
 use Rattle.world_simulation.specs.Definitions as partners
-use Rattle.world_simulation.specs.Alone.{one}
 use Rattle.index_remap.proofs.Rel.{get_rel}
 
 -- ---- the relation of addresses ----

@@ -1,18 +1,8 @@
 -- What an instance holds, and the instances of several parts one after the other.
-use Rattle.std.proofs.Common.{◌≡◌, ◌∙◌, ap, ap₂, sym, refl, ℕ, zero, suc, ◌+◌, ◌<◌, List, [], ◌∷◌, ◌++◌, length, Option, Some, arith, ◌⊎◌, inl, inr, option_and_then, slice_get}
-use Rattle.std.proofs.lemmas.List.{length-append}
-use Rattle.std.proofs.lemmas.Option.{same_Some, slice_get_within}
-use Rattle.wasm_tree.specs.declared.space.Space.{Space}
-use Rattle.wasm_tree.specs.declared.space.Space.TheVariants.{Types, Functions, Tables, Memories, Globals, DataSegments, ElementSegments}
-use Rattle.wasm_tree.specs.declared.module.Module.{Module}
-use Rattle.wasm_meaning.specs.State.{Inst}
-use Rattle.wasm_meaning.specs.Linking.{Part, module_at, imports_of}
-use Rattle.wasm_meaning.specs.Environment.{Environment}
-use Rattle.wasm_meaning.specs.World.{space, numbers, inst_of, insts_from, defined_before, defined_count, base, address_of, all_there, imported_external_value}
-use Rattle.base_lists.proofs.Numbers.{length-numbers}
-use Rattle.base_lists.proofs.Options.{and_then_is, all_there_at, all_there_length}
+use Rattle.base_lists.proofs.Common.{◌≡◌, ◌∙◌, ap, ap₂, sym, refl, ℕ, zero, suc, ◌+◌, ◌<◌, List, [], ◌∷◌, ◌++◌, length, Option, Some, arith, ◌⊎◌, inl, inr, option_and_then, slice_get, length-append, same_Some, slice_get_within, length-numbers, and_then_is, all_there_at, all_there_length, slice_get_there, append_from}
+use Rattle.wasm_tree_spec.specs.Prelude.{Space, Types, Functions, Tables, Memories, Globals, DataSegments, ElementSegments, Module}
+use Rattle.wasm_meaning.specs.Prelude.{Inst, Part, module_at, imports_of, Environment, space, numbers, inst_of, insts_from, defined_before, defined_count, base, address_of, all_there, imported_external_value}
 use Rattle.world_simulation.proofs.Places.{number_is}
-use Rattle.base_lists.proofs.Places.{slice_get_there, append_from}
 
 -- ---- an index space ----
 

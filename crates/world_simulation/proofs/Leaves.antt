@@ -1,27 +1,13 @@
 -- What the instantiation of one module leaves: what it defines behind what was there, and its segments copied.
-use Rattle.std.proofs.Common.{◌≡◌, ℕ, suc, ◌+◌, List, [], ◌∷◌, ◌++◌, map, length, Option, Some, false, cond, refl, sym, ap, ap₂, subst, ◌∙◌, append-nil, slice_get}
-use Rattle.std.proofs.lemmas.Option.{same_Some, slice_get_within}
+use Rattle.base_lists.proofs.Common.{◌≡◌, ℕ, suc, ◌+◌, List, [], ◌∷◌, ◌++◌, map, length, Option, Some, false, cond, refl, sym, ap, ap₂, subst, ◌∙◌, append-nil, slice_get, same_Some, slice_get_within, all_there_at, and_then_is, append_left, append_right, map_at, map_from}
 use Rattle.base_lists.specs.Options.{◌>>=◌}
-use Rattle.base_lists.proofs.Options.{all_there_at, and_then_is}
-use Rattle.base_lists.proofs.Places.{append_left, append_right, map_at, map_from}
-use Rattle.wasm_tree.specs.declared.module.ConstExpr.{ConstExpr}
-use Rattle.wasm_tree.specs.declared.module.ElemMode.{ElemMode}
+use Rattle.wasm_tree_spec.specs.Prelude.{ConstExpr, ElemMode, ElemSeg, DataMode, DataSeg, Module}
 use Rattle.wasm_tree.specs.declared.module.ElemMode.TheVariants as elem
-use Rattle.wasm_tree.specs.declared.module.ElemSeg.{ElemSeg}
-use Rattle.wasm_tree.specs.declared.module.DataMode.{DataMode}
 use Rattle.wasm_tree.specs.declared.module.DataMode.TheVariants as data'
-use Rattle.wasm_tree.specs.declared.module.DataSeg.{DataSeg}
-use Rattle.wasm_tree.specs.declared.module.Module.{Module}
-use Rattle.wasm_meaning.specs.State.{RefVal, Val, Inst, Table, Memory, Elem, Data, Store, SetTable, SetMemory, DropElem, DropData}
-use Rattle.wasm_meaning.specs.Step.{changed, no_items, no_bytes}
-use Rattle.wasm_meaning.specs.Values.{ref_of}
-use Rattle.wasm_meaning.specs.World.{Begun, Filled, PlacedSegment, address_in, all_there, const_value, value_of, new_elem, new_func, global_with, elem_with, store_with, part_store, joined_stores, numbers, segments_in, copy_slots, run_elem_with, run_elem, copy_bytes, run_data_with, run_data, and_then, one_by_one, segments, insts_from, stores_from, own_store, alone, instantiate}
-use Rattle.wasm_meaning.specs.Sequential.{Added, added, next_inst}
-use Rattle.wasm_meaning.specs.Loader.{LoaderWorld, store_under, supplied, primary_added, begun_of, begun_under}
-use Rattle.wasm_meaning.specs.Environment.{Environment, ExternalValue}
-use Rattle.world_simulation.specs.Leaves.{Copy, all_over, elem_copy, elem_copies, data_copy, data_copies, Stands, table_left, memory_left, elem_left, data_left, Leaves}
+use Rattle.wasm_meaning.specs.Prelude.{RefVal, Val, Inst, Table, Memory, Elem, Data, Store, SetTable, SetMemory, DropElem, DropData, changed, no_items, no_bytes, ref_of, Begun, Filled, PlacedSegment, address_in, all_there, const_value, value_of, new_elem, new_func, global_with, elem_with, store_with, part_store, joined_stores, numbers, segments_in, copy_slots, run_elem_with, run_elem, copy_bytes, run_data_with, run_data, and_then, one_by_one, segments, insts_from, stores_from, own_store, alone, instantiate, Added, added, next_inst, LoaderWorld, store_under, supplied, primary_added, begun_of, begun_under, Environment, ExternalValue}
+use Rattle.world_simulation.specs.Prelude.{Copy, all_over, elem_copy, elem_copies, data_copy, data_copies, Stands, table_left, memory_left, Leaves, one}
+use Rattle.world_simulation.specs.Leaves.{elem_left, data_left}
 use Rattle.world_simulation.proofs.Allocated.{AddsWith, adds_with, new_table, new_memory, new_data}
-use Rattle.world_simulation.specs.Alone.{one}
 use Rattle.world_simulation.proofs.Added.{added_is}
 use Rattle.world_simulation.proofs.Single.{one_inst}
 use Rattle.world_simulation.proofs.Simulated.{what_is_made}

@@ -1,17 +1,13 @@
 -- Copies one after the other, computed; and a module with a table into which two segments are copied.
-use Rattle.std.proofs.Common.{◌≡◌, refl, ℕ, List, [], ◌∷◌, Some, None, true, false}
-use Rattle.std.specs.Prelude.{pos}
+use Rattle.base_lists.proofs.Common.{◌≡◌, refl, ℕ, List, [], ◌∷◌, Some, None, true, false, pos}
 use Rattle.base_lists.specs.Options.{◌>>=◌}
 use Rattle.wasm_tree.specs.declared.types.RefType.TheVariants as reft
 use Rattle.wasm_tree.specs.declared.module.ConstExpr.TheVariants as const
-use Rattle.wasm_tree.specs.declared.module.ElemMode.{ElemMode}
+use Rattle.wasm_tree_spec.specs.Prelude.{ElemMode, ElemSeg, Module}
 use Rattle.wasm_tree.specs.declared.module.ElemMode.TheVariants as elem
-use Rattle.wasm_tree.specs.declared.module.ElemSeg.{ElemSeg}
-use Rattle.wasm_tree.specs.declared.module.Module.{Module}
 use Rattle.wasm_num.specs.Operations.{wrapped}
-use Rattle.wasm_meaning.specs.State.{RefVal, FuncRef, Store}
-use Rattle.wasm_meaning.specs.Sequential.{added}
-use Rattle.world_simulation.specs.Leaves.{Copy, nothing, contents, over, all_over}
+use Rattle.wasm_meaning.specs.Prelude.{RefVal, FuncRef, Store, added}
+use Rattle.world_simulation.specs.Prelude.{Copy, nothing, contents, over, all_over}
 
 abbrev to : (address offset : ℕ) → List ℕ → Copy ℕ
 to a n xs = contents (Some a) (Some n) (Some xs)

@@ -1,46 +1,19 @@
 -- A loader that supplies nothing begins as its primary module alone is instantiated.
-use Rattle.std.proofs.Common.{◌≡◌, ℕ, zero, suc, ◌+◌, ◌-◌, ◌<◌, ◌≤◌, List, [], ◌∷◌, ◌++◌, map, length, Option, Some, None, Bool, true, false, cond, ◌&&◌, ◌⊎◌, inl, inr, refl, sym, ap, ap₂, subst, ◌∙◌, arith, append-nil, option_and_then, slice_get, unwrap_or}
-use Rattle.std.specs.Prelude.{nat_eq, nat_lt}
-use Rattle.std.proofs.lemmas.Bool.{ltb-true, lt-ltb, eqb-true, eq-eqb, and_from}
-use Rattle.std.proofs.lemmas.Option.{same_Some, slice_get_within}
+use Rattle.base_lists.proofs.Common.{◌≡◌, ℕ, zero, suc, ◌+◌, ◌-◌, ◌<◌, ◌≤◌, List, [], ◌∷◌, ◌++◌, map, length, Option, Some, None, Bool, true, false, cond, ◌&&◌, ◌⊎◌, inl, inr, refl, sym, ap, ap₂, subst, ◌∙◌, arith, append-nil, option_and_then, slice_get, unwrap_or, nat_eq, nat_lt, ltb-true, lt-ltb, eqb-true, eq-eqb, and_from, same_Some, slice_get_within, left_true, right_true, all_there_same, and_then_is, unwrap_or_false_is, append_right, slice_get_none}
 use Rattle.base_lists.specs.Options.{◌>>=◌}
-use Rattle.base_lists.proofs.Bools.{left_true, right_true}
-use Rattle.base_lists.proofs.Options.{all_there_same, and_then_is, unwrap_or_false_is}
-use Rattle.base_lists.proofs.Places.{append_right, slice_get_none}
-use Rattle.wasm_tree.specs.declared.space.Space.{Space}
-use Rattle.wasm_tree.specs.declared.space.Space.TheVariants.{Functions, Tables, Memories, Globals, ElementSegments, DataSegments}
-use Rattle.wasm_tree.specs.declared.module.ConstExpr.{ConstExpr}
+use Rattle.wasm_tree_spec.specs.Prelude.{Space, Functions, Tables, Memories, Globals, ElementSegments, DataSegments, ConstExpr, Import, ImportDesc, ExportDesc, ElemSeg, ElemMode, DataSeg, DataMode, Module, space_of_import, same_space}
 use Rattle.wasm_tree.specs.declared.module.ConstExpr.TheVariants as const
-use Rattle.wasm_tree.specs.declared.module.Import.{Import}
-use Rattle.wasm_tree.specs.declared.module.ImportDesc.{ImportDesc}
 use Rattle.wasm_tree.specs.declared.module.ImportDesc.TheVariants as im
-use Rattle.wasm_tree.specs.declared.module.ExportDesc.{ExportDesc}
-use Rattle.wasm_tree.specs.declared.module.ElemSeg.{ElemSeg}
-use Rattle.wasm_tree.specs.declared.module.ElemMode.{ElemMode}
 use Rattle.wasm_tree.specs.declared.module.ElemMode.TheVariants as elem
-use Rattle.wasm_tree.specs.declared.module.DataSeg.{DataSeg}
-use Rattle.wasm_tree.specs.declared.module.DataMode.{DataMode}
 use Rattle.wasm_tree.specs.declared.module.DataMode.TheVariants as data'
-use Rattle.wasm_tree.specs.declared.module.Module.{Module}
 use Rattle.wasm_num.specs.Operations.{W32}
-use Rattle.wasm_tree.specs.Spaces.{space_of_import}
-use Rattle.wasm_tree.specs.Operands.{same_space}
-use Rattle.wasm_meaning.specs.State.{Text, Val, Inst, Store}
-use Rattle.wasm_meaning.specs.Values.{ref_of, num_of}
-use Rattle.wasm_meaning.specs.Linking.{has_kind, places, space_index, sites_in, pair_of, imports_of}
-use Rattle.wasm_meaning.specs.Environment.{Environment, ExternalValue, FuncAt, TableAt, MemoryAt, GlobalAt, owned_of, owned_at, own_funcs, own_memories, own_globals, all_of}
-use Rattle.wasm_meaning.specs.World.{Begun, Filled, all_there, address_of, address_in, own_count, defined_count, numbers, const_value, value_of, value_of_read, new_func, new_elem, store_with, joined_stores, own_store, is_match, is_matched, run_elem, run_elem_with, run_data, run_data_with, and_then, one_by_one, segments, starts_of, start_in, space, instantiate}
+use Rattle.wasm_meaning.specs.Prelude.{Text, Val, Inst, Store, ref_of, num_of, has_kind, places, space_index, sites_in, pair_of, imports_of, Environment, ExternalValue, FuncAt, TableAt, MemoryAt, GlobalAt, owned_of, owned_at, own_funcs, own_memories, own_globals, all_of, Begun, Filled, all_there, address_of, address_in, own_count, defined_count, numbers, const_value, value_of, value_of_read, new_func, new_elem, store_with, joined_stores, own_store, is_match, is_matched, run_elem, run_elem_with, run_data, run_data_with, and_then, one_by_one, segments, starts_of, start_in, space, instantiate, Added, all_match, addresses_of, added, added_as, own_segments, next_inst, LoaderWorld, placeholders_of, placeholders_from, store_under, supplied, begun_of, begun_under}
 use Rattle.wasm_meaning.specs.World as world
-use Rattle.wasm_meaning.specs.Sequential.{Added, own_external_value, all_match, addresses_of, added, added_as, own_segments, next_inst}
-use Rattle.wasm_meaning.specs.Loader.{LoaderWorld, placeholders_of, placeholders_from, store_under, supplied, begun_of, begun_under}
-use Rattle.index_remap.specs.Related.{Pairing, BothRel, FuncRel, StoreRel}
-use Rattle.index_remap.specs.RelatedRuns.{ExternalValueRel}
-use Rattle.index_remap.specs.Laws.{passed}
-use Rattle.world_simulation.specs.Alone.{one, site, external_value_in, addresses}
+use Rattle.wasm_meaning.specs.Sequential.{own_external_value}
+use Rattle.index_remap.specs.Prelude.{Pairing, BothRel, FuncRel, StoreRel, ExternalValueRel, passed}
+use Rattle.world_simulation.specs.Prelude.{one, site, external_value_in, addresses, SharesOwn, contents, elem_copy, elem_copies, data_copy, data_copies, LoadersHaveTheirPrimarysInstance, primary_world}
 use Rattle.world_simulation.specs.Alone as alone
-use Rattle.world_simulation.specs.Owned.{SharesOwn}
-use Rattle.world_simulation.specs.Leaves.{contents, elem_copy, elem_copies, data_copy, data_copies}
-use Rattle.world_simulation.specs.Loaded.{LoadersHaveTheirPrimarysInstance, primary_world, LoadersBeginAsTheirPrimary}
+use Rattle.world_simulation.specs.Loaded.{LoadersBeginAsTheirPrimary}
 use Rattle.world_simulation.proofs.Places.{opt_self, self_rel, both_in}
 use Rattle.world_simulation.proofs.Alone.{key_is, thing_is, space_is, read_is}
 use Rattle.world_simulation.proofs.Owned.{own_funcs_rel, own_tables_rel, own_globals_rel}

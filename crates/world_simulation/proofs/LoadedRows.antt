@@ -1,15 +1,10 @@
 -- A loader that supplies something begins where its primary module alone is not linked; one that supplies nothing begins as that module.
-use Rattle.std.proofs.Common.{◌≡◌, refl, List, [], ◌∷◌, Some, None, Bool, true, false}
+use Rattle.base_lists.proofs.Common.{◌≡◌, refl, List, [], ◌∷◌, Some, None, Bool, true, false}
 use Rattle.base_lists.specs.Options.{◌>>=◌}
-use Rattle.wasm_tree.specs.declared.types.FuncType.{FuncType}
-use Rattle.wasm_tree.specs.declared.module.Import.{Import}
+use Rattle.wasm_tree_spec.specs.Prelude.{FuncType, Import, Module}
 use Rattle.wasm_tree.specs.declared.module.ImportDesc.TheVariants as im
-use Rattle.wasm_tree.specs.declared.module.Module.{Module}
-use Rattle.wasm_meaning.specs.State.{Func, Placeholder}
-use Rattle.wasm_meaning.specs.World.{is_there, links, instantiate}
-use Rattle.wasm_meaning.specs.Loader.{Secondary, LoaderWorld, begun_under}
-use Rattle.world_simulation.specs.Loaded.{primary_world}
-use Rattle.world_simulation.specs.Stubbed.{ImportsThemLast, stubbed, placeholders_begun}
+use Rattle.wasm_meaning.specs.Prelude.{Func, Placeholder, is_there, links, instantiate, Secondary, LoaderWorld, begun_under}
+use Rattle.world_simulation.specs.Prelude.{primary_world, ImportsThemLast, stubbed, placeholders_begun}
 
 abbrev nothing : FuncType
 nothing = record { params = []; results = [] }

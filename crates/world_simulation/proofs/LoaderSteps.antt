@@ -1,13 +1,11 @@
 -- A step under a loader that calls no placeholder is a step of the run, and one that calls a placeholder goes on in the function in its slot.
-use Rattle.std.proofs.Common.{◌≡◌, ℕ, zero, suc, ◌<◌, List, Option, Some, Bool, true, false, refl, sym, ap, ap₂, ◌∙◌, arith, slice_get}
+use Rattle.base_lists.proofs.Common.{◌≡◌, ℕ, zero, suc, ◌<◌, List, Option, Some, Bool, true, false, refl, sym, ap, ap₂, ◌∙◌, arith, slice_get}
 use Rattle.base_simulation.specs.Machines.{noted, events_of, state_after}
-use Rattle.wasm_meaning.specs.Outcomes.{Outcome, Gives, Traps, IllTyped}
-use Rattle.wasm_meaning.specs.State.{Val, Store, Entry, Next, Ran, CallsOwn, WaitsGrowth, CallsPlaceholder, EndsCall}
-use Rattle.wasm_meaning.specs.Run.{Run, Out, Transition, Steps, Makes, made, transition, tick}
-use Rattle.wasm_meaning.specs.Loader.{LoaderWorld, LoaderRun, loader_made, tick_loader}
-use Rattle.index_remap.specs.OpaqueRuns.{calls_placeholder}
+use Rattle.wasm_meaning.specs.Prelude.{Outcome, Gives, Traps, IllTyped, Val, Store, Entry, Next, Ran, CallsOwn, WaitsGrowth, CallsPlaceholder, EndsCall, Run, Out, Transition, Steps, Makes, made, transition, tick, LoaderWorld, LoaderRun, loader_made, tick_loader}
+use Rattle.index_remap.specs.Prelude.{calls_placeholder}
 use Rattle.index_remap.proofs.SlotCalls.{func_type_self}
-use Rattle.world_simulation.specs.LoaderSteps.{LoadersStepAsTheirRun, GoesAsItsRun, LoadersGoAsTheirRun, IsAnswered, PlaceholdersAreAnswered}
+use Rattle.world_simulation.specs.Prelude.{PlaceholdersAreAnswered}
+use Rattle.world_simulation.specs.LoaderSteps.{LoadersStepAsTheirRun, GoesAsItsRun, LoadersGoAsTheirRun, IsAnswered}
 
 made_by_the_run : (w : LoaderWorld) (q : LoaderRun) (t : Transition) → calls_placeholder t ≡ false → loader_made w q t ≡ (record q { run = (made t).0 }, (made t).1)
 made_by_the_run w q (Makes o) none = refl

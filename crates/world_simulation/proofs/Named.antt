@@ -1,17 +1,12 @@
 -- Where each index of a set names what its entry names, so does each index of a body that names only these.
-use Rattle.std.proofs.Common.{◌≡◌, ℕ, List, Bool, true, IsTrue}
-use Rattle.wasm_tree.specs.declared.space.Space.{Space}
-use Rattle.wasm_tree.specs.declared.instr.Instr.{Instr}
-use Rattle.wasm_tree.specs.Layers.{ListLayers}
-use Rattle.wasm_meaning.specs.State.{Inst}
+use Rattle.base_lists.proofs.Common.{◌≡◌, ℕ, List, Bool, true, IsTrue}
+use Rattle.wasm_tree_spec.specs.Prelude.{Space, Instr, ListLayers}
+use Rattle.wasm_meaning.specs.Prelude.{Inst}
 use Rattle.index_remap.specs.declared.remap.Remap.{Remap}
-use Rattle.index_remap.specs.Renumbered.{fits_all, renumbered_all}
-use Rattle.index_remap.specs.Related.{Pairing, CodeRel}
-use Rattle.index_remap.specs.Laws.{passed}
-use Rattle.index_remap.specs.CodeNames.{EntryNames, LayerNames}
+use Rattle.index_remap.specs.Prelude.{fits_all, renumbered_all, Pairing, CodeRel, passed, EntryNames, LayerNames}
 use Rattle.index_remap.proofs.NotOpaque.{operands_follow}
 use Rattle.index_remap_proof.specs.Indices.{Indices, with_entry, LayerNamesOnly}
-use Rattle.world_simulation.specs.Named.{EntriesName}
+use Rattle.world_simulation.specs.Prelude.{EntriesName}
 
 pub all_named : (R : Pairing) (m : Remap) (kept : Indices) (i j : Inst) → EntriesName R m kept i j → (code : List Instr) → ListLayers (LayerNamesOnly kept) code → ListLayers (LayerNames R m i j) code
 all_named R m kept i j k = operands_follow (λ o. IsTrue (kept o.space o.index)) (λ o. EntryNames R m i j o.space o.index) (λ o. k o.space o.index)

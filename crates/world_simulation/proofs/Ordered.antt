@@ -1,26 +1,11 @@
 -- Segments of two worlds, partners in the same order, are copied to related stores, and trap in both or neither.
-use Rattle.std.proofs.Common.{◌≡◌, ℕ, zero, suc, ◌+◌, List, [], ◌∷◌, ◌++◌, length, Option, Some, Bool, true, false, cond, ◌⊎◌, inl, inr, refl, sym, ap, subst, ◌∙◌, arith, slice_get, None}
-use Rattle.base_lists.proofs.Places.{append_from}
-use Rattle.std.proofs.lemmas.Option.{same_Some}
-use Rattle.wasm_tree.specs.declared.space.Space.{Space}
-use Rattle.wasm_tree.specs.declared.space.Space.TheVariants.{Tables, Memories, ElementSegments, DataSegments}
-use Rattle.wasm_tree.specs.declared.module.ConstExpr.{ConstExpr}
-use Rattle.wasm_tree.specs.declared.module.ElemMode.{ElemMode}
-use Rattle.wasm_tree.specs.declared.module.ElemSeg.{ElemSeg}
-use Rattle.wasm_tree.specs.declared.module.DataMode.{DataMode}
-use Rattle.wasm_tree.specs.declared.module.DataSeg.{DataSeg}
-use Rattle.wasm_tree.specs.declared.module.Module.{Module}
-use Rattle.wasm_meaning.specs.Outcomes.{overwrite}
-use Rattle.wasm_meaning.specs.State.{RefVal, Val, Inst, Table, Memory, Store}
-use Rattle.wasm_meaning.specs.Linking.{Part, module_at}
-use Rattle.wasm_meaning.specs.Environment.{Environment}
-use Rattle.wasm_meaning.specs.World.{Filled, PlacedSegment, numbers, base, defined_before, insts_from, segments_in, placed_elems, placed_datas, or_trapped, copy_slots, copy_elem, run_elem_with, run_elem, copy_bytes, copy_data, run_data_with, run_data, and_then, one_by_one}
-use Rattle.index_remap.specs.Related.{Pairing, OneToOne, OptRel, none, some, ListRel, RefRel, TableRel, StoreRel, set_table, set_memory, drop_elem, drop_data}
-use Rattle.index_remap.specs.RelatedRuns.{turned, HasNoPartner}
+use Rattle.base_lists.proofs.Common.{◌≡◌, ℕ, zero, suc, ◌+◌, List, [], ◌∷◌, ◌++◌, length, Option, Some, Bool, true, false, cond, ◌⊎◌, inl, inr, refl, sym, ap, subst, ◌∙◌, arith, slice_get, None, append_from, same_Some}
+use Rattle.wasm_tree_spec.specs.Prelude.{Space, Tables, Memories, ElementSegments, DataSegments, ConstExpr, ElemMode, ElemSeg, DataMode, DataSeg, Module}
+use Rattle.wasm_meaning.specs.Prelude.{overwrite, RefVal, Val, Inst, Table, Memory, Store, Part, module_at, Environment, Filled, PlacedSegment, numbers, base, defined_before, insts_from, segments_in, placed_elems, placed_datas, or_trapped, copy_slots, copy_elem, run_elem_with, run_elem, copy_bytes, copy_data, run_data_with, run_data, and_then, one_by_one}
+use Rattle.index_remap.specs.Prelude.{Pairing, OneToOne, OptRel, none, some, ListRel, RefRel, TableRel, StoreRel, set_table, set_memory, drop_elem, drop_data, turned, HasNoPartner}
 use Rattle.index_remap.proofs.Rel.{written, overwrite_rel, there}
 use Rattle.index_remap.proofs.StepsAgree.{changed_rel}
-use Rattle.world_simulation.specs.Definitions.{Instantiated, DefinedAt, values_in}
-use Rattle.world_simulation.specs.Segments.{InOrder, ElemsPartner, ElemAlone, DatasPartner, DataAlone, offset_in, ElemsInOrder, DatasInOrder}
+use Rattle.world_simulation.specs.Prelude.{Instantiated, DefinedAt, values_in, InOrder, ElemsPartner, ElemAlone, DatasPartner, DataAlone, offset_in, ElemsInOrder, DatasInOrder}
 use Rattle.world_simulation.specs.Segments as segments
 use Rattle.world_simulation.proofs.Places.{then_rel, then_same, number_is}
 use Rattle.world_simulation.proofs.Instancing.{IsInst, inst_in}

@@ -1,21 +1,15 @@
 -- The environment's own entities, where each has its address in both worlds.
-use Rattle.std.proofs.Common.{◌≡◌, ℕ, suc, ◌+◌, ◌^◌, ◌<◌, ◌≤◌, List, [], ◌∷◌, map, length, Option, Some, None, Bool, true, false, cond, option_and_then, refl, sym, ap₂, ◌∙◌, arith}
-use Rattle.std.specs.Prelude.{nat_lt}
-use Rattle.wasm_tree.specs.declared.space.Space.TheVariants.{Functions}
-use Rattle.std.proofs.lemmas.List.{length-append}
-use Rattle.wasm_tree.specs.declared.types.RefType.{RefType}
+use Rattle.base_lists.proofs.Common.{◌≡◌, ℕ, suc, ◌+◌, ◌^◌, ◌<◌, ◌≤◌, List, [], ◌∷◌, map, length, Option, Some, None, Bool, true, false, cond, option_and_then, refl, sym, ap₂, ◌∙◌, arith, nat_lt, length-append}
+use Rattle.wasm_tree_spec.specs.Prelude.{Functions, RefType, ValType}
 use Rattle.wasm_tree.specs.declared.types.RefType.TheVariants as reft
-use Rattle.wasm_tree.specs.declared.types.ValType.{ValType}
 use Rattle.wasm_tree.specs.declared.types.ValType.TheVariants as valt
 use Rattle.wasm_num.specs.Operations.{Width, W32, W64}
-use Rattle.wasm_meaning.specs.State.{Val, Num, Own}
-use Rattle.wasm_meaning.specs.Values.{ref_of, null_of}
-use Rattle.wasm_meaning.specs.Environment.{Environment, Shown, Number, Null, OwnFunc, ExternNumber, OwnKey, FuncKey, TableKey, MemoryKey, GlobalKey, ExternalValue, FuncAt, TableAt, MemoryAt, GlobalAt, Owned, owned_of, owned_at, look_up, same_key, func_of, func_value, received, or_null, or_zero, addressed, flat, one_if, own_funcs, own_tables, own_memories, own_globals}
-use Rattle.index_remap.specs.Related.{Pairing, OptRel, none, some, ListRel, nil, cons, RefRel, func, extern, ValRel, number, reference, FuncRel, TableRel, GlobalRel}
+use Rattle.wasm_meaning.specs.Prelude.{Val, Num, Own, ref_of, null_of, Environment, Shown, Number, Null, OwnFunc, ExternNumber, OwnKey, FuncKey, TableKey, MemoryKey, GlobalKey, ExternalValue, FuncAt, TableAt, MemoryAt, GlobalAt, Owned, owned_of, owned_at, look_up, same_key, func_of, func_value, received, addressed, flat, one_if, own_funcs, own_tables, own_memories, own_globals}
+use Rattle.wasm_meaning.specs.Environment.{or_null, or_zero}
+use Rattle.index_remap.specs.Prelude.{Pairing, OptRel, none, some, ListRel, nil, cons, RefRel, func, extern, ValRel, number, reference, FuncRel, TableRel, GlobalRel, ExternalValueRel, a_func, a_table, a_memory, a_global, KeyRel}
 use Rattle.index_remap.specs.Related as related
-use Rattle.index_remap.specs.RelatedRuns.{ExternalValueRel, a_func, a_table, a_memory, a_global, KeyRel}
 use Rattle.index_remap.proofs.Rel.{then_rel, append_rel}
-use Rattle.world_simulation.specs.Owned.{SharesOwn, OwnCorrespond}
+use Rattle.world_simulation.specs.Prelude.{SharesOwn, OwnCorrespond}
 use Rattle.world_simulation.proofs.Places.{map_length, opt_self, self_rel, maps_rel}
 
 pub null_rel : (R : Pairing) (ty : RefType) → RefRel R (null_of ty) (null_of ty)

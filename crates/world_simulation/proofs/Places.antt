@@ -1,14 +1,9 @@
 -- Lists by place, numbers in a row, and lists that are related place by place.
-use Rattle.std.proofs.Common.{◌≡◌, ℕ, zero, suc, ◌+◌, ◌<◌, ◌≤◌, List, [], ◌∷◌, map, length, Option, Some, None, Bool, true, refl, sym, ap, arith, option_and_then, slice_get, slice_set, ◌∙◌}
-use Rattle.base_lists.proofs.Numbers.{length-numbers, numbers_at}
-use Rattle.std.proofs.lemmas.Option.{slice_get_within, same_Some}
-use Rattle.std.proofs.lemmas.Bool.{and_parts}
-use Rattle.wasm_meaning.specs.Environment.{all_of}
-use Rattle.wasm_meaning.specs.World.{numbers, all_there, is_there}
+use Rattle.base_lists.proofs.Common.{◌≡◌, ℕ, zero, suc, ◌+◌, ◌<◌, ◌≤◌, List, [], ◌∷◌, map, length, Option, Some, None, Bool, true, refl, sym, ap, arith, option_and_then, slice_get, slice_set, ◌∙◌, length-numbers, numbers_at, slice_get_within, same_Some, and_parts, list_all}
+use Rattle.wasm_meaning.specs.Prelude.{all_of, numbers, all_there, is_there}
 pub use Rattle.base_lists.proofs.Bools.{left_true, right_true}
 pub use Rattle.index_remap.proofs.Rel.{then_rel, then_rel_is}
-use Rattle.std.specs.List.{list_all}
-use Rattle.index_remap.specs.Related.{OptRel, none, some, BothRel, both, ListRel, nil, cons}
+use Rattle.index_remap.specs.Prelude.{OptRel, none, some, BothRel, both, ListRel, nil, cons}
 
 -- ---- places ----
 

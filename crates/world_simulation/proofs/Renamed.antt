@@ -1,31 +1,16 @@
 -- A module's items with other indices, where each index of a set names what its entry names: exports, starts, functions, constant expressions, and the modes of segments.
-use Rattle.std.proofs.Common.{◌≡◌, ℕ, suc, List, [], ◌∷◌, map, Option, Some, None, refl, option_and_then, slice_get}
-use Rattle.std.specs.Prelude.{slice_index, IsTrue, Bool}
-use Rattle.wasm_tree.specs.declared.space.Space.{Space}
-use Rattle.wasm_tree.specs.declared.space.Space.TheVariants.{Types, Functions, Tables, Memories, Globals, ElementSegments, DataSegments}
-use Rattle.wasm_tree.specs.declared.module.ConstExpr.{ConstExpr}
-use Rattle.wasm_tree.specs.declared.module.ExportDesc.{ExportDesc}
+use Rattle.base_lists.proofs.Common.{◌≡◌, ℕ, suc, List, [], ◌∷◌, map, Option, Some, None, refl, option_and_then, slice_get, slice_index, IsTrue, Bool}
+use Rattle.wasm_tree_spec.specs.Prelude.{Space, Types, Functions, Tables, Memories, Globals, ElementSegments, DataSegments, ConstExpr, ExportDesc, ElemMode, ElemSeg, DataMode, DataSeg}
 use Rattle.wasm_tree.specs.declared.module.ExportDesc.TheVariants as ex
-use Rattle.wasm_tree.specs.declared.module.ElemMode.{ElemMode}
 use Rattle.wasm_tree.specs.declared.module.ElemMode.TheVariants as elem
-use Rattle.wasm_tree.specs.declared.module.ElemSeg.{ElemSeg}
-use Rattle.wasm_tree.specs.declared.module.DataMode.{DataMode}
 use Rattle.wasm_tree.specs.declared.module.DataMode.TheVariants as data'
-use Rattle.wasm_tree.specs.declared.module.DataSeg.{DataSeg}
 use Rattle.wasm_tree.specs.declared.module.Func as tree
 use Rattle.wasm_num.specs.Operations.{W32}
-use Rattle.wasm_meaning.specs.State.{Val, Inst}
-use Rattle.wasm_meaning.specs.Values.{num_of}
-use Rattle.wasm_meaning.specs.World.{PlacedSegment, one_place, start_in, address_in}
+use Rattle.wasm_meaning.specs.Prelude.{Val, Inst, num_of, PlacedSegment, one_place, start_in, address_in}
 use Rattle.index_remap.specs.declared.remap.Remap.{Remap}
-use Rattle.index_remap.specs.Renumbered.{new_func, new_const, new_elem, new_elem_mode, new_data_mode, new_export_desc, new_start}
-use Rattle.index_remap.specs.Related.{Pairing, OptRel, none, some, ListRel, nil, cons, ValRel, number, reference}
-use Rattle.index_remap.specs.RelatedRuns.{ExternalValueRel, a_func, a_table, a_memory, a_global}
-use Rattle.index_remap.specs.Laws.{passed, RenumberedCodeIsRelated}
+use Rattle.index_remap.specs.Prelude.{new_func, new_const, new_elem, new_elem_mode, new_data_mode, new_export_desc, new_start, Pairing, OptRel, none, some, ListRel, nil, cons, ValRel, number, reference, ExternalValueRel, a_func, a_table, a_memory, a_global, passed, RenumberedCodeIsRelated}
 use Rattle.index_remap_proof.specs.Indices.{Indices, ConstNamesOnly, FuncNamesOnly, ExportNamesOnly, ElemModeNamesOnly, DataModeNamesOnly}
-use Rattle.world_simulation.specs.Named.{EntriesName}
-use Rattle.world_simulation.specs.Definitions.{FuncsCorrespond, is_declarative}
-use Rattle.world_simulation.specs.Segments.{offset_in, ElemsPartner, DatasPartner}
+use Rattle.world_simulation.specs.Prelude.{EntriesName, FuncsCorrespond, is_declarative, offset_in, ElemsPartner, DatasPartner}
 use Rattle.world_simulation.specs.Segments as segments
 use Rattle.world_simulation.proofs.Places.{then_rel}
 use Rattle.world_simulation.proofs.Named.{all_named}

@@ -1,51 +1,28 @@
 -- Two modules, each alone, of which the second has the items of the first with other indices, but for functions, tables and memories, and perhaps a segment that declares
 -- references: constant expressions, segments, views and starts; and an environment that links the first links the second.
-use Rattle.std.proofs.Common.{◌≡◌, ℕ, suc, ◌+◌, ◌<◌, List, [], ◌∷◌, ◌++◌, map, length, Option, Some, None, Bool, true, ◌⊎◌, inl, inr, refl, sym, ap, ap₂, subst, ◌∙◌, arith, option_and_then, append-nil, ◌≤◌}
-use Rattle.std.specs.Prelude.{slice_get, slice_index, IsTrue}
-use Rattle.std.proofs.lemmas.List.{length-append}
-use Rattle.std.proofs.lemmas.Option.{slice_get_within, same_Some}
-use Rattle.base_lists.proofs.Options.{and_then_is, all_there_at}
-use Rattle.base_lists.proofs.Places.{map_from, append_from}
-use Rattle.wasm_tree.specs.declared.space.Space.{Space}
-use Rattle.wasm_tree.specs.declared.space.Space.TheVariants.{Functions, Globals, ElementSegments, DataSegments}
-use Rattle.wasm_meaning.specs.Environment.{Environment, own_globals}
-use Rattle.wasm_meaning.specs.World.{own_count, defined_count, numbers, PlacedSegment, segments_in, Begun, insts_from, stores_from, own_store, joined_stores, part_store, all_there, is_matched, segments, begun, instantiate, is_there, links, alone, placed_elems, placed_datas, seen_as, start_in, starts_of, space, value_of, value_of_read}
-use Rattle.index_remap.specs.Related.{Pairing, OptRel, none, some, ListRel, cons, nil, ValRel, number, reference, func}
-use Rattle.index_remap.specs.Laws.{passed}
-use Rattle.wasm_tree.specs.declared.module.Module.{Module}
+use Rattle.base_lists.proofs.Common.{◌≡◌, ℕ, suc, ◌+◌, ◌<◌, List, [], ◌∷◌, ◌++◌, map, length, Option, Some, None, Bool, true, ◌⊎◌, inl, inr, refl, sym, ap, ap₂, subst, ◌∙◌, arith, option_and_then, append-nil, ◌≤◌, slice_get, slice_index, IsTrue, length-append, slice_get_within, same_Some, and_then_is, all_there_at, map_from, append_from}
+use Rattle.wasm_tree_spec.specs.Prelude.{Space, Functions, Globals, ElementSegments, DataSegments, Module, imported_funcs, funcs_of, GlobalDef, Export, ElemSeg, DataSeg, ConstExpr}
+use Rattle.wasm_meaning.specs.Prelude.{Environment, own_globals, own_count, defined_count, numbers, PlacedSegment, segments_in, Begun, insts_from, stores_from, own_store, joined_stores, part_store, all_there, is_matched, segments, begun, instantiate, is_there, links, alone, placed_elems, placed_datas, seen_as, start_in, starts_of, space, value_of, value_of_read, Inst, Text, Func, Global, Elem, Store, Val, Entity, imports_of}
+use Rattle.index_remap.specs.Prelude.{Pairing, OptRel, none, some, ListRel, cons, nil, ValRel, number, reference, func, passed, KeyRel, turned, HasNoPartner, new_export, new_elem, new_data, new_global, new_const, new_start, has}
 use Rattle.world_simulation.proofs.Places.{opt_at, right_there, all_rel, map_length, then_rel, then_same}
 use Rattle.wasm_tree.specs.declared.module.Func as tree
-use Rattle.wasm_tree.specs.Spaces.{imported_funcs, funcs_of}
-use Rattle.wasm_meaning.specs.State.{Inst, Text, Func, Global, Elem, Store, Val}
 use Rattle.index_remap.specs.declared.remap.Remap.{Remap}
 use Rattle.index_remap_proof.specs.Indices.{Indices, ExportNamesOnly, ConstNamesOnly, TreeNamesOnly}
-use Rattle.world_simulation.specs.Segments.{InOrder, both, ends, only_second, ElemsPartner, ElemAlone, DatasPartner, DataAlone, ElemsInOrder, DatasInOrder}
+use Rattle.world_simulation.specs.Prelude.{InOrder, both, ends, only_second, ElemsPartner, ElemAlone, DatasPartner, DataAlone, ElemsInOrder, DatasInOrder, FuncsCorrespond, DefinitionsCorrespond, Instantiated, values_in, one, addresses, read_in, SharesOwn, EntriesName, IsInstantiated}
 use Rattle.world_simulation.proofs.Holes.{Down, Moved, stays, space_moves, stays_at, all_in_step}
-use Rattle.wasm_tree.specs.declared.module.GlobalDef.{GlobalDef}
-use Rattle.wasm_meaning.specs.Linking.{Entity, imports_of}
 use Rattle.wasm_meaning.specs.World as world
 use Rattle.world_simulation.proofs.Alone.{space_is, funcs_counted, read_is}
 use Rattle.world_simulation.proofs.Allocated.{Adds, adds, part_there}
 use Rattle.world_simulation.proofs.Single.{all_matched, space_at, made_there}
 use Rattle.world_simulation.proofs.Stored.{func_rel, global_rel, elem_rel, stores_rel}
-use Rattle.wasm_tree.specs.declared.module.Export.{Export}
-use Rattle.wasm_tree.specs.declared.module.ElemSeg.{ElemSeg}
-use Rattle.wasm_tree.specs.declared.module.DataSeg.{DataSeg}
-use Rattle.index_remap.specs.RelatedRuns.{KeyRel, turned, HasNoPartner}
-use Rattle.index_remap.specs.Renumbered.{new_export, new_elem, new_data, new_global, new_const, new_start, has}
 use Rattle.index_remap.proofs.Rel.{append_rel, get_rel}
-use Rattle.world_simulation.specs.Definitions.{FuncsCorrespond, DefinitionsCorrespond, Instantiated, values_in}
 use Rattle.world_simulation.specs.Segments as order
 use Rattle.world_simulation.proofs.Renamed.{elems_alike, elem_mode_named, data_mode_named, export_named, start_named, func_named}
-use Rattle.wasm_tree.specs.declared.module.ConstExpr.{ConstExpr}
 use Rattle.wasm_tree.specs.declared.module.ConstExpr.TheVariants as const
-use Rattle.world_simulation.specs.Alone.{one, addresses, read_in, read_place}
-use Rattle.world_simulation.specs.Owned.{SharesOwn}
-use Rattle.world_simulation.specs.Named.{EntriesName}
+use Rattle.world_simulation.specs.Alone.{read_place}
 use Rattle.world_simulation.proofs.Declared.{last_segments}
 use Rattle.world_simulation.proofs.Instancing.{IsInst, is_space}
 use Rattle.world_simulation.proofs.Owned.{null_rel, own_globals_rel}
-use Rattle.world_simulation.specs.Simulation.{IsInstantiated}
 use Rattle.wasm_tree.specs.declared.module.Func as tree
 
 -- what the second has of the first; each index that it names is of a set, and globals keep theirs

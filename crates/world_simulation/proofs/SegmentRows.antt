@@ -1,15 +1,13 @@
 -- Element segments that correspond, and that do not.
-use Rattle.std.proofs.Common.{refl, List, [], ◌∷◌, Option, Some, None, false}
+use Rattle.base_lists.proofs.Common.{refl, List, [], ◌∷◌, Option, Some, None, false}
 use Rattle.wasm_tree.specs.declared.types.RefType.TheVariants as reft
-use Rattle.wasm_tree.specs.declared.module.ConstExpr.{ConstExpr}
+use Rattle.wasm_tree_spec.specs.Prelude.{ConstExpr, ElemMode, ElemSeg}
 use Rattle.wasm_tree.specs.declared.module.ConstExpr.TheVariants as const
-use Rattle.wasm_tree.specs.declared.module.ElemMode.{ElemMode}
 use Rattle.wasm_tree.specs.declared.module.ElemMode.TheVariants as elem
-use Rattle.wasm_tree.specs.declared.module.ElemSeg.{ElemSeg}
-use Rattle.wasm_meaning.specs.State.{FuncRef, Val, Ref}
-use Rattle.index_remap.specs.Related.{Pairing, some, cons, nil, reference, func, none}
-use Rattle.index_remap.specs.Laws.{passed}
-use Rattle.world_simulation.specs.Definitions.{ElemsCorrespond, declared, kept}
+use Rattle.wasm_meaning.specs.Prelude.{FuncRef, Val, Ref}
+use Rattle.index_remap.specs.Prelude.{Pairing, some, cons, nil, reference, func, none, passed}
+use Rattle.world_simulation.specs.Prelude.{ElemsCorrespond}
+use Rattle.world_simulation.specs.Definitions.{declared, kept}
 
 -- nothing is related
 abbrev R : Pairing

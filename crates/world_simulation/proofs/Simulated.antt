@@ -1,21 +1,11 @@
 -- Two worlds that correspond are instantiated to what is related.
-use Rattle.std.proofs.Common.{◌≡◌, ℕ, ◌*◌, ◌≤◌, List, length, Option, Some, None, Bool, true, false, cond, refl, ap, arith, option_and_then}
-use Rattle.base_lists.proofs.Options.{and_then_is, all_there_length}
-use Rattle.wasm_tree.specs.declared.space.Space.TheVariants.{Functions}
-use Rattle.wasm_meaning.specs.State.{Elem, Store, RefVal, Val}
-use Rattle.wasm_tree.specs.declared.module.ElemMode.{ElemMode}
+use Rattle.base_lists.proofs.Common.{◌≡◌, ℕ, ◌*◌, ◌≤◌, List, length, Option, Some, None, Bool, true, false, cond, refl, ap, arith, option_and_then, and_then_is, all_there_length}
+use Rattle.wasm_tree_spec.specs.Prelude.{Functions, ElemMode, ElemSeg, ConstExpr}
+use Rattle.wasm_meaning.specs.Prelude.{Elem, Store, RefVal, Val, ref_of, null_of, sites, Environment, all_of, World, Begun, insts_from, stores_from, own_store, all_there, seen_as, is_matched, new_elem, elem_with, segments, starts_of, begun, instantiate, links}
 use Rattle.wasm_tree.specs.declared.module.ElemMode.TheVariants as elem
-use Rattle.wasm_tree.specs.declared.module.ElemSeg.{ElemSeg}
-use Rattle.wasm_tree.specs.declared.module.ConstExpr.{ConstExpr}
-use Rattle.wasm_meaning.specs.Values.{ref_of, null_of}
-use Rattle.wasm_meaning.specs.Linking.{sites}
-use Rattle.wasm_meaning.specs.Environment.{Environment, all_of}
-use Rattle.wasm_meaning.specs.World.{World, Begun, insts_from, stores_from, own_store, all_there, seen_as, is_matched, new_elem, elem_with, segments, starts_of, begun, instantiate, links}
-use Rattle.index_remap.specs.Related.{Pairing, OneToOne, OptRel, ListRel, nil, cons, opening}
-use Rattle.index_remap.specs.RelatedRuns.{BegunRel}
-use Rattle.index_remap.specs.Laws.{EntryByEntry}
-use Rattle.world_simulation.specs.Definitions.{Instantiated, values_in}
-use Rattle.world_simulation.specs.Simulation.{IsInstantiated, in_world, WorldsCorrespond, AreSimilar, StartsCorrespond, BegunRelated}
+use Rattle.index_remap.specs.Prelude.{Pairing, OneToOne, OptRel, ListRel, nil, cons, opening, BegunRel, EntryByEntry}
+use Rattle.world_simulation.specs.Prelude.{Instantiated, values_in, IsInstantiated, WorldsCorrespond, AreSimilar, StartsCorrespond}
+use Rattle.world_simulation.specs.Simulation.{in_world, BegunRelated}
 use Rattle.world_simulation.proofs.Places.{all_rel, opt_both, alike_there}
 use Rattle.world_simulation.proofs.Owned.{owned_rel}
 use Rattle.world_simulation.proofs.Stored.{table_placed, memory_placed, elem_placed, data_placed, stores_rel}

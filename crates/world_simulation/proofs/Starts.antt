@@ -1,16 +1,10 @@
 -- Starts one after the other, and one start that calls them.
-use Rattle.std.proofs.Common.{◌≡◌, ℕ, ◌+◌, List, [], ◌∷◌, ◌++◌, Some, None, Bool, true, false, cond, map, refl, ap, subst, arith, slice_get, Option, option_and_then}
+use Rattle.base_lists.proofs.Common.{◌≡◌, ℕ, ◌+◌, List, [], ◌∷◌, ◌++◌, Some, None, Bool, true, false, cond, map, refl, ap, subst, arith, slice_get, Option, option_and_then}
 use Rattle.wasm_tree.specs.declared.instr.Instr.{out-Instr}
 use Rattle.wasm_tree.specs.declared.instr.Instr.TheVariants as i
-use Rattle.wasm_meaning.specs.Outcomes.{Gives}
-use Rattle.wasm_meaning.specs.State.{Inst, Func, Code, Own, Placeholder, Store, Frame, Entry, Running, Opening, Waiting}
-use Rattle.wasm_meaning.specs.Control.{type_of_func}
-use Rattle.wasm_meaning.specs.Step.{enter}
-use Rattle.wasm_meaning.specs.Environment.{Environment}
-use Rattle.wasm_meaning.specs.World.{Begun}
-use Rattle.wasm_meaning.specs.Run.{InstanceTrapped, Phase, Pending, Closed, Move, Run, Out, run_after, tick, events_of, IsPrefix, fresh_run}
-use Rattle.wasm_meaning.specs.StartFrames.{IsBottom, GivesNothing, a_frame, a_call, AgreeOnFrames, goes_on, ended, trapped, StartDependsOnlyOnItsFrames}
-use Rattle.index_remap.specs.Related.{ListRel, nil, cons}
+use Rattle.wasm_meaning.specs.Prelude.{Gives, Inst, Func, Code, Own, Placeholder, Store, Frame, Entry, Running, Opening, Waiting, type_of_func, enter, Environment, Begun, InstanceTrapped, Phase, Pending, Closed, Move, Run, Out, run_after, tick, events_of, IsPrefix, fresh_run, IsBottom, GivesNothing, a_frame, a_call, AgreeOnFrames, ended, trapped, StartDependsOnlyOnItsFrames}
+use Rattle.wasm_meaning.specs.StartFrames.{goes_on}
+use Rattle.index_remap.specs.Prelude.{ListRel, nil, cons}
 use Rattle.world_simulation.specs.Starts.{from_nothing_to_nothing, NamesStart, CallsEach}
 use Rattle.base_simulation.proofs.LedRuns.{Leads, both, second, led_traces_are_equal}
 

@@ -1,30 +1,15 @@
 -- What stands at the addresses of allocated stores; stores of which the definitions correspond are related.
-use Rattle.std.proofs.Common.{◌≡◌, ◌+◌, arith, ℕ, ◌<◌, List, [], length, Option, Some, Bool, true, false, refl, sym, ap, subst, ◌∙◌, option_and_then, slice_get}
-use Rattle.wasm_tree.specs.declared.space.Space.{Space}
-use Rattle.wasm_tree.specs.declared.space.Space.TheVariants.{Functions, Tables, Memories, Globals, ElementSegments, DataSegments}
-use Rattle.std.proofs.lemmas.Option.{same_Some}
-use Rattle.base_lists.proofs.Options.{all_there_at, and_then_is}
-use Rattle.base_lists.proofs.Places.{slice_get_there, map_at}
-use Rattle.wasm_tree.specs.declared.types.FuncType.{FuncType}
-use Rattle.wasm_tree.specs.declared.module.ConstExpr.{ConstExpr}
-use Rattle.wasm_tree.specs.declared.module.ElemMode.{ElemMode}
+use Rattle.base_lists.proofs.Common.{◌≡◌, ◌+◌, arith, ℕ, ◌<◌, List, [], length, Option, Some, Bool, true, false, refl, sym, ap, subst, ◌∙◌, option_and_then, slice_get, same_Some, all_there_at, and_then_is, slice_get_there, map_at}
+use Rattle.wasm_tree_spec.specs.Prelude.{Space, Functions, Tables, Memories, Globals, ElementSegments, DataSegments, FuncType, ConstExpr, ElemMode, ElemSeg, GlobalDef, Module}
 use Rattle.wasm_tree.specs.declared.module.ElemMode.TheVariants as elem
-use Rattle.wasm_tree.specs.declared.module.ElemSeg.{ElemSeg}
 use Rattle.wasm_tree.specs.declared.module.Func as tree
-use Rattle.wasm_tree.specs.declared.module.GlobalDef.{GlobalDef}
-use Rattle.wasm_tree.specs.declared.module.Module.{Module}
-use Rattle.wasm_meaning.specs.State.{RefVal, Val, Inst, Func, Code, Global, Elem, Store}
-use Rattle.wasm_meaning.specs.Values.{ref_of}
+use Rattle.wasm_meaning.specs.Prelude.{RefVal, Val, Inst, Func, Code, Global, Elem, Store, ref_of, type_of_func, own_of, Environment, own_funcs, own_tables, own_memories, own_globals, no_items, all_there, defined_before, own_count, new_func, new_global, global_with, new_elem, elem_with, elem_of, own_store, stores_from}
 use Rattle.wasm_meaning.specs.Values as values
-use Rattle.wasm_meaning.specs.Control.{type_of_func, own_of}
-use Rattle.wasm_meaning.specs.Environment.{Environment, own_funcs, own_tables, own_memories, own_globals}
-use Rattle.wasm_meaning.specs.Step.{no_items}
-use Rattle.wasm_meaning.specs.World.{all_there, defined_before, own_count, new_func, new_global, global_with, new_elem, elem_with, elem_of, own_store, stores_from}
-use Rattle.index_remap.specs.Related.{Pairing, OptRel, none, some, BothRel, both, ListRel, nil, RefRel, ValRel, number, reference, FuncRel, defined, own, TableRel, GlobalRel, ElemRel, StoreRel}
+use Rattle.index_remap.specs.Prelude.{Pairing, OptRel, none, some, BothRel, both, ListRel, nil, RefRel, ValRel, number, reference, FuncRel, defined, own, TableRel, GlobalRel, ElemRel, StoreRel}
 use Rattle.index_remap.specs.Related as to
 use Rattle.index_remap.proofs.Rel.{copies_rel, get_rel}
-use Rattle.world_simulation.specs.Owned.{SharesOwn}
-use Rattle.world_simulation.specs.Definitions.{Instantiated, DefinedAt, values_in, FuncsCorrespond, FuncsAt, alike, set_apart, GlobalsCorrespond, is_declarative, ElemsCorrespond, declared, kept, Partners, DefinitionsCorrespond}
+use Rattle.world_simulation.specs.Prelude.{SharesOwn, Instantiated, DefinedAt, values_in, FuncsCorrespond, FuncsAt, GlobalsCorrespond, is_declarative, ElemsCorrespond, Partners, DefinitionsCorrespond}
+use Rattle.world_simulation.specs.Definitions.{alike, set_apart, declared, kept}
 use Rattle.world_simulation.specs.Definitions as partners
 use Rattle.world_simulation.proofs.Allocated.{new_table, new_memory, new_data, Adds, Allocates, funcs_allocate, tables_allocate, mems_allocate, globals_allocate, elems_allocate, datas_allocate, keeps, stands}
 use Rattle.world_simulation.proofs.Owned.{null_rel, own_funcs_rel, own_tables_rel, own_globals_rel}

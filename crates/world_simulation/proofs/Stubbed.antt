@@ -1,34 +1,16 @@
 -- A loader begins as one whose primary module has functions of its own in place of the placeholders.
-use Rattle.std.proofs.Common.{◌≡◌, ℕ, suc, ◌+◌, List, [], ◌∷◌, ◌++◌, map, drop, length, Option, Some, None, Bool, true, false, cond, ◌&&◌, refl, sym, ap, ap₂, subst, ◌∙◌, arith, append_assoc, append-nil, option_and_then, slice_get, unwrap_or}
-use Rattle.std.proofs.lemmas.List.{length-append}
-use Rattle.std.proofs.lemmas.List.Elements.{filter_map-append}
+use Rattle.base_lists.proofs.Common.{◌≡◌, ℕ, suc, ◌+◌, List, [], ◌∷◌, ◌++◌, map, drop, length, Option, Some, None, Bool, true, false, cond, ◌&&◌, refl, sym, ap, ap₂, subst, ◌∙◌, arith, append_assoc, append-nil, option_and_then, slice_get, unwrap_or, length-append, filter_map-append, and_then_is, all_there_same, numbers_append, append_right}
 use Rattle.base_lists.specs.Every.{Every}
 use Rattle.base_lists.specs.Options.{◌>>=◌}
-use Rattle.base_lists.proofs.Options.{and_then_is, all_there_same}
-use Rattle.base_lists.proofs.Numbers.{numbers_append}
-use Rattle.base_lists.proofs.Places.{append_right}
-use Rattle.wasm_tree.specs.declared.space.Space.{Space}
-use Rattle.wasm_tree.specs.declared.space.Space.TheVariants.{Functions, Tables, Memories, Globals}
-use Rattle.wasm_tree.specs.declared.types.FuncType.{FuncType}
-use Rattle.wasm_tree.specs.declared.instr.Instr.TheVariants.{Unreachable}
-use Rattle.wasm_tree.specs.declared.module.ConstExpr.{ConstExpr}
-use Rattle.wasm_tree.specs.declared.module.Import.{Import}
-use Rattle.wasm_tree.specs.declared.module.ImportDesc.{ImportDesc}
+use Rattle.wasm_tree_spec.specs.Prelude.{Space, Functions, Tables, Memories, Globals, FuncType, Unreachable, ConstExpr, Import, ImportDesc, ExportDesc, Module}
 use Rattle.wasm_tree.specs.declared.module.ImportDesc.TheVariants as im
-use Rattle.wasm_tree.specs.declared.module.ExportDesc.{ExportDesc}
-use Rattle.wasm_tree.specs.declared.module.Module.{Module}
-use Rattle.wasm_meaning.specs.State.{Text, Pair, Val, Inst, Func, Code, Placeholder, Global, Elem, Store}
-use Rattle.wasm_meaning.specs.Values.{declared}
-use Rattle.wasm_meaning.specs.Linking.{pair_of}
-use Rattle.wasm_meaning.specs.Environment.{Environment, ExternalValue, FuncAt, TableAt, MemoryAt, GlobalAt, owned_of, owned_at, own_funcs, own_tables, own_memories, own_globals}
-use Rattle.wasm_meaning.specs.World.{Begun, all_there, address_of, address_in, start_in, own_count, numbers, const_value, new_func, global_with, elem_with, joined_stores, own_store, is_match}
-use Rattle.wasm_meaning.specs.Sequential.{Added, added, added_as, addresses_of, all_match, next_inst, own_segments, own_external_value}
-use Rattle.wasm_meaning.specs.Loader.{LoaderWorld, placeholders_of, placeholders_from, store_under, slot_of, placeholder_or_own, supplied, primary_added, begun_of, begun_under}
-use Rattle.index_remap.specs.Related.{StoreRel}
-use Rattle.index_remap.specs.RelatedRuns.{ExternalValueRel}
+use Rattle.wasm_meaning.specs.Prelude.{Text, Pair, Val, Inst, Func, Code, Placeholder, Global, Elem, Store, declared, pair_of, Environment, ExternalValue, FuncAt, TableAt, MemoryAt, GlobalAt, owned_of, owned_at, own_funcs, own_tables, own_memories, own_globals, Begun, all_there, address_of, address_in, start_in, own_count, numbers, const_value, new_func, global_with, elem_with, joined_stores, own_store, is_match, Added, added, added_as, addresses_of, all_match, next_inst, own_segments, LoaderWorld, placeholders_of, placeholders_from, store_under, slot_of, supplied, primary_added, begun_of, begun_under}
+use Rattle.wasm_meaning.specs.Sequential.{own_external_value}
+use Rattle.wasm_meaning.specs.Loader.{placeholder_or_own}
+use Rattle.index_remap.specs.Prelude.{StoreRel, ExternalValueRel}
 use Rattle.index_remap.proofs.SlotCalls.{func_type_self}
-use Rattle.world_simulation.specs.Alone.{external_value_in}
-use Rattle.world_simulation.specs.Stubbed.{ArePlaceholders, ImportsThemLast, stub, stubbed, with_placeholders, placeholders_in, placeholders_begun, LoadersAddAsStubbed, LoadersBeginAsStubbed}
+use Rattle.world_simulation.specs.Prelude.{external_value_in, ImportsThemLast, stub, stubbed, placeholders_begun, LoadersAddAsStubbed}
+use Rattle.world_simulation.specs.Stubbed.{ArePlaceholders, with_placeholders, placeholders_in, LoadersBeginAsStubbed}
 use Rattle.world_simulation.proofs.Places.{opt_self, map_length}
 use Rattle.world_simulation.proofs.Alone.{key_is}
 use Rattle.world_simulation.proofs.Allocated.{with_elems}

@@ -1,42 +1,21 @@
 -- A module without one function that nothing else of it names shows what the module shows: its records of the law for two worlds.
-use Rattle.std.proofs.Common.{◌++◌, ◌≡◌, ℕ, suc, ◌+◌, ◌-◌, ◌<◌, ◌≤◌, List, [], ◌∷◌, map, length, Some, Bool, true, false, ◌⊎◌, inl, inr, refl, sym, ap, ap₂, subst, ◌∙◌, arith, append-nil}
-use Rattle.wasm_meaning.specs.Linking.{imports_of}
-use Rattle.std.specs.Prelude.{slice_get, slice_index, IsTrue, nat_eq, not}
-use Rattle.std.proofs.lemmas.Bool.{cases_lt, eq-eqb}
-use Rattle.std.proofs.lemmas.List.{length-append, map-id}
-use Rattle.base_lists.proofs.Bools.{left_true, right_true}
-use Rattle.base_lists.proofs.Places.{map_at, map_from}
-use Rattle.wasm_tree.specs.declared.space.Space.{Space}
-use Rattle.wasm_tree.specs.declared.space.Space.TheVariants.{Types, Functions, Tables, Memories, Globals, ElementSegments, DataSegments}
-use Rattle.wasm_meaning.specs.Environment.{Environment}
-use Rattle.wasm_meaning.specs.World.{own_count, defined_count, numbers, insts_from, starts_of, instantiate, links, alone, space}
-use Rattle.index_remap.specs.Related.{Pairing, OneToOne, OptRel, ListRel}
-use Rattle.index_remap.specs.Laws.{passed, RenumberedCodeIsRelated}
-use Rattle.wasm_tree.specs.declared.module.Module.{Module}
+use Rattle.base_lists.proofs.Common.{◌++◌, ◌≡◌, ℕ, suc, ◌+◌, ◌-◌, ◌<◌, ◌≤◌, List, [], ◌∷◌, map, length, Some, Bool, true, false, ◌⊎◌, inl, inr, refl, sym, ap, ap₂, subst, ◌∙◌, arith, append-nil, slice_get, slice_index, IsTrue, nat_eq, not, cases_lt, eq-eqb, length-append, map-id, left_true, right_true, map_at, map_from}
+use Rattle.wasm_meaning.specs.Prelude.{imports_of, Environment, own_count, defined_count, numbers, insts_from, starts_of, instantiate, links, alone, space, Inst, Move, events}
+use Rattle.wasm_tree_spec.specs.Prelude.{Space, Types, Functions, Tables, Memories, Globals, ElementSegments, DataSegments, Module, Import, ImportDesc, imported_funcs, imported_tables, imported_memories, imported_globals, tables_of, memories_of, globals_of}
+use Rattle.index_remap.specs.Prelude.{Pairing, OneToOne, OptRel, ListRel, passed, RenumberedCodeIsRelated, has, new_func, new_import, new_import_desc, renumbered_tree, new_elem, new_data, new_global, declared_refs}
 use Rattle.world_simulation.specs.Unreachable.{without, function_index, closing, others, rest, removed, IsUnreachable}
 use Rattle.world_simulation.proofs.Places.{map_length}
 use Rattle.wasm_tree.specs.declared.module.Func as tree
-use Rattle.wasm_tree.specs.declared.module.Import.{Import}
-use Rattle.wasm_tree.specs.declared.module.ImportDesc.{ImportDesc}
 use Rattle.wasm_tree.specs.declared.module.ImportDesc.TheVariants as im
-use Rattle.wasm_tree.specs.Spaces.{imported_funcs, imported_tables, imported_memories, imported_globals, tables_of, memories_of, globals_of}
-use Rattle.wasm_meaning.specs.State.{Inst}
 use Rattle.index_remap.specs.declared.remap.Remap.{Remap}
-use Rattle.index_remap.specs.Renumbered.{has, new_func, new_import, new_import_desc, renumbered_tree, new_elem, new_data, new_global}
-use Rattle.index_remap.specs.References.{declared_refs}
 use Rattle.index_remap_proof.specs.Indices.{Indices, ImportNamesOnly, FuncNamesOnly}
 use Rattle.world_simulation.proofs.Declared.{Keeps, keeps, last_elems, last_segments}
-use Rattle.wasm_meaning.specs.Run.{Move, events}
 use Rattle.world_simulation.specs.Instances.{RelatedInstancesHaveEqualTraces}
-use Rattle.world_simulation.specs.Simulation.{AreSimilar, StartsCorrespond, WorldsCorrespond}
+use Rattle.world_simulation.specs.Prelude.{AreSimilar, StartsCorrespond, WorldsCorrespond, FuncsCorrespond, FuncsAt, GlobalsCorrespond, ElemsCorrespond, Partners, DefinitionsCorrespond, Instantiated, values_in, one, SharesOwn, EntriesName}
 use Rattle.world_simulation.proofs.Instancing.{inst_is, inst_there, IsInst, addresses_in}
 use Rattle.world_simulation.proofs.Simulated.{what_is_made, instances_rel}
-use Rattle.world_simulation.specs.Definitions.{FuncsCorrespond, FuncsAt, GlobalsCorrespond, ElemsCorrespond, Partners, DefinitionsCorrespond, Instantiated, values_in}
 use Rattle.world_simulation.proofs.Renamed.{funcs_correspond, elems_alike}
 use Rattle.world_simulation.proofs.Stored.{alike_correspond}
-use Rattle.world_simulation.specs.Alone.{one}
-use Rattle.world_simulation.specs.Owned.{SharesOwn}
-use Rattle.world_simulation.specs.Named.{EntriesName}
 use Rattle.world_simulation.proofs.Alone.{funcs_counted, tables_counted, memories_counted, globals_counted}
 use Rattle.world_simulation.proofs.Single.{one_inst, there_is}
 use Rattle.world_simulation.proofs.Holes.{moved_down, low, down_is, is_down, down_right, down_left, without_low, without_high, without_many, without_there, Moved, stays, falls, placed, stays_at, kept_place, closes}

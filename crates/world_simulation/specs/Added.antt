@@ -1,19 +1,10 @@
 -- A module that is added to one of two related stores, as a loader adds one (WebAssembly Core 2.0, section 4.5.4).
 use Rattle.std.specs.Prelude.{◌≡◌, ℕ, Bool, List, Some, slice_get}
-use Rattle.wasm_tree.specs.declared.space.Space.{Space}
-use Rattle.wasm_tree.specs.declared.space.Space.TheVariants.{Tables, Memories}
-use Rattle.wasm_tree.specs.declared.module.ConstExpr.{ConstExpr}
-use Rattle.wasm_tree.specs.declared.module.ElemSeg.{ElemSeg}
+use Rattle.wasm_tree_spec.specs.Prelude.{Space, Tables, Memories, ConstExpr, ElemSeg, DataSeg, Module}
 use Rattle.wasm_tree.specs.declared.module.ElemMode.TheVariants as elem
-use Rattle.wasm_tree.specs.declared.module.DataSeg.{DataSeg}
 use Rattle.wasm_tree.specs.declared.module.DataMode.TheVariants as data'
-use Rattle.wasm_tree.specs.declared.module.Module.{Module}
-use Rattle.wasm_meaning.specs.State.{Inst, Store}
-use Rattle.wasm_meaning.specs.Environment.{ExternalValue}
-use Rattle.wasm_meaning.specs.Sequential.{Added, added}
-use Rattle.index_remap.specs.Related.{StoreRel}
-use Rattle.index_remap.specs.RelatedRuns.{turned, HasNoPartner}
-use Rattle.index_remap.specs.Laws.{passed}
+use Rattle.wasm_meaning.specs.Prelude.{Inst, Store, ExternalValue, Added, added}
+use Rattle.index_remap.specs.Prelude.{StoreRel, turned, HasNoPartner, passed}
 
 -- the tables and memories into which its active segments are copied are related to nothing
 pub record WritesAlone (alone : Space → ℕ → Type 0) (m : Module) (i : Inst) : Type 0 where

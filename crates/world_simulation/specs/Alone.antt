@@ -1,19 +1,10 @@
 -- A module alone: its imports all stay, so what they denote, its index spaces, and what its constant expressions read are a matter of its types and imports.
 use Rattle.std.specs.Prelude.{◌≡◌, ℕ, List, [], ◌∷◌, ◌++◌, Option, Some, None, slice_get}
-use Rattle.wasm_tree.specs.declared.space.Space.{Space}
-use Rattle.wasm_tree.specs.declared.space.Space.TheVariants.{Globals}
+use Rattle.wasm_tree_spec.specs.Prelude.{Space, Globals, FuncType, Import, ImportDesc, ConstExpr, Module}
 use Rattle.base_lists.specs.Options.{◌>>=◌}
-use Rattle.wasm_tree.specs.declared.types.FuncType.{FuncType}
-use Rattle.wasm_tree.specs.declared.module.Import.{Import}
-use Rattle.wasm_tree.specs.declared.module.ImportDesc.{ImportDesc}
 use Rattle.wasm_tree.specs.declared.module.ImportDesc.TheVariants as im
-use Rattle.wasm_tree.specs.declared.module.ConstExpr.{ConstExpr}
 use Rattle.wasm_tree.specs.declared.module.ConstExpr.TheVariants as const
-use Rattle.wasm_tree.specs.declared.module.Module.{Module}
-use Rattle.wasm_meaning.specs.State.{Pair}
-use Rattle.wasm_meaning.specs.Linking.{Part, Site, Outside, Read, places, has_kind, pair_of, end_of, read_of, space_index}
-use Rattle.wasm_meaning.specs.Environment.{Environment, ExternalValue, OwnKey, FuncKey, TableKey, MemoryKey, GlobalKey, owned_of, owned_at}
-use Rattle.wasm_meaning.specs.World.{imported_external_value, address_of, all_there, numbers, own_count, defined_count, space}
+use Rattle.wasm_meaning.specs.Prelude.{Pair, Part, Site, Outside, Read, places, has_kind, pair_of, end_of, read_of, space_index, Environment, ExternalValue, OwnKey, FuncKey, TableKey, MemoryKey, GlobalKey, owned_of, owned_at, imported_external_value, address_of, all_there, numbers, own_count, defined_count, space}
 
 abbrev pub one : Module → List Part
 one t = record { name = None; «module» = t } ∷ []

@@ -1,19 +1,10 @@
 -- Definitions of two instantiated worlds that correspond under a relation of addresses.
 use Rattle.std.specs.Prelude.{◌≡◌, ℕ, ◌+◌, ◌<◌, List, Option, Some, slice_get, Bool, true, false}
-use Rattle.wasm_tree.specs.declared.space.Space.{Space}
-use Rattle.wasm_tree.specs.declared.space.Space.TheVariants.{Functions, Tables, Memories, Globals, ElementSegments, DataSegments}
-use Rattle.wasm_tree.specs.declared.module.ConstExpr.{ConstExpr}
+use Rattle.wasm_tree_spec.specs.Prelude.{Space, Functions, Tables, Memories, Globals, ElementSegments, DataSegments, ConstExpr, GlobalDef, ElemMode, ElemSeg, Module}
 use Rattle.wasm_tree.specs.declared.module.Func as tree
-use Rattle.wasm_tree.specs.declared.module.GlobalDef.{GlobalDef}
-use Rattle.wasm_tree.specs.declared.module.ElemMode.{ElemMode}
 use Rattle.wasm_tree.specs.declared.module.ElemMode.TheVariants as elem
-use Rattle.wasm_tree.specs.declared.module.ElemSeg.{ElemSeg}
-use Rattle.wasm_tree.specs.declared.module.Module.{Module}
-use Rattle.wasm_meaning.specs.State.{Val, Inst}
-use Rattle.wasm_meaning.specs.Linking.{Part, module_at}
-use Rattle.wasm_meaning.specs.Environment.{Environment}
-use Rattle.wasm_meaning.specs.World.{base, own_count, value_of}
-use Rattle.index_remap.specs.Related.{Pairing, OptRel, ListRel, ValRel, CodeRel}
+use Rattle.wasm_meaning.specs.Prelude.{Val, Inst, Part, module_at, Environment, base, own_count, value_of}
+use Rattle.index_remap.specs.Prelude.{Pairing, OptRel, ListRel, ValRel, CodeRel}
 
 -- the parts of a world, each with its instance
 pub record Instantiated : Type 0 where

@@ -1,12 +1,8 @@
 -- Two worlds whose instances correspond.
 use Rattle.std.specs.Prelude.{◌≡◌, ℕ, Bool, List, [], Option}
-use Rattle.wasm_tree.specs.declared.space.Space.{Space}
-use Rattle.wasm_meaning.specs.Environment.{Environment}
-use Rattle.wasm_meaning.specs.World.{World, Begun, instantiate}
-use Rattle.wasm_meaning.specs.Run.{Move, tick, events_of, fresh_run, events}
-use Rattle.index_remap.specs.Related.{OneToOne, OptRel}
-use Rattle.index_remap.specs.RelatedRuns.{BegunRel}
-use Rattle.index_remap.specs.Laws.{passed, EntryByEntry}
+use Rattle.wasm_tree_spec.specs.Prelude.{Space}
+use Rattle.wasm_meaning.specs.Prelude.{Environment, World, Begun, instantiate, Move, tick, events_of, fresh_run, events}
+use Rattle.index_remap.specs.Prelude.{OneToOne, OptRel, BegunRel, passed, EntryByEntry}
 
 -- Where neither world can be instantiated, or both to what corresponds, their runs have equal traces. Before the instantiation only what the environment
 -- offers is in the stores, so that they need not correspond.

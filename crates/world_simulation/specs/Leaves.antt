@@ -2,26 +2,11 @@
 -- there, and its active segments are copied in order.
 use Rattle.std.specs.Prelude.{◌≡◌, ℕ, ◌+◌, ◌*◌, nat_eq, Bool, false, cond, List, [], ◌∷◌, map, length, Option, Some, None, slice_get}
 use Rattle.base_lists.specs.Options.{◌>>=◌}
-use Rattle.wasm_tree.specs.declared.types.TableType.{TableType}
-use Rattle.wasm_tree.specs.declared.types.Limits.{Limits}
-use Rattle.wasm_tree.specs.declared.module.ConstExpr.{ConstExpr}
+use Rattle.wasm_tree_spec.specs.Prelude.{TableType, Limits, ConstExpr, GlobalDef, ElemMode, ElemSeg, DataMode, DataSeg, Module}
 use Rattle.wasm_tree.specs.declared.module.Func as tree
-use Rattle.wasm_tree.specs.declared.module.GlobalDef.{GlobalDef}
-use Rattle.wasm_tree.specs.declared.module.ElemMode.{ElemMode}
 use Rattle.wasm_tree.specs.declared.module.ElemMode.TheVariants as elem
-use Rattle.wasm_tree.specs.declared.module.ElemSeg.{ElemSeg}
-use Rattle.wasm_tree.specs.declared.module.DataMode.{DataMode}
 use Rattle.wasm_tree.specs.declared.module.DataMode.TheVariants as data'
-use Rattle.wasm_tree.specs.declared.module.DataSeg.{DataSeg}
-use Rattle.wasm_tree.specs.declared.module.Module.{Module}
-use Rattle.wasm_meaning.specs.Outcomes.{overwrite, copies}
-use Rattle.wasm_meaning.specs.State.{RefVal, Val, Inst, Func, Table, Memory, Global, Elem, Data, Store}
-use Rattle.wasm_meaning.specs.Values.{ref_of, null_of}
-use Rattle.wasm_meaning.specs.Step.{no_items, no_bytes}
-use Rattle.wasm_meaning.specs.Environment.{Environment, ExternalValue}
-use Rattle.wasm_meaning.specs.World.{Begun, all_there, const_value, value_of, new_func, global_with, elem_with, insts_from, own_store, alone, instantiate}
-use Rattle.wasm_meaning.specs.Sequential.{Added, added}
-use Rattle.wasm_meaning.specs.Loader.{LoaderWorld, store_under, primary_added, begun_under}
+use Rattle.wasm_meaning.specs.Prelude.{overwrite, copies, RefVal, Val, Inst, Func, Table, Memory, Global, Elem, Data, Store, ref_of, null_of, no_items, no_bytes, Environment, ExternalValue, Begun, all_there, const_value, value_of, new_func, global_with, elem_with, insts_from, own_store, alone, instantiate, Added, added, LoaderWorld, store_under, primary_added, begun_under}
 use Rattle.world_simulation.specs.Alone.{one}
 use Rattle.world_simulation.specs.Segments.{offset_in}
 

@@ -12,3 +12,4 @@ pub mod Leaves
 pub mod Loaded
 pub mod LoaderSteps
 pub mod Stubbed
+pub mod Prelude

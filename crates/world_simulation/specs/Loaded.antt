@@ -1,9 +1,6 @@
 -- A loader that supplies nothing.
 use Rattle.std.specs.Prelude.{◌≡◌, [], ◌∷◌, map, Some}
-use Rattle.wasm_meaning.specs.Environment.{Environment}
-use Rattle.wasm_meaning.specs.Sequential.{Added}
-use Rattle.wasm_meaning.specs.World.{World, insts_from, instantiate}
-use Rattle.wasm_meaning.specs.Loader.{LoaderWorld, placeholders_of, primary_added, begun_under}
+use Rattle.wasm_meaning.specs.Prelude.{Environment, Added, World, insts_from, instantiate, LoaderWorld, placeholders_of, primary_added, begun_under}
 use Rattle.world_simulation.specs.Alone.{one}
 
 -- its primary module alone, with the view

@@ -1,14 +1,10 @@
 -- Steps of a run under a loader: those that call no placeholder are steps of the run, and one that calls a placeholder goes on in the function that is then in its slot.
 use Rattle.std.specs.Prelude.{◌≡◌, ℕ, ◌<◌, Bool, false, List, Option, Some, slice_get}
-use Rattle.wasm_tree.specs.declared.types.FuncType.{FuncType}
+use Rattle.wasm_tree_spec.specs.Prelude.{FuncType}
 use Rattle.base_simulation.specs.Machines.{events_of, state_after}
-use Rattle.wasm_meaning.specs.Outcomes.{Gives}
-use Rattle.wasm_meaning.specs.State.{Pair, FuncRef, Val, Inst, Table, Store, Entry, CallsPlaceholder}
-use Rattle.wasm_meaning.specs.Control.{type_at}
-use Rattle.wasm_meaning.specs.Step.{enter_at}
-use Rattle.wasm_meaning.specs.Run.{Run, Event, Out, Steps, transition, run_after, tick}
-use Rattle.wasm_meaning.specs.Loader.{Secondary, LoaderWorld, LoaderRun, placeholders_of, secondary_of, store_loaded, with_loaded, tick_loader}
-use Rattle.index_remap.specs.OpaqueRuns.{calls_placeholder}
+use Rattle.wasm_meaning.specs.Prelude.{Gives, Pair, FuncRef, Val, Inst, Table, Store, Entry, CallsPlaceholder, type_at, enter_at, Run, Event, Out, Steps, transition, run_after, tick, Secondary, LoaderWorld, LoaderRun, placeholders_of, secondary_of, store_loaded, tick_loader}
+use Rattle.wasm_meaning.specs.Loader.{with_loaded}
+use Rattle.index_remap.specs.Prelude.{calls_placeholder}
 
 -- ---- no placeholder is called ----
 

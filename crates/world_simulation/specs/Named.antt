@@ -1,14 +1,9 @@
 -- What the indices of a body name: where each index of a set names what its entry names, so does each index of a body that names only these.
 use Rattle.std.specs.Prelude.{◌≡◌, ℕ, Bool, true, IsTrue, List}
-use Rattle.wasm_tree.specs.declared.space.Space.{Space}
-use Rattle.wasm_tree.specs.declared.instr.Instr.{Instr}
-use Rattle.wasm_meaning.specs.State.{Inst}
+use Rattle.wasm_tree_spec.specs.Prelude.{Space, Instr, ListLayers}
+use Rattle.wasm_meaning.specs.Prelude.{Inst}
 use Rattle.index_remap.specs.declared.remap.Remap.{Remap}
-use Rattle.index_remap.specs.Renumbered.{fits_all}
-use Rattle.index_remap.specs.Related.{Pairing}
-use Rattle.index_remap.specs.CodeNames.{EntryNames, LayerNames}
-use Rattle.wasm_tree.specs.Layers.{ListLayers}
-use Rattle.index_remap.specs.Laws.{passed}
+use Rattle.index_remap.specs.Prelude.{fits_all, Pairing, EntryNames, LayerNames, passed}
 use Rattle.index_remap_proof.specs.Indices.{Indices, with_entry, LayerNamesOnly}
 
 -- each index that is kept names what its entry names; of other indices nothing is said

@@ -1,12 +1,8 @@
 -- The environment's own entities in two worlds where each has its address: they correspond, and so do the tables and globals that are allocated for them.
 use Rattle.std.specs.Prelude.{ℕ, ◌<◌, [], Bool}
-use Rattle.wasm_tree.specs.declared.space.Space.{Space}
-use Rattle.wasm_tree.specs.declared.space.Space.TheVariants.{Functions, Tables, Memories, Globals}
-use Rattle.wasm_meaning.specs.Environment.{Environment, owned_of, own_tables, own_globals}
-use Rattle.wasm_meaning.specs.World.{own_count}
-use Rattle.index_remap.specs.Related.{Pairing, ListRel, TableRel, GlobalRel}
-use Rattle.index_remap.specs.RelatedRuns.{KeyRel}
-use Rattle.index_remap.specs.Laws.{passed}
+use Rattle.wasm_tree_spec.specs.Prelude.{Space, Functions, Tables, Memories, Globals}
+use Rattle.wasm_meaning.specs.Prelude.{Environment, owned_of, own_tables, own_globals, own_count}
+use Rattle.index_remap.specs.Prelude.{Pairing, ListRel, TableRel, GlobalRel, KeyRel, passed}
 
 -- each address of the environment's own entities is related to itself
 pub record SharesOwn (R : Pairing) (env : Environment) : Type 0 where

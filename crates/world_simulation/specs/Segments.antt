@@ -2,22 +2,12 @@
 -- segment without partner is in bounds and writes only what has no partner.
 use Rattle.std.specs.Prelude.{◌≡◌, ℕ, ◌+◌, ◌*◌, ◌≤◌, List, [], ◌∷◌, length, Option, Some, slice_get}
 use Rattle.base_lists.specs.Options.{◌>>=◌}
-use Rattle.wasm_tree.specs.declared.space.Space.{Space}
-use Rattle.wasm_tree.specs.declared.space.Space.TheVariants.{Tables, Memories, ElementSegments, DataSegments}
-use Rattle.wasm_tree.specs.declared.module.ConstExpr.{ConstExpr}
-use Rattle.wasm_tree.specs.declared.module.ElemMode.{ElemMode}
+use Rattle.wasm_tree_spec.specs.Prelude.{Space, Tables, Memories, ElementSegments, DataSegments, ConstExpr, ElemMode, ElemSeg, DataMode, DataSeg}
 use Rattle.wasm_tree.specs.declared.module.ElemMode.TheVariants as elem
-use Rattle.wasm_tree.specs.declared.module.ElemSeg.{ElemSeg}
-use Rattle.wasm_tree.specs.declared.module.DataMode.{DataMode}
 use Rattle.wasm_tree.specs.declared.module.DataMode.TheVariants as data'
-use Rattle.wasm_tree.specs.declared.module.DataSeg.{DataSeg}
 use Rattle.wasm_num.specs.Operations.{W32}
-use Rattle.wasm_meaning.specs.State.{Val}
-use Rattle.wasm_meaning.specs.Values.{num_of}
-use Rattle.wasm_meaning.specs.Environment.{Environment}
-use Rattle.wasm_meaning.specs.World.{PlacedSegment, placed_elems, placed_datas}
-use Rattle.index_remap.specs.Related.{Pairing, OptRel}
-use Rattle.index_remap.specs.RelatedRuns.{turned, HasNoPartner}
+use Rattle.wasm_meaning.specs.Prelude.{Val, num_of, Environment, PlacedSegment, placed_elems, placed_datas}
+use Rattle.index_remap.specs.Prelude.{Pairing, OptRel, turned, HasNoPartner}
 use Rattle.world_simulation.specs.Definitions.{Instantiated, DefinedAt, values_in}
 
 -- partners stand in the same order, with other items alone between them

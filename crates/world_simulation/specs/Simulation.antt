@@ -1,16 +1,9 @@
 -- One law for two worlds: each embedder sees the same of both, where what their parts define corresponds under a one-to-one relation of addresses, their segments,
 -- starts and views stand in the same order, and the environment links one exactly where it links the other.
 use Rattle.std.specs.Prelude.{◌≡◌, ℕ, Bool, List, [], Some, true}
-use Rattle.wasm_tree.specs.declared.space.Space.{Space}
-use Rattle.wasm_tree.specs.declared.space.Space.TheVariants.{Functions}
-use Rattle.wasm_meaning.specs.State.{Inst, Store, Text}
-use Rattle.wasm_meaning.specs.Environment.{Environment, ExternalValue, all_of}
-use Rattle.wasm_meaning.specs.Linking.{sites}
-use Rattle.wasm_meaning.specs.World.{World, Begun, insts_from, stores_from, own_store, all_there, seen_as, starts_of, is_matched, segments, begun, instantiate, links}
-use Rattle.wasm_meaning.specs.Run.{Move, events}
-use Rattle.index_remap.specs.Related.{Pairing, OneToOne, OptRel, ListRel, StoreRel}
-use Rattle.index_remap.specs.RelatedRuns.{KeyRel, BegunRel}
-use Rattle.index_remap.specs.Laws.{passed, EntryByEntry}
+use Rattle.wasm_tree_spec.specs.Prelude.{Space, Functions}
+use Rattle.wasm_meaning.specs.Prelude.{Inst, Store, Text, Environment, ExternalValue, all_of, sites, World, Begun, insts_from, stores_from, own_store, all_there, seen_as, starts_of, is_matched, segments, begun, instantiate, links, Move, events}
+use Rattle.index_remap.specs.Prelude.{Pairing, OneToOne, OptRel, ListRel, StoreRel, KeyRel, BegunRel, passed, EntryByEntry}
 use Rattle.world_simulation.specs.Owned.{SharesOwn}
 use Rattle.world_simulation.specs.Definitions.{Instantiated, DefinitionsCorrespond}
 use Rattle.world_simulation.specs.Segments.{ElemsInOrder, DatasInOrder}

@@ -1,13 +1,8 @@
 -- One start that calls several functions, in place of these as starts one after the other.
 use Rattle.std.specs.Prelude.{◌≡◌, ℕ, ◌+◌, List, [], ◌∷◌, map, Some, slice_get}
-use Rattle.wasm_tree.specs.declared.types.FuncType.{FuncType}
-use Rattle.wasm_tree.specs.declared.instr.Instr.TheVariants.{Call}
-use Rattle.wasm_meaning.specs.State.{Inst, Code, Store}
-use Rattle.wasm_meaning.specs.Control.{type_at}
-use Rattle.wasm_meaning.specs.Environment.{Environment}
-use Rattle.wasm_meaning.specs.World.{Begun}
-use Rattle.wasm_meaning.specs.Run.{Move, tick, events_of, IsPrefix, fresh_run}
-use Rattle.index_remap.specs.Related.{ListRel}
+use Rattle.wasm_tree_spec.specs.Prelude.{FuncType, Call}
+use Rattle.wasm_meaning.specs.Prelude.{Inst, Code, Store, type_at, Environment, Begun, Move, tick, events_of, IsPrefix, fresh_run}
+use Rattle.index_remap.specs.Prelude.{ListRel}
 
 abbrev pub from_nothing_to_nothing : FuncType
 from_nothing_to_nothing = record { params = []; results = [] }

@@ -3,17 +3,10 @@
 use Rattle.std.specs.Prelude.{◌≡◌, ℕ, suc, ◌+◌, List, [], ◌∷◌, ◌++◌, map, drop, length, Some, None, slice_get}
 use Rattle.base_lists.specs.Every.{Every}
 use Rattle.base_lists.specs.Options.{◌>>=◌}
-use Rattle.wasm_tree.specs.declared.space.Space.TheVariants.{Functions}
-use Rattle.wasm_tree.specs.declared.types.FuncType.{FuncType}
-use Rattle.wasm_tree.specs.declared.instr.Instr.TheVariants.{Unreachable}
+use Rattle.wasm_tree_spec.specs.Prelude.{Functions, FuncType, Unreachable, Import}
 use Rattle.wasm_tree.specs.declared.module.Func as tree
-use Rattle.wasm_tree.specs.declared.module.Import.{Import}
 use Rattle.wasm_tree.specs.declared.module.ImportDesc.TheVariants as im
-use Rattle.wasm_meaning.specs.State.{Pair, Func, Store}
-use Rattle.wasm_meaning.specs.Environment.{Environment, own_funcs}
-use Rattle.wasm_meaning.specs.World.{Begun, own_count}
-use Rattle.wasm_meaning.specs.Sequential.{Added}
-use Rattle.wasm_meaning.specs.Loader.{LoaderWorld, placeholders_of, placeholders_from, slot_of, primary_added, begun_under}
+use Rattle.wasm_meaning.specs.Prelude.{Pair, Func, Store, Environment, own_funcs, Begun, own_count, Added, LoaderWorld, placeholders_of, placeholders_from, slot_of, primary_added, begun_under}
 
 -- ---- a primary that imports its placeholders last ----
 

@@ -1,14 +1,10 @@
 -- A module without one function that nothing else of it names (WebAssembly Core 2.0, section 2.5.1): the functions behind it move down by one, and references are
 -- declared where they have to be.
 use Rattle.std.specs.Prelude.{ℕ, zero, suc, ◌+◌, ◌-◌, ◌<◌, ◌&&◌, not, nat_eq, IsTrue, List, [], ◌∷◌, ◌++◌, length}
-use Rattle.wasm_tree.specs.declared.space.Space.TheVariants.{Functions}
-use Rattle.wasm_tree.specs.declared.module.Module.{Module}
-use Rattle.wasm_tree.specs.Spaces.{imported_funcs, tables_of, memories_of, globals_of}
-use Rattle.wasm_meaning.specs.World.{alone, numbers, links}
-use Rattle.wasm_meaning.specs.Run.{Same, events}
+use Rattle.wasm_tree_spec.specs.Prelude.{Functions, Module, imported_funcs, tables_of, memories_of, globals_of}
+use Rattle.wasm_meaning.specs.Prelude.{alone, numbers, links, Same, events}
 use Rattle.index_remap.specs.declared.remap.Remap.{Remap}
-use Rattle.index_remap.specs.Renumbered.{renumbered_tree}
-use Rattle.index_remap.specs.References.{declared}
+use Rattle.index_remap.specs.Prelude.{renumbered_tree, declared}
 use Rattle.index_remap_proof.specs.Indices.{Indices, with_entry, TreeNamesOnly}
 
 -- the list without what stands at the place

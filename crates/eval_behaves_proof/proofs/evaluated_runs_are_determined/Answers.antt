@@ -1,7 +1,6 @@
-use Rattle.std.specs.Prelude.{[], ◌∷◌}
+use Rattle.base_lists.proofs.Common.{[], ◌∷◌}
 use Rattle.base_simulation.proofs.Prefixes.{shorter}
-use Rattle.wasm_meaning.specs.World.{alone, instantiate}
-use Rattle.wasm_meaning.specs.Run.{tick, fresh_run}
+use Rattle.wasm_meaning.specs.Prelude.{alone, instantiate, tick, fresh_run}
 use Rattle.eval_behaves_proof.specs.Laws.{ShorterEvaluatedRunsArePrefixes}
 use Rattle.eval_behaves_proof.specs.Worlds.{evaluated_begun}
 use Rattle.eval_behaves_proof.proofs.evaluated_runs_are_determined.Goals as goal

@@ -1,4 +1,4 @@
-use Rattle.index_remap.specs.Renumbered.{has_entry}
+use Rattle.index_remap.specs.Prelude.{has_entry}
 use Rattle.index_remap_proof.proofs.Along.{kept_along, kept_by_index}
 use Rattle.index_remap_proof.proofs.Entries.{body_fits}
 use Rattle.index_remap_proof.proofs.Items.{const_kept}

@@ -1,5 +1,4 @@
-use Rattle.std.proofs.Common.{arith}
-use Rattle.std.proofs.lemmas.List.{length-map}
+use Rattle.base_lists.proofs.Common.{arith, length-map}
 use Rattle.merge_names.specs.Given.{texts}
 use Rattle.merge_names.proofs.Clauses.{chosen_follow, chosen_differ, chosen_conflict}
 use Rattle.merge_names.proofs.choose_names.Goals as goal

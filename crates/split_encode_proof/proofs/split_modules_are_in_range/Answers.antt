@@ -1,5 +1,4 @@
-use Rattle.split_spec.specs.Primary.{primary_with}
-use Rattle.split_spec.specs.Secondary.{secondary_with}
+use Rattle.split_spec.specs.Prelude.{primary_with, secondary_with}
 use Rattle.merge_encode_proof.proofs.ItemRanges.{tree_in, memory_zero}
 use Rattle.split_encode_proof.proofs.Primary.{few_move, primary_numbers}
 use Rattle.split_encode_proof.proofs.Secondary.{secondary_numbers}

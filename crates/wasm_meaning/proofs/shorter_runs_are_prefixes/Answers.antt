@@ -1,8 +1,6 @@
 use Rattle.base_simulation.proofs.Prefixes.{shorter}
-use Rattle.wasm_meaning.specs.World.{instantiate}
-use Rattle.wasm_meaning.specs.Run.{tick, fresh_run}
-use Rattle.wasm_meaning.specs.Sequential.{tick_sequential, before_parts}
-use Rattle.wasm_meaning.specs.Loader.{tick_loader, fresh_loader}
+use Rattle.wasm_meaning.specs.Prelude.{instantiate, tick, fresh_run, tick_sequential, tick_loader, fresh_loader}
+use Rattle.wasm_meaning.specs.Sequential.{before_parts}
 use Rattle.wasm_meaning.proofs.shorter_runs_are_prefixes.Goals as goal
 
 pub returns : goal.returns

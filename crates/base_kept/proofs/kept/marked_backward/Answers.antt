@@ -1,5 +1,4 @@
-use Rattle.std.proofs.Common.{ap, sym, ◌∙◌, reverse, refl, arith, length, ◌++◌, ◌∷◌, []}
-use Rattle.std.proofs.lemmas.List.{length-append}
+use Rattle.base_lists.proofs.Common.{ap, sym, ◌∙◌, reverse, refl, arith, length, ◌++◌, ◌∷◌, [], length-append}
 use Rattle.base_kept.specs.Kept.{kept, is_marked}
 use Rattle.base_kept.proofs.Laws.{one_taken, one_left, kept_none}
 use Rattle.base_kept.proofs.kept.marked_backward.Goals as goal

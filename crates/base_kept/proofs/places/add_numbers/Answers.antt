@@ -1,5 +1,4 @@
-use Rattle.std.proofs.Common.{◌∙◌, sym, ap, ◌+◌, ◌++◌, ◌∷◌, [], append_assoc}
-use Rattle.base_lists.proofs.Numbers.{numbers_more}
+use Rattle.base_lists.proofs.Common.{◌∙◌, sym, ap, ◌+◌, ◌++◌, ◌∷◌, [], append_assoc, numbers_more}
 use Rattle.base_lists.specs.Places.{numbers}
 use Rattle.base_kept.proofs.places.add_numbers.Goals as goal
 

@@ -1,6 +1,5 @@
-use Rattle.std.proofs.Common.{List, Option, map, subst, sym, take, ℕ, ap, ◌≡◌, ◌∙◌, slice_get}
+use Rattle.base_lists.proofs.Common.{List, Option, map, subst, sym, take, ℕ, ap, ◌≡◌, ◌∙◌, slice_get, take_all}
 use Rattle.std.specs.Option.{option_and_then}
-use Rattle.std.proofs.lemmas.List.{take_all}
 use Rattle.base_paths.specs.Paths.{AreEnds, AreThere}
 use Rattle.base_paths.specs.Steps.{AreEndings, next_place, ending_of}
 use Rattle.base_paths.proofs.Leads.{endings_right, named_there}

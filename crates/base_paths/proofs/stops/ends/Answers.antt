@@ -1,5 +1,4 @@
-use Rattle.std.proofs.Common.{rules, ◌≡◌, ◌∙◌, ap, sym, refl, ℕ, ◌<◌, Some, None, length, slice_get, arith, List, Option, get_or}
-use Rattle.std.proofs.lemmas.Option.{slice_get-get_or, slice_get_read, slice_get_within}
+use Rattle.base_lists.proofs.Common.{rules, ◌≡◌, ◌∙◌, ap, sym, refl, ℕ, ◌<◌, Some, None, length, slice_get, arith, List, Option, get_or, slice_get-get_or, slice_get_read, slice_get_within}
 use Rattle.base_paths.proofs.Marks.{all_more, ends_more, marked_end, IsMarked}
 use Rattle.base_paths.proofs.Ended.{ends_told}
 use Rattle.base_paths.proofs.stops.ends.Goals as goal

@@ -1,5 +1,4 @@
-use Rattle.std.proofs.Common.{◌≡◌, ◌∙◌, inl, inr, ap, sym, refl, Some, None, length, slice_get, arith}
-use Rattle.std.proofs.lemmas.Option.{slice_get-get_or, slice_get_read}
+use Rattle.base_lists.proofs.Common.{◌≡◌, ◌∙◌, inl, inr, ap, sym, refl, Some, None, length, slice_get, arith, slice_get-get_or, slice_get_read}
 use Rattle.base_paths.proofs.Marks.{walk_on, walk_stop, walk_met, walk_round, begun_more, keeps_more}
 use Rattle.base_paths.proofs.stops.walk.Goals as goal
 

@@ -1,5 +1,4 @@
-use Rattle.std.proofs.Common.{sym, ◌∙◌}
-use Rattle.std.proofs.lemmas.Bool.{eqb-true}
+use Rattle.base_lists.proofs.Common.{sym, ◌∙◌, eqb-true}
 use Rattle.block_pool.proofs.Spelled.{zero_word}
 use Rattle.block_pool.proofs.numbers.is_zero_word.Goals as goal
 

@@ -1,7 +1,6 @@
-use Rattle.std.proofs.Common.{◌++◌}
-use Rattle.std.specs.List.{filter_map}
-use Rattle.wasm_tree.specs.Operands.{operands_of}
-use Rattle.dce_graph.specs.Reach.{operand_point, named_points, body_points}
+use Rattle.base_lists.proofs.Common.{◌++◌, filter_map}
+use Rattle.wasm_tree_spec.specs.Prelude.{operands_of}
+use Rattle.dce_graph.specs.Prelude.{operand_point, named_points, body_points}
 use Rattle.dce_graph.proofs.Marking.{spread_then}
 use Rattle.dce_graph.proofs.Walking.{then, then_ok, body_more, of_Block, of_Loop, of_If}
 use Rattle.dce_graph.proofs.code.+code.Goals as goal

@@ -1,6 +1,5 @@
-use Rattle.std.proofs.Common.{take}
-use Rattle.dce_graph.specs.Marks.{Spread}
-use Rattle.dce_graph.specs.Reach.{body_points}
+use Rattle.base_lists.proofs.Common.{take}
+use Rattle.dce_graph.specs.Prelude.{Spread, body_points}
 use Rattle.dce_graph.proofs.code.+code.Given as goal
 
 abbrev pub invariant-visit_body-loop-instr : goal.invariant-visit_body-loop-instr

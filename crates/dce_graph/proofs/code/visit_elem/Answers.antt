@@ -1,6 +1,5 @@
-use Rattle.std.proofs.Common.{ap}
-use Rattle.std.specs.List.{filter_map}
-use Rattle.dce_graph.specs.Reach.{const_point, const_points, elem_points}
+use Rattle.base_lists.proofs.Common.{ap, filter_map}
+use Rattle.dce_graph.specs.Prelude.{const_point, const_points, elem_points}
 use Rattle.dce_graph.proofs.Walking.{then_ok}
 use Rattle.dce_graph.proofs.code.visit_elem.Goals as goal
 

@@ -1,7 +1,5 @@
-use Rattle.std.proofs.Common.{take}
-use Rattle.std.specs.List.{flat_map}
-use Rattle.dce_graph.specs.Marks.{Spread}
-use Rattle.dce_graph.specs.Reach.{elem_points}
+use Rattle.base_lists.proofs.Common.{take, flat_map}
+use Rattle.dce_graph.specs.Prelude.{Spread, elem_points}
 use Rattle.dce_graph.proofs.code.visit_elems.Given as goal
 
 abbrev pub invariant-loop-segment : goal.invariant-loop-segment

@@ -1,8 +1,6 @@
-use Rattle.std.proofs.Common.{get_or}
-use Rattle.std.specs.Prelude.{pos}
-use Rattle.std.proofs.lemmas.List.{get_or_default}
+use Rattle.base_lists.proofs.Common.{get_or, pos, get_or_default}
 use Rattle.wasm_tree.specs.declared.module.ConstExpr.TheVariants.{I32}
-use Rattle.dce_graph.specs.Reach.{const_point}
+use Rattle.dce_graph.specs.Prelude.{const_point}
 use Rattle.dce_graph.proofs.Walking.{then, filter_more}
 use Rattle.dce_graph.proofs.code.visit_items.Goals as goal
 

@@ -1,7 +1,5 @@
-use Rattle.std.proofs.Common.{take}
-use Rattle.std.specs.List.{filter_map}
-use Rattle.dce_graph.specs.Marks.{Spread}
-use Rattle.dce_graph.specs.Reach.{const_point}
+use Rattle.base_lists.proofs.Common.{take, filter_map}
+use Rattle.dce_graph.specs.Prelude.{Spread, const_point}
 use Rattle.dce_graph.proofs.code.visit_items.Given as goal
 
 abbrev pub invariant-loop-item : goal.invariant-loop-item

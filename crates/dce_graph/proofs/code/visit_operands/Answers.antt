@@ -1,7 +1,6 @@
-use Rattle.std.proofs.Common.{[]}
-use Rattle.std.specs.List.{cons_option, filter_map}
-use Rattle.wasm_tree.specs.Operands.{operands_of}
-use Rattle.dce_graph.specs.Reach.{operand_point}
+use Rattle.base_lists.proofs.Common.{[], cons_option, filter_map}
+use Rattle.wasm_tree_spec.specs.Prelude.{operands_of}
+use Rattle.dce_graph.specs.Prelude.{operand_point}
 use Rattle.dce_graph.proofs.Walking.{then_ok, listed_both}
 use Rattle.dce_graph.proofs.code.visit_operands.Goals as goal
 

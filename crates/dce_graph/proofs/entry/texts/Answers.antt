@@ -1,8 +1,7 @@
-use Rattle.std.proofs.Common.{◌≡◌, ◌∙◌, ap, sym, true, false, is_some, Some}
-use Rattle.std.specs.List.{list_all}
+use Rattle.base_lists.proofs.Common.{◌≡◌, ◌∙◌, ap, sym, true, false, is_some, Some, list_all}
 use Rattle.serde_json.specs.Find.{as_str}
 use Rattle.serde_json.specs.View.{view}
-use Rattle.dce_graph.specs.Entries.{texts_in}
+use Rattle.dce_graph.specs.Prelude.{texts_in}
 use Rattle.dce_graph.proofs.Texts.{texts_are, all_texts, not_all_texts}
 use Rattle.dce_graph.proofs.entry.texts.Goals as goal
 

@@ -1,7 +1,4 @@
-use Rattle.std.proofs.Common.{◌≡◌, ◌∙◌, ◌∷◌, ◌-◌, suc, ap, sym, drop, get_or, cond, Some, arith}
-use Rattle.std.specs.Str.{bytes_eq}
-use Rattle.std.proofs.lemmas.Map.Text.{btree_map_updates_str}
-use Rattle.std.proofs.lemmas.List.{get_or_default}
+use Rattle.base_lists.proofs.Common.{◌≡◌, ◌∙◌, ◌∷◌, ◌-◌, suc, ap, sym, drop, get_or, cond, Some, arith, bytes_eq, btree_map_updates_str, get_or_default}
 use Rattle.base_lists.specs.Places.{first_place}
 use Rattle.dce_graph.proofs.Steps.{left_back}
 use Rattle.dce_graph.proofs.NamePlaces.{same_back}

@@ -1,7 +1,6 @@
-use Rattle.std.proofs.Common.{◌≡◌, ℕ, List, drop}
-use Rattle.std.specs.Str.{bytes_eq}
+use Rattle.base_lists.proofs.Common.{◌≡◌, ℕ, List, drop, bytes_eq}
 use Rattle.base_lists.specs.Places.{first_place}
-use Rattle.dce_graph.specs.Entries.{place_in_map}
+use Rattle.dce_graph.specs.Prelude.{place_in_map}
 use Rattle.dce_graph.proofs.lookups.export_places.Given as goal
 
 abbrev pub invariant-loop-place : goal.invariant-loop-place

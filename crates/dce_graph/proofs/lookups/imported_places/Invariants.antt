@@ -1,9 +1,7 @@
-use Rattle.std.proofs.Common.{◌≡◌, ◌++◌, drop}
+use Rattle.base_lists.proofs.Common.{◌≡◌, ◌++◌, drop}
 use Rattle.base_lists.specs.Places.{places}
-use Rattle.wasm_tree.specs.declared.space.Space.TheVariants.{Functions, Globals}
-use Rattle.wasm_tree.specs.Operands.{same_space}
-use Rattle.wasm_tree.specs.Spaces.{space_of_import}
-use Rattle.dce_graph.specs.Reach.{imports_into}
+use Rattle.wasm_tree_spec.specs.Prelude.{Functions, Globals, same_space, space_of_import}
+use Rattle.dce_graph.specs.Prelude.{imports_into}
 use Rattle.dce_graph.proofs.lookups.imported_places.Given as goal
 
 abbrev pub invariant-loop-place : goal.invariant-loop-place

@@ -1,6 +1,5 @@
-use Rattle.std.proofs.Common.{◌∙◌, ap, sym, cond, Some}
-use Rattle.dce_graph.specs.Reach.{pair_is}
-use Rattle.dce_graph.specs.Walks.{found_pair}
+use Rattle.base_lists.proofs.Common.{◌∙◌, ap, sym, cond, Some}
+use Rattle.dce_graph.specs.Prelude.{pair_is, found_pair}
 use Rattle.dce_graph.proofs.StandingNodes.{pair_tested}
 use Rattle.dce_graph.proofs.lookups.note.Goals as goal
 

@@ -1,7 +1,5 @@
-use Rattle.std.proofs.Common.{◌≡◌, ◌∙◌, ◌+◌, ◌++◌, ◌∷◌, [], ap, sym, subst, take, get_or, length, cond, Some, arith}
-use Rattle.std.proofs.lemmas.List.{get_or_default, length-take-le}
-use Rattle.dce_graph.specs.Reach.{pair_is}
-use Rattle.dce_graph.specs.Walks.{AreStanding, found_pair}
+use Rattle.base_lists.proofs.Common.{◌≡◌, ◌∙◌, ◌+◌, ◌++◌, ◌∷◌, [], ap, sym, subst, take, get_or, length, cond, Some, arith, get_or_default, length-take-le}
+use Rattle.dce_graph.specs.Prelude.{pair_is, AreStanding, found_pair}
 use Rattle.dce_graph.proofs.Steps.{done_more}
 use Rattle.dce_graph.proofs.StandingNodes.{standing_more, one_longer}
 use Rattle.dce_graph.proofs.lookups.standing_nodes.Goals as goal

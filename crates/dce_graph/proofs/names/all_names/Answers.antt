@@ -1,7 +1,5 @@
-use Rattle.std.proofs.Common.{◌≡◌, ◌∙◌, ◌<◌, ap, sym, length, take, get_or, is_some, true, false, Some, cond, arith}
-use Rattle.std.specs.Str.{bytes_eq}
-use Rattle.dce_graph.specs.GraphFile.{names_of, place_of_name, first_repeated}
-use Rattle.dce_graph.specs.Entries.{entries_now}
+use Rattle.base_lists.proofs.Common.{◌≡◌, ◌∙◌, ◌<◌, ap, sym, length, take, get_or, is_some, true, false, Some, cond, arith, bytes_eq}
+use Rattle.dce_graph.specs.Prelude.{names_of, place_of_name, first_repeated, entries_now}
 use Rattle.dce_graph.proofs.NamePlaces.{name_at, names_long, repeated_more, repeated_here, places_more}
 use Rattle.dce_graph.proofs.names.all_names.Goals as goal
 

@@ -1,8 +1,7 @@
-use Rattle.std.proofs.Common.{◌∙◌, ◌+◌, ◌++◌, ◌∷◌, [], ap, sym, map, drop, append_assoc, refl}
-use Rattle.std.specs.Prelude.{option_map}
+use Rattle.base_lists.proofs.Common.{◌∙◌, ◌+◌, ◌++◌, ◌∷◌, [], ap, sym, map, drop, append_assoc, refl, option_map}
 use Rattle.dce_graph.specs.declared.fault.GraphFault.TheVariants.{UnknownNode}
-use Rattle.dce_graph.specs.GraphFile.{first_unknown, reached_names, node_of}
-use Rattle.dce_graph.specs.Entries.{entry_now, entries_now, place_in_map}
+use Rattle.dce_graph.specs.Prelude.{first_unknown, reached_names, node_of, entries_now, place_in_map}
+use Rattle.dce_graph.specs.Entries.{entry_now}
 use Rattle.dce_graph.proofs.Steps.{left_more}
 use Rattle.dce_graph.proofs.NamePlaces.{reached_more, unknown_behind, unknown_in}
 use Rattle.dce_graph.proofs.Results.{fault_stays}

@@ -1,6 +1,5 @@
-use Rattle.std.proofs.Common.{◌≡◌, ◌++◌, drop, map}
-use Rattle.dce_graph.specs.GraphFile.{first_unknown, reached_names, node_of}
-use Rattle.dce_graph.specs.Entries.{place_in_map, entries_now}
+use Rattle.base_lists.proofs.Common.{◌≡◌, ◌++◌, drop, map}
+use Rattle.dce_graph.specs.Prelude.{first_unknown, reached_names, node_of, place_in_map, entries_now}
 use Rattle.dce_graph.proofs.names.all_nodes.Given as goal
 
 abbrev pub invariant-loop-entry : goal.invariant-loop-entry

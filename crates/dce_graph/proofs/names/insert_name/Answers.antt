@@ -1,4 +1,4 @@
-use Rattle.std.proofs.lemmas.Map.Text.{btree_map_updates_str}
+use Rattle.base_lists.proofs.Common.{btree_map_updates_str}
 use Rattle.dce_graph.proofs.names.insert_name.Goals as goal
 
 pub returns-clause-noted : goal.returns-clause-noted

@@ -1,7 +1,5 @@
-use Rattle.std.proofs.Common.{◌≡◌, ◌++◌, drop}
-use Rattle.std.specs.List.{filter_map}
-use Rattle.dce_graph.specs.GraphFile.{first_unknown}
-use Rattle.dce_graph.specs.Entries.{place_in_map, texts_in}
+use Rattle.base_lists.proofs.Common.{◌≡◌, ◌++◌, drop, filter_map}
+use Rattle.dce_graph.specs.Prelude.{first_unknown, place_in_map, texts_in}
 use Rattle.dce_graph.proofs.names.reached_places.Given as goal
 
 abbrev pub invariant-loop-value : goal.invariant-loop-value

@@ -1,8 +1,6 @@
-use Rattle.std.proofs.Common.{◌≡◌, ◌∙◌, true, sym, ap, subst, length}
-use Rattle.std.specs.Prelude.{◌↔◌}
-use Rattle.dce_graph.specs.Reach.{IsReached, edges, routes, roots}
-use Rattle.dce_graph.specs.Marks.{flags, marked, with_stack, Spread}
-use Rattle.dce_graph.specs.Walks.{AreFollowed}
+use Rattle.base_lists.proofs.Common.{◌≡◌, ◌∙◌, true, sym, ap, subst, length, ◌↔◌}
+use Rattle.dce_graph.specs.Prelude.{IsReached, edges, routes, roots, flags, marked, Spread, AreFollowed}
+use Rattle.dce_graph.specs.Marks.{with_stack}
 use Rattle.dce_graph.proofs.Following.{none_followed}
 use Rattle.dce_graph.proofs.Searching.{blank_search, good_start, good_more, good_end}
 use Rattle.dce_graph.proofs.reach.reached.Goals as goal

@@ -1,7 +1,5 @@
-use Rattle.std.proofs.Common.{length, ◌+◌}
-use Rattle.dce_graph.specs.Marks.{unmarked}
-use Rattle.dce_graph.specs.Reach.{routes}
-use Rattle.dce_graph.specs.Walks.{AreFollowed}
+use Rattle.base_lists.proofs.Common.{length, ◌+◌}
+use Rattle.dce_graph.specs.Prelude.{unmarked, routes, AreFollowed}
 use Rattle.dce_graph.proofs.Searching.{Good}
 use Rattle.dce_graph.proofs.reach.reached.Given as goal
 

@@ -1,10 +1,7 @@
-use Rattle.std.proofs.Common.{◌≡◌, ◌++◌, drop, map, length}
-use Rattle.std.specs.List.{filter_map}
-use Rattle.std.specs.Prelude.{is_none}
+use Rattle.base_lists.proofs.Common.{◌≡◌, ◌++◌, drop, map, length, filter_map, is_none}
 use Rattle.base_lists.specs.Places.{first_place}
 use Rattle.serde_json.specs.View.{view}
-use Rattle.dce_graph.specs.GraphFile.{entry_of, misshapen}
-use Rattle.dce_graph.specs.Entries.{entries_now}
+use Rattle.dce_graph.specs.Prelude.{entry_of, misshapen, entries_now}
 use Rattle.dce_graph.proofs.reading.all_entries.Given as goal
 
 abbrev pub invariant-loop-place : goal.invariant-loop-place

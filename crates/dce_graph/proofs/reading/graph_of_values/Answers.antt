@@ -1,9 +1,8 @@
-use Rattle.std.proofs.Common.{◌∙◌, ap, refl, map}
-use Rattle.std.specs.Prelude.{option_map}
+use Rattle.base_lists.proofs.Common.{◌∙◌, ap, refl, map, option_map}
 use Rattle.serde_json.specs.View.{view}
 use Rattle.dce_graph.specs.declared.fault.GraphFault.TheVariants.{UnknownNode}
-use Rattle.dce_graph.specs.GraphFile.{graph_of_values as graph_of_data, first_unknown, reached_names, node_of, fault_of}
-use Rattle.dce_graph.specs.Entries.{entries_now, place_in_map}
+use Rattle.dce_graph.specs.Prelude.{first_unknown, reached_names, node_of, fault_of, entries_now, place_in_map}
+use Rattle.dce_graph.specs.GraphFile.{graph_of_values as graph_of_data}
 use Rattle.dce_graph.proofs.Results.{fault_stays, values_come, known_come, unknown_comes}
 use Rattle.dce_graph.proofs.reading.graph_of_values.Goals as goal
 

@@ -1,8 +1,7 @@
-use Rattle.std.proofs.Common.{get_or}
-use Rattle.std.proofs.lemmas.List.{get_or_default}
-use Rattle.wasm_tree.specs.Spaces.{space_of_import}
+use Rattle.base_lists.proofs.Common.{get_or, get_or_default}
+use Rattle.wasm_tree_spec.specs.Prelude.{space_of_import}
 use Rattle.dce_graph.specs.declared.point.Point.TheVariants.{Import}
-use Rattle.dce_graph.specs.Reach.{stays_imported}
+use Rattle.dce_graph.specs.Prelude.{stays_imported}
 use Rattle.dce_graph.proofs.Walking.{then, place_more}
 use Rattle.dce_graph.proofs.walk.visit_imports.Goals as goal
 

@@ -1,9 +1,8 @@
-use Rattle.std.proofs.Common.{take, map}
+use Rattle.base_lists.proofs.Common.{take, map}
 use Rattle.base_lists.specs.Places.{places}
-use Rattle.wasm_tree.specs.Spaces.{space_of_import}
+use Rattle.wasm_tree_spec.specs.Prelude.{space_of_import}
 use Rattle.dce_graph.specs.declared.point.Point.TheVariants.{Import}
-use Rattle.dce_graph.specs.Marks.{Spread}
-use Rattle.dce_graph.specs.Reach.{stays_imported}
+use Rattle.dce_graph.specs.Prelude.{Spread, stays_imported}
 use Rattle.dce_graph.proofs.walk.visit_imports.Given as goal
 
 abbrev pub invariant-loop-place : goal.invariant-loop-place

@@ -1,5 +1,4 @@
-use Rattle.std.proofs.Common.{get_or}
-use Rattle.std.proofs.lemmas.List.{get_or_default}
+use Rattle.base_lists.proofs.Common.{get_or, get_or_default}
 use Rattle.dce_graph.specs.declared.point.Point.TheVariants.{Node}
 use Rattle.dce_graph.proofs.Walking.{then, place_more}
 use Rattle.dce_graph.proofs.walk.visit_root_nodes.Goals as goal

@@ -1,5 +1,4 @@
-use Rattle.std.proofs.Common.{◌≡◌, Some, slice_get, set, arith, ap, ◌∙◌}
-use Rattle.base_lists.proofs.Walk.{part_at, part_more, none_past}
+use Rattle.base_lists.proofs.Common.{◌≡◌, Some, slice_get, set, arith, ap, ◌∙◌, part_at, part_more, none_past}
 use Rattle.dce_sweep_spec.specs.Swept.{kept_elem}
 use Rattle.dce_sweep_spec.specs.Reached.{marks_of}
 use Rattle.dce_sweep.proofs.kept.keep_declared.Goals as goal

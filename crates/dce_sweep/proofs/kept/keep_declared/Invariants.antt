@@ -1,5 +1,4 @@
-use Rattle.std.proofs.Common.{◌≡◌}
-use Rattle.base_lists.proofs.Walk.{part}
+use Rattle.base_lists.proofs.Common.{◌≡◌, part}
 use Rattle.dce_sweep_spec.specs.Swept.{kept_elem}
 use Rattle.dce_sweep_spec.specs.Reached.{marks_of}
 use Rattle.dce_sweep.proofs.kept.keep_declared.Given as goal

@@ -1,10 +1,9 @@
-use Rattle.std.proofs.Common.{◌≡◌, ◌≤◌, ◌∙◌, None, Some, ap, arith, false, length, refl, replicate, subst}
-use Rattle.wasm_tree.specs.Spaces.{memories_of}
+use Rattle.base_lists.proofs.Common.{◌≡◌, ◌≤◌, ◌∙◌, None, Some, ap, arith, false, length, refl, replicate, subst}
+use Rattle.wasm_tree_spec.specs.Prelude.{memories_of}
 use Rattle.eval_spec.specs.declared.limits.TheConstants.{MOST_TURNS}
-use Rattle.eval_spec.specs.State.{stop_of}
-use Rattle.eval_spec.specs.Instantiation.{instantiated}
+use Rattle.eval_spec.specs.Prelude.{stop_of, instantiated}
 use Rattle.eval_machine.specs.declared.kept.Kept.{Kept}
-use Rattle.eval_machine.specs.Begun.{FillsTables, IsInstantiated, PoursDatas, elems_end}
+use Rattle.eval_machine.specs.Prelude.{FillsTables, IsInstantiated, PoursDatas, elems_end}
 use Rattle.eval_machine.proofs.First.{ItemsHold}
 use Rattle.eval_machine.proofs.Instantiated.{datas_stop, elems_stop, globals_typed, is_instantiated, limits_few}
 use Rattle.eval_machine.proofs.boot.instantiate.Goals as goal

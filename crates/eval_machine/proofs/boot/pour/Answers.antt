@@ -1,10 +1,9 @@
-use Rattle.std.proofs.Common.{◌≡◌, ◌+◌, ◌≤◌, ◌<◌, false, length, arith, refl, to_z, of_z, w32}
-use Rattle.std.proofs.lemmas.Int.{ints}
-use Rattle.wasm_tree.specs.Spaces.{imported_memories}
+use Rattle.base_lists.proofs.Common.{◌≡◌, ◌+◌, ◌≤◌, ◌<◌, false, length, arith, refl, to_z, of_z, w32, ints}
+use Rattle.wasm_tree_spec.specs.Prelude.{imported_memories}
 use Rattle.wasm_num.specs.Operations.{wrapped}
 use Rattle.block_pool.specs.Pages.{size}
-use Rattle.eval_spec.specs.Instantiation.{reads_global}
-use Rattle.eval_machine.specs.Written.{HoldsMost}
+use Rattle.eval_spec.specs.Prelude.{reads_global}
+use Rattle.eval_machine.specs.Prelude.{HoldsMost}
 use Rattle.eval_machine.proofs.Poured.{fits_most, fits_still, goes, no_memory, past_the_end, too_many}
 use Rattle.eval_machine.proofs.boot.pour.Goals as goal
 

@@ -1,6 +1,4 @@
-use Rattle.std.proofs.Common.{◌≡◌, Some, length, refl, subst}
-use Rattle.std.specs.Prelude.{slice_get}
-use Rattle.std.proofs.lemmas.Option.{slice_get_read}
+use Rattle.base_lists.proofs.Common.{◌≡◌, Some, length, refl, subst, slice_get, slice_get_read}
 use Rattle.eval_machine.proofs.PouredState.{one_poured, one_stopped}
 use Rattle.eval_machine.proofs.boot.pour_all.Goals as goal
 

@@ -1,6 +1,5 @@
-use Rattle.std.proofs.Common.{◌≡◌, drop, List}
-use Rattle.std.specs.List.{list_any}
-use Rattle.wasm_meaning.specs.State.{Text}
+use Rattle.base_lists.proofs.Common.{◌≡◌, drop, List, list_any}
+use Rattle.wasm_meaning.specs.Prelude.{Text}
 use Rattle.eval_snapshot_spec.specs.Snapshot.{is_kept}
 use Rattle.eval_snapshot.specs.Names.{HasEvaluated}
 use Rattle.eval_snapshot.proofs.exports.any_kept.Given as goal

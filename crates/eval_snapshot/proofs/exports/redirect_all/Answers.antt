@@ -1,7 +1,5 @@
-use Rattle.std.proofs.Common.{◌≡◌, ◌∙◌, ap, ap₂, sym, subst, ◌<◌, ◌≤◌, ◌++◌, map, ◌∷◌, [], Some, length, slice_get, set, arith}
-use Rattle.std.proofs.lemmas.List.{append-nil, drop_all, length-append, length-set, take_all}
-use Rattle.std.proofs.lemmas.Option.{get_or_from_slice_get}
-use Rattle.base_lists.proofs.Walk.{mapped_more, part_at, part_more, none_past}
+use Rattle.base_lists.proofs.Common.{◌≡◌, ◌∙◌, ap, ap₂, sym, subst, ◌<◌, ◌≤◌, ◌++◌, map, ◌∷◌, [], Some, length, slice_get, set, arith, drop_all, length-append, length-set, take_all, get_or_from_slice_get, mapped_more, part_at, part_more, none_past}
+use Rattle.std.proofs.lemmas.List.{append-nil}
 use Rattle.eval_snapshot.specs.Names.{redirected, stays}
 use Rattle.eval_snapshot.proofs.exports.redirect_all.Goals as goal
 use Rattle.eval_snapshot.proofs.exports.redirect_all.Goals.{in-Some+in_ok-keep, in_default}

@@ -1,6 +1,5 @@
-use Rattle.std.proofs.Common.{◌≡◌, List, length, map, take}
-use Rattle.base_lists.proofs.Walk.{part}
-use Rattle.wasm_meaning.specs.State.{Text}
+use Rattle.base_lists.proofs.Common.{◌≡◌, List, length, map, take, part}
+use Rattle.wasm_meaning.specs.Prelude.{Text}
 use Rattle.eval_snapshot.specs.Names.{HasEvaluated, redirected, stays}
 use Rattle.eval_snapshot.proofs.exports.redirect_all.Given as goal
 

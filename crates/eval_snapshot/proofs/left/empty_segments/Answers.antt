@@ -1,7 +1,6 @@
-use Rattle.std.proofs.Common.{◌≡◌, ◌∙◌, ap, ◌+◌, Some, slice_get, set, arith}
-use Rattle.base_lists.proofs.Walk.{none_past}
-use Rattle.eval_spec.specs.Told.{is_dropped}
-use Rattle.eval_machine.specs.Kept.{state_in}
+use Rattle.base_lists.proofs.Common.{◌≡◌, ◌∙◌, ap, ◌+◌, Some, slice_get, set, arith, none_past}
+use Rattle.eval_spec.specs.Prelude.{is_dropped}
+use Rattle.eval_machine.specs.Prelude.{state_in}
 use Rattle.eval_snapshot_spec.specs.Snapshot.{segment_left}
 use Rattle.eval_snapshot.specs.Names.{left_or_emptied}
 use Rattle.eval_snapshot.proofs.Indexed.{written_at, written_more}

@@ -1,7 +1,6 @@
-use Rattle.std.proofs.Common.{◌≡◌, ◌∙◌, ap, Some, slice_get, set, arith}
+use Rattle.base_lists.proofs.Common.{◌≡◌, ◌∙◌, ap, Some, slice_get, set, arith, none_past}
 use Rattle.std.specs.Prelude.{unwrap_or}
-use Rattle.base_lists.proofs.Walk.{none_past}
-use Rattle.eval_machine.specs.Kept.{state_in}
+use Rattle.eval_machine.specs.Prelude.{state_in}
 use Rattle.eval_snapshot_spec.specs.Snapshot.{global_left}
 use Rattle.eval_snapshot.proofs.Indexed.{written_at, written_more}
 use Rattle.eval_snapshot.proofs.left.initialise_globals.Goals as goal

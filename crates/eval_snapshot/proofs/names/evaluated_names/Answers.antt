@@ -1,9 +1,4 @@
-use Rattle.std.proofs.Common.{◌≡◌, ◌∙◌, ap, cond, Some, is_some}
-use Rattle.std.specs.Str.{bytes_eq}
-use Rattle.std.specs.BTreeMap.{get_by}
-use Rattle.std.specs.Ordering.{nat_cmp}
-use Rattle.std.specs.Cmp.Lexicographic.{slice_cmp}
-use Rattle.std.proofs.lemmas.Map.Text.{btree_map_updates_str}
+use Rattle.base_lists.proofs.Common.{◌≡◌, ◌∙◌, ap, cond, Some, is_some, bytes_eq, get_by, nat_cmp, slice_cmp, btree_map_updates_str}
 use Rattle.eval_snapshot_spec.specs.Snapshot.{is_among_names}
 use Rattle.eval_snapshot.proofs.ExportsLeft.{some_of}
 use Rattle.eval_snapshot.proofs.NamesFound.{found_more}

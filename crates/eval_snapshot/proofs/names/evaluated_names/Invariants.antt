@@ -1,7 +1,4 @@
-use Rattle.std.proofs.Common.{◌≡◌, List, ℕ, take, cond, Some, None}
-use Rattle.std.specs.BTreeMap.{get_by}
-use Rattle.std.specs.Ordering.{nat_cmp}
-use Rattle.std.specs.Cmp.Lexicographic.{slice_cmp}
+use Rattle.base_lists.proofs.Common.{◌≡◌, List, ℕ, take, cond, Some, None, get_by, nat_cmp, slice_cmp}
 use Rattle.eval_snapshot_spec.specs.Snapshot.{is_among_names}
 use Rattle.eval_snapshot.proofs.names.evaluated_names.Given as goal
 

@@ -1,7 +1,6 @@
-use Rattle.std.proofs.Common.{◌∙◌, ap, ap₂, sym, refl, subst, append-nil, List, ◌++◌, ◌≤◌, length}
-use Rattle.wasm_tree.specs.declared.module.DataSeg.{DataSeg}
-use Rattle.wasm_tree.specs.declared.module.Module.{Module}
-use Rattle.eval_machine.specs.Kept.{state_in}
+use Rattle.base_lists.proofs.Common.{◌∙◌, ap, ap₂, sym, refl, subst, append-nil, List, ◌++◌, ◌≤◌, length}
+use Rattle.wasm_tree_spec.specs.Prelude.{DataSeg, Module}
+use Rattle.eval_machine.specs.Prelude.{state_in}
 use Rattle.eval_snapshot_spec.specs.Contents.{contents}
 use Rattle.eval_snapshot_spec.specs.Snapshot.{old_segments}
 use Rattle.eval_snapshot.proofs.MemoryBytes.{no_segments, small_memory}

@@ -1,7 +1,6 @@
-use Rattle.std.proofs.Common.{◌≡◌, map}
-use Rattle.std.specs.List.{filter, range_with_len}
+use Rattle.base_lists.proofs.Common.{◌≡◌, map, filter, range_with_len}
 use Rattle.wasm_tree.specs.declared.module.ConstExpr.TheVariants as const
-use Rattle.index_remap.specs.References.{marked_only}
+use Rattle.index_remap.specs.Prelude.{marked_only}
 use Rattle.index_remap.proofs.declaring.items_of.Given as goal
 
 abbrev pub invariant-loop-func : goal.invariant-loop-func

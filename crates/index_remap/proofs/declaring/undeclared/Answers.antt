@@ -1,7 +1,6 @@
-use Rattle.std.proofs.Common.{length, ap, sym, ◌∙◌, arith}
-use Rattle.std.proofs.lemmas.Result.{IfOk-weaker}
-use Rattle.wasm_valid.specs.Named.{named_from}
-use Rattle.index_remap.specs.References.{body_refs, outside_refs}
+use Rattle.base_lists.proofs.Common.{length, ap, sym, ◌∙◌, arith, IfOk-weaker}
+use Rattle.wasm_valid.specs.Prelude.{named_from}
+use Rattle.index_remap.specs.Prelude.{body_refs, outside_refs}
 use Rattle.index_remap.proofs.Marks.{marks_length, items_are}
 use Rattle.index_remap.proofs.declaring.undeclared.Goals as goal
 

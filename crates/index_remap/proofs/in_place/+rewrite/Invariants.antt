@@ -1,6 +1,5 @@
-use Rattle.std.proofs.Common.{◌≡◌}
-use Rattle.base_lists.proofs.Walk.{part}
-use Rattle.index_remap.specs.Renumbered.{renumbered}
+use Rattle.base_lists.proofs.Common.{◌≡◌, part}
+use Rattle.index_remap.specs.Prelude.{renumbered}
 use Rattle.index_remap.proofs.in_place.+rewrite.Given as goal
 
 abbrev pub invariant-rewrite_all-loop-at : goal.invariant-rewrite_all-loop-at

@@ -1,6 +1,4 @@
-use Rattle.std.proofs.Common.{◌≡◌, Some, slice_get, set, arith, ap, ◌∙◌, sym}
-use Rattle.base_lists.proofs.Each.{list_all_each}
-use Rattle.base_lists.proofs.Walk.{part_at, part_more, none_past}
+use Rattle.base_lists.proofs.Common.{◌≡◌, Some, slice_get, set, arith, ap, ◌∙◌, sym, list_all_each, part_at, part_more, none_past}
 use Rattle.index_remap.proofs.in_place.rewrite_each.Goals as goal
 use Rattle.index_remap.proofs.in_place.rewrite_each.Goals.{in-Some, in_default}
 

@@ -1,6 +1,5 @@
-use Rattle.std.proofs.Common.{◌∙◌, ap, sym, subst, ◌+◌, ◌∷◌, [], arith, length}
-use Rattle.std.proofs.lemmas.List.{length-append}
-use Rattle.merge_spec.specs.Parts.{named_modules}
+use Rattle.base_lists.proofs.Common.{◌∙◌, ap, sym, subst, ◌+◌, ◌∷◌, [], arith, length, length-append}
+use Rattle.merge_spec.specs.Prelude.{named_modules}
 use Rattle.merge_join.proofs.ByPart.{part_there}
 use Rattle.merge_join.proofs.Values.{DenoteEach, each_more}
 use Rattle.merge_join.proofs.consts.all_values.Goals as goal

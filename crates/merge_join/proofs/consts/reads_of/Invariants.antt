@@ -1,8 +1,7 @@
-use Rattle.std.proofs.Common.{◌≡◌, map, take}
-use Rattle.wasm_tree.specs.declared.space.Space.TheVariants.{Globals}
-use Rattle.wasm_meaning.specs.Linking.{has_kind, places}
-use Rattle.merge_spec.specs.Parts.{named_modules}
-use Rattle.merge_spec.specs.Linked.{read_at}
+use Rattle.base_lists.proofs.Common.{◌≡◌, map, take}
+use Rattle.wasm_tree_spec.specs.Prelude.{Globals}
+use Rattle.wasm_meaning.specs.Prelude.{has_kind, places}
+use Rattle.merge_spec.specs.Prelude.{named_modules, read_at}
 use Rattle.merge_join.specs.LinkedParts.{site}
 use Rattle.merge_join.proofs.consts.reads_of.Given as goal
 

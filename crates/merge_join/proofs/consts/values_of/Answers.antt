@@ -1,11 +1,8 @@
-use Rattle.std.proofs.Common.{◌≡◌, ◌∙◌, ap, sym, subst, ◌+◌, ◌∷◌, [], Some, arith, length}
-use Rattle.std.proofs.lemmas.List.{length-append, take_all}
-use Rattle.base_lists.proofs.Filtered.{filter_map_most}
+use Rattle.base_lists.proofs.Common.{◌≡◌, ◌∙◌, ap, sym, subst, ◌+◌, ◌∷◌, [], Some, arith, length, length-append, take_all, filter_map_most}
 use Rattle.wasm_tree.specs.declared.module.ConstExpr.TheVariants as const
-use Rattle.wasm_tree.specs.declared.module.Import.{Import}
-use Rattle.wasm_tree.specs.Spaces.{global_of, imported_globals}
-use Rattle.wasm_valid.specs.Constants.{const_type}
-use Rattle.merge_spec.specs.Parts.{named_modules}
+use Rattle.wasm_tree_spec.specs.Prelude.{Import, global_of, imported_globals}
+use Rattle.wasm_valid.specs.Prelude.{const_type}
+use Rattle.merge_spec.specs.Prelude.{named_modules}
 use Rattle.merge_join.specs.Reads.{HasType}
 use Rattle.merge_join.proofs.Values.{Denotes, one_longer, inside, may_be_named, is_fixed, no_global, none_more, stand_more, stand_all}
 use Rattle.merge_join.proofs.consts.values_of.Goals as goal

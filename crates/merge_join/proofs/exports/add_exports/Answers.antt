@@ -1,6 +1,5 @@
-use Rattle.std.proofs.Common.{◌≡◌, ◌∙◌, ap, refl, ◌+◌, ◌<◌, length, slice_get, Some, arith}
-use Rattle.std.proofs.lemmas.Option.{slice_get_read}
-use Rattle.index_remap.specs.Renumbered.{fits_export}
+use Rattle.base_lists.proofs.Common.{◌≡◌, ◌∙◌, ap, refl, ◌+◌, ◌<◌, length, slice_get, Some, arith, slice_get_read}
+use Rattle.index_remap.specs.Prelude.{fits_export}
 use Rattle.index_remap.proofs.Fits.{each_at}
 use Rattle.merge_join.proofs.Exported.{export_more}
 use Rattle.merge_join.proofs.exports.add_exports.Goals as goal

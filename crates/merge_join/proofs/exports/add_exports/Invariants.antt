@@ -1,7 +1,7 @@
-use Rattle.std.proofs.Common.{◌≡◌, ◌++◌, List, length, map, take}
-use Rattle.wasm_tree.specs.declared.module.Export.{Export}
-use Rattle.index_remap.specs.Renumbered.{new_export}
-use Rattle.merge_spec.specs.Merged.{named_exports}
+use Rattle.base_lists.proofs.Common.{◌≡◌, ◌++◌, List, length, map, take}
+use Rattle.wasm_tree_spec.specs.Prelude.{Export}
+use Rattle.index_remap.specs.Prelude.{new_export}
+use Rattle.merge_spec.specs.Prelude.{named_exports}
 use Rattle.merge_join.proofs.exports.add_exports.Given as goal
 
 abbrev pub invariant-loop-at : goal.invariant-loop-at

@@ -1,7 +1,6 @@
-use Rattle.std.proofs.Common.{◌≡◌, map, take}
+use Rattle.base_lists.proofs.Common.{◌≡◌, map, take}
 use Rattle.merge_names.specs.Given.{texts}
-use Rattle.merge_spec.specs.Parts.{named_modules}
-use Rattle.merge_spec.specs.Merged.{by_part_from}
+use Rattle.merge_spec.specs.Prelude.{named_modules, by_part_from}
 use Rattle.merge_join.proofs.exports.all_names.Given as goal
 
 abbrev pub invariant-loop-part : goal.invariant-loop-part

@@ -1,10 +1,9 @@
-use Rattle.std.proofs.Common.{◌≡◌, ◌∙◌, sym, ap, ◌+◌, ◌++◌, length, map, take, arith}
-use Rattle.index_remap.specs.Renumbered.{new_export}
-use Rattle.merge_spec.specs.Parts.{named_modules}
-use Rattle.merge_spec.specs.Merged.{by_part_from, all_exports, named_exports}
+use Rattle.base_lists.proofs.Common.{◌≡◌, ◌∙◌, sym, ap, ◌+◌, ◌++◌, length, map, take, arith, take_all}
+use Rattle.index_remap.specs.Prelude.{new_export}
+use Rattle.merge_spec.specs.Prelude.{named_modules, by_part_from, named_exports}
+use Rattle.merge_spec.specs.Merged.{all_exports}
 use Rattle.merge_join.proofs.ByPart.{named_length}
 use Rattle.merge_join.proofs.Exported.{new_exports, exports_few, exports_next, exports_grow}
-use Rattle.std.proofs.lemmas.List.{take_all}
 use Rattle.merge_join.proofs.exports.merged_exports.Goals as goal
 
 pub add_exports-requires-clause-named : goal.add_exports-requires-clause-named

@@ -1,6 +1,5 @@
-use Rattle.std.proofs.Common.{◌≡◌, length, take}
-use Rattle.merge_spec.specs.Parts.{named_modules}
-use Rattle.merge_spec.specs.Merged.{by_part_from, named_exports}
+use Rattle.base_lists.proofs.Common.{◌≡◌, length, take}
+use Rattle.merge_spec.specs.Prelude.{named_modules, by_part_from, named_exports}
 use Rattle.merge_join.proofs.Exported.{new_exports}
 use Rattle.merge_join.proofs.exports.merged_exports.Given as goal
 

@@ -1,10 +1,8 @@
-use Rattle.std.proofs.Common.{◌≡◌, ◌∙◌, ◌<◌, sym, ap, refl, subst, ℕ, List, Bor, length, slice_get, arith, Err, Some}
-use Rattle.std.proofs.lemmas.List.{length-map}
-use Rattle.std.proofs.lemmas.Option.{slice_get_read, slice_get_within}
-use Rattle.base_lists.proofs.Places.{map_at}
+use Rattle.base_lists.proofs.Common.{◌≡◌, ◌∙◌, ◌<◌, sym, ap, refl, subst, ℕ, List, length, slice_get, arith, Err, Some, length-map, slice_get_read, slice_get_within, map_at}
+use Rattle.std.proofs.Common.{Bor}
 use Rattle.merge_names.specs.Given.{texts, IsConflictOf}
 use Rattle.merge_names.specs.Names.{conflict}
-use Rattle.merge_spec.specs.Parts.{named_modules}
+use Rattle.merge_spec.specs.Prelude.{named_modules}
 use Rattle.merge_join.proofs.Exported.{none_repeated, repeated_at}
 use Rattle.merge_join.proofs.exports.new_names.Goals as goal
 

@@ -1,7 +1,5 @@
-use Rattle.std.proofs.Common.{◌∙◌, sym}
-use Rattle.merge_spec.specs.Parts.{named_modules}
-use Rattle.merge_spec.specs.Faults.{stays}
-use Rattle.merge_spec.specs.Merged.{merged_import}
+use Rattle.base_lists.proofs.Common.{◌∙◌, sym}
+use Rattle.merge_spec.specs.Prelude.{named_modules, stays, merged_import}
 use Rattle.merge_join.proofs.Staying.{import_more, import_less}
 use Rattle.merge_join.proofs.imports.add_imports.Goals as goal
 use Rattle.merge_join.proofs.imports.add_imports.Goals.{then-stays+in_ok-merged_import+in_ok-keep, else-stays}

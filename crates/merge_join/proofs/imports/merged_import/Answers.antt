@@ -1,6 +1,6 @@
-use Rattle.std.proofs.Common.{ap, ◌<◌, length, arith}
-use Rattle.wasm_tree.specs.declared.module.Module.{Module}
-use Rattle.merge_spec.specs.Parts.{named_modules}
+use Rattle.base_lists.proofs.Common.{ap, ◌<◌, length, arith}
+use Rattle.wasm_tree_spec.specs.Prelude.{Module}
+use Rattle.merge_spec.specs.Prelude.{named_modules}
 use Rattle.merge_join.specs.LinkedParts.{site}
 use Rattle.merge_join.proofs.PartMaps.{same_module}
 use Rattle.merge_join.proofs.Holding.{import_fits}

@@ -1,9 +1,6 @@
-use Rattle.std.proofs.Common.{◌∙◌, length, arith}
-use Rattle.std.specs.List.{filter, filter_map}
-use Rattle.wasm_meaning.specs.Linking.{sites_in}
-use Rattle.merge_spec.specs.Parts.{named_modules}
-use Rattle.merge_spec.specs.Faults.{stays}
-use Rattle.merge_spec.specs.Merged.{merged_import}
+use Rattle.base_lists.proofs.Common.{◌∙◌, length, arith, filter, filter_map}
+use Rattle.wasm_meaning.specs.Prelude.{sites_in}
+use Rattle.merge_spec.specs.Prelude.{named_modules, stays, merged_import}
 use Rattle.merge_join.proofs.ByPart.{part_more, part_all, module_exists}
 use Rattle.merge_join.proofs.Staying.{kept_imports}
 use Rattle.merge_join.proofs.imports.merged_imports.Goals as goal

@@ -1,9 +1,6 @@
-use Rattle.std.proofs.Common.{◌≡◌, length, take}
-use Rattle.std.specs.List.{filter, filter_map}
-use Rattle.wasm_meaning.specs.Linking.{sites_in}
-use Rattle.merge_spec.specs.Parts.{named_modules}
-use Rattle.merge_spec.specs.Faults.{stays}
-use Rattle.merge_spec.specs.Merged.{by_part_from, merged_import}
+use Rattle.base_lists.proofs.Common.{◌≡◌, length, take, filter, filter_map}
+use Rattle.wasm_meaning.specs.Prelude.{sites_in}
+use Rattle.merge_spec.specs.Prelude.{named_modules, stays, by_part_from, merged_import}
 use Rattle.merge_join.proofs.imports.merged_imports.Given as goal
 
 abbrev pub invariant-loop-part : goal.invariant-loop-part

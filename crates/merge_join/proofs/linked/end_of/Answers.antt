@@ -1,9 +1,8 @@
-use Rattle.std.proofs.Common.{◌∙◌, sym, ap, length, get_or, Some, arith}
+use Rattle.base_lists.proofs.Common.{◌∙◌, sym, ap, length, get_or, Some, arith}
 use Rattle.std.specs.Option.{option_map}
-use Rattle.wasm_meaning.specs.Linking.{linked_end}
-use Rattle.merge_spec.specs.Linked.{end_entry}
+use Rattle.wasm_meaning.specs.Prelude.{linked_end}
+use Rattle.merge_spec.specs.Prelude.{end_entry, named_modules}
 use Rattle.merge_spec.specs.declared.links.End.TheVariants.{Defined}
-use Rattle.merge_spec.specs.Parts.{named_modules}
 use Rattle.merge_join.proofs.Rows.{full_row_of}
 use Rattle.merge_join.proofs.linked.end_of.Goals as goal
 

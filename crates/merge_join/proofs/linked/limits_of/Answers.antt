@@ -1,6 +1,5 @@
-use Rattle.std.proofs.Common.{◌∙◌, ap, length, get_or, None, arith}
-use Rattle.merge_spec.specs.Faults.{kept_limits}
-use Rattle.merge_spec.specs.Parts.{named_modules}
+use Rattle.base_lists.proofs.Common.{◌∙◌, ap, length, get_or, None, arith}
+use Rattle.merge_spec.specs.Prelude.{kept_limits, named_modules}
 use Rattle.merge_join.proofs.Rows.{row_of}
 use Rattle.merge_join.proofs.linked.limits_of.Goals as goal
 

@@ -1,9 +1,8 @@
-use Rattle.std.proofs.Common.{◌≡◌, ◌∙◌, sym, ap, subst, inl, inr, Some, arith}
-use Rattle.std.proofs.lemmas.Bool.{cases_eq}
-use Rattle.wasm_tree.specs.Bounds.{IsBounded}
-use Rattle.wasm_valid.specs.Validity.{IsValid}
-use Rattle.wasm_meaning.specs.Linking.{module_at}
-use Rattle.merge_spec.specs.Parts.{named_modules}
+use Rattle.base_lists.proofs.Common.{◌≡◌, ◌∙◌, sym, ap, subst, inl, inr, Some, arith, cases_eq}
+use Rattle.wasm_tree_spec.specs.Prelude.{IsBounded}
+use Rattle.wasm_valid.specs.Prelude.{IsValid}
+use Rattle.wasm_meaning.specs.Prelude.{module_at}
+use Rattle.merge_spec.specs.Prelude.{named_modules}
 use Rattle.merge_join.proofs.ByPart.{part_there}
 use Rattle.merge_join.proofs.linked.parts_hold.Goals as goal
 

@@ -1,6 +1,5 @@
-use Rattle.std.proofs.Common.{◌∙◌, ap, length, get_or, None, arith}
-use Rattle.merge_spec.specs.Linked.{read_at}
-use Rattle.merge_spec.specs.Parts.{named_modules}
+use Rattle.base_lists.proofs.Common.{◌∙◌, ap, length, get_or, None, arith}
+use Rattle.merge_spec.specs.Prelude.{read_at, named_modules}
 use Rattle.merge_join.proofs.Rows.{row_of}
 use Rattle.merge_join.proofs.linked.read_of.Goals as goal
 

@@ -1,8 +1,7 @@
-use Rattle.std.proofs.Common.{◌∙◌, sym, ap, ◌++◌, ◌∷◌, [], arith}
-use Rattle.merge_spec.specs.Parts.{named_modules}
-use Rattle.merge_spec.specs.Merged.{map_of}
+use Rattle.base_lists.proofs.Common.{◌∙◌, sym, ap, ◌++◌, ◌∷◌, [], arith}
+use Rattle.merge_spec.specs.Prelude.{named_modules, map_of}
 use Rattle.merge_join.proofs.ByPart.{part_more, part_all}
-use Rattle.wasm_tree.specs.declared.space.Space.TheVariants.{ElementSegments, DataSegments}
+use Rattle.wasm_tree_spec.specs.Prelude.{ElementSegments, DataSegments}
 use Rattle.merge_join.proofs.Counts.{defined_none, defined_more}
 use Rattle.merge_join.proofs.maps.all_maps.Goals as goal
 use Rattle.merge_behaves_proof.proofs.Counterparts.{defined_low}

@@ -1,8 +1,7 @@
-use Rattle.std.proofs.Common.{◌≡◌, ◌∷◌, [], take}
-use Rattle.wasm_tree.specs.declared.space.Space.TheVariants.{DataSegments, ElementSegments}
-use Rattle.wasm_meaning.specs.World.{defined_before}
-use Rattle.merge_spec.specs.Parts.{named_modules}
-use Rattle.merge_spec.specs.Merged.{by_part_from, map_of}
+use Rattle.base_lists.proofs.Common.{◌≡◌, ◌∷◌, [], take}
+use Rattle.wasm_tree_spec.specs.Prelude.{DataSegments, ElementSegments}
+use Rattle.wasm_meaning.specs.Prelude.{defined_before}
+use Rattle.merge_spec.specs.Prelude.{named_modules, by_part_from, map_of}
 use Rattle.merge_join.proofs.maps.all_maps.Given as goal
 
 abbrev pub invariant-loop-part : goal.invariant-loop-part

@@ -1,13 +1,7 @@
-use Rattle.std.proofs.Common.{◌≡◌, ◌∙◌, sym, ap, refl, subst, ◌+◌, ◌++◌, ◌∷◌, [], Some, Bool, true, false, cond, length, map, take, slice_get, arith}
-use Rattle.std.proofs.lemmas.Option.{slice_get_read}
-use Rattle.std.proofs.lemmas.List.{map_push, take_all}
-use Rattle.base_lists.proofs.Numbers.{numbers_more}
-use Rattle.wasm_tree.specs.declared.module.Module.{Module}
-use Rattle.wasm_meaning.specs.World.{numbers}
-use Rattle.wasm_meaning.specs.Linking.{places, has_kind, imports_of}
-use Rattle.wasm_tree.specs.Spaces.{space_of_import}
-use Rattle.merge_spec.specs.Parts.{named_modules}
-use Rattle.merge_spec.specs.Merged.{new_index}
+use Rattle.base_lists.proofs.Common.{◌≡◌, ◌∙◌, sym, ap, refl, subst, ◌+◌, ◌++◌, ◌∷◌, [], Some, Bool, true, false, cond, length, map, take, slice_get, arith, slice_get_read, map_push, take_all, numbers_more}
+use Rattle.wasm_tree_spec.specs.Prelude.{Module, space_of_import}
+use Rattle.wasm_meaning.specs.Prelude.{numbers, places, has_kind, imports_of}
+use Rattle.merge_spec.specs.Prelude.{named_modules, new_index}
 use Rattle.merge_join.specs.LinkedParts.{IsEnd}
 use Rattle.merge_join.proofs.Fits.{entry_there}
 use Rattle.merge_join.proofs.NewIndex.{new_index_at, import_place}

@@ -1,8 +1,6 @@
-use Rattle.std.proofs.Common.{◌≡◌, map, take, length}
-use Rattle.wasm_meaning.specs.World.{numbers}
-use Rattle.wasm_meaning.specs.Linking.{places, has_kind}
-use Rattle.merge_spec.specs.Parts.{named_modules}
-use Rattle.merge_spec.specs.Merged.{new_index}
+use Rattle.base_lists.proofs.Common.{◌≡◌, map, take, length}
+use Rattle.wasm_meaning.specs.Prelude.{numbers, places, has_kind}
+use Rattle.merge_spec.specs.Prelude.{named_modules, new_index}
 use Rattle.merge_join.proofs.maps.imported_map.Given as goal
 
 abbrev pub invariant-loop-place : goal.invariant-loop-place

@@ -1,10 +1,7 @@
-use Rattle.std.proofs.Common.{◌≡◌, ◌∙◌, sym, ap, Some, map, length, unwrap_or, arith}
-use Rattle.wasm_tree.specs.declared.module.Module.{Module}
-use Rattle.wasm_meaning.specs.World.{numbers}
-use Rattle.wasm_meaning.specs.Linking.{first_place}
-use Rattle.wasm_tree.specs.SameTypes.{same_func_type}
-use Rattle.merge_spec.specs.Parts.{named_modules}
-use Rattle.wasm_tree.specs.declared.space.Space.TheVariants.{Functions, Tables, Memories, Globals, ElementSegments, DataSegments}
+use Rattle.base_lists.proofs.Common.{◌≡◌, ◌∙◌, sym, ap, Some, map, length, unwrap_or, arith}
+use Rattle.wasm_tree_spec.specs.Prelude.{Module, same_func_type, Functions, Tables, Memories, Globals, ElementSegments, DataSegments}
+use Rattle.wasm_meaning.specs.Prelude.{numbers, first_place}
+use Rattle.merge_spec.specs.Prelude.{named_modules}
 use Rattle.merge_join.proofs.MapParts.{space_is, map_built}
 use Rattle.merge_join.proofs.maps.map_of.Goals as goal
 use Rattle.merge_behaves_proof.proofs.Counterparts.{defined_low}

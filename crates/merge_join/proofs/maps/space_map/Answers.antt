@@ -1,8 +1,6 @@
-use Rattle.std.proofs.Common.{◌≡◌, ◌∙◌, sym, ap, ◌+◌, ◌++◌, Some, length, map, arith}
-use Rattle.wasm_meaning.specs.World.{numbers, defined_before, defined_count}
-use Rattle.wasm_meaning.specs.Linking.{imports_of}
-use Rattle.merge_spec.specs.Parts.{named_modules}
-use Rattle.merge_spec.specs.Merged.{new_index, staying_of}
+use Rattle.base_lists.proofs.Common.{◌≡◌, ◌∙◌, sym, ap, ◌+◌, ◌++◌, Some, length, map, arith}
+use Rattle.wasm_meaning.specs.Prelude.{numbers, defined_before, defined_count, imports_of}
+use Rattle.merge_spec.specs.Prelude.{named_modules, new_index, staying_of}
 use Rattle.merge_join.specs.Spaces.{first_of}
 use Rattle.merge_join.proofs.ByPart.{each_within, each_index, module_exists}
 use Rattle.merge_join.proofs.Counts.{staying_few}

@@ -1,14 +1,10 @@
-use Rattle.std.proofs.Common.{◌≡◌, ◌∙◌, sym, subst, List, None, Ok, true}
-use Rattle.wasm_tree.specs.declared.module.Module.{Module}
-use Rattle.wasm_tree.specs.Bounds.{IsBounded}
-use Rattle.wasm_valid.specs.Validity.{IsValid}
-use Rattle.wasm_meaning.specs.Linking.{Part}
+use Rattle.base_lists.proofs.Common.{◌≡◌, ◌∙◌, sym, subst, List, None, Ok, true}
+use Rattle.wasm_tree_spec.specs.Prelude.{Module, IsBounded}
+use Rattle.wasm_valid.specs.Prelude.{IsValid}
+use Rattle.wasm_meaning.specs.Prelude.{Part}
 use Rattle.merge_names.specs.declared.mode.Mode.{Mode}
 use Rattle.merge_spec.specs.declared.parts.Part as declared
-use Rattle.merge_spec.specs.Faults.{link_fault}
-use Rattle.merge_spec.specs.Parts.{named_modules}
-use Rattle.merge_spec.specs.View.{linked_world}
-use Rattle.merge_spec.specs.Joined.{joined_module, repeated_name, Joins}
+use Rattle.merge_spec.specs.Prelude.{link_fault, named_modules, linked_world, joined_module, repeated_name, Joins}
 use Rattle.module_limits.specs.Counts.{over_limit}
 use Rattle.merge_valid_proof.specs.Joinable.{CanBeJoined}
 use Rattle.merge_behaves_proof.specs.Laws.{ObservationallyEquivalent}

@@ -1,5 +1,4 @@
-use Rattle.std.proofs.Common.{◌≡◌}
-use Rattle.base_lists.proofs.Walk.{part}
+use Rattle.base_lists.proofs.Common.{◌≡◌, part}
 use Rattle.merge_join.proofs.moved.rewrite_each.Given as goal
 
 abbrev pub invariant-loop-at : goal.invariant-loop-at

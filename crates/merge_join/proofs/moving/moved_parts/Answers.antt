@@ -1,16 +1,11 @@
-use Rattle.std.proofs.Common.{◌≡◌, ◌∙◌, sym, ap, subst, ℕ, ◌≤◌, List, Some, IsTrue, arith, slice_get, get_or}
-use Rattle.std.proofs.lemmas.Option.{slice_get_within, get_or_from_slice_get}
-use Rattle.base_lists.proofs.Places.{set_other}
-use Rattle.base_lists.proofs.Walk.{none_past}
-use Rattle.wasm_tree.specs.declared.module.ConstExpr.{ConstExpr}
-use Rattle.wasm_tree.specs.declared.module.Module.{Module}
+use Rattle.base_lists.proofs.Common.{◌≡◌, ◌∙◌, sym, ap, subst, ℕ, ◌≤◌, List, Some, IsTrue, arith, slice_get, get_or, slice_get_within, get_or_from_slice_get, set_other, none_past}
+use Rattle.wasm_tree_spec.specs.Prelude.{ConstExpr, Module}
 use Rattle.wasm_meaning.specs.Linking as linking
-use Rattle.wasm_meaning.specs.Linking.{module_at}
+use Rattle.wasm_meaning.specs.Prelude.{module_at}
 use Rattle.index_remap.specs.declared.remap.Remap.{Remap}
-use Rattle.index_remap.specs.Renumbered.{fits_tree}
+use Rattle.index_remap.specs.Prelude.{fits_tree}
 use Rattle.merge_spec.specs.declared.parts.Part.{Part}
-use Rattle.merge_spec.specs.Parts.{named_modules}
-use Rattle.merge_spec.specs.Merged.{map_of}
+use Rattle.merge_spec.specs.Prelude.{named_modules, map_of}
 use Rattle.merge_join.specs.Moved.{AreValues, AreAllValues}
 use Rattle.merge_join.specs.LinkedParts.{AreMaps}
 use Rattle.merge_join.proofs.ByPart.{each_at, each_within}

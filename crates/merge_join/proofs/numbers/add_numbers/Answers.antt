@@ -1,6 +1,5 @@
-use Rattle.std.proofs.Common.{◌∙◌, sym, ap, ◌+◌, ◌++◌, ◌∷◌, [], append_assoc}
-use Rattle.base_lists.proofs.Numbers.{numbers_more}
-use Rattle.wasm_meaning.specs.World.{numbers}
+use Rattle.base_lists.proofs.Common.{◌∙◌, sym, ap, ◌+◌, ◌++◌, ◌∷◌, [], append_assoc, numbers_more}
+use Rattle.wasm_meaning.specs.Prelude.{numbers}
 use Rattle.merge_join.proofs.numbers.add_numbers.Goals as goal
 
 pub loop-at-preserved : goal.loop-at-preserved

@@ -1,7 +1,6 @@
-use Rattle.std.proofs.Common.{◌≡◌, ◌∷◌, [], map, length, take}
-use Rattle.wasm_meaning.specs.Linking.{sites_in}
-use Rattle.merge_spec.specs.Parts.{named_modules}
-use Rattle.merge_spec.specs.Merged.{by_part_from}
+use Rattle.base_lists.proofs.Common.{◌≡◌, ◌∷◌, [], map, length, take}
+use Rattle.wasm_meaning.specs.Prelude.{sites_in}
+use Rattle.merge_spec.specs.Prelude.{named_modules, by_part_from}
 use Rattle.merge_join.specs.Spaces.{staying_place, count_before}
 use Rattle.merge_join.proofs.spaces.all_staying.Given as goal
 

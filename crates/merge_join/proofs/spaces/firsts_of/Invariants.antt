@@ -1,7 +1,6 @@
-use Rattle.std.proofs.Common.{◌≡◌, ◌+◌, ◌∷◌, [], take}
-use Rattle.wasm_meaning.specs.World.{defined_before}
-use Rattle.merge_spec.specs.Parts.{named_modules}
-use Rattle.merge_spec.specs.Merged.{by_part_from}
+use Rattle.base_lists.proofs.Common.{◌≡◌, ◌+◌, ◌∷◌, [], take}
+use Rattle.wasm_meaning.specs.Prelude.{defined_before}
+use Rattle.merge_spec.specs.Prelude.{named_modules, by_part_from}
 use Rattle.merge_join.proofs.spaces.firsts_of.Given as goal
 
 abbrev pub invariant-loop-part : goal.invariant-loop-part

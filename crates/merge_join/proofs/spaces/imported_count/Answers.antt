@@ -1,7 +1,5 @@
-use Rattle.std.proofs.Common.{◌≡◌, ◌∙◌, sym, ap, refl, ◌+◌, Some, cond, Bool, length, slice_get, take, arith}
-use Rattle.std.proofs.lemmas.Option.{slice_get_read}
-use Rattle.std.proofs.lemmas.List.{length-take-le}
-use Rattle.wasm_meaning.specs.Linking.{places, has_kind}
+use Rattle.base_lists.proofs.Common.{◌≡◌, ◌∙◌, sym, ap, refl, ◌+◌, Some, cond, Bool, length, slice_get, take, arith, slice_get_read, length-take-le}
+use Rattle.wasm_meaning.specs.Prelude.{places, has_kind}
 use Rattle.merge_join.proofs.Sites.{places_length, places_short}
 use Rattle.merge_join.proofs.spaces.imported_count.Goals as goal
 use Rattle.merge_join.proofs.spaces.imported_count.Goals.{then-is_in, else-is_in}

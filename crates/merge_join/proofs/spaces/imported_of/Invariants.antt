@@ -1,6 +1,5 @@
-use Rattle.std.proofs.Common.{◌≡◌, ◌∷◌, [], take}
-use Rattle.merge_spec.specs.Parts.{named_modules}
-use Rattle.merge_spec.specs.Merged.{by_part_from}
+use Rattle.base_lists.proofs.Common.{◌≡◌, ◌∷◌, [], take}
+use Rattle.merge_spec.specs.Prelude.{named_modules, by_part_from}
 use Rattle.merge_join.specs.Spaces.{imported_in}
 use Rattle.merge_join.proofs.spaces.imported_of.Given as goal
 

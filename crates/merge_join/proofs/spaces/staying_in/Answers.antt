@@ -1,8 +1,7 @@
-use Rattle.std.proofs.Common.{◌≡◌, ◌∙◌, sym, ap, ◌+◌, ◌<◌, ◌++◌, ◌∷◌, [], length, map, cond, Some, None, Bool, arith}
-use Rattle.std.proofs.lemmas.List.{map_push}
-use Rattle.wasm_tree.specs.declared.module.Module.{Module}
-use Rattle.wasm_meaning.specs.Linking.{sites_in}
-use Rattle.merge_spec.specs.Parts.{named_modules}
+use Rattle.base_lists.proofs.Common.{◌≡◌, ◌∙◌, sym, ap, ◌+◌, ◌<◌, ◌++◌, ◌∷◌, [], length, map, cond, Some, None, Bool, arith, map_push}
+use Rattle.wasm_tree_spec.specs.Prelude.{Module}
+use Rattle.wasm_meaning.specs.Prelude.{sites_in}
+use Rattle.merge_spec.specs.Prelude.{named_modules}
 use Rattle.merge_join.specs.LinkedParts.{site}
 use Rattle.merge_join.specs.Spaces.{staying_place, picked, count_before}
 use Rattle.merge_join.proofs.Counts.{count_more, count_part, count_few, staying_few}

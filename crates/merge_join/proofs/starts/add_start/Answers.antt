@@ -1,7 +1,5 @@
-use Rattle.std.proofs.Common.{◌≡◌, ◌∙◌, sym, ap, ◌++◌, ◌∷◌, [], length, arith, Some}
-use Rattle.std.specs.Prelude.{slice_index}
-use Rattle.merge_spec.specs.Parts.{named_modules}
-use Rattle.merge_spec.specs.Merged.{start_of}
+use Rattle.base_lists.proofs.Common.{◌≡◌, ◌∙◌, sym, ap, ◌++◌, ◌∷◌, [], length, arith, Some, slice_index}
+use Rattle.merge_spec.specs.Prelude.{named_modules, start_of}
 use Rattle.merge_join.proofs.Covering.{start_fits, start_entry}
 use Rattle.merge_join.proofs.Results.{ok_map}
 use Rattle.merge_join.proofs.starts.add_start.Goals as goal

@@ -1,6 +1,5 @@
-use Rattle.std.proofs.Common.{◌≡◌, take}
-use Rattle.merge_spec.specs.Parts.{named_modules}
-use Rattle.merge_spec.specs.Merged.{by_part_from, start_of}
+use Rattle.base_lists.proofs.Common.{◌≡◌, take}
+use Rattle.merge_spec.specs.Prelude.{named_modules, by_part_from, start_of}
 use Rattle.merge_join.proofs.starts.all_starts.Given as goal
 
 abbrev pub invariant-loop-part : goal.invariant-loop-part

@@ -1,5 +1,5 @@
-use Rattle.std.proofs.Common.{◌≡◌, map, take}
-use Rattle.wasm_tree.specs.declared.instr.Instr.TheVariants.{Call}
+use Rattle.base_lists.proofs.Common.{◌≡◌, map, take}
+use Rattle.wasm_tree_spec.specs.Prelude.{Call}
 use Rattle.merge_join.proofs.starts.calls.Given as goal
 
 abbrev pub invariant-loop-start : goal.invariant-loop-start

@@ -1,7 +1,6 @@
-use Rattle.std.proofs.Common.{◌∙◌, ap, ◌++◌}
-use Rattle.wasm_tree.specs.declared.module.Module.{Module}
-use Rattle.merge_spec.specs.Parts.{named_modules}
-use Rattle.merge_spec.specs.Merged.{start_among, start_calls, starts}
+use Rattle.base_lists.proofs.Common.{◌∙◌, ap, ◌++◌}
+use Rattle.wasm_tree_spec.specs.Prelude.{Module}
+use Rattle.merge_spec.specs.Prelude.{named_modules, start_among, start_calls, starts}
 use Rattle.merge_join.proofs.tree.frame_of.Goals as goal
 
 pub returns : goal.returns

@@ -1,13 +1,12 @@
-use Rattle.std.proofs.Common.{◌≡◌, ◌∙◌, sym, ap, inr, refl, arith, length, List, Option, None}
-use Rattle.wasm_tree.specs.declared.module.Module.{Module}
-use Rattle.wasm_meaning.specs.State.{Text}
+use Rattle.base_lists.proofs.Common.{◌≡◌, ◌∙◌, sym, ap, inr, refl, arith, length, List, Option, None}
+use Rattle.wasm_tree_spec.specs.Prelude.{Module}
+use Rattle.wasm_meaning.specs.Prelude.{Text}
 use Rattle.merge_spec.specs.declared.parts.Part as parts
-use Rattle.index_remap.specs.References.{declared}
+use Rattle.index_remap.specs.Prelude.{declared}
 use Rattle.merge_names.specs.declared.mode.Mode.{Mode}
 use Rattle.merge_names.specs.Names as names
-use Rattle.merge_spec.specs.Parts.{named_modules}
-use Rattle.merge_spec.specs.Merged.{all_exports, merged, export_names}
-use Rattle.merge_spec.specs.Joined.{joined_module, repeated_name}
+use Rattle.merge_spec.specs.Prelude.{named_modules, all_exports, merged, export_names, repeated_name}
+use Rattle.merge_spec.specs.Joined.{joined_module}
 use Rattle.module_limits.specs.Counts.{over_limit}
 use Rattle.merge_join.proofs.Outcomes.{many_is, module_is}
 use Rattle.merge_join.proofs.Undropped.{none_undeclared}

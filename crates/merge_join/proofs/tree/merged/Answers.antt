@@ -1,9 +1,8 @@
-use Rattle.std.proofs.Common.{◌≡◌, ◌∙◌, sym, subst, ◌<◌, ◌^◌, length, List, Option}
-use Rattle.wasm_tree.specs.declared.module.Module.{Module}
-use Rattle.wasm_tree.specs.Spaces.{funcs_of}
-use Rattle.wasm_meaning.specs.State.{Text}
+use Rattle.base_lists.proofs.Common.{◌≡◌, ◌∙◌, sym, subst, ◌<◌, ◌^◌, length, List, Option}
+use Rattle.wasm_tree_spec.specs.Prelude.{Module, funcs_of}
+use Rattle.wasm_meaning.specs.Prelude.{Text}
 use Rattle.merge_spec.specs.declared.parts.Part.{Part}
-use Rattle.merge_spec.specs.Parts.{named_modules}
+use Rattle.merge_spec.specs.Prelude.{named_modules}
 use Rattle.merge_join.specs.declared.tree.Plan.{Plan}
 use Rattle.merge_join.specs.Moved.{AreAllValues}
 use Rattle.merge_join.specs.Planned.{IsPlan}

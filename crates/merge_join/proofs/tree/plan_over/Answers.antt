@@ -1,6 +1,6 @@
-use Rattle.std.proofs.Common.{arith}
-use Rattle.wasm_tree.specs.declared.space.Space.TheVariants.{Types}
-use Rattle.merge_spec.specs.Parts.{named_modules}
+use Rattle.base_lists.proofs.Common.{arith}
+use Rattle.wasm_tree_spec.specs.Prelude.{Types}
+use Rattle.merge_spec.specs.Prelude.{named_modules}
 use Rattle.merge_join.proofs.Counts.{types_count}
 use Rattle.merge_join.proofs.tree.plan_over.Goals as goal
 

@@ -1,7 +1,6 @@
-use Rattle.std.proofs.Common.{◌≡◌, ◌∙◌, sym, ap, ◌∷◌, ◌++◌, [], is_some, cond, Some, length}
+use Rattle.base_lists.proofs.Common.{◌≡◌, ◌∙◌, sym, ap, ◌∷◌, ◌++◌, [], is_some, cond, Some, length, bytes_eq}
 use Rattle.std.specs.BTreeMap.{get_by_text}
-use Rattle.std.specs.Str.{bytes_eq}
-use Rattle.wasm_meaning.specs.Linking.{first_place}
+use Rattle.wasm_meaning.specs.Prelude.{first_place}
 use Rattle.merge_join.specs.Texts.{text_of_type}
 use Rattle.merge_join.proofs.Interning.{known_type, new_type, new_place, has_text}
 use Rattle.merge_join.proofs.Results.{ok_map, ok_always}

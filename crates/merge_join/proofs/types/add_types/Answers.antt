@@ -1,6 +1,5 @@
-use Rattle.std.proofs.Common.{◌∙◌, sym, ap, ◌++◌, ◌∷◌, [], length, take, arith}
-use Rattle.std.proofs.lemmas.List.{take_more, length-take-le}
-use Rattle.merge_spec.specs.Merged.{with_types, with_type}
+use Rattle.base_lists.proofs.Common.{◌∙◌, sym, ap, ◌++◌, ◌∷◌, [], length, take, arith, take_more, length-take-le}
+use Rattle.merge_spec.specs.Prelude.{with_types, with_type}
 use Rattle.merge_join.proofs.Interning.{with_types_push, with_types_length}
 use Rattle.merge_join.proofs.types.add_types.Goals as goal
 

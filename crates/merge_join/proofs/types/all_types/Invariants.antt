@@ -1,6 +1,5 @@
-use Rattle.std.proofs.Common.{◌≡◌, [], take}
-use Rattle.merge_spec.specs.Parts.{named_modules}
-use Rattle.merge_spec.specs.Merged.{by_part_from, with_types}
+use Rattle.base_lists.proofs.Common.{◌≡◌, [], take}
+use Rattle.merge_spec.specs.Prelude.{named_modules, by_part_from, with_types}
 use Rattle.merge_join.specs.Types.{ArePlaces}
 use Rattle.merge_join.proofs.types.all_types.Given as goal
 

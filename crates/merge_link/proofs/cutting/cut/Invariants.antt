@@ -1,7 +1,6 @@
-use Rattle.std.proofs.Common.{drop, ◌++◌, ◌≡◌}
-use Rattle.merge_spec.specs.Parts.{named_modules}
-use Rattle.merge_link.specs.Cutting.{cut_by, import_counts}
-use Rattle.merge_link.specs.Tables.{imports_before}
+use Rattle.base_lists.proofs.Common.{drop, ◌++◌, ◌≡◌}
+use Rattle.merge_spec.specs.Prelude.{named_modules}
+use Rattle.merge_link.specs.Prelude.{cut_by, import_counts, imports_before}
 use Rattle.merge_link.proofs.cutting.cut.Given as goal
 
 abbrev pub invariant-loop-part : goal.invariant-loop-part

@@ -1,6 +1,4 @@
-use Rattle.std.proofs.Common.{◌∙◌, sym, ap, ◌++◌, ◌∷◌, [], List, Option, Some, None, map, take, arith}
-use Rattle.std.proofs.lemmas.Option.{slice_get-get_or}
-use Rattle.std.proofs.lemmas.List.{take_more, map_push}
+use Rattle.base_lists.proofs.Common.{◌∙◌, sym, ap, ◌++◌, ◌∷◌, [], List, Option, Some, None, map, take, arith, slice_get-get_or, take_more, map_push}
 use Rattle.merge_link.specs.declared.part_tables.Ending.{Ending}
 use Rattle.merge_link.proofs.matching.known_ends.Goals as goal
 use Rattle.merge_link.proofs.matching.known_ends.Goals.{in-None, in-Some+in_ok-push-in-Some}

@@ -1,11 +1,8 @@
-use Rattle.std.proofs.Common.{◌≡◌, ◌∙◌, ◌<◌, ◌^◌, ap, sym, subst, List, length, arith}
-use Rattle.std.proofs.lemmas.List.{length-map}
-use Rattle.wasm_tree.specs.declared.space.Space.TheVariants.{Globals}
-use Rattle.wasm_meaning.specs.Linking.{sites}
-use Rattle.wasm_meaning.specs.World.{defined_before}
+use Rattle.base_lists.proofs.Common.{◌≡◌, ◌∙◌, ◌<◌, ◌^◌, ap, sym, subst, List, length, arith, length-map}
+use Rattle.wasm_tree_spec.specs.Prelude.{Globals}
+use Rattle.wasm_meaning.specs.Prelude.{sites, defined_before}
 use Rattle.merge_spec.specs.declared.parts.Part.{Part}
-use Rattle.merge_spec.specs.Faults.{defined_globals}
-use Rattle.merge_spec.specs.Parts.{named_module, named_modules}
+use Rattle.merge_spec.specs.Prelude.{defined_globals, named_module, named_modules}
 use Rattle.merge_link.proofs.Whole.{own_count}
 use Rattle.merge_link.proofs.resolving.resolve.Goals as goal
 

@@ -1,5 +1,4 @@
-use Rattle.std.proofs.Common.{◌≡◌, ◌∙◌, ap, sym, refl, suc, ◌∷◌, ◌-◌, drop, arith}
-use Rattle.std.proofs.lemmas.Map.Text.{btree_map_updates_str}
+use Rattle.base_lists.proofs.Common.{◌≡◌, ◌∙◌, ap, sym, refl, suc, ◌∷◌, ◌-◌, drop, arith, btree_map_updates_str}
 use Rattle.merge_spec.specs.declared.parts.Part.{Part}
 use Rattle.merge_link.proofs.Places.{one_back, named_step}
 use Rattle.merge_link.proofs.tables.all_names.Goals as goal

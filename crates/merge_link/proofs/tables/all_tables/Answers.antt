@@ -1,13 +1,12 @@
-use Rattle.std.proofs.Common.{rules, ◌≡◌, ◌∙◌, ap, sym, refl, subst, ℕ, suc, ◌+◌, length, arith, Some}
-use Rattle.wasm_tree.specs.declared.space.Space.TheVariants.{Globals}
+use Rattle.base_lists.proofs.Common.{rules, ◌≡◌, ◌∙◌, ap, sym, refl, subst, ℕ, suc, ◌+◌, length, arith, Some, slice_get_read}
+use Rattle.wasm_tree_spec.specs.Prelude.{Globals}
 use Rattle.std.specs.Option.{option_map}
-use Rattle.std.proofs.lemmas.Option.{slice_get_read}
 use Rattle.wasm_meaning.specs.Linking as linking
-use Rattle.wasm_meaning.specs.World.{defined_before}
+use Rattle.wasm_meaning.specs.Prelude.{defined_before}
 use Rattle.merge_spec.specs.declared.parts.Part.{Part}
 use Rattle.merge_spec.specs.Faults.{defined_globals}
-use Rattle.merge_spec.specs.Parts.{named_modules}
-use Rattle.merge_link.specs.Tables.{IsTableOf, imports_before}
+use Rattle.merge_spec.specs.Prelude.{named_modules}
+use Rattle.merge_link.specs.Prelude.{IsTableOf, imports_before}
 use Rattle.merge_link.proofs.Places.{module_named, nothing_at}
 use Rattle.merge_link.proofs.Numbers.{imports_none, globals_none, imports_more, globals_more, imports_most, globals_most}
 use Rattle.merge_link.proofs.TablesMore.{tables_more}

@@ -1,11 +1,10 @@
-use Rattle.std.proofs.Common.{length, Some, slice_get, ℕ, ◌≡◌}
-use Rattle.wasm_tree.specs.declared.space.Space.TheVariants.{Globals}
-use Rattle.wasm_tree.specs.declared.module.Module.{Module}
+use Rattle.base_lists.proofs.Common.{length, Some, slice_get, ℕ, ◌≡◌}
+use Rattle.wasm_tree_spec.specs.Prelude.{Globals, Module}
 use Rattle.wasm_meaning.specs.Linking as linking
-use Rattle.wasm_meaning.specs.World.{defined_before}
-use Rattle.merge_spec.specs.Parts.{named_modules}
+use Rattle.wasm_meaning.specs.Prelude.{defined_before}
+use Rattle.merge_spec.specs.Prelude.{named_modules}
 use Rattle.merge_link.specs.declared.tables.Table.{Table}
-use Rattle.merge_link.specs.Tables.{IsTableOf, imports_before}
+use Rattle.merge_link.specs.Prelude.{IsTableOf, imports_before}
 use Rattle.merge_link.proofs.tables.all_tables.Given as goal
 
 abbrev pub invariant-loop-part : goal.invariant-loop-part

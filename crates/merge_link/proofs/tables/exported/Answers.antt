@@ -1,5 +1,4 @@
-use Rattle.std.proofs.Common.{◌≡◌, ◌∷◌, ◌-◌, refl, drop, arith}
-use Rattle.std.proofs.lemmas.Map.Text.{btree_map_updates_str}
+use Rattle.base_lists.proofs.Common.{◌≡◌, ◌∷◌, ◌-◌, refl, drop, arith, btree_map_updates_str}
 use Rattle.merge_link.proofs.Places.{one_back, exported_step}
 use Rattle.merge_link.proofs.tables.exported.Goals as goal
 

@@ -1,7 +1,4 @@
-use Rattle.std.proofs.Common.{drop, List, ℕ, ◌≡◌}
-use Rattle.std.specs.BTreeMap.{get_by}
-use Rattle.std.specs.Ordering.{nat_cmp}
-use Rattle.std.specs.Cmp.Lexicographic.{slice_cmp}
+use Rattle.base_lists.proofs.Common.{drop, List, ℕ, ◌≡◌, get_by, nat_cmp, slice_cmp}
 use Rattle.wasm_meaning.specs.Linking as linking
 use Rattle.merge_link.proofs.tables.exported.Given as goal
 

@@ -1,5 +1,5 @@
-use Rattle.std.proofs.Common.{rules, ◌≡◌, ◌∙◌, ap, sym, subst, ℕ, ◌<◌, ◌+◌, length, arith, List, Some, slice_get}
-use Rattle.wasm_tree.specs.declared.space.Space.TheVariants.{Globals}
+use Rattle.base_lists.proofs.Common.{rules, ◌≡◌, ◌∙◌, ap, sym, subst, ℕ, ◌<◌, ◌+◌, length, arith, List, Some, slice_get}
+use Rattle.wasm_tree_spec.specs.Prelude.{Globals}
 use Rattle.wasm_meaning.specs.Linking as linking
 use Rattle.merge_link.proofs.Places.{space_zero, space_more, space_same, grown}
 use Rattle.merge_link.proofs.tables.global_indices.Goals as goal

@@ -1,5 +1,5 @@
-use Rattle.std.proofs.Common.{length, Some, slice_get, ℕ, ◌<◌, ◌≤◌, ◌≡◌}
-use Rattle.wasm_tree.specs.declared.space.Space.TheVariants.{Globals}
+use Rattle.base_lists.proofs.Common.{length, Some, slice_get, ℕ, ◌<◌, ◌≤◌, ◌≡◌}
+use Rattle.wasm_tree_spec.specs.Prelude.{Globals}
 use Rattle.wasm_meaning.specs.Linking as linking
 use Rattle.merge_link.proofs.tables.global_indices.Given as goal
 

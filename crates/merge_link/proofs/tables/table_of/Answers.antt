@@ -1,6 +1,5 @@
-use Rattle.std.proofs.Common.{◌∙◌, ap, refl, subst}
-use Rattle.wasm_tree.specs.declared.space.Space.{Space}
-use Rattle.wasm_tree.specs.declared.space.Space.TheVariants.{Functions, Tables, Memories, Globals}
+use Rattle.base_lists.proofs.Common.{◌∙◌, ap, refl, subst}
+use Rattle.wasm_tree_spec.specs.Prelude.{Space, Functions, Tables, Memories, Globals}
 use Rattle.wasm_meaning.specs.Linking as linking
 use Rattle.merge_link.specs.declared.tables.Table.{Table}
 use Rattle.merge_link.specs.Tables.{AreIndices}

@@ -1,6 +1,4 @@
-use Rattle.std.proofs.Common.{◌≡◌, ◌∙◌, ◌+◌, ◌++◌, ◌∷◌, [], sym, ap, Bool, true, false, cond, Some, slice_get, take, drop, arith}
-use Rattle.std.specs.Str.{bytes_eq}
-use Rattle.std.proofs.lemmas.List.{length-map}
+use Rattle.base_lists.proofs.Common.{◌≡◌, ◌∙◌, ◌+◌, ◌++◌, ◌∷◌, [], sym, ap, Bool, true, false, cond, Some, slice_get, take, drop, arith, bytes_eq, length-map}
 use Rattle.merge_names.specs.Names.{among, conflict_behind}
 use Rattle.merge_names.specs.Given.{texts}
 use Rattle.merge_names.proofs.Among.{among_next}

@@ -1,7 +1,5 @@
-use Rattle.std.proofs.Common.{◌≡◌, ◌∙◌, ap, is_some, Option, Some, Bool, true, false, cond, refl}
+use Rattle.base_lists.proofs.Common.{◌≡◌, ◌∙◌, ap, is_some, Option, Some, Bool, true, false, cond, refl, bytes_eq, hash_map_updates_str}
 use Rattle.std.specs.HashMap.{get_by}
-use Rattle.std.specs.Str.{bytes_eq}
-use Rattle.std.proofs.lemmas.Map.Text.{hash_map_updates_str}
 use Rattle.merge_names.proofs.keeping.comes_again.Goals as goal
 
 some_of : (b : Bool) (o : Option (Unit {0})) → is_some (cond b (Some tt) o) ≡ cond b true (is_some o)

@@ -1,6 +1,4 @@
-use Rattle.std.proofs.Common.{◌≡◌, ◌∙◌, sym, ap, ◌+◌, ◌++◌, ◌∷◌, [], Bool, true, cond, List, ℕ, Option, Some, None, slice_get, take, drop, arith, append_assoc, append-nil}
-use Rattle.std.specs.Str.{bytes_eq}
-use Rattle.std.proofs.lemmas.List.{length-map}
+use Rattle.base_lists.proofs.Common.{◌≡◌, ◌∙◌, sym, ap, ◌+◌, ◌++◌, ◌∷◌, [], Bool, true, cond, List, ℕ, Option, Some, None, slice_get, take, drop, arith, append_assoc, append-nil, bytes_eq, length-map}
 use Rattle.merge_names.specs.Names.{among, kept_behind}
 use Rattle.merge_names.specs.Given.{texts}
 use Rattle.merge_names.proofs.Among.{among_next}

@@ -1,6 +1,5 @@
-use Rattle.std.proofs.Common.{◌≡◌, ◌++◌, [], ℕ, List, take, drop, is_some}
+use Rattle.base_lists.proofs.Common.{◌≡◌, ◌++◌, [], ℕ, List, take, drop, is_some, bytes_eq}
 use Rattle.std.specs.HashMap.{get_by}
-use Rattle.std.specs.Str.{bytes_eq}
 use Rattle.merge_names.specs.Names.{among, kept_behind}
 use Rattle.merge_names.specs.Given.{texts}
 use Rattle.merge_names.proofs.keeping.kept.Given as goal

@@ -1,6 +1,4 @@
-use Rattle.std.proofs.Common.{rules, ◌≡◌, ◌∙◌, sym, ap, inl, inr, ℕ, ◌<◌, ◌+◌, ◌^◌, true, arith}
-use Rattle.std.specs.BTreeSet.{contains_text}
-use Rattle.std.proofs.lemmas.Bool.{cases_eq}
+use Rattle.base_lists.proofs.Common.{rules, ◌≡◌, ◌∙◌, sym, ap, inl, inr, ℕ, ◌<◌, ◌+◌, ◌^◌, true, arith, contains_text, cases_eq}
 use Rattle.merge_names.specs.Names.{numbered}
 use Rattle.merge_names.proofs.Few.{few_held}
 use Rattle.merge_names.proofs.renaming.least_free.Goals as goal

@@ -1,5 +1,4 @@
-use Rattle.std.proofs.Common.{◌≡◌, ℕ, ◌<◌, ◌≤◌, ◌+◌, ◌-◌, true}
-use Rattle.std.specs.BTreeSet.{contains_text, btree_set_len}
+use Rattle.base_lists.proofs.Common.{◌≡◌, ℕ, ◌<◌, ◌≤◌, ◌+◌, ◌-◌, true, contains_text, btree_set_len}
 use Rattle.merge_names.specs.Names.{numbered}
 use Rattle.merge_names.proofs.renaming.least_free.Given as goal
 

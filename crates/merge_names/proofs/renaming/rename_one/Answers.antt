@@ -1,8 +1,6 @@
-use Rattle.std.proofs.Common.{◌≡◌, ◌∙◌, sym, ap, refl, ℕ, Some, None, true, cond, List, string_bytes}
-use Rattle.std.specs.BTreeSet.{contains_text}
+use Rattle.base_lists.proofs.Common.{◌≡◌, ◌∙◌, sym, ap, refl, ℕ, Some, None, true, cond, List, string_bytes, contains_text, bytes_eq, hash_map_updates_str}
 use Rattle.std.specs.HashMap.{get_by}
-use Rattle.std.specs.Str.{bytes_eq}
-use Rattle.std.proofs.lemmas.Map.Text.{hash_map_updates_str, btree_set_updates_text}
+use Rattle.std.proofs.lemmas.Map.Text.{btree_set_updates_text}
 use Rattle.merge_names.specs.Chosen.IsChosen.{first, again}
 use Rattle.merge_names.proofs.renaming.rename_one.Goals as goal
 

@@ -1,8 +1,5 @@
-use Rattle.std.proofs.Common.{◌≡◌, ◌∙◌, sym, ap, subst, ◌++◌, ◌∷◌, [], ℕ, List, ◌+◌, Some, map, take, slice_get, arith}
-use Rattle.std.specs.BTreeSet.{contains_text}
+use Rattle.base_lists.proofs.Common.{◌≡◌, ◌∙◌, sym, ap, subst, ◌++◌, ◌∷◌, [], ℕ, List, ◌+◌, Some, map, take, slice_get, arith, contains_text, bytes_eq, map_push, length-map, take_all}
 use Rattle.std.specs.HashMap.{get_by}
-use Rattle.std.specs.Str.{bytes_eq}
-use Rattle.std.proofs.lemmas.List.{map_push, length-map, take_all}
 use Rattle.merge_names.specs.Names.{renamed}
 use Rattle.merge_names.specs.Given.{texts}
 use Rattle.merge_names.proofs.Coming.{HasCome, come_on, next_is}

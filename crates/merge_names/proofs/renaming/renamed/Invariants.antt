@@ -1,7 +1,5 @@
-use Rattle.std.proofs.Common.{◌≡◌, ◌≤◌, ◌+◌, map, take, length, Some}
-use Rattle.std.specs.BTreeSet.{contains_text, btree_set_len}
+use Rattle.base_lists.proofs.Common.{◌≡◌, ◌≤◌, ◌+◌, map, take, length, Some, contains_text, btree_set_len, bytes_eq}
 use Rattle.std.specs.HashMap.{get_by}
-use Rattle.std.specs.Str.{bytes_eq}
 use Rattle.merge_names.specs.Names.{renamed}
 use Rattle.merge_names.specs.Given.{texts}
 use Rattle.merge_names.proofs.Coming.{HasCome}

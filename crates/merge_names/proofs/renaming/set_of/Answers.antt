@@ -1,7 +1,5 @@
-use Rattle.std.proofs.Common.{◌≡◌, ◌∙◌, sym, ap, ◌+◌, ◌≤◌, ℕ, List, Bool, true, false, cond, take, string_bytes, arith}
-use Rattle.std.specs.Str.{bytes_eq}
+use Rattle.base_lists.proofs.Common.{◌≡◌, ◌∙◌, sym, ap, ◌+◌, ◌≤◌, ℕ, List, Bool, true, false, cond, take, string_bytes, arith, bytes_eq, length-map, take_all}
 use Rattle.std.proofs.lemmas.Map.Text.{btree_set_updates_text}
-use Rattle.std.proofs.lemmas.List.{length-map, take_all}
 use Rattle.merge_names.specs.Names.{among}
 use Rattle.merge_names.specs.Given.{texts}
 use Rattle.merge_names.proofs.Among.{among_next}

@@ -1,5 +1,4 @@
-use Rattle.std.proofs.Common.{◌≡◌, ◌≤◌, ℕ, List, take}
-use Rattle.std.specs.BTreeSet.{contains_text, btree_set_len}
+use Rattle.base_lists.proofs.Common.{◌≡◌, ◌≤◌, ℕ, List, take, contains_text, btree_set_len}
 use Rattle.merge_names.specs.Names.{among}
 use Rattle.merge_names.specs.Given.{texts}
 use Rattle.merge_names.proofs.renaming.set_of.Given as goal

@@ -1,5 +1,4 @@
-use Rattle.std.proofs.Common.{take, [], ◌∷◌, ◌++◌, sym, ap, ◌∙◌, subst, refl}
-use Rattle.std.proofs.lemmas.List.{take_more}
+use Rattle.base_lists.proofs.Common.{take, [], ◌∷◌, ◌++◌, sym, ap, ◌∙◌, subst, refl, take_more}
 use Rattle.split_plan.specs.Looking.{AreMarks, held_of, fault_in}
 use Rattle.split_plan.proofs.Firsts.{goes_on}
 use Rattle.split_plan.proofs.Marks.{one_more_mark}

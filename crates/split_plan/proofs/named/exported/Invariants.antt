@@ -1,5 +1,4 @@
-use Rattle.std.proofs.Common.{◌≡◌, drop, ℕ, List}
-use Rattle.std.specs.Prelude.{option_map}
+use Rattle.base_lists.proofs.Common.{◌≡◌, drop, ℕ, List, option_map}
 use Rattle.split_plan.specs.declared.named.Named.TheVariants.{Exported}
 use Rattle.split_plan.specs.Words.{exported_among}
 use Rattle.split_plan.specs.Looking.{held_of}

@@ -1,7 +1,4 @@
-use Rattle.std.proofs.Common.{◌≡◌, ◌≤◌, ◌++◌, ◌∙◌, length, take, drop, set, slice_get, Some, true, arith, ap}
-use Rattle.std.specs.List.{flat_map}
-use Rattle.std.proofs.lemmas.List.{length-map}
-use Rattle.base_lists.proofs.Walk.{part_at, part_more, none_past}
+use Rattle.base_lists.proofs.Common.{◌≡◌, ◌≤◌, ◌++◌, ◌∙◌, length, take, drop, set, slice_get, Some, true, arith, ap, flat_map, length-map, part_at, part_more, none_past}
 use Rattle.split_slots.specs.Replacing.{code_here, code_of_call, is_spread, settled}
 use Rattle.split_slots.proofs.Replaced.{all_settled, none_more, part_all, part_item, spread_behind}
 use Rattle.split_slots.proofs.calls.+replace.Goals as goal

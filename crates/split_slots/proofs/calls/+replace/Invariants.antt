@@ -1,6 +1,5 @@
-use Rattle.std.proofs.Common.{◌≡◌, ◌≤◌, ℕ, ◌<◌, false, length, slice_get, Some}
-use Rattle.base_lists.proofs.Walk.{part}
-use Rattle.wasm_tree.specs.declared.instr.Instr.{Instr}
+use Rattle.base_lists.proofs.Common.{◌≡◌, ◌≤◌, ℕ, ◌<◌, false, length, slice_get, Some, part}
+use Rattle.wasm_tree_spec.specs.Prelude.{Instr}
 use Rattle.split_slots.specs.Replacing.{is_spread, settled}
 use Rattle.split_slots.proofs.calls.+replace.Given as goal
 

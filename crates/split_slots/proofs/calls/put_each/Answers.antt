@@ -1,6 +1,5 @@
-use Rattle.std.proofs.Common.{◌≡◌, ◌++◌, ◌∙◌, set, slice_get, Some, arith, ap}
-use Rattle.wasm_tree.specs.declared.instr.Instr.TheVariants.{Nop}
-use Rattle.base_lists.proofs.Walk.{part_at, part_more, none_past}
+use Rattle.base_lists.proofs.Common.{◌≡◌, ◌++◌, ◌∙◌, set, slice_get, Some, arith, ap, part_at, part_more, none_past}
+use Rattle.wasm_tree_spec.specs.Prelude.{Nop}
 use Rattle.split_slots.specs.Replacing.{code_here, code_of_call}
 use Rattle.split_slots.proofs.Replaced.{given_more, part_item}
 use Rattle.split_slots.proofs.calls.put_each.Goals as goal

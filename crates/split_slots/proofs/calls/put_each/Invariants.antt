@@ -1,7 +1,5 @@
-use Rattle.std.proofs.Common.{◌≡◌, ◌++◌, take}
-use Rattle.std.specs.List.{flat_map}
-use Rattle.base_lists.proofs.Walk.{part}
-use Rattle.wasm_tree.specs.declared.instr.Instr.TheVariants.{Nop}
+use Rattle.base_lists.proofs.Common.{◌≡◌, ◌++◌, take, flat_map, part}
+use Rattle.wasm_tree_spec.specs.Prelude.{Nop}
 use Rattle.split_slots.specs.Replacing.{code_here, code_of_call}
 use Rattle.split_slots.proofs.calls.put_each.Given as goal
 

@@ -1,5 +1,5 @@
-use Rattle.std.proofs.Common.{ap, refl, subst, ◌∙◌, ◌≡◌, IfOk, arith, length, map}
-use Rattle.wasm_tree.specs.declared.module.Module.{Module}
+use Rattle.base_lists.proofs.Common.{ap, refl, subst, ◌∙◌, ◌≡◌, IfOk, arith, length, map}
+use Rattle.wasm_tree_spec.specs.Prelude.{Module}
 use Rattle.split_slots.specs.declared.calls.Calls.{Calls}
 use Rattle.split_slots.specs.declared.drafting.Draft.{Draft}
 use Rattle.split_slots.specs.PartedTrees.{own_func}

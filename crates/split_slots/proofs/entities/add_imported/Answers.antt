@@ -1,5 +1,4 @@
-use Rattle.std.proofs.Common.{[], ◌++◌, append_assoc, ap, sym, ◌∙◌}
-use Rattle.std.specs.List.{cons_option}
+use Rattle.base_lists.proofs.Common.{[], ◌++◌, append_assoc, ap, sym, ◌∙◌, cons_option}
 use Rattle.split_slots.specs.Described.{desc_in}
 use Rattle.split_slots.proofs.Describing.{described_more}
 use Rattle.split_slots.proofs.entities.add_imported.Goals as goal

@@ -1,5 +1,4 @@
-use Rattle.std.proofs.Common.{◌≡◌, drop}
-use Rattle.std.specs.Str.{bytes_eq}
+use Rattle.base_lists.proofs.Common.{◌≡◌, drop, bytes_eq}
 use Rattle.base_lists.specs.Places.{first_place}
 use Rattle.split_slots.proofs.faults.namespace_taken.Given as goal
 

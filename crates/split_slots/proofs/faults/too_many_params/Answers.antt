@@ -1,7 +1,5 @@
-use Rattle.std.proofs.Common.{◌≤◌, ℕ, [], arith, length, map, slice_get, sym, ◌∙◌}
-use Rattle.std.specs.Prelude.{nat_lt, option_and_then, sum}
-use Rattle.std.specs.Option.{option_map_or}
-use Rattle.std.proofs.lemmas.Bool.{le-ltb}
+use Rattle.base_lists.proofs.Common.{◌≤◌, ℕ, [], arith, length, map, slice_get, sym, ◌∙◌, nat_lt, option_and_then, option_map_or, le-ltb}
+use Rattle.std.specs.Prelude.{sum}
 use Rattle.std.proofs.lemmas.List.{at_drop_all}
 use Rattle.split_slots.proofs.faults.too_many_params.Goals as goal
 

@@ -1,8 +1,6 @@
-use Rattle.std.proofs.Common.{◌≡◌, [], drop, length, map, slice_get}
-use Rattle.std.specs.Prelude.{nat_lt, option_and_then, sum}
-use Rattle.std.specs.Option.{option_map_or}
-use Rattle.wasm_tree.specs.Limits.{limit}
-use Rattle.wasm_tree.specs.declared.which.Which.TheVariants.{Trampolines}
+use Rattle.base_lists.proofs.Common.{◌≡◌, [], drop, length, map, slice_get, nat_lt, option_and_then, option_map_or}
+use Rattle.std.specs.Prelude.{sum}
+use Rattle.wasm_tree_spec.specs.Prelude.{limit, Trampolines}
 use Rattle.split_slots.proofs.faults.too_many_params.Given as goal
 
 abbrev pub invariant-loop-func : goal.invariant-loop-func

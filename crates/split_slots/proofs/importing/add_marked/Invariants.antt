@@ -1,5 +1,4 @@
-use Rattle.std.proofs.Common.{◌≡◌, ◌++◌, take}
-use Rattle.std.specs.List.{filter_map}
+use Rattle.base_lists.proofs.Common.{◌≡◌, ◌++◌, take, filter_map}
 use Rattle.base_lists.specs.Places.{places}
 use Rattle.split_slots.specs.ImportList.{import_of}
 use Rattle.split_slots.proofs.importing.add_marked.Given as goal

@@ -1,8 +1,5 @@
-use Rattle.std.proofs.Common.{◌++◌, [], append-nil, ap, sym, ◌∙◌}
-use Rattle.std.specs.List.{cons_option}
-use Rattle.std.specs.Prelude.{option_map}
-use Rattle.std.proofs.lemmas.Option.{slice_get_past}
-use Rattle.split_spec.specs.FromPrimary.{name_from_primary}
+use Rattle.base_lists.proofs.Common.{◌++◌, [], append-nil, ap, sym, ◌∙◌, cons_option, option_map, slice_get_past}
+use Rattle.split_spec.specs.Prelude.{name_from_primary}
 use Rattle.split_slots.proofs.importing.add_one.Goals as goal
 
 pub returns-in-None : goal.returns-in-None

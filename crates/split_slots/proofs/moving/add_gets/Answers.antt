@@ -1,5 +1,5 @@
-use Rattle.std.proofs.Common.{◌++◌, ◌∷◌, [], append_assoc, ap, sym, ◌∙◌}
-use Rattle.wasm_tree.specs.declared.instr.Instr.TheVariants.{LocalGet}
+use Rattle.base_lists.proofs.Common.{◌++◌, ◌∷◌, [], append_assoc, ap, sym, ◌∙◌}
+use Rattle.wasm_tree_spec.specs.Prelude.{LocalGet}
 use Rattle.split_slots.proofs.Trampolining.{counted_more}
 use Rattle.split_slots.proofs.moving.add_gets.Goals as goal
 

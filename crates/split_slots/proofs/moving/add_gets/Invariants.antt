@@ -1,6 +1,6 @@
-use Rattle.std.proofs.Common.{◌≡◌, ◌++◌, map}
+use Rattle.base_lists.proofs.Common.{◌≡◌, ◌++◌, map}
 use Rattle.base_lists.specs.Places.{numbers}
-use Rattle.wasm_tree.specs.declared.instr.Instr.TheVariants.{LocalGet}
+use Rattle.wasm_tree_spec.specs.Prelude.{LocalGet}
 use Rattle.split_slots.proofs.moving.add_gets.Given as goal
 
 abbrev pub invariant-loop-local : goal.invariant-loop-local

@@ -1,8 +1,7 @@
-use Rattle.std.proofs.Common.{length, map, ◌++◌, ap, sym, ◌∙◌}
-use Rattle.std.specs.Prelude.{pos}
+use Rattle.base_lists.proofs.Common.{length, map, ◌++◌, ap, sym, ◌∙◌, pos}
 use Rattle.base_lists.specs.Places.{numbers}
-use Rattle.wasm_tree.specs.declared.instr.Instr.TheVariants.{LocalGet}
-use Rattle.index_remap.specs.Trampolines.{slot_call}
+use Rattle.wasm_tree_spec.specs.Prelude.{LocalGet}
+use Rattle.index_remap.specs.Prelude.{slot_call}
 use Rattle.split_slots.proofs.Trampolining.{gets_are}
 use Rattle.split_slots.proofs.moving.trampoline_body.Goals as goal
 

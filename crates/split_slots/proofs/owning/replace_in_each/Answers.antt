@@ -1,5 +1,4 @@
-use Rattle.std.proofs.Common.{◌≡◌, Some, slice_get, set, arith, ap, ◌∙◌}
-use Rattle.base_lists.proofs.Walk.{none_past, part_at, part_more}
+use Rattle.base_lists.proofs.Common.{◌≡◌, Some, slice_get, set, arith, ap, ◌∙◌, none_past, part_at, part_more}
 use Rattle.split_slots.specs.PartedTrees.{own_func}
 use Rattle.split_slots.proofs.owning.replace_in_each.Goals as goal
 use Rattle.split_slots.proofs.owning.replace_in_each.Goals.{in-Some+in_ok-replace_in, in_default}

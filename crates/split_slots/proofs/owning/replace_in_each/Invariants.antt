@@ -1,5 +1,4 @@
-use Rattle.std.proofs.Common.{◌≡◌}
-use Rattle.base_lists.proofs.Walk.{part}
+use Rattle.base_lists.proofs.Common.{◌≡◌, part}
 use Rattle.split_slots.specs.PartedTrees.{own_func}
 use Rattle.split_slots.proofs.owning.replace_in_each.Given as goal
 

@@ -1,5 +1,4 @@
-use Rattle.std.proofs.Common.{◌≡◌, ◌+◌, ◌++◌, ◌∷◌, [], cond, is_some, Some, slice_get, set, arith, ap, ◌∙◌, sym}
-use Rattle.base_lists.proofs.Walk.{none_past}
+use Rattle.base_lists.proofs.Common.{◌≡◌, ◌+◌, ◌++◌, ◌∷◌, [], cond, is_some, Some, slice_get, set, arith, ap, ◌∙◌, sym, none_past}
 use Rattle.split_slots.specs.Looking.{slot_at}
 use Rattle.split_slots.specs.PartedTrees.{parted_func}
 use Rattle.split_slots.proofs.PartedFuncs.{own_more, parted_at, parted_more}

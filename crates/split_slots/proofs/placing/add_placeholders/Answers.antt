@@ -1,6 +1,4 @@
-use Rattle.std.proofs.Common.{arith}
-use Rattle.base_lists.proofs.Each.{every_at}
-use Rattle.base_lists.proofs.Places.{slice_get_there, slice_index_is}
+use Rattle.base_lists.proofs.Common.{arith, every_at, slice_get_there, slice_index_is}
 use Rattle.split_slots.proofs.Placeholders.{one_placeholder}
 use Rattle.split_slots.proofs.placing.add_placeholders.Goals as goal
 

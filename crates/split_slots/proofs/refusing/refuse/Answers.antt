@@ -1,11 +1,6 @@
-use Rattle.std.proofs.Common.{ℕ, List, Option, ap, ap₂, sym, ◌∙◌, arith, length, map, inr}
-use Rattle.std.specs.Prelude.{find}
-use Rattle.std.specs.List.{list_any}
-use Rattle.std.specs.Str.{bytes_eq}
+use Rattle.base_lists.proofs.Common.{ℕ, List, Option, ap, ap₂, sym, ◌∙◌, arith, length, map, inr, find, list_any, bytes_eq}
 use Rattle.base_lists.specs.Places.{first_place}
-use Rattle.wasm_tree.specs.declared.module.Export.{Export}
-use Rattle.wasm_tree.specs.declared.module.Import.{Import}
-use Rattle.wasm_tree.specs.Spaces.{funcs_of}
+use Rattle.wasm_tree_spec.specs.Prelude.{Export, Import, funcs_of}
 use Rattle.split_slots.proofs.FirstFaults.{many_next, namespace_first, none_first, prefix_next}
 use Rattle.split_slots.proofs.NamedOutside.{all_there}
 use Rattle.split_slots.proofs.Premises.{few_ascend}

@@ -1,12 +1,6 @@
-use Rattle.std.proofs.Common.{ℕ, ◌-◌, ◌+◌, ◌||◌, [], List, take, length, slice_get, arith, ap, ap₂, ◌∙◌, subst}
-use Rattle.std.specs.Prelude.{slice_index}
-use Rattle.std.specs.List.{cons_option, list_any}
-use Rattle.wasm_tree.specs.declared.space.Space.{Space}
-use Rattle.wasm_tree.specs.declared.module.Func.{Func}
-use Rattle.base_lists.proofs.Each.{every_at}
-use Rattle.base_lists.proofs.Places.{slice_get_there, slice_index_is}
-use Rattle.split_spec.specs.Slots.{defined_at}
-use Rattle.split_spec.specs.FromPrimary.{entities}
+use Rattle.base_lists.proofs.Common.{ℕ, ◌-◌, ◌+◌, ◌||◌, [], List, take, length, slice_get, arith, ap, ap₂, ◌∙◌, subst, slice_index, cons_option, list_any, every_at, slice_get_there, slice_index_is}
+use Rattle.wasm_tree_spec.specs.Prelude.{Space, Func}
+use Rattle.split_spec.specs.Prelude.{defined_at, entities}
 use Rattle.split_slots.specs.Noting.{Notes, body_names}
 use Rattle.split_slots.proofs.NotingLaws.{all_noted, notes_as, one_func, take_all, then_notes}
 use Rattle.split_slots.proofs.sharing.named_marks.Goals as goal

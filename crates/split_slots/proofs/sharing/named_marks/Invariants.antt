@@ -1,6 +1,5 @@
-use Rattle.std.proofs.Common.{take}
-use Rattle.std.specs.List.{list_any}
-use Rattle.split_spec.specs.Slots.{defined_at}
+use Rattle.base_lists.proofs.Common.{take, list_any}
+use Rattle.split_spec.specs.Prelude.{defined_at}
 use Rattle.split_slots.specs.Noting.{Notes, body_names}
 use Rattle.split_slots.proofs.sharing.named_marks.Given as goal
 

@@ -1,6 +1,5 @@
-use Rattle.std.proofs.Common.{◌||◌, []}
-use Rattle.std.specs.List.{cons_option, list_any}
-use Rattle.wasm_tree.specs.Operands.{listed}
+use Rattle.base_lists.proofs.Common.{◌||◌, [], cons_option, list_any}
+use Rattle.wasm_tree_spec.specs.Prelude.{listed}
 use Rattle.split_slots.specs.Noting.{named_by}
 use Rattle.split_slots.proofs.NotingLaws.{both_listed, notes_as, then_notes}
 use Rattle.split_slots.proofs.sharing.note_operands.Goals as goal

@@ -1,5 +1,4 @@
-use Rattle.std.proofs.Common.{◌∙◌, ap, Some}
-use Rattle.std.specs.Prelude.{slice_set, slice_index}
+use Rattle.base_lists.proofs.Common.{◌∙◌, ap, Some, slice_set, slice_index}
 use Rattle.split_slots.proofs.SlotTables.{no_slots, one_slot}
 use Rattle.split_slots.proofs.slots.slots_of.Goals as goal
 

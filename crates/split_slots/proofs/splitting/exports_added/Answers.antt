@@ -1,8 +1,6 @@
-use Rattle.std.proofs.Common.{ap, ◌∙◌, arith, length}
-use Rattle.std.proofs.lemmas.List.{length-map}
-use Rattle.wasm_tree.specs.Spaces.{funcs_of, globals_of, memories_of, tables_of}
+use Rattle.base_lists.proofs.Common.{ap, ◌∙◌, arith, length, length-map}
+use Rattle.wasm_tree_spec.specs.Prelude.{funcs_of, globals_of, memories_of, tables_of, Functions, Tables, Memories, Globals}
 use Rattle.wasm_tree.specs.declared.module.ImportDesc.TheVariants as im
-use Rattle.wasm_tree.specs.declared.space.Space.TheVariants.{Functions, Tables, Memories, Globals}
 use Rattle.split_slots.specs.ExportList.{exports_by}
 use Rattle.split_slots.proofs.Premises.{many_marks}
 use Rattle.split_slots.proofs.SharedParts.{exports_are}

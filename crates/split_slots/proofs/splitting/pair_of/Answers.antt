@@ -1,7 +1,5 @@
-use Rattle.std.proofs.Common.{◌≡◌, refl, sym, ap, ap₂, subst, ◌∙◌, ◌⊎◌, Option, Some, ℕ, List, [], ◌∷◌}
-use Rattle.std.specs.Prelude.{IfErr, IfOk, option_map}
-use Rattle.std.specs.Option.{option_or}
-use Rattle.wasm_tree.specs.declared.module.Module.{Module}
+use Rattle.base_lists.proofs.Common.{◌≡◌, refl, sym, ap, ap₂, subst, ◌∙◌, ◌⊎◌, Option, Some, ℕ, List, [], ◌∷◌, IfErr, IfOk, option_map, option_or}
+use Rattle.wasm_tree_spec.specs.Prelude.{Module}
 use Rattle.module_limits.specs.Counts.{over_limit}
 use Rattle.split_spec.specs.declared.faults.SplitFault.{SplitFault}
 use Rattle.split_spec.specs.declared.faults.SplitFault.TheVariants.{NoMemory, TooMany}

@@ -1,11 +1,9 @@
-use Rattle.std.proofs.Common.{◌≡◌, ◌<◌, ◌∙◌, ap, sym, subst, arith, length, map}
+use Rattle.base_lists.proofs.Common.{◌≡◌, ◌<◌, ◌∙◌, ap, sym, subst, arith, length, map, length-map, length-numbers}
 use Rattle.base_lists.specs.Every.{Every}
 use Rattle.base_lists.specs.Places.{numbers}
-use Rattle.std.proofs.lemmas.List.{length-map}
-use Rattle.base_lists.proofs.Numbers.{length-numbers}
-use Rattle.wasm_tree.specs.Spaces.{funcs_of}
+use Rattle.wasm_tree_spec.specs.Prelude.{funcs_of}
 use Rattle.wasm_valid.specs.declared.kinds.ItemKind.TheVariants as kind
-use Rattle.split_spec.specs.Slots.{place_among}
+use Rattle.split_spec.specs.Prelude.{place_among}
 use Rattle.split_slots.proofs.LeftFuncs.{left_are}
 use Rattle.split_slots.proofs.NamedOutside.{all_there}
 use Rattle.split_slots.proofs.Premises.{all_defined, few_ascend}

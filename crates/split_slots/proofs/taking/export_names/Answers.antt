@@ -1,7 +1,5 @@
-use Rattle.std.proofs.Common.{◌∙◌, ap, sym, cond, true, is_some, take}
+use Rattle.base_lists.proofs.Common.{◌∙◌, ap, sym, cond, true, is_some, take, list_any, bytes_eq}
 use Rattle.std.specs.HashMap.{get_by}
-use Rattle.std.specs.List.{list_any}
-use Rattle.std.specs.Str.{bytes_eq}
 use Rattle.split_slots.proofs.TakenNames.{any_more, noted_there}
 use Rattle.split_slots.proofs.taking.export_names.Goals as goal
 

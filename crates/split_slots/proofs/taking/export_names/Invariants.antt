@@ -1,7 +1,5 @@
-use Rattle.std.proofs.Common.{◌≡◌, ℕ, List, is_some, take}
+use Rattle.base_lists.proofs.Common.{◌≡◌, ℕ, List, is_some, take, list_any, bytes_eq}
 use Rattle.std.specs.HashMap.{get_by}
-use Rattle.std.specs.List.{list_any}
-use Rattle.std.specs.Str.{bytes_eq}
 use Rattle.split_slots.proofs.taking.export_names.Given as goal
 
 abbrev pub invariant-loop-export : goal.invariant-loop-export

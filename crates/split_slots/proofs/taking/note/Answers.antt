@@ -1,4 +1,4 @@
-use Rattle.std.proofs.lemmas.Map.Text.{hash_map_updates_str}
+use Rattle.base_lists.proofs.Common.{hash_map_updates_str}
 use Rattle.split_slots.proofs.taking.note.Goals as goal
 
 pub returns : goal.returns

@@ -1,6 +1,4 @@
-use Rattle.std.proofs.Common.{◌≡◌, Some, ℕ, List, Bool, true, false, ap, sym, ◌∙◌}
-use Rattle.std.specs.List.{list_any}
-use Rattle.std.specs.Str.{bytes_eq}
+use Rattle.base_lists.proofs.Common.{◌≡◌, Some, ℕ, List, Bool, true, false, ap, sym, ◌∙◌, list_any, bytes_eq}
 use Rattle.split_slots.proofs.TakenNames.{find_more}
 use Rattle.split_slots.proofs.taking.prefix_taken.Goals as goal
 

@@ -1,6 +1,4 @@
-use Rattle.std.proofs.Common.{◌≡◌, ℕ, List, Bool, drop, find, map}
-use Rattle.std.specs.List.{list_any}
-use Rattle.std.specs.Str.{bytes_eq}
+use Rattle.base_lists.proofs.Common.{◌≡◌, ℕ, List, Bool, drop, find, map, list_any, bytes_eq}
 use Rattle.split_slots.proofs.taking.prefix_taken.Given as goal
 
 abbrev pub invariant-loop-export : goal.invariant-loop-export

@@ -1,6 +1,5 @@
-use Rattle.std.proofs.Common.{[], ◌++◌, append_assoc, ap, sym, ◌∙◌}
-use Rattle.std.specs.List.{cons_option}
-use Rattle.wasm_tree.specs.Spaces.{func_of}
+use Rattle.base_lists.proofs.Common.{[], ◌++◌, append_assoc, ap, sym, ◌∙◌, cons_option}
+use Rattle.wasm_tree_spec.specs.Prelude.{func_of}
 use Rattle.split_slots.proofs.ImportedTypes.{imported_more}
 use Rattle.split_slots.proofs.types.add_imported.Goals as goal
 

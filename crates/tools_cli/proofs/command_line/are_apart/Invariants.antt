@@ -1,11 +1,5 @@
-use Rattle.std.proofs.Common.{◌≡◌, ℕ, List, true, take, is_some}
-use Rattle.std.specs.BTreeMap.{get_by}
-use Rattle.std.specs.Cmp.Lexicographic.{slice_cmp}
-use Rattle.std.specs.Ordering.{nat_cmp}
-use Rattle.std.specs.List.{list_any}
-use Rattle.std.specs.Str.{bytes_eq}
-use Rattle.tools_cli.specs.CommandLine.{are_apart}
-use Rattle.tools_cli.specs.Command.{names_of}
+use Rattle.base_lists.proofs.Common.{◌≡◌, ℕ, List, true, take, is_some, get_by, slice_cmp, nat_cmp, list_any, bytes_eq}
+use Rattle.tools_cli.specs.Prelude.{are_apart, names_of}
 use Rattle.tools_cli.proofs.command_line.are_apart.Given as goal
 
 abbrev pub invariant-loop-word : goal.invariant-loop-word

@@ -1,8 +1,7 @@
-use Rattle.std.proofs.Common.{◌≡◌, ◌++◌, option_map}
+use Rattle.base_lists.proofs.Common.{◌≡◌, ◌++◌, option_map}
 use Rattle.std.specs.Slice.Iter.{chunks_rest, chunks_size}
 use Rattle.tools_cli.specs.CommandLine.{sources_of}
-use Rattle.tools_cli.specs.Command.{names_of}
-use Rattle.tools_cli.specs.Sources.{source_values}
+use Rattle.tools_cli.specs.Prelude.{names_of, source_values}
 use Rattle.tools_cli.proofs.command_line.pair.Given as goal
 
 abbrev pub invariant-loop-words : goal.invariant-loop-words

@@ -1,7 +1,6 @@
-use Rattle.std.proofs.Common.{◌≡◌, ◌<◌, true, false, rules, length, Some}
-use Rattle.tools_cli.specs.CommandLine.{are_apart, sources_of}
-use Rattle.tools_cli.specs.Command.{names_of}
-use Rattle.tools_cli.specs.Sources.{source_values, source_names}
+use Rattle.base_lists.proofs.Common.{◌≡◌, ◌<◌, true, false, rules, length, Some}
+use Rattle.tools_cli.specs.Prelude.{are_apart, names_of, source_values, source_names}
+use Rattle.tools_cli.specs.CommandLine.{sources_of}
 use Rattle.tools_cli.proofs.Lines.{sources_apart, sources_not_apart}
 use Rattle.tools_cli.proofs.command_line.some_apart.Goals as goal
 

@@ -1,6 +1,5 @@
-use Rattle.std.proofs.Common.{◌≡◌, take}
-use Rattle.tools_cli.specs.Command.{names_of}
-use Rattle.tools_cli.specs.Sources.{source_names}
+use Rattle.base_lists.proofs.Common.{◌≡◌, take}
+use Rattle.tools_cli.specs.Prelude.{names_of, source_names}
 use Rattle.tools_cli.proofs.command_line.source_names.Given as goal
 
 abbrev pub invariant-loop-source : goal.invariant-loop-source

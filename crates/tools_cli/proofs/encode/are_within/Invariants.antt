@@ -1,7 +1,5 @@
-use Rattle.std.proofs.Common.{◌≡◌, drop}
-use Rattle.std.specs.List.{list_all}
-use Rattle.tools_cli.specs.Job.{is_within}
-use Rattle.tools_cli.specs.Command.{output_values}
+use Rattle.base_lists.proofs.Common.{◌≡◌, drop, list_all}
+use Rattle.tools_cli.specs.Prelude.{is_within, output_values}
 use Rattle.tools_cli.proofs.encode.are_within.Given as goal
 
 abbrev pub invariant-loop-output : goal.invariant-loop-output

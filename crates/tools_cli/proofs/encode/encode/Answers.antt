@@ -1,8 +1,5 @@
-use Rattle.std.proofs.Common.{◌≡◌, ◌∙◌, ap, sym, true, false, rules, cond, map, List}
-use Rattle.std.specs.List.{list_all}
-use Rattle.tools_cli.specs.Effects.{Entry}
-use Rattle.tools_cli.specs.Command.{output_values}
-use Rattle.tools_cli.specs.Job.{Done, Refused, is_within, spelled_output}
+use Rattle.base_lists.proofs.Common.{◌≡◌, ◌∙◌, ap, sym, true, false, rules, cond, map, List, list_all}
+use Rattle.tools_cli.specs.Prelude.{Entry, output_values, Done, Refused, is_within, spelled_output}
 use Rattle.tools_cli.specs.Texts.{too_many}
 use Rattle.wasm_tree.specs.declared.which.Which.TheVariants.{OutputBytes}
 use Rattle.tools_cli.proofs.encode.encode.Goals as goal

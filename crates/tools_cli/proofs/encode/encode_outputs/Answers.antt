@@ -1,5 +1,4 @@
-use Rattle.std.proofs.Common.{◌≡◌, ◌++◌, ◌∷◌, [], rules, length}
-use Rattle.std.specs.Vec.Iter.{into_iter_items}
+use Rattle.base_lists.proofs.Common.{◌≡◌, ◌++◌, ◌∷◌, [], rules, length, into_iter_items}
 use Rattle.tools_cli.proofs.Encoding.{encoded_more, all_encoded}
 use Rattle.tools_cli.proofs.encode.encode_outputs.Goals as goal
 

@@ -1,7 +1,5 @@
-use Rattle.std.proofs.Common.{◌≡◌, ◌++◌, map}
-use Rattle.std.specs.Vec.Iter.{into_iter_items}
-use Rattle.tools_cli.specs.Job.{spelled_output}
-use Rattle.tools_cli.specs.Command.{output_values, write_entries}
+use Rattle.base_lists.proofs.Common.{◌≡◌, ◌++◌, map, into_iter_items}
+use Rattle.tools_cli.specs.Prelude.{spelled_output, output_values, write_entries}
 use Rattle.tools_cli.proofs.encode.encode_outputs.Given as goal
 
 abbrev pub invariant-loop-output : goal.invariant-loop-output

@@ -1,8 +1,7 @@
-use Rattle.std.proofs.Common.{◌≡◌, ◌∙◌, ap, Err, arith}
+use Rattle.base_lists.proofs.Common.{◌≡◌, ◌∙◌, ap, Err, arith}
 use Rattle.tools_cli_eval.specs.declared.evaluation.Evaluation.{Evaluation}
-use Rattle.tools_cli.specs.CommandLine.{Text}
-use Rattle.tools_cli.specs.Command.{ctor_eval_value, decision_value}
-use Rattle.tools_cli.specs.Job.{Evaluates, Refuses}
+use Rattle.tools_cli.specs.Prelude.{Text, decision_value, Evaluates, Refuses}
+use Rattle.tools_cli.specs.Command.{ctor_eval_value}
 use Rattle.tools_cli.specs.Causes.{EvalFails}
 use Rattle.tools_cli.specs.EvaluationLines.{lines_after}
 use Rattle.tools_cli.proofs.Loading.{stops_weaker}

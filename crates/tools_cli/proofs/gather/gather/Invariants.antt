@@ -1,12 +1,9 @@
-use Rattle.std.proofs.Common.{◌≡◌, ◌≤◌, ◌++◌, ◌+◌, IfSome, drop}
+use Rattle.base_lists.proofs.Common.{◌≡◌, ◌≤◌, ◌++◌, ◌+◌, IfSome, drop}
 use Rattle.base_lists.specs.Every.{Every}
-use Rattle.wasm_bytes.specs.Reading.{IsBytes}
+use Rattle.wasm_bytes.specs.Prelude.{IsBytes}
 use Rattle.tool_io.specs.FilesAndSinks.{NoneFell}
-use Rattle.tools_cli.specs.Effects.{Entry}
-use Rattle.tools_cli.specs.Job.{gathered}
-use Rattle.tools_cli.specs.Command.{names_of, input_entries}
+use Rattle.tools_cli.specs.Prelude.{Entry, gathered, names_of, input_entries, total}
 use Rattle.tools_cli.proofs.Gathering.{add_all, AreTurns, read_names}
-use Rattle.tools_cli.specs.Causes.{total}
 use Rattle.tools_cli.proofs.gather.gather.Given as goal
 
 abbrev pub invariant-loop-name : goal.invariant-loop-name

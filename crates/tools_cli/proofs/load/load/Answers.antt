@@ -1,8 +1,6 @@
-use Rattle.std.proofs.Common.{◌≡◌, false, Ok, Err}
-use Rattle.std.proofs.lemmas.Result.{IfOk-weaker, IfErr-weaker}
-use Rattle.tools_cli.specs.CommandLine.{Text}
-use Rattle.tools_cli.specs.Job.{Loads, IsRead, IsAccepted}
-use Rattle.tools_cli.specs.Causes.{StopsWith, InvalidText}
+use Rattle.base_lists.proofs.Common.{◌≡◌, false, Ok, Err, IfOk-weaker, IfErr-weaker}
+use Rattle.tools_cli.specs.Prelude.{Text, Loads, IsRead, IsAccepted, StopsWith}
+use Rattle.tools_cli.specs.Causes.{InvalidText}
 use Rattle.tools_cli.proofs.Loading.{faulty_from, loaded_from, invalid_from, stops_weaker}
 use Rattle.tools_cli.proofs.load.load.Goals as goal
 

@@ -1,7 +1,5 @@
-use Rattle.std.proofs.Common.{◌≡◌, false, Err, arith}
-use Rattle.tools_cli.specs.CommandLine.{Text}
-use Rattle.tools_cli.specs.Job.{Loads, OneFails}
-use Rattle.tools_cli.specs.Command.{input_entries}
+use Rattle.base_lists.proofs.Common.{◌≡◌, false, Err, arith}
+use Rattle.tools_cli.specs.Prelude.{Text, Loads, OneFails, input_entries}
 use Rattle.tools_cli.proofs.Loading.{short_input, all_load, stops_weaker, fails_here}
 use Rattle.tools_cli.proofs.load.load_all.Goals as goal
 

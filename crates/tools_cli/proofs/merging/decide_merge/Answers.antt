@@ -1,6 +1,5 @@
-use Rattle.std.proofs.Common.{◌∙◌, refl, ap, [], ◌∷◌}
-use Rattle.tools_cli.specs.Command.{merge_value, decision_value}
-use Rattle.tools_cli.specs.Job.{Makes, parts_of}
+use Rattle.base_lists.proofs.Common.{◌∙◌, refl, ap, [], ◌∷◌}
+use Rattle.tools_cli.specs.Prelude.{merge_value, decision_value, Makes, parts_of}
 use Rattle.tools_cli.proofs.MergeDecided.{merge_made}
 use Rattle.tools_cli.proofs.merging.decide_merge.Goals as goal
 

@@ -1,12 +1,8 @@
-use Rattle.std.proofs.Common.{◌≡◌, ◌<◌, ◌≤◌, ◌^◌, ◌∙◌, sym, ap, subst, List, length, arith}
-use Rattle.std.proofs.lemmas.List.{length-map}
-use Rattle.wasm_meaning.specs.Linking.{Part, sites}
-use Rattle.merge_spec.specs.Parts.{named_module, named_modules}
-use Rattle.merge_spec.specs.Joined.{FewInAll}
-use Rattle.tools_cli.specs.CommandLine.{are_apart}
-use Rattle.tools_cli.specs.Command.{merge_value}
-use Rattle.tools_cli.specs.Sources.{source_values}
-use Rattle.tools_cli.specs.Job.{parts_of, most_parts}
+use Rattle.base_lists.proofs.Common.{◌≡◌, ◌<◌, ◌≤◌, ◌^◌, ◌∙◌, sym, ap, subst, List, length, arith, length-map}
+use Rattle.wasm_meaning.specs.Prelude.{Part, sites}
+use Rattle.merge_spec.specs.Prelude.{named_module, named_modules, FewInAll}
+use Rattle.tools_cli.specs.Prelude.{are_apart, merge_value, source_values, parts_of}
+use Rattle.tools_cli.specs.Job.{most_parts}
 use Rattle.tools_cli.proofs.MergeDecided.{length_once, length_parts, merged_named, stops_named}
 use Rattle.tools_cli.proofs.Lines.{names_once}
 use Rattle.tools_cli.proofs.Apart.{parts_apart}

@@ -1,12 +1,10 @@
-use Rattle.std.proofs.Common.{◌∙◌, ap, sym, arith, false, length}
-use Rattle.std.proofs.lemmas.List.{length-map}
-use Rattle.wasm_tree.specs.declared.space.Space.TheVariants.{Globals}
-use Rattle.wasm_meaning.specs.World.{defined_before}
-use Rattle.merge_spec.specs.Parts.{named_module, named_modules}
+use Rattle.base_lists.proofs.Common.{◌∙◌, ap, sym, arith, false, length, length-map}
+use Rattle.wasm_tree_spec.specs.Prelude.{Globals}
+use Rattle.wasm_meaning.specs.Prelude.{defined_before}
+use Rattle.merge_spec.specs.Prelude.{named_module, named_modules}
 use Rattle.merge_spec.proofs.FaultParts.{none_with_several}
-use Rattle.tools_cli.specs.Command.{merge_value}
+use Rattle.tools_cli.specs.Prelude.{merge_value, link_text}
 use Rattle.tools_cli.specs.Sources.{files_of}
-use Rattle.tools_cli.specs.Texts.{link_text}
 use Rattle.tools_cli.proofs.MergeDecided.{names_one, link_fails, join_fails}
 use Rattle.tools_cli.proofs.merging.merge_parts.Goals as goal
 

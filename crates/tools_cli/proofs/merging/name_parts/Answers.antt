@@ -1,7 +1,6 @@
-use Rattle.std.proofs.Common.{◌≡◌, length, drop, rules}
-use Rattle.std.specs.Vec.Iter.{into_iter_items}
-use Rattle.merge_spec.specs.Parts.{named_modules}
-use Rattle.tools_cli.specs.Sources.{source_values}
+use Rattle.base_lists.proofs.Common.{◌≡◌, length, drop, rules, into_iter_items}
+use Rattle.merge_spec.specs.Prelude.{named_modules}
+use Rattle.tools_cli.specs.Prelude.{source_values}
 use Rattle.tools_cli.proofs.MergeDecided.{all_named}
 use Rattle.tools_cli.proofs.merging.name_parts.Goals as goal
 

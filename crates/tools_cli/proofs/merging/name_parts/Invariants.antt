@@ -1,8 +1,6 @@
-use Rattle.std.proofs.Common.{◌≡◌, ◌≤◌, ◌+◌, ◌++◌, length, drop}
-use Rattle.std.specs.Vec.Iter.{into_iter_items}
-use Rattle.merge_spec.specs.Parts.{named_modules}
-use Rattle.tools_cli.specs.Job.{parts_of}
-use Rattle.tools_cli.specs.Sources.{source_values}
+use Rattle.base_lists.proofs.Common.{◌≡◌, ◌≤◌, ◌+◌, ◌++◌, length, drop, into_iter_items}
+use Rattle.merge_spec.specs.Prelude.{named_modules}
+use Rattle.tools_cli.specs.Prelude.{parts_of, source_values}
 use Rattle.tools_cli.proofs.merging.name_parts.Given as goal
 
 abbrev pub invariant-loop-module : goal.invariant-loop-module

@@ -1,8 +1,7 @@
-use Rattle.std.proofs.Common.{ap, arith}
-use Rattle.std.specs.Vec.Iter.{into_iter_items}
+use Rattle.base_lists.proofs.Common.{ap, arith, into_iter_items}
 use Rattle.tool_io.specs.FilesAndSinks.{Becomes}
-use Rattle.tools_cli.specs.Command.{write_entry, write_entries}
-use Rattle.tools_cli.specs.Effects.{written_names}
+use Rattle.tools_cli.specs.Prelude.{write_entries, written_names}
+use Rattle.tools_cli.specs.Command.{write_entry}
 use Rattle.tools_cli.proofs.Gathering.{contains_later}
 use Rattle.tools_cli.proofs.Performing.{Writes, cut_more, made_more}
 use Rattle.tools_cli.proofs.perform.write_outputs.Goals as goal

@@ -1,8 +1,7 @@
-use Rattle.std.proofs.Common.{◌≡◌, ℕ, List, Option, Contains}
+use Rattle.base_lists.proofs.Common.{◌≡◌, ℕ, List, Option, Contains}
 use Rattle.std.specs.Vec.Iter.{into_iter_items}  -- the elements that are still to come
 use Rattle.tool_io.specs.FilesAndSinks.{Contents, NoneFell, Becomes}
-use Rattle.tools_cli.specs.Effects.{made, IsCut, written_names}
-use Rattle.tools_cli.specs.Command.{write_entries}
+use Rattle.tools_cli.specs.Prelude.{made, IsCut, written_names, write_entries}
 use Rattle.tools_cli.proofs.perform.write_outputs.Given as goal
 
 abbrev pub invariant-loop-output : goal.invariant-loop-output

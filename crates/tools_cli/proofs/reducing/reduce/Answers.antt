@@ -1,7 +1,6 @@
-use Rattle.std.proofs.Common.{◌≡◌, Err, arith}
-use Rattle.tools_cli.specs.CommandLine.{Text}
+use Rattle.base_lists.proofs.Common.{◌≡◌, Err, arith}
+use Rattle.tools_cli.specs.Prelude.{Text, Reduces, Refuses}
 use Rattle.tools_cli.specs.Command.{metadce_value}
-use Rattle.tools_cli.specs.Job.{Reduces, Refuses}
 use Rattle.tools_cli.specs.Causes.{GraphFails}
 use Rattle.tools_cli.proofs.Loading.{stops_weaker}
 use Rattle.tools_cli.proofs.MetadceDecided.{graph_refused}

@@ -1,13 +1,10 @@
-use Rattle.std.proofs.Common.{◌≡◌, ◌∙◌, ap, ap₂, sym, Err, Ok, List, ℕ, length, arith}
-use Rattle.dce_graph.specs.GraphFile.{graph_result}
+use Rattle.base_lists.proofs.Common.{◌≡◌, ◌∙◌, ap, ap₂, sym, Err, Ok, List, ℕ, length, arith}
+use Rattle.dce_graph.specs.Prelude.{graph_result}
 use Rattle.dce_graph.specs.declared.point.Point.TheVariants.{Node}
 use Rattle.dce_sweep_spec.specs.Reached.{marks_of}
-use Rattle.tools_cli.specs.CommandLine.{Text}
-use Rattle.tools_cli.specs.Command.{metadce_value, decision_value}
-use Rattle.tools_cli.specs.Job.{Reduces, Refuses}
+use Rattle.tools_cli.specs.Prelude.{Text, decision_value, Reduces, Refuses, unused_lines, unmarked_names}
+use Rattle.tools_cli.specs.Command.{metadce_value}
 use Rattle.tools_cli.specs.Causes.{SweepFails}
-use Rattle.tools_cli.specs.Unused.{unused_lines}
-use Rattle.tools_cli.specs.Unmarked.{unmarked_names}
 use Rattle.tools_cli.proofs.Loading.{stops_weaker}
 use Rattle.tools_cli.proofs.MetadceDecided.{sweep_refused, reduced_made}
 use Rattle.tools_cli.proofs.reducing.reduce_by.Goals as goal

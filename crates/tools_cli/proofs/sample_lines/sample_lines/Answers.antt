@@ -1,5 +1,4 @@
-use Rattle.std.proofs.Common.{◌≡◌, ◌∙◌, length, rules, string_bytes}
-use Rattle.std.specs.Prelude.{codes}
+use Rattle.base_lists.proofs.Common.{◌≡◌, ◌∙◌, length, rules, string_bytes, codes}
 use Rattle.wasm_write_spec.specs.Plain.{plain}
 use Rattle.tools_cli.proofs.SampleText.{added_as, five_added}
 use Rattle.tools_cli.proofs.sample_lines.sample_lines.Goals as goal

@@ -1,11 +1,9 @@
-use Rattle.std.proofs.Common.{◌≡◌, ◌∙◌, sym, ap, subst, Err, arith}
+use Rattle.base_lists.proofs.Common.{◌≡◌, ◌∙◌, sym, ap, subst, Err, arith}
 use Rattle.base_lists.specs.Every.{Every}
-use Rattle.wasm_tree.specs.declared.module.Module.{Module}
-use Rattle.tools_cli.specs.CommandLine.{Text}
-use Rattle.tools_cli.specs.Command.{merge_value, sample_value, output_values}
-use Rattle.tools_cli.specs.Job.{Merges, Samples, Refuses}
+use Rattle.wasm_tree_spec.specs.Prelude.{Module}
+use Rattle.tools_cli.specs.Prelude.{Text, merge_value, output_values, Merges, Samples, Refuses, IsWithinLimits}
+use Rattle.tools_cli.specs.Command.{sample_value}
 use Rattle.tools_cli.specs.SampleLines.{sample_lines}
-use Rattle.tools_cli.specs.Causes.{IsWithinLimits}
 use Rattle.tools_cli.proofs.Loading.{stops_weaker}
 use Rattle.tools_cli.proofs.SampleDecided.{sample_made, sample_merged, sample_refused}
 use Rattle.tools_cli.proofs.SampleRanges.{sample_within}

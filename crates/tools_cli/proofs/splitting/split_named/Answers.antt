@@ -1,10 +1,8 @@
-use Rattle.std.proofs.Common.{◌≡◌, ◌∙◌, ap, ap₂, Err, List, arith}
-use Rattle.wasm_tree.specs.declared.module.Module.{Module}
+use Rattle.base_lists.proofs.Common.{◌≡◌, ◌∙◌, ap, ap₂, Err, List, arith}
+use Rattle.wasm_tree_spec.specs.Prelude.{Module}
 use Rattle.wasm_names.specs.declared.func_name.FuncName.{FuncName}
-use Rattle.tools_cli.specs.CommandLine.{Text}
-use Rattle.tools_cli.specs.Command.{split_value, decision_value}
-use Rattle.tools_cli.specs.Job.{Splits, Refuses, GivesPlan}
-use Rattle.tools_cli.specs.KeptFuncs.{kept_lines}
+use Rattle.tools_cli.specs.Prelude.{Text, split_value, decision_value, Splits, Refuses, kept_lines}
+use Rattle.tools_cli.specs.Job.{GivesPlan}
 use Rattle.tools_cli.specs.Causes.{PlanFails, SplitFails}
 use Rattle.tools_cli.proofs.Loading.{stops_weaker}
 use Rattle.tools_cli.proofs.SplitDecided.{plan_refused, split_refused, parted_made}

@@ -1,10 +1,8 @@
-use Rattle.std.proofs.Common.{◌≡◌, ◌∙◌, ap, sym, true, false, rules, ◌+◌, ◌<◌, length, drop, get_or, arith}
-use Rattle.std.specs.Ordering.{nat_cmp}
-use Rattle.std.specs.Cmp.Lexicographic.{slice_cmp}
+use Rattle.base_lists.proofs.Common.{◌≡◌, ◌∙◌, ap, sym, true, false, rules, ◌+◌, ◌<◌, length, drop, get_or, arith, nat_cmp, slice_cmp}
 use Rattle.std.specs.BTreeSet.{insert_key}
 use Rattle.dce_graph.specs.declared.graph.Node.{Node}
-use Rattle.tools_cli.specs.Unmarked.{with_name, unmarked_from}
-use Rattle.tools_cli.specs.Command.{names_of}
+use Rattle.tools_cli.specs.Prelude.{unmarked_from, names_of}
+use Rattle.tools_cli.specs.Unmarked.{with_name}
 use Rattle.tools_cli.proofs.UnusedNames.{names_with, one_set_more, one_blank_more}
 use Rattle.tools_cli.proofs.unused.unmarked_names.Goals.{then-not-marks-place+in_ok-insert, else-not-marks-place}
 use Rattle.tools_cli.proofs.unused.unmarked_names.Goals as goal

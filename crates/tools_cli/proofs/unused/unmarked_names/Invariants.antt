@@ -1,6 +1,5 @@
-use Rattle.std.proofs.Common.{◌≡◌, drop}
-use Rattle.tools_cli.specs.Unmarked.{unmarked_from, unmarked_names}
-use Rattle.tools_cli.specs.Command.{names_of}
+use Rattle.base_lists.proofs.Common.{◌≡◌, drop}
+use Rattle.tools_cli.specs.Prelude.{unmarked_from, unmarked_names, names_of}
 use Rattle.tools_cli.proofs.unused.unmarked_names.Given as goal
 
 abbrev pub invariant-loop-place : goal.invariant-loop-place

@@ -1,11 +1,6 @@
-use Rattle.std.proofs.Common.{◌≡◌, rules, IfSome, Some, None, Err, arith}
-use Rattle.std.proofs.lemmas.Result.{IfOk-weaker, IfErr-weaker}
-use Rattle.tools_cli.specs.CommandLine.{Text, inputs_of}
-use Rattle.tools_cli.specs.Effects.{written_names}
-use Rattle.tools_cli.specs.Command.{task_value, input_entries, write_entries}
-use Rattle.tools_cli.specs.Job.{InputsJob, TaskJob, Done, Refused, Whole, gathered, refused_before, most_input}
-use Rattle.tools_cli.specs.Stop.{refusal_text}
-use Rattle.tools_cli.specs.Causes.{AreOutputs, PrintsAsAllowed, StopsWith, StopsPreparing}
+use Rattle.base_lists.proofs.Common.{◌≡◌, rules, IfSome, Some, None, Err, arith, IfOk-weaker, IfErr-weaker}
+use Rattle.tools_cli.specs.Prelude.{Text, inputs_of, written_names, task_value, input_entries, write_entries, InputsJob, TaskJob, Done, Refused, Whole, gathered, refused_before, most_input, refusal_text, PrintsAsAllowed, StopsWith}
+use Rattle.tools_cli.specs.Causes.{AreOutputs, StopsPreparing}
 use Rattle.tools_cli.proofs.Deciding.{text_contents, inputs_job_allowed}
 use Rattle.tools_cli.proofs.Running.{texts_held, decided_at, not_begun_at, preparing_from_planning, preparing_from_gathering}
 use Rattle.tools_cli.proofs.Faithful.{on_ok, read_bytes}

@@ -1,5 +1,4 @@
-use Rattle.std.proofs.Common.{arith, refl}
-use Rattle.std.proofs.lemmas.Map.Text.{btree_map_updates_str}
+use Rattle.base_lists.proofs.Common.{arith, refl, btree_map_updates_str}
 use Rattle.tools_cli_eval.proofs.Looked.{export_before}
 use Rattle.tools_cli_eval.proofs.named.exports_named.Goals as goal
 

@@ -1,9 +1,8 @@
-use Rattle.std.proofs.Common.{◌≡◌, Ok, get_or, subst}
+use Rattle.base_lists.proofs.Common.{◌≡◌, Ok, get_or, subst}
 use Rattle.wasm_bytes.specs.declared.name.NoMemory.{NoMemory}
-use Rattle.eval_spec.specs.State.{Finished}
-use Rattle.eval_spec.specs.Quiet.{call_end}
-use Rattle.eval_machine.specs.Calls.{IfDone, IfNotDone, IfStopped, IsLeft, StopsCall}
-use Rattle.eval_machine.specs.Kept.{state_in}
+use Rattle.eval_spec.specs.Prelude.{Finished, call_end}
+use Rattle.eval_machine.specs.Prelude.{IsLeft, StopsCall, state_in}
+use Rattle.eval_machine.specs.Calls.{IfDone, IfNotDone, IfStopped}
 use Rattle.eval_machine.specs.declared.machine.Ran.{Ran}
 use Rattle.tools_cli_eval.proofs.Called.{stands_more, stopped_here, stopped_nowhere}
 use Rattle.tools_cli_eval.proofs.running.call_all.Goals as goal

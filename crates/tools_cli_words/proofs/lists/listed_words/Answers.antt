@@ -1,5 +1,4 @@
-use Rattle.std.proofs.Common.{◌≡◌, ◌++◌, ◌∷◌, [], rules, length}
-use Rattle.std.specs.Vec.Iter.{into_iter_items}
+use Rattle.base_lists.proofs.Common.{◌≡◌, ◌++◌, ◌∷◌, [], rules, length, into_iter_items}
 use Rattle.tools_cli_words.proofs.Lines.{one_taken, all_taken}
 use Rattle.tools_cli_words.proofs.lists.listed_words.Goals as goal
 

@@ -1,6 +1,4 @@
-use Rattle.std.proofs.Common.{◌≡◌, ◌∙◌, ap, sym, subst, true, false, List, ℕ, ◌+◌, ◌++◌, ◌∷◌, [], drop, drop-cons, add-one, get_or, length, ◌<◌, map}
-use Rattle.std.specs.Borrow.{Bor}
-use Rattle.std.proofs.lemmas.List.{map-append}
+use Rattle.base_lists.proofs.Common.{◌≡◌, ◌∙◌, ap, sym, subst, true, false, List, ℕ, ◌+◌, ◌++◌, ◌∷◌, [], drop, drop-cons, add-one, get_or, length, ◌<◌, map, Bor, map-append}
 use Rattle.base_lists.specs.Every.{Every}
 use Rattle.clap.specs.Words.{found_of}
 use Rattle.tools_cli_words.specs.Words.{Text, said_flags}

@@ -1,5 +1,4 @@
-use Rattle.std.proofs.Common.{rules, ◌≡◌, ◌∙◌, sym, ap, ap₂, map, string_bytes, true, false, inl, inr, [], ◌∷◌}
-use Rattle.base_lists.proofs.Bools.{left_true}
+use Rattle.base_lists.proofs.Common.{rules, ◌≡◌, ◌∙◌, sym, ap, ap₂, map, string_bytes, true, false, inl, inr, [], ◌∷◌, left_true}
 use Rattle.clap.specs.Words.{App, app_of, fault_of, matches_of, is_simple, is_simple_and_free, kind_of, HasKind}
 use Rattle.clap.specs.declared.error.kind.ErrorKind.TheVariants as kind
 use Rattle.tools_cli_words.specs.Vocabularies.{vocabulary_of}

@@ -1,5 +1,4 @@
-use Rattle.std.proofs.Common.{Ok, sym, ap₂, ◌∙◌, subst, arith}
-use Rattle.std.specs.Prelude.{IsUtf8}
+use Rattle.base_lists.proofs.Common.{Ok, sym, ap₂, ◌∙◌, subst, arith, IsUtf8}
 use Rattle.wasm_bytes.proofs.NameLaws.{name_text, name_no_text}
 use Rattle.wasm_bytes.proofs.cursor.named.Goals as goal
 

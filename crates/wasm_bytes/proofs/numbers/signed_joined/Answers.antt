@@ -1,8 +1,6 @@
-use Rattle.std.proofs.Common.{◌≤◌, ◌^◌, ◌-◌, arith}
-use Rattle.std.proofs.lemmas.Int.{ints}
-use Rattle.std.proofs.Math.Pow.{pow_mono}
+use Rattle.base_lists.proofs.Common.{◌≤◌, ◌^◌, ◌-◌, arith, ints, pow_mono}
 use Rattle.wasm_bytes.proofs.Sizes.{joined_signed}
-use Rattle.wasm_bytes.specs.Numbers.{join_signed, IsWithin}
+use Rattle.wasm_bytes.specs.Prelude.{join_signed, IsWithin}
 use Rattle.wasm_bytes.proofs.numbers.signed_joined.Goals as goal
 
 pub overflow_mul-result : goal.overflow_mul-result

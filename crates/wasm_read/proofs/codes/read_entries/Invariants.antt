@@ -1,7 +1,6 @@
-use Rattle.std.proofs.Common.{◌≡◌, ◌||◌, ◌-◌, ◌+◌}
-use Rattle.wasm_tree.specs.DataUse.{any_uses_data}
-use Rattle.wasm_read_spec.specs.Reading.{each_from, with_front}
-use Rattle.wasm_read_spec.specs.Contents.{entry_at, next_func}
+use Rattle.base_lists.proofs.Common.{◌≡◌, ◌||◌, ◌-◌, ◌+◌}
+use Rattle.wasm_tree_spec.specs.Prelude.{any_uses_data}
+use Rattle.wasm_read_spec.specs.Prelude.{each_from, with_front, entry_at, next_func}
 use Rattle.wasm_read.proofs.codes.read_entries.Given as goal
 
 abbrev pub invariant-loop-i : goal.invariant-loop-i

@@ -1,5 +1,4 @@
-use Rattle.std.proofs.Common.{false}
-use Rattle.std.specs.Prelude.{Some, None}
+use Rattle.base_lists.proofs.Common.{false, Some, None}
 use Rattle.wasm_read_spec.specs.declared.fault.ReadFault.TheVariants as fault
 use Rattle.wasm_read.proofs.Calls.{found_bounded, found_zero, told_by}
 use Rattle.wasm_read_spec.proofs.FileLaws.{call_found, call_only, call_fault, call_first}

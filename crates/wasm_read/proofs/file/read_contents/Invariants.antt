@@ -1,10 +1,7 @@
-use Rattle.std.proofs.Common.{◌≡◌, ◌≤◌, length, drop}
-use Rattle.wasm_bytes.specs.FrameViews.{framed_all}
-use Rattle.wasm_tree.specs.DataUse.{any_uses_data}
-use Rattle.wasm_tree.specs.Limits.{limit}
-use Rattle.wasm_tree.specs.declared.which.Which.TheVariants.{Imports}
-use Rattle.wasm_read_spec.specs.Files.{nothing}
-use Rattle.wasm_read_spec.specs.Contents.{contents_at}
+use Rattle.base_lists.proofs.Common.{◌≡◌, ◌≤◌, length, drop}
+use Rattle.wasm_bytes.specs.Prelude.{framed_all}
+use Rattle.wasm_tree_spec.specs.Prelude.{any_uses_data, limit, Imports}
+use Rattle.wasm_read_spec.specs.Prelude.{nothing, contents_at}
 use Rattle.wasm_read.proofs.file.read_contents.Given as goal
 
 abbrev pub invariant-loop-frame : goal.invariant-loop-frame

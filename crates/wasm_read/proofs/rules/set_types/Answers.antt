@@ -1,5 +1,4 @@
-use Rattle.std.proofs.Common.{◌≡◌, Some, slice_get, slice_index, set, arith, ap, ◌∙◌, sym}
-use Rattle.base_lists.proofs.Walk.{none_past}
+use Rattle.base_lists.proofs.Common.{◌≡◌, Some, slice_get, slice_index, set, arith, ap, ◌∙◌, sym, none_past}
 use Rattle.wasm_read.proofs.Steps.{partly_none, partly_at, partly_more, partly_end}
 use Rattle.wasm_read.proofs.rules.set_types.Goals as goal
 use Rattle.wasm_read.proofs.rules.set_types.Goals.{in-Some, in_default}

@@ -1,7 +1,6 @@
-use Rattle.std.proofs.Common.{◌≡◌, ◌||◌, ℕ, List, ◌+◌, ◌*◌, ◌≤◌, ◌++◌, length}
-use Rattle.wasm_tree.specs.declared.instr.Instr.{Instr}
-use Rattle.wasm_tree.specs.DataUse.{uses_data}
-use Rattle.wasm_read_spec.specs.BodyReading.{sequence_at, behind}
+use Rattle.base_lists.proofs.Common.{◌≡◌, ◌||◌, ℕ, List, ◌+◌, ◌*◌, ◌≤◌, ◌++◌, length}
+use Rattle.wasm_tree_spec.specs.Prelude.{Instr, uses_data}
+use Rattle.wasm_read_spec.specs.Prelude.{sequence_at, behind}
 use Rattle.wasm_read_items.proofs.body.+read.Given as goal
 
 abbrev pub decreases-read_block : goal.decreases-read_block

@@ -1,7 +1,6 @@
-use Rattle.std.proofs.Common.{◌≡◌, ◌-◌, ◌≤◌, length}
-use Rattle.wasm_tree.specs.Limits.{limit}
-use Rattle.wasm_tree.specs.declared.which.Which.TheVariants.{Locals}
-use Rattle.wasm_read_spec.specs.Reading.{each_from, local_at, with_group, with_front}
+use Rattle.base_lists.proofs.Common.{◌≡◌, ◌-◌, ◌≤◌, length}
+use Rattle.wasm_tree_spec.specs.Prelude.{limit, Locals}
+use Rattle.wasm_read_spec.specs.Prelude.{each_from, local_at, with_group, with_front}
 use Rattle.wasm_read_items.proofs.entry.read_groups.Given as goal
 
 abbrev pub invariant-loop-i : goal.invariant-loop-i

@@ -1,6 +1,5 @@
-use Rattle.std.proofs.Common.{take}
-use Rattle.std.specs.List.{flat_map}
-use Rattle.wasm_valid.specs.Validity.{EachHolds, span, count_of, order}
+use Rattle.base_lists.proofs.Common.{take, flat_map}
+use Rattle.wasm_valid.specs.Prelude.{EachHolds, span, count_of, order}
 use Rattle.wasm_valid.proofs.first.first_invalid.Given as goal
 
 abbrev pub invariant-loop-kind : goal.invariant-loop-kind

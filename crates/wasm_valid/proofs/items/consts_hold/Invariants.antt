@@ -1,8 +1,6 @@
-use Rattle.std.proofs.Common.{◌≡◌, ℕ, ◌<◌, Some}
-use Rattle.std.specs.Prelude.{slice_get}
-use Rattle.wasm_tree.specs.declared.module.ConstExpr.{ConstExpr}
-use Rattle.wasm_tree.specs.declared.types.ValType.TheVariants.{Ref}
-use Rattle.wasm_valid.specs.Constants.{const_type}
+use Rattle.base_lists.proofs.Common.{◌≡◌, ℕ, ◌<◌, Some, slice_get}
+use Rattle.wasm_tree_spec.specs.Prelude.{ConstExpr, Ref}
+use Rattle.wasm_valid.specs.Prelude.{const_type}
 use Rattle.wasm_valid.proofs.items.consts_hold.Given as goal
 
 abbrev pub invariant-loop-item : goal.invariant-loop-item

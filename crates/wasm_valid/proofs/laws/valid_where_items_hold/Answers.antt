@@ -1,4 +1,4 @@
-use Rattle.wasm_valid.specs.Validity.{order}
+use Rattle.wasm_valid.specs.Prelude.{order}
 use Rattle.wasm_valid.proofs.Order.{each_item, all_items}
 use Rattle.wasm_valid.proofs.laws.valid_where_items_hold.Goals as goal
 

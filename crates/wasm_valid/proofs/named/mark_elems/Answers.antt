@@ -1,6 +1,5 @@
-use Rattle.std.proofs.Common.{ap, ◌∙◌}
-use Rattle.std.specs.List.{filter_map}
-use Rattle.wasm_valid.specs.Named.{const_func, marked_all}
+use Rattle.base_lists.proofs.Common.{ap, ◌∙◌, filter_map}
+use Rattle.wasm_valid.specs.Prelude.{const_func, marked_all}
 use Rattle.wasm_valid.proofs.Marked.{segment_step}
 use Rattle.wasm_valid.proofs.named.mark_elems.Goals as goal
 

@@ -1,6 +1,5 @@
-use Rattle.std.proofs.Common.{◌≡◌, drop}
-use Rattle.std.specs.List.{filter_map}
-use Rattle.wasm_valid.specs.Named.{const_func, marked_all}
+use Rattle.base_lists.proofs.Common.{◌≡◌, drop, filter_map}
+use Rattle.wasm_valid.specs.Prelude.{const_func, marked_all}
 use Rattle.wasm_valid.proofs.named.mark_items.Given as goal
 
 abbrev pub invariant-loop-item : goal.invariant-loop-item

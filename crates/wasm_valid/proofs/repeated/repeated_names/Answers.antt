@@ -1,11 +1,4 @@
-use Rattle.std.proofs.Common.{◌≡◌, ◌+◌, [], ◌∷◌, ◌++◌, is_some, map, take, sym, ap, ◌∙◌}
-use Rattle.std.specs.BTreeMap.{get_by}
-use Rattle.std.specs.Cmp.Lexicographic.{slice_cmp}
-use Rattle.std.specs.Ordering.{nat_cmp}
-use Rattle.std.specs.List.{list_any}
-use Rattle.std.specs.Str.{bytes_eq}
-use Rattle.std.proofs.lemmas.Map.Text.{btree_map_updates_str}
-use Rattle.base_lists.proofs.Walk.{mapped_more}
+use Rattle.base_lists.proofs.Common.{◌≡◌, ◌+◌, [], ◌∷◌, ◌++◌, is_some, map, take, sym, ap, ◌∙◌, get_by, slice_cmp, nat_cmp, list_any, bytes_eq, btree_map_updates_str, mapped_more}
 use Rattle.wasm_valid.proofs.Repeats.{known_more, joined_more, map_more}
 use Rattle.wasm_valid.proofs.repeated.repeated_names.Goals as goal
 

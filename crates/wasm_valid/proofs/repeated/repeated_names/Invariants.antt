@@ -1,9 +1,4 @@
-use Rattle.std.proofs.Common.{◌≡◌, ℕ, List, [], ◌++◌, map, take, drop, is_some}
-use Rattle.std.specs.BTreeMap.{get_by}
-use Rattle.std.specs.Cmp.Lexicographic.{slice_cmp}
-use Rattle.std.specs.Ordering.{nat_cmp}
-use Rattle.std.specs.List.{list_any}
-use Rattle.std.specs.Str.{bytes_eq}
+use Rattle.base_lists.proofs.Common.{◌≡◌, ℕ, List, [], ◌++◌, map, take, drop, is_some, get_by, slice_cmp, nat_cmp, list_any, bytes_eq}
 use Rattle.wasm_valid.specs.Names.{repeats_after}
 use Rattle.wasm_valid.proofs.repeated.repeated_names.Given as goal
 

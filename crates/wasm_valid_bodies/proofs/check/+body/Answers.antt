@@ -1,5 +1,5 @@
-use Rattle.std.proofs.Common.{[], ◌∷◌, ◌++◌, Some, ◌↔◌, IsTrue, drop, length, refl, ap, subst, ◌∙◌, arith}
-use Rattle.wasm_tree.specs.declared.types.ValType.TheVariants.{I32}
+use Rattle.base_lists.proofs.Common.{[], ◌∷◌, ◌++◌, Some, ◌↔◌, IsTrue, drop, length, refl, ap, subst, ◌∙◌, arith}
+use Rattle.wasm_tree_spec.specs.Prelude.{I32}
 use Rattle.wasm_valid_bodies.specs.Typing.{Gives, effect_of, Fits, WellTyped}
 use Rattle.wasm_valid_bodies.specs.Tracking.{TracksStep}
 use Rattle.wasm_valid_bodies.specs.Kept.{stack_of}

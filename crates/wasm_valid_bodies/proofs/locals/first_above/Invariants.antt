@@ -1,5 +1,4 @@
-use Rattle.std.proofs.Common.{ℕ, ◌-◌, ◌<◌, ◌≤◌, length}
-use Rattle.std.specs.Prelude.{slice_index}
+use Rattle.base_lists.proofs.Common.{ℕ, ◌-◌, ◌<◌, ◌≤◌, length, slice_index}
 use Rattle.wasm_valid_bodies.proofs.locals.first_above.Given as goal
 
 abbrev pub invariant-loop-low : goal.invariant-loop-low

@@ -1,6 +1,4 @@
-use Rattle.std.proofs.Common.{◌≤◌, ◌^◌, sym, arith}
-use Rattle.std.proofs.lemmas.Bool.{lt-leb}
-use Rattle.std.proofs.Math.Pow.{pow_mono}
+use Rattle.base_lists.proofs.Common.{◌≤◌, ◌^◌, sym, arith, lt-leb, pow_mono}
 use Rattle.wasm_valid_bodies.proofs.memories.is_aligned.Goals as goal
 
 pub returns-in_default : goal.returns-in_default

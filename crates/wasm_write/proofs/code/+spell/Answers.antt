@@ -1,7 +1,6 @@
-use Rattle.wasm_tree.specs.DataUse.{uses_data_in}
+use Rattle.wasm_tree_spec.specs.Prelude.{uses_data_in}
 use Rattle.wasm_write_spec.specs.PlainCode.{instr_text}
-use Rattle.std.proofs.Common.{◌≡◌, true, sym, subst}
-use Rattle.std.specs.Prelude.{OnOk, IsTrue}
+use Rattle.base_lists.proofs.Common.{◌≡◌, true, sym, subst, OnOk, IsTrue}
 use Rattle.base_lists.specs.Every.{Every}
 use Rattle.wasm_write_proof.specs.Ranges.{IsU32, in_range, all_in_range}
 use Rattle.wasm_write.proofs.InRange.{on_ok, block_in_range, loop_in_range, if_in_range, table_in_range}

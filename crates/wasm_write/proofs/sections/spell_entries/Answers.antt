@@ -1,5 +1,4 @@
-use Rattle.wasm_tree.specs.declared.module.Func.{Func}
-use Rattle.wasm_tree.specs.DataUse.{uses_data}
+use Rattle.wasm_tree_spec.specs.Prelude.{Func, uses_data}
 use Rattle.wasm_write_spec.specs.PlainCode.{entry_text}
 use Rattle.wasm_write_proof.specs.Ranges.{CodeInRange}
 use Rattle.wasm_write.proofs.Loops.{any_next, range_next, spelled_next}

@@ -1,5 +1,5 @@
-use Rattle.wasm_bytes.specs.Writing.{u32_text}
-use Rattle.wasm_tree.specs.declared.module.Func.{Func}
+use Rattle.wasm_bytes.specs.Prelude.{u32_text}
+use Rattle.wasm_tree_spec.specs.Prelude.{Func}
 use Rattle.wasm_write_proof.specs.Ranges.{TypeInRange}
 use Rattle.wasm_write.proofs.Loops.{spelled_next, range_next}
 use Rattle.wasm_write.proofs.sections.spell_func_types.Goals as goal

@@ -1,6 +1,6 @@
-use Rattle.std.proofs.Common.{◌≡◌}
-use Rattle.wasm_bytes.specs.Writing.{u32_text}
-use Rattle.wasm_tree.specs.declared.module.Func.{Func}
+use Rattle.base_lists.proofs.Common.{◌≡◌}
+use Rattle.wasm_bytes.specs.Prelude.{u32_text}
+use Rattle.wasm_tree_spec.specs.Prelude.{Func}
 use Rattle.base_lists.specs.Every.{Every}
 use Rattle.wasm_write_proof.specs.Ranges.{TypeInRange}
 use Rattle.wasm_write_spec.specs.PlainValues.{each_text}

@@ -1,6 +1,6 @@
-use Rattle.std.proofs.Common.{◌≡◌}
-use Rattle.wasm_bytes.specs.Writing.{u32_text}
-use Rattle.wasm_tree.specs.declared.module.ConstExpr.{ConstExpr}
+use Rattle.base_lists.proofs.Common.{◌≡◌}
+use Rattle.wasm_bytes.specs.Prelude.{u32_text}
+use Rattle.wasm_tree_spec.specs.Prelude.{ConstExpr}
 use Rattle.base_lists.specs.Every.{Every}
 use Rattle.wasm_write_proof.specs.Ranges.{ConstInRange}
 use Rattle.wasm_write_spec.specs.PlainValues.{func_of, each_text}

@@ -1,5 +1,4 @@
-use Rattle.std.proofs.Common.{◌≤◌, ◌*◌, ap, sym, subst, ◌∙◌}
-use Rattle.std.specs.Prelude.{IsNone}
+use Rattle.base_lists.proofs.Common.{◌≤◌, ◌*◌, ap, sym, subst, ◌∙◌, IsNone}
 use Rattle.block_pool.specs.Pages.{Pages, written_count}
 use Rattle.block_pool.proofs.Plain.{plain_held}
 use Rattle.block_pool.proofs.Opened.{unmarked, held_most}

@@ -1,5 +1,4 @@
-use Rattle.std.proofs.Common.{Some, ap, sym, subst, ◌∙◌}
-use Rattle.std.specs.Prelude.{IsNone}
+use Rattle.base_lists.proofs.Common.{Some, ap, sym, subst, ◌∙◌, IsNone}
 use Rattle.block_pool.specs.Pages.{Pages}
 use Rattle.block_pool.proofs.Opened.{set_mark}
 use Rattle.block_pool.proofs.paged.Paged.mark.Goals as goal

@@ -1,5 +1,4 @@
-use Rattle.std.proofs.Common.{◌≡◌, length, replicate}
-use Rattle.std.proofs.lemmas.List.{length-replicate}
+use Rattle.base_lists.proofs.Common.{◌≡◌, length, replicate, length-replicate}
 use Rattle.block_pool.proofs.Stored.{written_at}
 use Rattle.block_pool.proofs.table.Table.fill_within.Goals as goal
 

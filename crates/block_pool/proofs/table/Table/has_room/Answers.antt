@@ -1,5 +1,4 @@
-use Rattle.std.proofs.Common.{◌≡◌, ◌≤◌, ◌+◌, ◌-◌, ◌/◌, map, refl, sym, ap, ◌∙◌, arith}
-use Rattle.std.proofs.lemmas.Bool.{leb-true, le-leb}
+use Rattle.base_lists.proofs.Common.{◌≡◌, ◌≤◌, ◌+◌, ◌-◌, ◌/◌, map, refl, sym, ap, ◌∙◌, arith, leb-true, le-leb}
 use Rattle.block_pool.specs.Table.{is_present}
 use Rattle.block_pool.proofs.Plain.{written_is}
 use Rattle.block_pool.proofs.Joined.{reached_none}

@@ -1,5 +1,4 @@
-use Rattle.std.proofs.Common.{refl, sym, inr, arith}
-use Rattle.std.proofs.lemmas.List.{set-get_or}
+use Rattle.base_lists.proofs.Common.{refl, sym, inr, arith, set-get_or}
 use Rattle.block_pool.specs.Table.{slot_at}
 use Rattle.block_pool.specs.declared.table.Slot.TheVariants.{Absent}
 use Rattle.block_pool.proofs.Claimed.{read_slot}

@@ -1,5 +1,4 @@
-use Rattle.std.proofs.Common.{◌+◌, ◌-◌, ◌≡◌, ◌≤◌, refl, sym, ap, inl, arith}
-use Rattle.std.proofs.lemmas.List.{set-get_or}
+use Rattle.base_lists.proofs.Common.{◌+◌, ◌-◌, ◌≡◌, ◌≤◌, refl, sym, ap, inl, arith, set-get_or}
 use Rattle.block_pool.specs.Table.{slot_at, is_present}
 use Rattle.block_pool.specs.declared.table.Slot.TheVariants.{Absent}
 use Rattle.block_pool.proofs.Claimed.{read_slot}

@@ -1,6 +1,5 @@
-use Rattle.std.proofs.Common.{◌∙◌, sym, ap, subst, false, get_or}
-use Rattle.dce_graph.specs.Reach.{from_import, stands_for}
-use Rattle.dce_graph.specs.Walks.{AreFollowed}
+use Rattle.base_lists.proofs.Common.{◌∙◌, sym, ap, subst, false, get_or}
+use Rattle.dce_graph.specs.Prelude.{from_import, stands_for, AreFollowed}
 use Rattle.dce_graph.proofs.Following.{met_already, none_stands, one_followed, stands_last}
 use Rattle.dce_graph.proofs.walk.Walk.visit_from_import.Goals as goal
 

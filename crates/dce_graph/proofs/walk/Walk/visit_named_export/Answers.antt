@@ -1,8 +1,6 @@
-use Rattle.std.proofs.Common.{◌≡◌, ◌∙◌, ◌∷◌, [], ap, sym, Some, None}
-use Rattle.std.specs.Prelude.{option_map}
-use Rattle.std.specs.List.{cons_option}
+use Rattle.base_lists.proofs.Common.{◌≡◌, ◌∙◌, ◌∷◌, [], ap, sym, Some, None, option_map, cons_option}
 use Rattle.dce_graph.specs.declared.point.Point.TheVariants.{Export}
-use Rattle.dce_graph.specs.Reach.{export_place, export_of_node}
+use Rattle.dce_graph.specs.Prelude.{export_place, export_of_node}
 use Rattle.dce_graph.proofs.Marking.{spread_none}
 use Rattle.dce_graph.proofs.walk.Walk.visit_named_export.Goals as goal
 

@@ -1,6 +1,5 @@
-use Rattle.std.proofs.Common.{◌++◌}
-use Rattle.std.specs.List.{flat_map}
-use Rattle.dce_graph.specs.Reach.{data_points, elem_points, import_points, root_nodes, roots, start_points}
+use Rattle.base_lists.proofs.Common.{◌++◌, flat_map}
+use Rattle.dce_graph.specs.Prelude.{data_points, elem_points, import_points, root_nodes, roots, start_points}
 use Rattle.dce_graph.proofs.Marking.{spread_then}
 use Rattle.dce_graph.proofs.Walking.{then_ok, five_joined}
 use Rattle.dce_graph.proofs.walk.Walk.visit_roots.Goals as goal

@@ -1,8 +1,6 @@
-use Rattle.std.proofs.Common.{◌++◌, ◌∷◌, [], map, ap, ◌∙◌, append_assoc}
-use Rattle.std.proofs.lemmas.List.{map-append}
-use Rattle.wasm_meaning.specs.Outcomes.{copies}
-use Rattle.wasm_meaning.specs.Values.{zero_of, zeros}
-use Rattle.eval_machine.specs.Held.{val_of}
+use Rattle.base_lists.proofs.Common.{◌++◌, ◌∷◌, [], map, ap, ◌∙◌, append_assoc, map-append}
+use Rattle.wasm_meaning.specs.Prelude.{copies, zero_of, zeros}
+use Rattle.eval_machine.specs.Prelude.{val_of}
 use Rattle.eval_machine.proofs.Declared.{zeros_more}
 use Rattle.eval_machine.proofs.locals.Locals.declare.Goals as goal
 

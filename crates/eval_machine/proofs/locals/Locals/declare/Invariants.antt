@@ -1,7 +1,6 @@
-use Rattle.std.proofs.Common.{◌≡◌, ◌++◌, map}
-use Rattle.wasm_meaning.specs.Outcomes.{copies}
-use Rattle.wasm_meaning.specs.Values.{zeros}
-use Rattle.eval_machine.specs.Held.{val_of}
+use Rattle.base_lists.proofs.Common.{◌≡◌, ◌++◌, map}
+use Rattle.wasm_meaning.specs.Prelude.{copies, zeros}
+use Rattle.eval_machine.specs.Prelude.{val_of}
 use Rattle.eval_machine.proofs.locals.Locals.declare.Given as goal
 
 abbrev pub invariant-loop : goal.invariant-loop

@@ -1,6 +1,5 @@
-use Rattle.std.proofs.Common.{None, subst}
-use Rattle.eval_machine.specs.Begun.{IsInstantiated}
-use Rattle.eval_machine.specs.Calls.{CallEnds, IsReady}
+use Rattle.base_lists.proofs.Common.{None, subst}
+use Rattle.eval_machine.specs.Prelude.{IsInstantiated, CallEnds, IsReady}
 use Rattle.eval_machine.proofs.HostCalls.{ready_after, ready_at_once, start_typed}
 use Rattle.eval_machine.proofs.machine.Machine.boot.Goals as goal
 

@@ -1,8 +1,7 @@
-use Rattle.std.proofs.Common.{◌≡◌, ◌+◌, ◌*◌, ◌≤◌, List, length, drop}
-use Rattle.wasm_meaning.specs.State.{Entry}
-use Rattle.eval_spec.specs.Quiet.{ComesTo}
-use Rattle.eval_machine.specs.Flows.{Place, depth, running}
-use Rattle.eval_machine.specs.Stays.{Stays}
+use Rattle.base_lists.proofs.Common.{◌≡◌, ◌+◌, ◌*◌, ◌≤◌, List, length, drop}
+use Rattle.wasm_meaning.specs.Prelude.{Entry}
+use Rattle.eval_spec.specs.Prelude.{ComesTo}
+use Rattle.eval_machine.specs.Prelude.{Place, depth, running, Stays}
 use Rattle.eval_machine.proofs.registers.Registers.+run.Given as goal
 
 abbrev pub decreases-run_call : goal.decreases-run_call

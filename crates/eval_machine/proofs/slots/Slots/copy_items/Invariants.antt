@@ -1,8 +1,6 @@
-use Rattle.std.proofs.Common.{◌≡◌, ◌<◌, ◌-◌, ℕ, Some, cond}
-use Rattle.std.specs.Prelude.{slice_get}
+use Rattle.base_lists.proofs.Common.{◌≡◌, ◌<◌, ◌-◌, ℕ, Some, cond, slice_get}
 use Rattle.base_lists.specs.Options.{◌>>=◌}
-use Rattle.eval_machine.specs.Begun.{item_slot, is_within}
-use Rattle.eval_machine.specs.Slots.{filled_at}
+use Rattle.eval_machine.specs.Prelude.{item_slot, is_within, filled_at}
 use Rattle.eval_machine.proofs.slots.Slots.copy_items.Given as goal
 
 abbrev pub invariant-loop-i : goal.invariant-loop-i

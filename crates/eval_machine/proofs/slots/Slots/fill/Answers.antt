@@ -1,6 +1,4 @@
-use Rattle.std.proofs.Common.{◌≡◌, Some, length, ap, arith, refl, subst}
-use Rattle.std.specs.Prelude.{slice_get}
-use Rattle.std.proofs.lemmas.Option.{slice_get_read}
+use Rattle.base_lists.proofs.Common.{◌≡◌, Some, length, ap, arith, refl, subst, slice_get, slice_get_read}
 use Rattle.eval_machine.proofs.SlotsFilled.{AllStand, all_stand, one_filled, one_stopped}
 use Rattle.eval_machine.proofs.slots.Slots.fill.Goals as goal
 

@@ -1,8 +1,8 @@
-use Rattle.std.proofs.Common.{◌≡◌, ap, suc, ◌+◌, Some, length, arith}
-use Rattle.wasm_tree.specs.declared.space.Space.TheVariants.{Memories}
+use Rattle.base_lists.proofs.Common.{◌≡◌, ap, suc, ◌+◌, Some, length, arith}
+use Rattle.wasm_tree_spec.specs.Prelude.{Memories}
 use Rattle.wasm_meaning.specs.Linking as linking
 use Rattle.wasm_meaning.specs.World as world
-use Rattle.merge_spec.specs.Parts.{named_modules}
+use Rattle.merge_spec.specs.Prelude.{named_modules}
 use Rattle.merge_link.proofs.Counts.{above_one, defined_more, defined_most, defined_none}
 use Rattle.merge_link.proofs.Joins.{module_read}
 use Rattle.merge_link.proofs.part_tables.PartTables.are_more_than_one.Goals as goal

@@ -1,11 +1,10 @@
-use Rattle.std.proofs.Common.{length, Option, Some, ap, sym, ◌<◌, arith, slice_get, ◌≡◌, ◌∙◌, option_and_then}
-use Rattle.std.proofs.lemmas.List.{length-map}
-use Rattle.wasm_tree.specs.declared.module.Module.{Module}
+use Rattle.base_lists.proofs.Common.{length, Option, Some, ap, sym, ◌<◌, arith, slice_get, ◌≡◌, ◌∙◌, option_and_then, length-map}
+use Rattle.wasm_tree_spec.specs.Prelude.{Module}
 use Rattle.wasm_meaning.specs.Linking as linking
 use Rattle.merge_spec.specs.declared.parts.Part.{Part}
 use Rattle.merge_spec.specs.Faults as faults
-use Rattle.merge_spec.specs.Parts.{named_module, named_modules}
-use Rattle.merge_link.specs.PartTables.{the_entity}
+use Rattle.merge_spec.specs.Prelude.{named_module, named_modules}
+use Rattle.merge_link.specs.Prelude.{the_entity}
 use Rattle.merge_link.proofs.Joins.{module_past, module_read, read_at}
 use Rattle.merge_link.proofs.Types.{not_imported}
 use Rattle.merge_link.proofs.part_tables.PartTables.defined_at.Goals as goal

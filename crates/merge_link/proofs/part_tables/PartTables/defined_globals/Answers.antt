@@ -1,11 +1,10 @@
-use Rattle.std.proofs.Common.{◌≡◌, ◌∙◌, ◌<◌, ◌+◌, ◌++◌, sym, ap, refl, Some, map, drop, length, arith}
-use Rattle.wasm_tree.specs.declared.space.Space.TheVariants.{Globals}
-use Rattle.std.proofs.lemmas.List.{append-nil, append_assoc, drop_all, length-map}
-use Rattle.std.proofs.lemmas.Option.{slice_get_read}
+use Rattle.base_lists.proofs.Common.{◌≡◌, ◌∙◌, ◌<◌, ◌+◌, ◌++◌, sym, ap, refl, Some, map, drop, length, arith, drop_all, length-map, slice_get_read}
+use Rattle.wasm_tree_spec.specs.Prelude.{Globals}
+use Rattle.std.proofs.lemmas.List.{append-nil, append_assoc}
 use Rattle.wasm_meaning.specs.Linking as linking
 use Rattle.merge_spec.specs.Faults as faults
-use Rattle.merge_spec.specs.Parts.{named_module, named_modules}
-use Rattle.merge_link.specs.Globals.{the_own}
+use Rattle.merge_spec.specs.Prelude.{named_module, named_modules}
+use Rattle.merge_link.specs.Prelude.{the_own}
 use Rattle.merge_link.proofs.Joins.{module_read}
 use Rattle.merge_link.proofs.Reading.{globals_fit, own_begin}
 use Rattle.merge_link.proofs.part_tables.PartTables.defined_globals.Goals as goal

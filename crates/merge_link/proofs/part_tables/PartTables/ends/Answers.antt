@@ -1,12 +1,11 @@
-use Rattle.std.proofs.Common.{length, map, subst, sym, ap, arith, List, ◌∙◌}
-use Rattle.base_lists.proofs.Places.{map_twice}
+use Rattle.base_lists.proofs.Common.{length, map, subst, sym, ap, arith, List, ◌∙◌, map_twice}
 use Rattle.base_paths.specs.declared.follow.Step.{Step}
 use Rattle.base_paths.specs.Steps.{AreNamed, AreEndings}
 use Rattle.wasm_meaning.specs.Linking as linking
-use Rattle.merge_spec.specs.Parts.{named_modules}
+use Rattle.merge_spec.specs.Prelude.{named_modules}
 use Rattle.merge_link.specs.declared.part_tables.Ending.{Ending}
-use Rattle.merge_link.specs.Sites.{the_site}
-use Rattle.merge_link.specs.PartTables.{AreSteps, end_at, the_end}
+use Rattle.merge_link.specs.Prelude.{the_site, AreSteps, the_end}
+use Rattle.merge_link.specs.PartTables.{end_at}
 use Rattle.merge_link.proofs.Steps.{steps_named, endings_told, ending_stops}
 use Rattle.merge_link.proofs.part_tables.PartTables.ends.Goals as goal
 

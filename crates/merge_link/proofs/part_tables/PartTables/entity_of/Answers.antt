@@ -1,11 +1,8 @@
-use Rattle.std.proofs.Common.{◌≡◌, ◌∙◌, sym, ap, ℕ, List, Some, None, slice_get}
-use Rattle.std.specs.BTreeMap.{get_by}
+use Rattle.base_lists.proofs.Common.{◌≡◌, ◌∙◌, sym, ap, ℕ, List, Some, None, slice_get, get_by, nat_cmp, slice_cmp}
 use Rattle.std.specs.Option.{option_map}
-use Rattle.std.specs.Ordering.{nat_cmp}
-use Rattle.std.specs.Cmp.Lexicographic.{slice_cmp}
 use Rattle.wasm_meaning.specs.Linking as linking
-use Rattle.merge_spec.specs.Parts.{named_modules}
-use Rattle.merge_link.specs.PartTables.{the_entity}
+use Rattle.merge_spec.specs.Prelude.{named_modules}
+use Rattle.merge_link.specs.Prelude.{the_entity}
 use Rattle.merge_link.proofs.Joins.{read_at, joined_found}
 use Rattle.merge_link.proofs.part_tables.PartTables.entity_of.Goals as goal
 

@@ -1,10 +1,8 @@
-use Rattle.std.proofs.Common.{◌≡◌, ◌∙◌, ◌<◌, sym, ap, Some, None, length, get_or, arith}
-use Rattle.std.proofs.lemmas.List.{get_or_default, length-map}
-use Rattle.std.proofs.lemmas.Option.{slice_get-get_or}
+use Rattle.base_lists.proofs.Common.{◌≡◌, ◌∙◌, ◌<◌, sym, ap, Some, None, length, get_or, arith, get_or_default, length-map, slice_get-get_or}
 use Rattle.merge_spec.specs.Faults as faults
-use Rattle.merge_spec.specs.Parts.{named_modules}
+use Rattle.merge_spec.specs.Prelude.{named_modules}
 use Rattle.merge_link.specs.declared.sites.Site.{Site}
-use Rattle.merge_link.specs.Sites.{the_site}
+use Rattle.merge_link.specs.Prelude.{the_site}
 use Rattle.merge_link.proofs.Firsts.{first_pass, first_stop}
 use Rattle.merge_link.proofs.Meets.{clash_here, kept_known}
 use Rattle.merge_link.proofs.part_tables.PartTables.first_clash.Goals as goal

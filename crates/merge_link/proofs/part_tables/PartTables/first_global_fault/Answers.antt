@@ -1,15 +1,13 @@
-use Rattle.std.proofs.Common.{◌≡◌, ◌∙◌, ◌<◌, ap, Option, Some, None, length, get_or, arith}
+use Rattle.base_lists.proofs.Common.{◌≡◌, ◌∙◌, ◌<◌, ap, Option, Some, None, length, get_or, arith, get_or_default, slice_get-get_or}
 use Rattle.std.specs.Option.{option_map}
-use Rattle.std.proofs.lemmas.List.{get_or_default}
-use Rattle.std.proofs.lemmas.Option.{slice_get-get_or}
 use Rattle.wasm_tree.specs.declared.module.ConstExpr.TheVariants.{I32}
 use lib.IntN.{pos}
 use Rattle.merge_spec.specs.declared.links.Read.{Read}
 use Rattle.merge_spec.specs.declared.faults.LinkFault.TheVariants.{GlobalCycle}
 use Rattle.merge_spec.specs.Faults as faults
-use Rattle.merge_spec.specs.Parts.{named_modules}
+use Rattle.merge_spec.specs.Prelude.{named_modules}
 use Rattle.merge_link.specs.declared.globals.DefinedGlobal.{DefinedGlobal}
-use Rattle.merge_link.specs.Globals.{the_own, the_read, value_at}
+use Rattle.merge_link.specs.Prelude.{the_own, the_read, value_at}
 use Rattle.merge_link.proofs.Firsts.{first_pass, first_stop}
 use Rattle.merge_link.proofs.Found.{lengths_same}
 use Rattle.merge_link.proofs.Reading.{global_here}

@@ -1,12 +1,9 @@
-use Rattle.std.proofs.Common.{◌≡◌, ◌∙◌, sym, ◌<◌, Some, None, length, get_or, arith}
+use Rattle.base_lists.proofs.Common.{◌≡◌, ◌∙◌, sym, ◌<◌, Some, None, length, get_or, arith, slice_get-get_or, get_or_default}
 use Rattle.std.specs.Option.{option_map}
-use Rattle.std.proofs.lemmas.Option.{slice_get-get_or}
-use Rattle.std.proofs.lemmas.List.{get_or_default}
 use Rattle.merge_spec.specs.Faults as faults
-use Rattle.merge_spec.specs.Parts.{named_modules}
+use Rattle.merge_spec.specs.Prelude.{named_modules}
 use Rattle.merge_link.specs.declared.sites.Site.{Site}
-use Rattle.merge_link.specs.Sites.{the_site}
-use Rattle.merge_link.specs.PartTables.{end_at, the_end}
+use Rattle.merge_link.specs.Prelude.{the_site, end_at, the_end}
 use Rattle.merge_link.proofs.Found.{there_at, stop_at, fault_at, lengths_same}
 use Rattle.merge_link.proofs.Firsts.{first_pass, first_stop}
 use Rattle.merge_link.proofs.part_tables.PartTables.first_import_fault.Goals as goal

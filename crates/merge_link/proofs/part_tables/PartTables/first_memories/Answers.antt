@@ -1,15 +1,10 @@
-use Rattle.std.proofs.Common.{◌≡◌, ◌∙◌, ◌∷◌, ◌-◌, ◌<◌, ap, List, ℕ, Some, Bool, cond, drop, length, get_or, arith}
-use Rattle.std.specs.BTreeMap.{get_by}
-use Rattle.std.specs.Ordering.{nat_cmp, ordering_then}
-use Rattle.std.specs.Cmp.Lexicographic.{slice_cmp}
-use Rattle.std.proofs.lemmas.List.{get_or_default}
-use Rattle.std.proofs.lemmas.Option.{slice_get-get_or}
+use Rattle.base_lists.proofs.Common.{◌≡◌, ◌∙◌, ◌∷◌, ◌-◌, ◌<◌, ap, List, ℕ, Some, Bool, cond, drop, length, get_or, arith, get_by, nat_cmp, ordering_then, slice_cmp, get_or_default, slice_get-get_or}
 use Rattle.wasm_meaning.specs.Linking as linking
 use Rattle.merge_link.specs.declared.sites.Site.{Site}
 use Rattle.merge_link.specs.declared.part_tables.Ending.{Ending}
 use Rattle.merge_link.specs.declared.part_tables.Ending.TheVariants.{Defined}
 use Rattle.wasm_tree.specs.declared.module.ExportDesc.TheVariants.{Func}
-use Rattle.merge_link.specs.PartTables.{the_end}
+use Rattle.merge_link.specs.Prelude.{the_end}
 use Rattle.merge_link.proofs.Found.{there_at, known_at, known_size}
 use Rattle.merge_link.proofs.Gathers.{firsts_new, firsts_same, pair_tested, passed, taken}
 use Rattle.merge_link.proofs.Places.{one_back}

@@ -1,8 +1,5 @@
-use Rattle.std.proofs.Common.{drop, List, ℕ, ◌≡◌}
-use Rattle.std.specs.BTreeMap.{get_by}
-use Rattle.std.specs.Ordering.{nat_cmp, ordering_then}
-use Rattle.std.specs.Cmp.Lexicographic.{slice_cmp}
-use Rattle.merge_link.specs.Gathering.{first_memory}
+use Rattle.base_lists.proofs.Common.{drop, List, ℕ, ◌≡◌, get_by, nat_cmp, ordering_then, slice_cmp}
+use Rattle.merge_link.specs.Prelude.{first_memory}
 use Rattle.merge_link.proofs.part_tables.PartTables.first_memories.Given as goal
 
 abbrev pub invariant-loop-at : goal.invariant-loop-at

@@ -1,10 +1,8 @@
-use Rattle.std.proofs.Common.{◌≡◌, ◌∙◌, sym, ap, List, ℕ, Some, None}
+use Rattle.base_lists.proofs.Common.{◌≡◌, ◌∙◌, sym, ap, List, ℕ, Some, None}
 use Rattle.wasm_meaning.specs.Linking as linking
-use Rattle.merge_spec.specs.Parts.{named_modules}
+use Rattle.merge_spec.specs.Prelude.{named_modules}
 use Rattle.merge_link.specs.declared.part_tables.Ending.{Ending}
-use Rattle.merge_link.specs.Sites.{the_site}
-use Rattle.merge_link.specs.PartTables.{the_end}
-use Rattle.merge_link.specs.Gathering.{first_memory}
+use Rattle.merge_link.specs.Prelude.{the_site, the_end, first_memory}
 use Rattle.merge_link.proofs.Gathers.{first_there, gathered_memory, gathered_other}
 use Rattle.merge_link.proofs.part_tables.PartTables.gathered.Goals as goal
 

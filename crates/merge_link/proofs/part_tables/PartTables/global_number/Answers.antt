@@ -1,11 +1,8 @@
-use Rattle.std.proofs.Common.{◌≡◌, ◌∙◌, sym, ap, subst, ℕ, ◌<◌, ◌+◌, Some, length, slice_get, arith}
-use Rattle.std.proofs.lemmas.List.{length-map}
-use Rattle.std.proofs.lemmas.Option.{slice_get_within}
+use Rattle.base_lists.proofs.Common.{◌≡◌, ◌∙◌, sym, ap, subst, ℕ, ◌<◌, ◌+◌, Some, length, slice_get, arith, length-map, slice_get_within}
 use Rattle.wasm_meaning.specs.Linking as linking
 use Rattle.merge_spec.specs.Faults as faults
-use Rattle.merge_spec.specs.Parts.{named_module, named_modules}
-use Rattle.merge_link.specs.PartTables.{the_entity}
-use Rattle.merge_link.specs.Globals.{IsOwn}
+use Rattle.merge_spec.specs.Prelude.{named_module, named_modules}
+use Rattle.merge_link.specs.Prelude.{the_entity, IsOwn}
 use Rattle.merge_link.proofs.Joins.{module_read, read_at}
 use Rattle.merge_link.proofs.Reading.{own_none, own_past, own_place, own_some}
 use Rattle.merge_link.proofs.part_tables.PartTables.global_number.Goals as goal

@@ -1,8 +1,8 @@
-use Rattle.std.proofs.Common.{◌∙◌, ap, ℕ, ◌+◌, length, nat_lt}
-use Rattle.wasm_tree.specs.declared.space.Space.TheVariants.{Memories}
+use Rattle.base_lists.proofs.Common.{◌∙◌, ap, ℕ, ◌+◌, length, nat_lt}
+use Rattle.wasm_tree_spec.specs.Prelude.{Memories}
 use Rattle.wasm_meaning.specs.Linking as linking
 use Rattle.wasm_meaning.specs.World as world
-use Rattle.merge_spec.specs.Parts.{named_modules}
+use Rattle.merge_spec.specs.Prelude.{named_modules}
 use Rattle.merge_link.proofs.Counts.{memories_counted}
 use Rattle.merge_link.proofs.part_tables.PartTables.has_too_many_memories.Goals as goal
 

@@ -1,11 +1,9 @@
-use Rattle.std.proofs.Common.{◌≡◌, ◌∙◌, sym, ap, subst, ℕ, ◌+◌, Some, None, slice_get, arith}
-use Rattle.wasm_tree.specs.declared.space.Space.{Space}
-use Rattle.std.proofs.lemmas.Option.{slice_get_within}
+use Rattle.base_lists.proofs.Common.{◌≡◌, ◌∙◌, sym, ap, subst, ℕ, ◌+◌, Some, None, slice_get, arith, slice_get_within}
+use Rattle.wasm_tree_spec.specs.Prelude.{Space, index_of_export, space_of_export}
 use Rattle.wasm_meaning.specs.Linking as linking
-use Rattle.wasm_tree.specs.Spaces.{index_of_export, space_of_export}
-use Rattle.merge_spec.specs.Parts.{named_modules}
-use Rattle.merge_link.specs.Tables.{places_of}
-use Rattle.merge_link.specs.PartTables.{the_entity, IsImportedAs}
+use Rattle.merge_spec.specs.Prelude.{named_modules}
+use Rattle.merge_link.specs.Prelude.{places_of, the_entity}
+use Rattle.merge_link.specs.PartTables.{IsImportedAs}
 use Rattle.merge_link.proofs.Joins.{read_at, imported_none, imported_some}
 use Rattle.merge_link.proofs.part_tables.PartTables.imported_as.Goals as goal
 

@@ -1,15 +1,12 @@
-use Rattle.std.proofs.Common.{◌≡◌, ◌∙◌, ◌∷◌, ◌++◌, ◌<◌, [], sym, ap, refl, List, Option, map, take, length, get_or, arith}
-use Rattle.std.proofs.lemmas.List.{length-map, map_push, take_more}
-use Rattle.std.proofs.lemmas.Option.{slice_get-get_or, slice_get_read}
-use Rattle.wasm_tree.specs.declared.types.Limits.{Limits}
+use Rattle.base_lists.proofs.Common.{◌≡◌, ◌∙◌, ◌∷◌, ◌++◌, ◌<◌, [], sym, ap, refl, List, Option, map, take, length, get_or, arith, length-map, map_push, take_more, slice_get-get_or, slice_get_read}
+use Rattle.wasm_tree_spec.specs.Prelude.{Limits}
 use Rattle.wasm_tree.specs.declared.module.ExportDesc.TheVariants.{Func}
 use Rattle.merge_spec.specs.Faults as faults
-use Rattle.merge_spec.specs.Parts.{named_modules}
+use Rattle.merge_spec.specs.Prelude.{named_modules}
 use Rattle.merge_link.specs.declared.sites.Site.{Site}
 use Rattle.merge_link.specs.declared.part_tables.Ending.{Ending}
 use Rattle.merge_link.specs.declared.part_tables.Ending.TheVariants.{Defined}
-use Rattle.merge_link.specs.Sites.{the_site}
-use Rattle.merge_link.specs.PartTables.{the_end}
+use Rattle.merge_link.specs.Prelude.{the_site, the_end}
 use Rattle.merge_link.specs.Limits.{met_at}
 use Rattle.merge_link.proofs.Found.{there_at}
 use Rattle.merge_link.proofs.Meets.{kept_here, linked_known, linked_size, met_known}

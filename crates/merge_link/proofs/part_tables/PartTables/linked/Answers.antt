@@ -1,13 +1,10 @@
-use Rattle.std.proofs.Common.{◌≡◌, ◌∙◌, ◌<◌, ◌++◌, ◌∷◌, [], sym, ap, List, Option, Some, map, take, length, get_or, arith}
-use Rattle.std.proofs.lemmas.List.{map_push, take_all, take_more}
-use Rattle.std.proofs.lemmas.Option.{slice_get-get_or}
+use Rattle.base_lists.proofs.Common.{◌≡◌, ◌∙◌, ◌<◌, ◌++◌, ◌∷◌, [], sym, ap, List, Option, Some, map, take, length, get_or, arith, map_push, take_all, take_more, slice_get-get_or}
 use Rattle.wasm_tree.specs.declared.module.ExportDesc.TheVariants.{Func}
 use Rattle.wasm_meaning.specs.Linking as linking
 use Rattle.merge_link.specs.declared.sites.Site.{Site}
 use Rattle.merge_link.specs.declared.part_tables.Ending.{Ending}
 use Rattle.merge_link.specs.declared.part_tables.Ending.TheVariants.{Defined}
-use Rattle.merge_link.specs.PartTables.{the_end}
-use Rattle.merge_link.specs.Gathering.{linked_at}
+use Rattle.merge_link.specs.Prelude.{the_end, linked_at}
 use Rattle.merge_link.proofs.Found.{known_at, known_size}
 use Rattle.merge_link.proofs.Gathers.{linked_here, there_more, there_none}
 use Rattle.merge_link.proofs.part_tables.PartTables.linked.Goals as goal

@@ -1,14 +1,10 @@
-use Rattle.std.proofs.Common.{◌≡◌, ◌∙◌, ◌∷◌, ◌-◌, ◌<◌, sym, ap, refl, List, ℕ, map, drop, length, get_or, arith}
-use Rattle.std.proofs.lemmas.List.{drop_all, get_or_default, length-map}
-use Rattle.std.proofs.lemmas.Option.{slice_get-get_or, slice_get_read}
+use Rattle.base_lists.proofs.Common.{◌≡◌, ◌∙◌, ◌∷◌, ◌-◌, ◌<◌, sym, ap, refl, List, ℕ, map, drop, length, get_or, arith, drop_all, get_or_default, length-map, slice_get-get_or, slice_get_read}
 use Rattle.wasm_tree.specs.declared.module.ExportDesc.TheVariants.{Func}
-use Rattle.merge_spec.specs.Parts.{named_modules}
+use Rattle.merge_spec.specs.Prelude.{named_modules}
 use Rattle.merge_link.specs.declared.sites.Site.{Site}
 use Rattle.merge_link.specs.declared.part_tables.Ending.{Ending}
 use Rattle.merge_link.specs.declared.part_tables.Ending.TheVariants.{Defined}
-use Rattle.merge_link.specs.Sites.{the_site}
-use Rattle.merge_link.specs.PartTables.{the_end}
-use Rattle.merge_link.specs.Limits.{met_of}
+use Rattle.merge_link.specs.Prelude.{the_site, the_end, met_of}
 use Rattle.merge_link.proofs.Found.{there_at}
 use Rattle.merge_link.proofs.Meets.{all_met, all_none, all_same, all_set, demand_there, linked_known, linked_size}
 use Rattle.merge_link.proofs.Places.{one_back}

@@ -1,8 +1,7 @@
-use Rattle.std.proofs.Common.{◌∙◌, ap, refl, ℕ, ◌+◌, length, slice_get, arith}
-use Rattle.std.proofs.lemmas.Option.{slice_get_read, slice_get_within}
+use Rattle.base_lists.proofs.Common.{◌∙◌, ap, refl, ℕ, ◌+◌, length, slice_get, arith, slice_get_read, slice_get_within}
 use Rattle.wasm_meaning.specs.Linking as linking
-use Rattle.merge_spec.specs.Parts.{named_modules}
-use Rattle.merge_link.specs.Sites.{the_site}
+use Rattle.merge_spec.specs.Prelude.{named_modules}
+use Rattle.merge_link.specs.Prelude.{the_site}
 use Rattle.merge_link.proofs.Meets.{module_within, number_at, part_there}
 use Rattle.merge_link.proofs.part_tables.PartTables.number.Goals as goal
 

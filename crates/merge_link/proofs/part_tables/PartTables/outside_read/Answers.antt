@@ -1,7 +1,6 @@
-use Rattle.std.proofs.Common.{refl, length, arith}
-use Rattle.std.proofs.lemmas.Option.{slice_get_read}
-use Rattle.merge_spec.specs.Parts.{named_modules}
-use Rattle.merge_link.specs.Sites.{the_site}
+use Rattle.base_lists.proofs.Common.{refl, length, arith, slice_get_read}
+use Rattle.merge_spec.specs.Prelude.{named_modules}
+use Rattle.merge_link.specs.Prelude.{the_site}
 use Rattle.merge_link.proofs.Meets.{module_within, part_there}
 use Rattle.merge_link.proofs.Reading.{index_there, read_outside}
 use Rattle.merge_link.proofs.part_tables.PartTables.outside_read.Goals as goal

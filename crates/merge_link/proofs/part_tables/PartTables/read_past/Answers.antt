@@ -1,8 +1,7 @@
-use Rattle.std.proofs.Common.{◌∙◌, ap, sym, None, get_or}
-use Rattle.std.proofs.lemmas.Option.{slice_get-get_or}
-use Rattle.merge_spec.specs.Parts.{named_modules}
+use Rattle.base_lists.proofs.Common.{◌∙◌, ap, sym, None, get_or, slice_get-get_or}
+use Rattle.merge_spec.specs.Prelude.{named_modules}
 use Rattle.merge_link.specs.declared.part_tables.Ending.{Ending}
-use Rattle.merge_link.specs.PartTables.{the_end, the_entity}
+use Rattle.merge_link.specs.Prelude.{the_end, the_entity}
 use Rattle.merge_link.specs.Reads.{read_past}
 use Rattle.merge_link.proofs.Through.{number_within, value_numbered}
 use Rattle.merge_link.proofs.part_tables.PartTables.read_past.Goals as goal

@@ -1,9 +1,8 @@
-use Rattle.std.proofs.Common.{◌∙◌, inr, sym, ap, subst, map}
+use Rattle.base_lists.proofs.Common.{◌∙◌, inr, sym, ap, subst, map}
 use Rattle.merge_spec.specs.Faults as faults
-use Rattle.merge_spec.specs.Parts.{named_modules}
+use Rattle.merge_spec.specs.Prelude.{named_modules}
 use Rattle.merge_link.specs.declared.globals.DefinedGlobal.{DefinedGlobal}
-use Rattle.merge_link.specs.Globals.{the_own, value_at}
-use Rattle.merge_link.specs.Reads.{AreValues}
+use Rattle.merge_link.specs.Prelude.{the_own, value_at, AreValues}
 use Rattle.merge_link.specs.Resolving.{read_entry_at}
 use Rattle.merge_link.proofs.Whole.{global_faults_are, values_own}
 use Rattle.merge_link.proofs.part_tables.PartTables.read_values.Goals as goal

@@ -1,14 +1,11 @@
-use Rattle.std.proofs.Common.{◌≡◌, ◌∙◌, ◌<◌, sym, length, get_or, arith}
-use Rattle.std.proofs.lemmas.List.{get_or_default}
-use Rattle.std.proofs.lemmas.Option.{slice_get-get_or}
+use Rattle.base_lists.proofs.Common.{◌≡◌, ◌∙◌, ◌<◌, sym, length, get_or, arith, get_or_default, slice_get-get_or}
 use Rattle.wasm_tree.specs.declared.module.ExportDesc.TheVariants.{Func}
 use Rattle.merge_spec.specs.Faults as faults
-use Rattle.merge_spec.specs.Parts.{named_modules}
+use Rattle.merge_spec.specs.Prelude.{named_modules}
 use Rattle.merge_link.specs.declared.sites.Site.{Site}
 use Rattle.merge_link.specs.declared.part_tables.Ending.{Ending}
 use Rattle.merge_link.specs.declared.part_tables.Ending.TheVariants.{Defined}
-use Rattle.merge_link.specs.Sites.{the_site}
-use Rattle.merge_link.specs.PartTables.{the_end}
+use Rattle.merge_link.specs.Prelude.{the_site, the_end}
 use Rattle.merge_link.proofs.Counts.{count_not, count_yes, staying_here}
 use Rattle.merge_link.proofs.Found.{there_at}
 use Rattle.merge_link.proofs.Meets.{linked_known, linked_size}

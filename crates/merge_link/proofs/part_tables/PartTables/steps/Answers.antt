@@ -1,11 +1,8 @@
-use Rattle.std.proofs.Common.{length, map, get_or, ◌+◌, sym, ap, Some, slice_get, arith, ◌≡◌, ◌∙◌}
+use Rattle.base_lists.proofs.Common.{length, map, get_or, ◌+◌, sym, ap, Some, slice_get, arith, ◌≡◌, ◌∙◌, slice_get-map, slice_get-get_or, length-map, length_push}
 use Rattle.std.specs.Option.{option_map}
-use Rattle.std.proofs.lemmas.Option.{slice_get-map, slice_get-get_or}
-use Rattle.std.proofs.lemmas.List.{length-map, length_push}
 use Rattle.wasm_meaning.specs.Linking as linking
-use Rattle.merge_spec.specs.Parts.{named_modules}
-use Rattle.merge_link.specs.Sites.{the_site}
-use Rattle.merge_link.specs.PartTables.{the_end}
+use Rattle.merge_spec.specs.Prelude.{named_modules}
+use Rattle.merge_link.specs.Prelude.{the_site, the_end}
 use Rattle.merge_link.proofs.Numbers.{site_there}
 use Rattle.merge_link.proofs.Steps.{steps_more, no_steps}
 use Rattle.merge_link.proofs.part_tables.PartTables.steps.Goals as goal

@@ -1,10 +1,9 @@
-use Rattle.std.proofs.Common.{length, map, Some, slice_get, ℕ, ◌≡◌}
+use Rattle.base_lists.proofs.Common.{length, map, Some, slice_get, ℕ, ◌≡◌}
 use Rattle.base_paths.specs.declared.follow.Step.{Step}
 use Rattle.wasm_meaning.specs.Linking as linking
-use Rattle.merge_spec.specs.Parts.{named_modules}
+use Rattle.merge_spec.specs.Prelude.{named_modules}
 use Rattle.merge_link.specs.declared.part_tables.Ending.{Ending}
-use Rattle.merge_link.specs.Sites.{the_site}
-use Rattle.merge_link.specs.PartTables.{IsStep, the_end}
+use Rattle.merge_link.specs.Prelude.{the_site, IsStep, the_end}
 use Rattle.merge_link.proofs.part_tables.PartTables.steps.Given as goal
 
 abbrev pub invariant-loop-site : goal.invariant-loop-site

@@ -1,15 +1,11 @@
-use Rattle.std.proofs.Common.{sym, ap, subst, ◌<◌, length, get_or, arith}
-use Rattle.std.proofs.lemmas.List.{length-map}
-use Rattle.std.proofs.lemmas.Option.{slice_get-get_or, slice_get_within}
-use Rattle.wasm_tree.specs.declared.module.ConstExpr.{ConstExpr}
+use Rattle.base_lists.proofs.Common.{sym, ap, subst, ◌<◌, length, get_or, arith, length-map, slice_get-get_or, slice_get_within}
+use Rattle.wasm_tree_spec.specs.Prelude.{ConstExpr}
 use Rattle.wasm_tree.specs.declared.module.ExportDesc.TheVariants.{Func}
 use Rattle.wasm_meaning.specs.Linking as linking
-use Rattle.merge_spec.specs.Parts.{named_modules}
+use Rattle.merge_spec.specs.Prelude.{named_modules}
 use Rattle.merge_link.specs.declared.part_tables.Ending.{Ending}
 use Rattle.merge_link.specs.declared.part_tables.Ending.TheVariants.{Defined}
-use Rattle.merge_link.specs.Sites.{the_site}
-use Rattle.merge_link.specs.PartTables.{IsStep, the_end}
-use Rattle.merge_link.specs.Globals.{own_reads, the_read}
+use Rattle.merge_link.specs.Prelude.{the_site, IsStep, the_end, own_reads, the_read}
 use Rattle.merge_link.proofs.Found.{known_size}
 use Rattle.merge_link.proofs.Reading.{end_numbered, step_read}
 use Rattle.merge_link.proofs.part_tables.PartTables.value_step.Goals as goal

@@ -1,10 +1,9 @@
-use Rattle.std.proofs.Common.{length, map, Some, slice_get, ℕ, ◌≡◌}
+use Rattle.base_lists.proofs.Common.{length, map, Some, slice_get, ℕ, ◌≡◌}
 use Rattle.base_paths.specs.declared.follow.Step.{Step}
 use Rattle.wasm_meaning.specs.Linking as linking
 use Rattle.merge_spec.specs.declared.links.Read.{Read}
-use Rattle.merge_spec.specs.Parts.{named_modules}
-use Rattle.merge_link.specs.Globals.{own_read, own_reads, the_own, the_read}
-use Rattle.merge_link.specs.PartTables.{IsStep}
+use Rattle.merge_spec.specs.Prelude.{named_modules}
+use Rattle.merge_link.specs.Prelude.{own_read, own_reads, the_own, the_read, IsStep}
 use Rattle.merge_link.proofs.part_tables.PartTables.value_steps.Given as goal
 
 abbrev pub invariant-loop-global : goal.invariant-loop-global

@@ -1,14 +1,12 @@
-use Rattle.std.proofs.Common.{length, map, subst, sym, ap, arith, List, ◌≡◌, ◌∙◌}
-use Rattle.std.proofs.lemmas.List.{length-map}
-use Rattle.base_lists.proofs.Places.{map_twice}
+use Rattle.base_lists.proofs.Common.{length, map, subst, sym, ap, arith, List, ◌≡◌, ◌∙◌, length-map, map_twice}
 use Rattle.base_paths.specs.declared.follow.Step.{Step}
 use Rattle.base_paths.specs.Steps.{AreNamed, AreEndings}
 use Rattle.wasm_meaning.specs.Linking as linking
 use Rattle.merge_spec.specs.declared.links.Read.{Read}
-use Rattle.merge_spec.specs.Parts.{named_modules}
+use Rattle.merge_spec.specs.Prelude.{named_modules}
 use Rattle.merge_link.specs.declared.globals.DefinedGlobal.{DefinedGlobal}
-use Rattle.merge_link.specs.Globals.{own_read, own_reads, the_own, the_read, value_at}
-use Rattle.merge_link.specs.PartTables.{AreSteps}
+use Rattle.merge_link.specs.Prelude.{own_read, own_reads, the_own, the_read, AreSteps}
+use Rattle.merge_link.specs.Globals.{value_at}
 use Rattle.merge_link.proofs.Steps.{steps_named, endings_told}
 use Rattle.merge_link.proofs.part_tables.PartTables.values.Goals as goal
 

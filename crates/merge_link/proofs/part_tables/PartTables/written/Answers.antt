@@ -1,8 +1,7 @@
-use Rattle.std.proofs.Common.{◌∙◌, ap, map, Some}
-use Rattle.merge_spec.specs.Linked.{end_entry}
+use Rattle.base_lists.proofs.Common.{◌∙◌, ap, map, Some}
+use Rattle.merge_spec.specs.Prelude.{end_entry}
 use Rattle.merge_link.specs.declared.part_tables.Ending.{Ending}
-use Rattle.merge_link.specs.Cutting.{cut_by, import_counts}
-use Rattle.merge_link.specs.PartTables.{the_end}
+use Rattle.merge_link.specs.Prelude.{cut_by, import_counts, the_end}
 use Rattle.merge_link.proofs.Whole.{entries_linked, limits_kept, reads_written}
 use Rattle.merge_link.proofs.part_tables.PartTables.written.Goals as goal
 

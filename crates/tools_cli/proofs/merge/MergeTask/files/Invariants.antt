@@ -1,6 +1,5 @@
-use Rattle.std.proofs.Common.{◌≡◌, map, take}
-use Rattle.tools_cli.specs.Command.{names_of}
-use Rattle.tools_cli.specs.Sources.{source_values}
+use Rattle.base_lists.proofs.Common.{◌≡◌, map, take}
+use Rattle.tools_cli.specs.Prelude.{names_of, source_values}
 use Rattle.tools_cli.proofs.merge.MergeTask.files.Given as goal
 
 abbrev pub invariant-loop-source : goal.invariant-loop-source

@@ -1,7 +1,4 @@
-use Rattle.std.proofs.Common.{◌≡◌, ◌∙◌, ap, sym, true, false, rules, ◌+◌, ◌∷◌, drop, map, length, ◌≤◌, arith, Some}
-use Rattle.std.proofs.lemmas.List.{drop_all}
-use Rattle.std.specs.Prelude.{is_some}
-use Rattle.std.specs.Str.{bytes_eq}
+use Rattle.base_lists.proofs.Common.{◌≡◌, ◌∙◌, ap, sym, true, false, rules, ◌+◌, ◌∷◌, drop, map, length, ◌≤◌, arith, Some, drop_all, is_some, bytes_eq}
 use Rattle.tools_cli_words.specs.Words.{values_of}
 use Rattle.tools_cli_words.specs.Meaning.{option_value}
 use Rattle.tools_cli_words.proofs.Lines.{words_at, found_then, found_again, found_first, passed_value, all_found}

@@ -1,6 +1,5 @@
-use Rattle.std.proofs.Common.{◌≡◌, Err, refl, arith, sym, to_z, of_z, w64}
-use Rattle.std.proofs.lemmas.Int.{ints}
-use Rattle.wasm_bytes.specs.Numbers.{last_signed, join_signed}
+use Rattle.base_lists.proofs.Common.{◌≡◌, Err, refl, arith, sym, to_z, of_z, w64, ints}
+use Rattle.wasm_bytes.specs.Prelude.{last_signed, join_signed}
 use Rattle.wasm_bytes.specs.Reading.{signed_at}
 use Rattle.wasm_bytes.proofs.NumberLaws.{read_of, signed_ends}
 use Rattle.wasm_bytes.proofs.cursor.Cursor.s33.Goals as goal

@@ -1,5 +1,4 @@
-use Rattle.std.proofs.Common.{arith}
-use Rattle.std.proofs.lemmas.Int.{ints}
+use Rattle.base_lists.proofs.Common.{arith, ints}
 use Rattle.wasm_bytes.proofs.SignedShortest.{signed_shortest}
 use Rattle.wasm_bytes.proofs.out.Out.s32.Goals as goal
 

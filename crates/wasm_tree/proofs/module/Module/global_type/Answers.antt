@@ -1,7 +1,6 @@
-use Rattle.std.proofs.Common.{ap, length, ◌≡◌, Some, None, slice_get, arith}
-use Rattle.std.proofs.lemmas.Grind.{common_steps}
+use Rattle.base_lists.proofs.Common.{ap, length, ◌≡◌, Some, None, slice_get, arith, common_steps, absent, present}
 use Rattle.wasm_tree.specs.Spaces.{global_of, globals_of}
-use Rattle.base_lists.proofs.Found.{absent, present, found_behind}
+use Rattle.base_lists.proofs.Found.{found_behind}
 use Rattle.wasm_tree.proofs.module.Module.global_type.Goals as goal
 
 pub returns-then-left-eq0-clause-none : goal.returns-then-left-eq0-clause-none

@@ -1,8 +1,5 @@
-use Rattle.std.proofs.Common.{◌≡◌, Some, slice_get, arith}
-use Rattle.std.specs.Option.{option_copied}
-use Rattle.std.proofs.lemmas.Grind.{common_steps}
+use Rattle.base_lists.proofs.Common.{◌≡◌, Some, slice_get, arith, option_copied, common_steps, absent, present}
 use Rattle.wasm_tree.specs.Spaces.{memories_of}
-use Rattle.base_lists.proofs.Found.{absent, present}
 use Rattle.wasm_tree.proofs.module.Module.memory_limits.Goals as goal
 
 pub returns-then-left-eq0-clause-none : goal.returns-then-left-eq0-clause-none

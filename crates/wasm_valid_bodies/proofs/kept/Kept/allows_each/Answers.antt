@@ -1,5 +1,4 @@
-use Rattle.std.proofs.Common.{◌≡◌, true, Some, sym, ◌∙◌, subst}
-use Rattle.std.specs.Prelude.{slice_get, slice_index}
+use Rattle.base_lists.proofs.Common.{◌≡◌, true, Some, sym, ◌∙◌, subst, slice_get, slice_index}
 use Rattle.wasm_valid_bodies.specs.Tracking.{allows_types}
 use Rattle.wasm_valid_bodies.specs.Kept.{stack_of}
 use Rattle.wasm_valid_bodies.specs.Labels.{label_list}

@@ -1,5 +1,4 @@
-use Rattle.std.proofs.Common.{◌≡◌, ℕ, true, Some, drop}
-use Rattle.std.specs.Prelude.{slice_get}
+use Rattle.base_lists.proofs.Common.{◌≡◌, ℕ, true, Some, drop, slice_get}
 use Rattle.wasm_valid_bodies.specs.Tracking.{allows_types, allows_all}
 use Rattle.wasm_valid_bodies.specs.Kept.{stack_of}
 use Rattle.wasm_valid_bodies.specs.Labels.{label_list}

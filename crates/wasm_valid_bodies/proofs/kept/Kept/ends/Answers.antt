@@ -1,5 +1,4 @@
-use Rattle.std.proofs.Common.{◌≡◌, [], Some, sym, ◌∙◌, arith}
-use Rattle.std.proofs.lemmas.Bool.{eqb-true}
+use Rattle.base_lists.proofs.Common.{◌≡◌, [], Some, sym, ◌∙◌, arith, eqb-true}
 use Rattle.wasm_valid_bodies.specs.Kept.{stack_of}
 use Rattle.wasm_valid_bodies.proofs.Known.{none_left}
 use Rattle.wasm_valid_bodies.proofs.kept.Kept.ends.Goals as goal

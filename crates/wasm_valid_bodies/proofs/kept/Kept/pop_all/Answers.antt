@@ -1,5 +1,4 @@
-use Rattle.std.proofs.Common.{Some, sym, ap, ◌∙◌, reverse, length, drop}
-use Rattle.std.proofs.lemmas.List.{length-reverse}
+use Rattle.base_lists.proofs.Common.{Some, sym, ap, ◌∙◌, reverse, length, drop, length-reverse}
 use Rattle.wasm_valid_bodies.specs.Kept.{stack_of, when}
 use Rattle.wasm_valid_bodies.proofs.Known.{popped}
 use Rattle.wasm_valid_bodies.proofs.kept.Kept.pop_all.Goals as goal

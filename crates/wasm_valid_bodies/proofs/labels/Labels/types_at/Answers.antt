@@ -1,6 +1,4 @@
-use Rattle.std.proofs.Common.{◌≡◌, ◌<◌, length, get_or, Some, sym, ap, ◌∙◌, arith}
-use Rattle.std.specs.Prelude.{slice_get}
-use Rattle.std.proofs.lemmas.Option.{slice_get-get_or}
+use Rattle.base_lists.proofs.Common.{◌≡◌, ◌<◌, length, get_or, Some, sym, ap, ◌∙◌, arith, slice_get, slice_get-get_or}
 use Rattle.wasm_valid_bodies.proofs.Places.{mapped_at}
 use Rattle.wasm_valid_bodies.proofs.labels.Labels.types_at.Goals as goal
 

@@ -1,6 +1,4 @@
-use Rattle.std.proofs.Common.{◌≡◌, Some, None, sym, ap, ◌∙◌}
-use Rattle.std.specs.Prelude.{slice_get, option_map}
-use Rattle.std.proofs.lemmas.Option.{slice_get-get_or, slice_get_past}
+use Rattle.base_lists.proofs.Common.{◌≡◌, Some, None, sym, ap, ◌∙◌, slice_get, option_map, slice_get-get_or, slice_get_past}
 use Rattle.wasm_valid_bodies.proofs.Grouped.{local_at, ends_ascend}
 use Rattle.wasm_valid_bodies.proofs.locals.Locals.declared_at.Goals as goal
 
