@@ -3,8 +3,6 @@
 
 mod follow;
 mod stops;
-#[cfg(test)]
-mod tests;
 
 pub use follow::{Step, endings};
 pub use stops::ends;

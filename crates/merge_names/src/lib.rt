@@ -16,14 +16,10 @@ ghost use Rattle.merge_names.specs.Given.{texts, IsConflictOf};
 
 use crate::keeping::{all_of, kept};
 use crate::renaming::renamed;
-use std::alloc::Global;
-use wasm_bytes::{Items, Name};
-
-#[cfg(test)]
-mod tests;
-
 pub use fault::NameFault;
 pub use mode::Mode;
+use std::alloc::Global;
+use wasm_bytes::{Items, Name};
 
 /// What each of these exports is called, and nothing where it is dropped.
 ///

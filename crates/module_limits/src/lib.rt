@@ -11,6 +11,3 @@ pub use counts::over_limit;
 pub fn counts_are_within_where_none_is_over()
     ensures { CountsAreWithinWhereNoneIsOver }
 {}
-
-#[cfg(test)]
-mod tests;

@@ -8,6 +8,3 @@ mod outside;
 pub use host::{HostFiles, HostSink};
 pub use memory::{MemFiles, MemSink};
 pub use outside::{Files, IoFault, Sink};
-
-#[cfg(test)]
-mod tests;

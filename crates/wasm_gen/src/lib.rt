@@ -8,8 +8,6 @@ mod pair;
 mod sampling;
 mod second;
 mod shared;
-#[cfg(test)]
-mod tests;
 
 pub use laws::sample_modules_are_valid;
 pub use pair::Sample;

@@ -6,8 +6,6 @@ mod func_name;
 mod laws;
 mod name_map;
 mod section;
-#[cfg(test)]
-mod tests;
 
 pub use file::function_names;
 pub use func_name::FuncName;

@@ -3,8 +3,6 @@
 
 mod narrow;
 mod operations;
-#[cfg(test)]
-mod tests;
 mod wide;
 
 pub use operations::{apply1, apply2};

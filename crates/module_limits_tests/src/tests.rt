@@ -1,4 +1,4 @@
-use crate::over_limit;
+use module_limits::over_limit;
 use wasm_tree::Module;
 
 #[test]

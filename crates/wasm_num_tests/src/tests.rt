@@ -3,7 +3,7 @@
 ghost use Rattle.std.specs.Prelude.{◌≡◌, cond};
 ghost use Rattle.wasm_num.specs.Operations.{W32, W64, un_from, bin_from};
 
-use crate::{BinOp, Num, Trap, UnOp, apply1, apply2};
+use wasm_num::{BinOp, Num, Trap, UnOp, apply1, apply2};
 
 // An operation, its operand, and its result.
 const OF_ONE: &str = "I32Eqz 0 1
@@ -383,7 +383,7 @@ fn binary(name: &str) -> Option<BinOp> {
     }
 }
 
-#[tactic(auto, unfolding(crate::specs::Operations::un_from))]
+#[tactic(auto, unfolding(wasm_num::specs::Operations::un_from))]
 fn is_wide1(op: UnOp) -> bool
     ensures { cond result W64 W32 ≡ un_from op }
 {
@@ -400,7 +400,7 @@ fn is_wide1(op: UnOp) -> bool
     )
 }
 
-#[tactic(auto, unfolding(crate::specs::Operations::bin_from))]
+#[tactic(auto, unfolding(wasm_num::specs::Operations::bin_from))]
 fn is_wide2(op: BinOp) -> bool
     ensures { cond result W64 W32 ≡ bin_from op }
 {

@@ -1,6 +1,6 @@
-use crate::{Sample, sample};
 use std::process::Abort;
 use std::test::Fail;
+use wasm_gen::{Sample, sample};
 use wasm_num::BinOp;
 use wasm_tree::{ExportDesc, Instr};
 

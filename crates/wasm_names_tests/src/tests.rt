@@ -1,5 +1,5 @@
-use crate::function_names;
 use std::test::Fail;
+use wasm_names::function_names;
 
 /// Function 1 is named `g`.
 const NAMED: [u8; 22] = [

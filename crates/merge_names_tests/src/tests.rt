@@ -1,4 +1,4 @@
-use crate::{Mode, NameFault, choose_names};
+use merge_names::{Mode, NameFault, choose_names};
 use std::alloc::Global;
 use std::process::Abort;
 use std::test::Fail;

@@ -1,6 +1,6 @@
-use crate::{Files, HostFiles, HostSink, IoFault, MemFiles, MemSink, Sink};
 use std::fs;
 use std::test::Fail;
+use tool_io::{Files, HostFiles, HostSink, IoFault, MemFiles, MemSink, Sink};
 
 // A write through the bound.
 fn write_one<F: Files>(files: &mut F, name: &str, bytes: &[u8]) -> Result<(), IoFault> {

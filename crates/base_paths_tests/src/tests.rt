@@ -1,4 +1,4 @@
-use super::{Step, endings, ends};
+use base_paths::{Step, endings, ends};
 
 // A stop, a chain to it, a circle of two with a way into it, a place that is its own next, and a second way to the stop.
 #[test]

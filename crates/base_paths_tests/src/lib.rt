@@ -1,0 +1,5 @@
+//! Tests of ends of paths.
+#![tactic(auto)]
+
+#[cfg(test)]
+mod tests;

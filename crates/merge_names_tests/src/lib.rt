@@ -1,0 +1,5 @@
+//! Tests of names of a merge.
+#![tactic(auto)]
+
+#[cfg(test)]
+mod tests;

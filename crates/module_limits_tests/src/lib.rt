@@ -1,0 +1,5 @@
+//! Tests of counts above their limits.
+#![tactic(auto)]
+
+#[cfg(test)]
+mod tests;

@@ -1,0 +1,5 @@
+//! Tests of files and sinks.
+#![tactic(auto)]
+
+#[cfg(test)]
+mod tests;

@@ -1,0 +1,5 @@
+//! Tests of sample modules.
+#![tactic(auto)]
+
+#[cfg(test)]
+mod tests;

@@ -1,0 +1,5 @@
+//! Tests of names of functions.
+#![tactic(auto)]
+
+#[cfg(test)]
+mod tests;

@@ -1,0 +1,5 @@
+//! Tests of numbers and their operations.
+#![tactic(auto)]
+
+#[cfg(test)]
+mod tests;
