@@ -1,18 +1,13 @@
 -- The faults of a split that are told before anything is built, and those that are told of what is built.
-use Rattle.base_lists.proofs.Common.{◌≡◌, ℕ, Bool, true, false, List, cond, length, nat_lt, Option, Some, None, refl, ap, ◌∙◌, option_map, option_or}
+use Rattle.base_lists.proofs.Common.{◌≡◌, ℕ, Bool, true, false, List, cond, length, nat_lt, Some, None, refl, ap, ◌∙◌, option_map, option_or}
 use Rattle.wasm_tree_spec.specs.Prelude.{Which, Module, limit}
 use Rattle.wasm_tree.specs.declared.which.Which.TheVariants as which
 use Rattle.module_limits.specs.Counts.{over_limit}
 use Rattle.split_spec.specs.declared.names.SplitNames.{SplitNames}
-use Rattle.split_spec.specs.declared.faults.SplitFault.{SplitFault}
 use Rattle.split_spec.specs.declared.faults.SplitFault.TheVariants.{NamespaceTaken, PrefixTaken, TooMany}
 use Rattle.split_spec.specs.Prelude.{moved_params, namespace_taken, prefix_taken, split_fault, too_many, primary, secondary}
 use Rattle.split_slots.specs.Surveyed.{MaySplit, first_counts, first_too_many}
 use Rattle.split_slots.proofs.FirstCounts.{few_where_none, first_tells}
-
--- the faults of a split, by their parts
-faults_of : (namespace : Option ℕ) (prefix : Option (List ℕ)) → Option Which → Option SplitFault
-faults_of namespace prefix many = option_or (option_map NamespaceTaken namespace) (option_or (option_map PrefixTaken prefix) (option_map TooMany many))
 
 module _ (names : SplitNames) (m : Module) (moved : List ℕ) where
   pub namespace_first : (import : ℕ) → namespace_taken names.placeholder_namespace m ≡ Some import → split_fault names m moved ≡ Some (NamespaceTaken import)

@@ -1,32 +1,20 @@
 -- Marks that are set one after the other.
-use Rattle.base_lists.proofs.Common.{◌≡◌, ℕ, zero, suc, ◌+◌, ◌-◌, ◌≤◌, arith, map, take, replicate, Bool, true, false, ◌&&◌, ◌||◌, not, List, [], ◌∷◌, ◌++◌, length, Option, Some, None, is_some, option_map, refl, sym, ap, ap₂, ◌∙◌, nat_eq, slice_get, slice_set, cons_option, list_any, filter_map-append, or_assoc, or-false, and-false, eqb-suc-zero, list_any-append}
+use Rattle.base_lists.proofs.Common.{◌≡◌, ℕ, zero, suc, ◌+◌, ◌-◌, ◌≤◌, arith, map, take, replicate, Bool, true, false, ◌&&◌, ◌||◌, not, List, [], ◌∷◌, ◌++◌, length, Option, Some, None, is_some, option_map, refl, sym, ap, ap₂, ◌∙◌, nat_eq, slice_get, cons_option, list_any, filter_map-append, or_assoc, or-false, and-false, list_any-append}
 use Rattle.base_lists.specs.Places.{numbers}
-use Rattle.wasm_tree_spec.specs.Prelude.{Func, Module, imported_funcs, Space, Operand, Instr, AnyInside, listed, operand_passes, operands_of, same_space}
+use Rattle.wasm_tree_spec.specs.Prelude.{Func, Module, imported_funcs, Space, Operand, listed, same_space}
 use Rattle.split_spec.specs.Prelude.{defined_at}
 use Rattle.split_slots.proofs.SlotTables.{take_one}
-use Rattle.std.proofs.Math.Bool.{or-true}
-use Rattle.std.proofs.Math.Dec.{eqb-suc-suc, eqb-zero-suc}
 use Rattle.index_remap_proof.proofs.Lists.{same_number}
 use Rattle.wasm_tree.specs.declared.space.Operands.{Operands}
 use Rattle.split_slots.specs.declared.sharing.Marks.{Marks}
 use Rattle.split_slots.specs.Looking.{slot_at}
-use Rattle.split_slots.specs.Noting.{Notes, body_names, held_in, marks_in, named_by}
+use Rattle.split_slots.specs.Noting.{Notes, marks_in, named_by}
 
 -- ---- one mark ----
 
 pub unmarked : (o : Option Bool) (b : Bool) → b ≡ false → o ≡ option_map (λ mark. mark || b) o
 unmarked None b e = refl
 unmarked (Some mark) b e = ap Some (sym (or-false mark) ∙ ap (λ c. mark || c) (sym e))
-
-pub set_note : (xs : List Bool) (i j : ℕ) → slice_get (slice_set xs i true) j ≡ option_map (λ mark. mark || nat_eq i j) (slice_get xs j)
-set_note [] zero zero = refl
-set_note [] zero (suc j) = refl
-set_note [] (suc i) zero = refl
-set_note [] (suc i) (suc j) = refl
-set_note (x ∷ xs) zero zero = ap Some (sym (or-true x))
-set_note (x ∷ xs) zero (suc j) = unmarked (slice_get xs j) (nat_eq zero (suc j)) (eqb-zero-suc j)
-set_note (x ∷ xs) (suc i) zero = ap Some (sym (or-false x) ∙ ap (λ c. x || c) (sym (eqb-suc-zero i)))
-set_note (x ∷ xs) (suc i) (suc j) = set_note xs i j ∙ ap (λ b. option_map (λ mark. mark || b) (slice_get xs j)) (sym (eqb-suc-suc i j))
 
 -- ---- one after the other ----
 
@@ -39,9 +27,6 @@ then_notes t u a b c first second s i = second s i ∙ ap (option_map (λ mark. 
 
 pub notes_as : (t u : Space → ℕ → Bool) (a b : Marks) → ((s : Space) (i : ℕ) → t s i ≡ u s i) → Notes t a b → Notes u a b
 notes_as t u a b same h s i = h s i ∙ ap (λ x. option_map (λ mark. mark || x) (slice_get (marks_in a s) i)) (same s i)
-
-pub notes_nothing : (t : Space → ℕ → Bool) (a : Marks) → ((s : Space) (i : ℕ) → t s i ≡ false) → Notes t a a
-notes_nothing t a none s i = unmarked (slice_get (marks_in a s) i) (t s i) (none s i)
 
 -- ---- one operand ----
 
@@ -56,16 +41,6 @@ module _ (slots : List (Option ℕ)) (o : Operand) where
           ap (λ b. same_space o.space s && (b && not (o.called && is_some (slot_at slots i)))) e ∙ ap (λ b. same_space o.space s && not b) here ∙ and-false (same_space o.space s)
       split false e = ap (λ b. same_space o.space s && (b && not (o.called && is_some (slot_at slots i)))) e ∙ and-false (same_space o.space s)
 
-  pub other_operand : o.called && is_some (slot_at slots o.index) ≡ false → (s : Space) (i : ℕ) → same_space o.space s && nat_eq o.index i ≡ named_by slots s i o
-  other_operand h s i = split (nat_eq o.index i) refl
-    where
-      split : (b : Bool) → nat_eq o.index i ≡ b → same_space o.space s && nat_eq o.index i ≡ named_by slots s i o
-      split true e =
-          let at : o.index ≡ i = same_number o.index i e in
-          let here : o.called && is_some (slot_at slots i) ≡ false = ap (λ n. o.called && is_some (slot_at slots n)) (sym at) ∙ h in
-          ap (λ b. same_space o.space s && b) e ∙ sym (ap (λ b. same_space o.space s && (b && not (o.called && is_some (slot_at slots i)))) e ∙ ap (λ b. same_space o.space s && not b) here)
-      split false e = ap (λ b. same_space o.space s && b) e ∙ sym (ap (λ b. same_space o.space s && (b && not (o.called && is_some (slot_at slots i)))) e)
-
 -- ---- the operands of an instruction, and what it holds ----
 
 pub both_listed : (test : Operand → Bool) (os : Operands) → (list_any test (cons_option os.first []) || list_any test (cons_option os.second [])) ≡ list_any test (listed os)
@@ -74,9 +49,6 @@ both_listed test os = split os.first
     split : (first : Option Operand) → (list_any test (cons_option first []) || list_any test (cons_option os.second [])) ≡ list_any test (cons_option first (cons_option os.second []))
     split None = refl
     split (Some o) = ap (λ b. b || list_any test (cons_option os.second [])) (or-false (test o))
-
-pub whole_instr : AnyInside → (slots : List (Option ℕ)) (i : Instr) (s : Space) (n : ℕ) → (list_any (named_by slots s n) (operands_of i) || body_names slots (held_in i) s n) ≡ body_names slots (i ∷ []) s n
-whole_instr law slots i s n = sym (law (named_by slots s n) i) ∙ sym (or-false (operand_passes (named_by slots s n) i))
 
 -- ---- all marks of an index space ----
 

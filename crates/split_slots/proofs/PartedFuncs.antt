@@ -1,5 +1,5 @@
 -- Functions that are parted one after the other.
-use Rattle.base_lists.proofs.Common.{◌≡◌, ℕ, zero, suc, ◌+◌, ◌≤◌, arith, Bool, true, false, cond, List, [], ◌∷◌, ◌++◌, take, drop, set, length, Some, is_some, refl, ap, ◌∙◌, slice_get}
+use Rattle.base_lists.proofs.Common.{◌≡◌, ℕ, zero, suc, ◌+◌, ◌≤◌, arith, Bool, true, false, cond, List, [], ◌∷◌, ◌++◌, take, drop, set, Some, is_some, refl, ap, ◌∙◌, slice_get}
 use Rattle.wasm_tree_spec.specs.Prelude.{FuncType, Func}
 use Rattle.split_slots.specs.declared.calls.Calls.{Calls}
 use Rattle.split_slots.specs.Looking.{slot_at}
@@ -51,9 +51,3 @@ module _ (types : List FuncType) (c : Calls) where
 
   pub own_more : (first : ℕ) (fs : List Func) (i : ℕ) (f : Func) → Some f ≡ slice_get fs i → own_funcs c first (take (i + 1) fs) ≡ own_funcs c first (take i fs) ++ cond (is_some (slot_at c.slots.now (first + i))) (f ∷ []) []
   own_more first fs i f at = let one : i + 1 ≡ suc i = omega arith in ap (λ n. own_funcs c first (take n fs)) one ∙ own_suc first fs i (first + i) f refl at
-
-  pub parted_all : (first : ℕ) (fs : List Func) (n : ℕ) → length fs ≤ n → parted_to first fs n ≡ parted_funcs types c first fs
-  parted_all first [] zero le = refl
-  parted_all first [] (suc n) le = refl
-  parted_all first (f ∷ fs) zero le = absurd (omega (arith, le))
-  parted_all first (f ∷ fs) (suc n) le = let less : length fs ≤ n = omega (arith, le) in ap (λ zs. parted_func types c (slot_at c.slots.now first) f ∷ zs) (parted_all (suc first) fs n less)

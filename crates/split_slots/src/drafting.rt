@@ -99,7 +99,7 @@ fn secondary_draft(
     })
 }
 
-// The secondary module. What is left of the module is the primary one.
+// The secondary module, and where its indices go. What is left of the module is the primary one.
 fn parted(
     alloc: Global,
     tree: &mut Module,

@@ -1,6 +1,6 @@
 // Each module of a split with its own indices.
 
-ghost use Rattle.std.specs.Prelude.{◌≡◌, ◌⊎◌, ◌<◌, ◌^◌, length, option_map, None, Some, IfErr, IsOk, IsTrue, OnOk};
+ghost use Rattle.std.specs.Prelude.{◌≡◌, ◌⊎◌, ◌<◌, ◌^◌, length, option_map, None, Some, IfOk, IfErr, IsOk, IsTrue};
 ghost use Rattle.wasm_tree.specs.Spaces.{funcs_of};
 ghost use Rattle.module_limits.specs.Counts.{over_limit};
 ghost use Rattle.index_remap.specs.References.{declared};
@@ -15,26 +15,28 @@ use wasm_bytes::NoMemory;
 use wasm_tree::Module;
 
 // Renumbers a module where it stands, and declares its references.
-fn renumber(alloc: Global, tree: &mut Module, map: &Remap) -> Result<(), NoMemory>
-    requires fits { IsTrue (fits_tree map.now tree.old) }
-    requires few { length (funcs_of (renumbered_tree map.now tree.old)) < 2 ^ 32 }
-    ensures { OnOk result (tree.new ≡ declared (renumbered_tree map.now tree.old)) }
+fn renumbered(alloc: Global, module: Module, map: &Remap) -> Result<Module, NoMemory>
+    requires fits { IsTrue (fits_tree map.now «module») }
+    requires few { length (funcs_of (renumbered_tree map.now «module»)) < 2 ^ 32 }
+    ensures { IfOk result (λ tree. tree ≡ declared (renumbered_tree map.now «module»)) }
 {
-    renumber_in_place(tree, map);
-    declare_refs(alloc, tree)
+    let mut tree = module;
+    renumber_in_place(&mut tree, map);
+    declare_refs(alloc, &mut tree)?;
+    Ok(tree)
 }
 
-/// Gives a module its own indices, and declares its references; or tells of what it has too much.
-pub(crate) fn finish_tree(alloc: Global, tree: &mut Module, map: &Remap) -> Result<(), SplitFault>
-    requires fits { IsTrue (fits_tree map.now tree.old) }
-    requires few { length (funcs_of (renumbered_tree map.now tree.old)) < 2 ^ 32 }
-    ensures value { OnOk result (tree.new ≡ declared (renumbered_tree map.now tree.old)) }
-    ensures none { IsOk result → over_limit (declared (renumbered_tree map.now tree.old)) ≡ None }
-    ensures fault { IfErr result (λ e. (e ≡ OutOfMemory) ⊎ (option_map TooMany (over_limit (declared (renumbered_tree map.now tree.old))) ≡ Some e)) }
+/// The module with its own indices, and its references declared; or of what it has too much.
+pub(crate) fn finished(alloc: Global, module: Module, map: &Remap) -> Result<Module, SplitFault>
+    requires fits { IsTrue (fits_tree map.now «module») }
+    requires few { length (funcs_of (renumbered_tree map.now «module»)) < 2 ^ 32 }
+    ensures value { IfOk result (λ tree. tree ≡ declared (renumbered_tree map.now «module»)) }
+    ensures none { IsOk result → over_limit (declared (renumbered_tree map.now «module»)) ≡ None }
+    ensures fault { IfErr result (λ e. (e ≡ OutOfMemory) ⊎ (option_map TooMany (over_limit (declared (renumbered_tree map.now «module»))) ≡ Some e)) }
 {
-    renumber(alloc, tree, map)?;
-    match over_limit(tree) {
+    let tree = renumbered(alloc, module, map)?;
+    match over_limit(&tree) {
         Some(which) => Err(SplitFault::TooMany { which }),
-        None => Ok(()),
+        None => Ok(tree),
     }
 }

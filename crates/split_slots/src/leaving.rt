@@ -25,7 +25,7 @@ use std::mem;
 use wasm_bytes::{Items, Name, NoMemory};
 use wasm_tree::{Export, Func, FuncType, Module};
 
-// Leaves of the defined functions, of which the first has this index, those that are marked, as they are left; and gives those that move.
+// Parts the defined functions, of which the first has this index: those that are marked are left, and those that move are given.
 fn part(
     alloc: Global,
     funcs: &mut Items<Func>,

@@ -1,6 +1,6 @@
 // Splitting a module.
 
-ghost use Rattle.std.specs.Prelude.{◌≡◌, ◌⊎◌, Err, None, Some, option_map, IfErr, IfOk, IsOk, OnOk};
+ghost use Rattle.std.specs.Prelude.{◌≡◌, ◌⊎◌, Err, None, Some, option_map, IfErr, IfOk, IsOk};
 ghost use Rattle.std.specs.List.Sorted.{IsStrictlyIncreasing};
 ghost use Rattle.std.specs.Option.{option_or};
 ghost use Rattle.wasm_tree.specs.Bounds.{IsBounded};
@@ -19,7 +19,7 @@ ghost use Rattle.split_slots.specs.Surveyed.{AreDrafts, CanFinish, IsSurvey, May
 
 use crate::drafting::{Draft, Drafts, drafted};
 use crate::exports::added_exports;
-use crate::finishing::finish_tree;
+use crate::finishing::finished;
 use crate::refusing::refuse;
 use crate::surveying::{Survey, surveyed};
 use split_behaves_proof::{secondary_modules_load, split_module_equivalent};
@@ -40,28 +40,27 @@ pub struct Pair {
     pub secondary: Valid,
 }
 
-// Gives a module its own indices, or tells of what it has too much.
-fn finish(alloc: Global, draft: &mut Draft) -> Result<(), SplitFault>
-    requires { CanFinish draft.old }
-    ensures tree { OnOk result (draft.new.tree ≡ made draft.old) }
-    ensures none { IsOk result → counts.over_limit (made draft.old) ≡ None }
-    ensures fault { IfErr result (λ e. (e ≡ OutOfMemory) ⊎ (option_map TooMany (counts.over_limit (made draft.old)) ≡ Some e)) }
+// A module with its own indices, or of what it has too much.
+fn finish(alloc: Global, draft: Draft) -> Result<Valid, SplitFault>
+    requires { CanFinish draft }
+    ensures value { IfOk result (λ valid. valid ≡ made draft) }
+    ensures none { IsOk result → counts.over_limit (made draft) ≡ None }
+    ensures fault { IfErr result (λ e. (e ≡ OutOfMemory) ⊎ (option_map TooMany (counts.over_limit (made draft)) ≡ Some e)) }
 {
-    finish_tree(alloc, &mut draft.tree, &draft.map)
+    let tree = finished(alloc, draft.tree, &draft.map)?;
+    Ok(Valid::known(tree))
 }
 
-// Gives both modules their own indices, or tells of what the first that has too much of something has too much.
-fn finish_each(alloc: Global, drafts: &mut Drafts) -> Result<(), SplitFault>
-    requires primary { CanFinish drafts.old.primary }
-    requires secondary { CanFinish drafts.old.secondary }
-    ensures primary { OnOk result (drafts.new.primary.tree ≡ made drafts.old.primary) }
-    ensures secondary { OnOk result (drafts.new.secondary.tree ≡ made drafts.old.secondary) }
-    ensures one { IsOk result → counts.over_limit (made drafts.old.primary) ≡ None }
-    ensures other { IsOk result → counts.over_limit (made drafts.old.secondary) ≡ None }
-    ensures fault { IfErr result (λ e. (e ≡ OutOfMemory) ⊎ (option_map TooMany (option_or (counts.over_limit (made drafts.old.primary)) (counts.over_limit (made drafts.old.secondary))) ≡ Some e)) }
+// Both modules, of which the primary one has its own indices already; or of what the secondary one has too much.
+fn finish_second(alloc: Global, primary: Valid, draft: Draft) -> Result<Pair, SplitFault>
+    requires { CanFinish draft }
+    ensures primary { IfOk result (λ pair. pair.primary ≡ primary) }
+    ensures secondary { IfOk result (λ pair. pair.secondary ≡ made draft) }
+    ensures none { IsOk result → counts.over_limit (made draft) ≡ None }
+    ensures fault { IfErr result (λ e. (e ≡ OutOfMemory) ⊎ (option_map TooMany (counts.over_limit (made draft)) ≡ Some e)) }
 {
-    finish(alloc, &mut drafts.primary)?;
-    finish(alloc, &mut drafts.secondary)
+    let secondary = finish(alloc, draft)?;
+    Ok(Pair { primary, secondary })
 }
 
 // Both modules with their own indices, or of what the first that has too much of something has too much.
@@ -73,13 +72,9 @@ fn finish_both(alloc: Global, drafts: Drafts) -> Result<Pair, SplitFault>
     ensures none { IsOk result → option_or (counts.over_limit (made drafts.primary)) (counts.over_limit (made drafts.secondary)) ≡ None }
     ensures fault { IfErr result (λ e. (e ≡ OutOfMemory) ⊎ (option_map TooMany (option_or (counts.over_limit (made drafts.primary)) (counts.over_limit (made drafts.secondary))) ≡ Some e)) }
 {
-    let mut drafts = drafts;
-    finish_each(alloc, &mut drafts)?;
     let Drafts { primary, secondary } = drafts;
-    Ok(Pair {
-        primary: Valid::known(primary.tree),
-        secondary: Valid::known(secondary.tree),
-    })
+    let primary = finish(alloc, primary)?;
+    finish_second(alloc, primary, secondary)
 }
 
 // The exports that are added, where no fault is told before anything is built; or the first such fault.
@@ -126,7 +121,7 @@ fn drafts_by(
     Ok(drafts)
 }
 
-// The same of a module that is valid.
+// The same by its survey, which is made first.
 fn drafts_of(
     alloc: Global,
     module: Module,

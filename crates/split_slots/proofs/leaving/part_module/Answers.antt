@@ -1,4 +1,4 @@
-use Rattle.std.proofs.Common.{◌<◌, ap, ap₂, sym, subst, refl, ◌∙◌, arith, length, drop, slice_get}
+use Rattle.std.proofs.Common.{◌<◌, ap, sym, subst, refl, ◌∙◌, arith, length, drop}
 use Rattle.base_kept.specs.Kept.{kept}
 use Rattle.base_lists.specs.Every.{Every}
 use Rattle.wasm_tree.specs.Spaces.{imported_funcs}
