@@ -10,7 +10,7 @@ use Rattle.wasm_tree.proofs.OperandLaws.{passes_both}
 use Rattle.index_remap.specs.Prelude.{new_import, new_import_desc}
 use Rattle.index_remap_proof.specs.Indices.{Indices, with_entry, LayerNamesOnly, ConstNamesOnly, ImportNamesOnly, ExportNamesOnly, ElemModeNamesOnly, DataModeNamesOnly, TreeNamesOnly}
 use Rattle.index_remap_proof.proofs.Lists.{both_true}
-use Rattle.world_simulation.proofs.Holes.{stays_at}
+use Rattle.world_removal_proof.proofs.Holes.{stays_at}
 use Rattle.base_kept.specs.Kept.{kept}
 use Rattle.dce_sweep_spec.specs.Marks.{Marks, stays}
 use Rattle.dce_sweep_spec.specs.Closed.{AreClosed}

@@ -16,9 +16,9 @@ use Rattle.world_simulation.specs.Definitions as partners
 use Rattle.world_simulation.specs.Segments as order
 use Rattle.world_simulation.proofs.Alone.{space_is, funcs_counted, tables_counted, memories_counted, globals_counted}
 use Rattle.world_simulation.proofs.Declared.{Keeps, keeps, last_segments}
-use Rattle.world_simulation.proofs.Holes.{all_in_step, stays_at}
+use Rattle.world_removal_proof.proofs.Holes.{all_in_step, stays_at}
 use Rattle.world_simulation.proofs.Instancing.{IsInst, addresses_in}
-use Rattle.world_simulation.proofs.Loaded.{const_same}
+use Rattle.world_contents_proof.proofs.OwnValues.{const_same}
 use Rattle.world_simulation.proofs.Owned.{null_rel, own_globals_rel}
 use Rattle.world_simulation.proofs.Places.{opt_at, then_rel}
 use Rattle.world_simulation.proofs.Renamed.{funcs_correspond, elems_alike, elem_mode_named, data_mode_named, export_named, start_named, func_named}

@@ -5,7 +5,8 @@ use Rattle.wasm_valid.specs.Prelude.{IsValid}
 use Rattle.wasm_meaning.specs.Prelude.{Text, Inst, Val, Store, StepsWriteWhatTheyTouch, sites, Environment, ExternalValue, all_of, Begun, all_there, alone, begun, inst_of, insts_from, instantiate, is_matched, joined_stores, own_store, part_store, seen_as, segments, start_in, stores_from, value_of}
 use Rattle.index_remap.specs.Prelude.{Pairing, some, ListRel, nil, cons, opening, StoreRel, BegunRel, KeyRel, EntryByEntry, StoreRelOff, StepsAgreeOff, RunsAgreeOff}
 use Rattle.index_remap_proof.specs.Indices.{TreeNamesOnly, with_entry}
-use Rattle.world_simulation.specs.Prelude.{one, Leaves, IsInstantiated}
+use Rattle.world_simulation.specs.Prelude.{one, IsInstantiated}
+use Rattle.world_contents_proof.specs.Leaves.{Leaves}
 use Rattle.world_simulation.proofs.Instancing.{IsInst}
 use Rattle.world_simulation.proofs.Owned.{owned_rel}
 use Rattle.world_simulation.proofs.Places.{all_rel, opt_at, opt_both, right_there}

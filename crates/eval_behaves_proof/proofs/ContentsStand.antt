@@ -6,8 +6,8 @@ use Rattle.wasm_tree_spec.specs.Prelude.{ConstExpr}
 use Rattle.wasm_tree.specs.declared.module.ConstExpr.TheVariants as const
 use Rattle.wasm_num.specs.Operations.{W32, signed, wrapped}
 use Rattle.wasm_meaning.specs.Prelude.{overwrite, copies, Val, Num, Inst}
-use Rattle.world_simulation.specs.Prelude.{Copy, over, all_over, data_copy, data_copies}
-use Rattle.world_simulation.specs.Leaves as leaves
+use Rattle.world_contents_proof.specs.Leaves.{Copy, over, all_over, data_copy, data_copies}
+use Rattle.world_contents_proof.specs.Leaves as leaves
 use Rattle.eval_snapshot_spec.specs.Contents.{Stretch, contents, stretch_segment, stretches}
 use Rattle.eval_behaves_proof.proofs.ContentsCopied.{Covered, InBounds, Written, here, behind, part_written, stretches_fit, zero_or_covered}
 

@@ -8,8 +8,8 @@ use Rattle.wasm_meaning.specs.Prelude.{overwrite, Text, Inst, RefVal, Val, Elem,
 use Rattle.index_remap.specs.Prelude.{Pairing, ListRel, nil, cons, RefRel, ElemRel}
 use Rattle.index_remap.proofs.Rel.{overwrite_rel}
 use Rattle.index_remap_proof.specs.Indices.{ConstNamesOnly, ElemModeNamesOnly, TreeNamesOnly, with_entry}
-use Rattle.world_simulation.specs.Prelude.{one, contents, is_address, over, all_over, elem_copy, elem_copies}
-use Rattle.world_simulation.specs.Leaves.{elem_left}
+use Rattle.world_simulation.specs.Prelude.{one}
+use Rattle.world_contents_proof.specs.Leaves.{contents, is_address, over, all_over, elem_copy, elem_copies, elem_left}
 use Rattle.world_simulation.proofs.Declared.{last_segments}
 use Rattle.world_simulation.proofs.Instancing.{IsInst}
 use Rattle.world_simulation.proofs.Places.{opt_self}

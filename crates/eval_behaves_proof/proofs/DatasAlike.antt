@@ -7,13 +7,14 @@ use Rattle.wasm_tree.specs.declared.module.ConstExpr.TheVariants as const
 use Rattle.wasm_tree.specs.declared.module.DataMode.TheVariants as data'
 use Rattle.wasm_meaning.specs.Prelude.{copies, overwrite, Text, Inst, Val, Memory, Store, imports_of, Environment, own_memories, own_count}
 use Rattle.index_remap_proof.specs.Indices.{DataModeNamesOnly, TreeNamesOnly, with_entry}
-use Rattle.world_simulation.specs.Prelude.{one, Copy, nothing, contents, is_address, over, all_over, data_copy, data_copies, new_memory}
+use Rattle.world_simulation.specs.Prelude.{one, new_memory}
+use Rattle.world_contents_proof.specs.Leaves.{Copy, nothing, contents, is_address, over, all_over, data_copy, data_copies}
 use Rattle.world_simulation.proofs.Alone.{memories_counted}
 use Rattle.world_simulation.proofs.Allocated.{new_data}
-use Rattle.world_simulation.proofs.Copies.{AreOf, IsOf}
+use Rattle.world_contents_proof.proofs.Copies.{AreOf, IsOf}
 use Rattle.world_simulation.proofs.Instancing.{IsInst}
-use Rattle.world_simulation.proofs.Leaves.{memories}
-use Rattle.world_simulation.proofs.Loaded.{const_same}
+use Rattle.world_contents_proof.proofs.Leaves.{memories}
+use Rattle.world_contents_proof.proofs.OwnValues.{const_same}
 use Rattle.world_simulation.proofs.Places.{map_length}
 use Rattle.eval_spec.specs.Prelude.{State, is_imported, memory_bytes}
 use Rattle.eval_snapshot_spec.specs.Contents as tree

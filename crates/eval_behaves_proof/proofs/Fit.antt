@@ -2,8 +2,8 @@
 use Rattle.base_lists.proofs.Common.{◌≡◌, ◌≢◌, ◌∙◌, sym, ap, refl, subst, ℕ, suc, ◌+◌, ◌<◌, List, [], ◌∷◌, length, Option, Some, true, false, cond, ◌⊎◌, inl, inr, arith, slice_get, slice_set, nat_eq, eq-eqb, eqb_tells, length-set, same_Some, and_then_is, set_at, set_other, slice_get_there}
 use Rattle.base_lists.specs.Options.{◌>>=◌}
 use Rattle.wasm_meaning.specs.Prelude.{overwrite, Store, Filled, and_then}
-use Rattle.world_simulation.specs.Prelude.{Copy, nothing, contents, over, all_over}
-use Rattle.world_simulation.proofs.Copies.{Kind, run, runs, IsOf, AreOf}
+use Rattle.world_contents_proof.specs.Leaves.{Copy, nothing, contents, over, all_over}
+use Rattle.world_contents_proof.proofs.Copies.{Kind, run, runs, IsOf, AreOf}
 
 module _ {C S A : Type 0} (k : Kind C S A) where
   -- what it goes to is there

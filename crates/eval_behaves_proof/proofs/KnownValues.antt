@@ -6,9 +6,10 @@ use Rattle.wasm_tree.specs.declared.module.ConstExpr.TheVariants as const
 use Rattle.wasm_num.specs.Operations.{W32, W64, wrapped}
 use Rattle.wasm_meaning.specs.Prelude.{FuncRef, ExternRef, RefVal, Val, Num, Ref, Text, Inst, Global, null_of, Environment}
 use Rattle.index_remap.specs.Prelude.{Pairing, none, some, func, extern, RefRel, ValRel, number, reference, passed}
-use Rattle.world_simulation.specs.Prelude.{one, is_address}
+use Rattle.world_simulation.specs.Prelude.{one}
+use Rattle.world_contents_proof.specs.Leaves.{is_address}
 use Rattle.world_simulation.proofs.Instancing.{IsInst}
-use Rattle.world_simulation.proofs.Loaded.{const_same}
+use Rattle.world_contents_proof.proofs.OwnValues.{const_same}
 use Rattle.eval_numbers_proof.specs.Ranges.{GlobalsAreExpressible, IsExpressible}
 use Rattle.eval_spec.specs.Prelude.{State, own_inst, constant, is_unknown_global, value_of_global}
 use Rattle.eval_snapshot_spec.specs.Snapshot.{snapshot}

@@ -2,8 +2,9 @@
 use Rattle.base_lists.proofs.Common.{◌≡◌, ◌∙◌, sym, ap, ap₂, refl, subst, List, [], ◌∷◌, Some, false, append-nil, same_Some, and_then_is}
 use Rattle.wasm_tree_spec.specs.Prelude.{Module}
 use Rattle.wasm_meaning.specs.Prelude.{Inst, Text, Entity, Environment, Added, Begun, Filled, World, and_then, const_value, instantiate, insts_from, joined_stores, one_by_one, own_store, part_store, run_data, run_data_with, run_elem, run_elem_with, segments, segments_in, store_with, stores_from, value_of}
-use Rattle.world_simulation.specs.Prelude.{one, Leaves}
-use Rattle.world_simulation.proofs.Leaves.{data_runs, elem_runs, left_in_turn}
+use Rattle.world_simulation.specs.Prelude.{one}
+use Rattle.world_contents_proof.specs.Leaves.{Leaves}
+use Rattle.world_contents_proof.proofs.Leaves.{data_runs, elem_runs, left_in_turn}
 use Rattle.world_simulation.proofs.Simulated.{what_is_made}
 use Rattle.world_simulation.proofs.Single.{one_inst}
 use Rattle.eval_spec.specs.Prelude.{State, imported_store, own_inst, value_in}

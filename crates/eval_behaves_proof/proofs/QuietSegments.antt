@@ -5,10 +5,10 @@ use Rattle.base_lists.specs.Places.{numbers}
 use Rattle.wasm_tree_spec.specs.Prelude.{Memories, ConstExpr, DataMode, DataSeg, Module, imported_memories, memories_of}
 use Rattle.wasm_tree.specs.declared.module.DataMode.TheVariants as data'
 use Rattle.wasm_meaning.specs.Prelude.{Outcome, Gives, Inst, Store, Touched, Bytes, Added, Filled, PlacedSegment, and_then, const_value, joined_stores, run_data_with, run_elem_with, segments_in, store_with}
-use Rattle.world_simulation.specs.Prelude.{elem_copies, data_copies}
+use Rattle.world_contents_proof.specs.Leaves.{elem_copies, data_copies}
 use Rattle.world_simulation.proofs.Allocated.{adds_with, new_memory}
-use Rattle.world_simulation.proofs.Copies.{all_stay, runs, then_went}
-use Rattle.world_simulation.proofs.Leaves.{copies_in_turn, data_runs, elem_runs, memories, tables}
+use Rattle.world_contents_proof.proofs.Copies.{all_stay, runs, then_went}
+use Rattle.world_contents_proof.proofs.Leaves.{copies_in_turn, data_runs, elem_runs, memories, tables}
 use Rattle.eval_spec.specs.declared.stop.Stop.TheVariants as why
 use Rattle.eval_spec.specs.Prelude.{State, Stage, Going, Stopped, Finished, Test, first_held, stopped_or, is_imported, test, writes_too_many, written_after, filled_from, imported_store, in_order, instantiated, own_inst, place_in, reads_global, state_at_first, value_in, with_data, with_data_mode, with_elem, with_segments}
 use Rattle.eval_proof.specs.Machines.{InstantiatedAs}

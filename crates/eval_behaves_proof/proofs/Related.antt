@@ -5,7 +5,7 @@ use Rattle.base_lists.specs.Places.{numbers}
 use Rattle.wasm_tree_spec.specs.Prelude.{Space, Types, Functions, Tables, Memories, Globals, ElementSegments, DataSegments, Module, same_space}
 use Rattle.wasm_meaning.specs.Prelude.{Inst, imports_of}
 use Rattle.index_remap.specs.Prelude.{OneToOneWhereWritten, is_written, passed}
-use Rattle.world_simulation.specs.Prelude.{is_address}
+use Rattle.world_contents_proof.specs.Leaves.{is_address}
 use Rattle.eval_spec.specs.Prelude.{is_imported, own_inst}
 use Rattle.eval_proof.specs.Known.{RelatesAllButImports}
 use Rattle.eval_behaves_proof.specs.Addresses.{addresses_in, names_at, stands_at}

@@ -5,12 +5,13 @@ use Rattle.wasm_tree_spec.specs.Prelude.{Tables, ConstExpr, ElemMode, ElemSeg, D
 use Rattle.wasm_tree.specs.declared.module.ElemMode.TheVariants as elem
 use Rattle.wasm_meaning.specs.Prelude.{Text, Inst, RefVal, Val, Table, Elem, Store, ref_of, Environment, own_memories, own_tables, Filled, all_there, and_then, elem_with, joined_stores, new_elem, one_by_one, own_count, own_store, part_store, run_data, run_elem, segments, segments_in}
 use Rattle.index_remap_proof.specs.Indices.{ElemModeNamesOnly, TreeNamesOnly, with_entry}
-use Rattle.world_simulation.specs.Prelude.{one, Copy, Leaves, all_over, data_copies, elem_copies, elem_copy, new_memory, new_table, table_left}
+use Rattle.world_simulation.specs.Prelude.{one, new_memory, new_table}
+use Rattle.world_contents_proof.specs.Leaves.{Copy, Leaves, all_over, data_copies, elem_copies, elem_copy, table_left}
 use Rattle.world_simulation.proofs.Allocated.{Adds, adds, new_data}
-use Rattle.world_simulation.proofs.Copies.{AreOf, IsOf, all_stay, runs}
+use Rattle.world_contents_proof.proofs.Copies.{AreOf, IsOf, all_stay, runs}
 use Rattle.world_simulation.proofs.Declared.{last_segments}
 use Rattle.world_simulation.proofs.Instancing.{IsInst}
-use Rattle.world_simulation.proofs.Leaves.{copies_in_turn, data_runs, elem_runs, memories, tables}
+use Rattle.world_contents_proof.proofs.Leaves.{copies_in_turn, data_runs, elem_runs, memories, tables}
 use Rattle.world_simulation.proofs.Places.{map_length}
 use Rattle.eval_spec.specs.Prelude.{State}
 use Rattle.eval_snapshot_spec.specs.Snapshot.{snapshot}

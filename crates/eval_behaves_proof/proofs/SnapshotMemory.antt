@@ -6,7 +6,7 @@ use Rattle.wasm_tree.specs.declared.module.ConstExpr.TheVariants as const
 use Rattle.wasm_tree.specs.declared.module.DataMode.TheVariants as data'
 use Rattle.wasm_num.specs.Operations.{W32, wrapped}
 use Rattle.wasm_meaning.specs.Prelude.{copies, Val, Num, Inst}
-use Rattle.world_simulation.specs.Prelude.{all_over, data_copies, data_copy, over}
+use Rattle.world_contents_proof.specs.Leaves.{all_over, data_copies, data_copy, over}
 use Rattle.eval_spec.specs.Prelude.{State, is_dropped}
 use Rattle.eval_snapshot_spec.specs.Contents.{contents}
 use Rattle.eval_snapshot_spec.specs.Snapshot.{emptied, is_passive, old_segments, segment_left, segments_left}

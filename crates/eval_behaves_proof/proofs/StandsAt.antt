@@ -4,7 +4,7 @@ use Rattle.base_lists.specs.Places.{places}
 use Rattle.wasm_tree_spec.specs.Prelude.{Space, Memories, Globals, DataSegments, Import, ImportDesc, Module, same_space, memories_of, globals_of, space_of_import}
 use Rattle.wasm_tree.specs.declared.module.ImportDesc.TheVariants as im
 use Rattle.wasm_meaning.specs.Prelude.{Inst, has_kind, imports_of}
-use Rattle.world_simulation.specs.Prelude.{is_address}
+use Rattle.world_contents_proof.specs.Leaves.{is_address}
 use Rattle.eval_spec.specs.Prelude.{is_imported, own_inst}
 use Rattle.eval_behaves_proof.specs.Addresses.{addresses_in, names_at, stands_at}
 

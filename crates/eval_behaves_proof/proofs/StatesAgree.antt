@@ -11,7 +11,7 @@ use Rattle.index_remap_proof.specs.Indices.{ConstNamesOnly, LayerNamesOnly, Tree
 use Rattle.world_simulation.specs.Prelude.{one}
 use Rattle.world_simulation.proofs.Alone.{funcs_counted, tables_counted, memories_counted, globals_counted}
 use Rattle.world_simulation.proofs.Instancing.{IsInst}
-use Rattle.world_simulation.proofs.Loaded.{const_same}
+use Rattle.world_contents_proof.proofs.OwnValues.{const_same}
 use Rattle.world_simulation.proofs.Owned.{null_rel, own_globals_rel}
 use Rattle.world_simulation.proofs.Places.{map_length, opt_both, opt_self}
 use Rattle.eval_spec.specs.Prelude.{State}

@@ -6,7 +6,8 @@ use Rattle.wasm_meaning.specs.Prelude.{Text, Inst, Table, Store, null_of, Enviro
 use Rattle.index_remap.specs.Prelude.{Pairing, BothRel, CodeRel, end, ListRel, RefRel, FuncRel, TableRel, ElemRel}
 use Rattle.index_remap.proofs.Rel.{copies_rel, get_rel}
 use Rattle.index_remap_proof.specs.Indices.{TreeNamesOnly, with_entry}
-use Rattle.world_simulation.specs.Prelude.{one, FuncsCorrespond, Leaves, Stands, all_over, elem_copies, new_table, table_left}
+use Rattle.world_simulation.specs.Prelude.{one, FuncsCorrespond, new_table}
+use Rattle.world_contents_proof.specs.Leaves.{Leaves, Stands, all_over, elem_copies, table_left}
 use Rattle.world_simulation.proofs.Declared.{last_segments}
 use Rattle.world_simulation.proofs.Instancing.{IsInst}
 use Rattle.world_simulation.proofs.Owned.{null_rel, own_funcs_rel, own_tables_rel}

@@ -7,7 +7,8 @@ use Rattle.wasm_meaning.specs.Prelude.{Text, Inst, Val, Global, Store, imports_o
 use Rattle.index_remap.specs.Prelude.{is_among, Pairing, BothRel, both, ValRel, GlobalRel, GlobalOff, StoreRelOff}
 use Rattle.index_remap.proofs.Rel.{get_rel}
 use Rattle.index_remap_proof.specs.Indices.{TreeNamesOnly, with_entry}
-use Rattle.world_simulation.specs.Prelude.{one, Leaves}
+use Rattle.world_simulation.specs.Prelude.{one}
+use Rattle.world_contents_proof.specs.Leaves.{Leaves}
 use Rattle.world_simulation.proofs.Alone.{globals_counted}
 use Rattle.world_simulation.proofs.Instancing.{IsInst, is_space}
 use Rattle.world_simulation.proofs.Owned.{own_globals_rel}

@@ -6,7 +6,8 @@ use Rattle.wasm_tree_spec.specs.Prelude.{Limits, DataSeg, Module, imported_memor
 use Rattle.wasm_valid.specs.declared.kinds.ItemKind.TheVariants as kind
 use Rattle.wasm_meaning.specs.Prelude.{overwrite, Memory}
 use Rattle.wasm_meaning.proofs.Slices.{copies_length}
-use Rattle.world_simulation.specs.Prelude.{Copy, nothing, contents, Leaves, all_over, data_copies, is_address, new_memory, over}
+use Rattle.world_contents_proof.specs.Leaves.{Copy, nothing, contents, Leaves, all_over, data_copies, is_address, over}
+use Rattle.world_simulation.specs.Prelude.{new_memory}
 use Rattle.world_simulation.proofs.Copied.{overwritten_length}
 use Rattle.eval_spec.specs.Prelude.{State, imported_store, own_inst, value_in, memory_bytes}
 use Rattle.eval_snapshot_spec.specs.After.{TellsTheSame}

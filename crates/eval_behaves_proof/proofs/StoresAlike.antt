@@ -8,8 +8,8 @@ use Rattle.wasm_meaning.specs.Prelude.{Text, Inst, Val, Data, Store, imports_of,
 use Rattle.index_remap.specs.Prelude.{Pairing, BothRel, both, FuncRel, TableRel, GlobalRel, ElemRel, StoreRel, StoreRelOff}
 use Rattle.index_remap.proofs.Rel.{same_there}
 use Rattle.index_remap_proof.specs.Indices.{TreeNamesOnly, with_entry}
-use Rattle.world_simulation.specs.Prelude.{one, Leaves, all_over, data_copies, memory_left, new_memory}
-use Rattle.world_simulation.specs.Leaves.{data_left}
+use Rattle.world_simulation.specs.Prelude.{one, new_memory}
+use Rattle.world_contents_proof.specs.Leaves.{Leaves, all_over, data_copies, data_left, memory_left}
 use Rattle.world_simulation.proofs.Alone.{memories_counted}
 use Rattle.world_simulation.proofs.Instancing.{IsInst, is_space}
 use Rattle.world_simulation.proofs.Places.{both_at}

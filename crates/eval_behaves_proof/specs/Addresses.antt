@@ -4,7 +4,8 @@ use Rattle.wasm_tree_spec.specs.Prelude.{Space, Types, Functions, Tables, Memori
 use Rattle.wasm_valid.specs.Prelude.{IsValid}
 use Rattle.wasm_meaning.specs.Prelude.{Text, Inst, Environment, is_environment, Begun, alone, insts_from, links}
 use Rattle.index_remap.specs.Prelude.{passed, StoreRelOff}
-use Rattle.world_simulation.specs.Prelude.{one, is_address}
+use Rattle.world_simulation.specs.Prelude.{one}
+use Rattle.world_contents_proof.specs.Leaves.{is_address}
 use Rattle.eval_spec.specs.Prelude.{State, Finished, is_imported, own_inst, evaluated}
 use Rattle.eval_snapshot_spec.specs.Evaluated.{first_missing, funcs_named}
 use Rattle.eval_behaves_proof.specs.Worlds.{evaluated_begun, started_begun, with_empty_func}

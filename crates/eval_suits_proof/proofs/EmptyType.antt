@@ -4,7 +4,7 @@ use Rattle.base_lists.specs.Options.{all_there}
 use Rattle.wasm_tree.specs.declared.module.Func.{Func as FuncDef}
 use Rattle.wasm_tree_spec.specs.Prelude.{Import, Module, func_of}
 use Rattle.wasm_meaning.specs.Prelude.{Gives, Func, Mark, Store, own_of, type_of_func, enter, Added, const_value, elem_with, global_with, is_there, joined_stores, new_func, store_with}
-use Rattle.world_simulation.proofs.FuncsAside.{segments_funcs}
+use Rattle.world_contents_proof.proofs.FuncsAside.{segments_funcs}
 use Rattle.eval_spec.specs.declared.limits.TheConstants.{MOST_TURNS}
 use Rattle.eval_spec.specs.declared.stop.Stop.{Stop}
 use Rattle.eval_spec.specs.declared.stop.Stop.TheVariants as why

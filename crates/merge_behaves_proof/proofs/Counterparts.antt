@@ -1,12 +1,11 @@
 -- For what each entry of a part's index space stands, in the parts' world and in the merged module: for what a part defines, with its number among all
 -- definitions, or for an import that stays.
-use Rattle.base_lists.proofs.Common.{◌≡◌, ◌∙◌, sym, ap, subst, refl, ℕ, zero, suc, ◌+◌, ◌-◌, ◌<◌, ◌≤◌, List, [], ◌∷◌, length, Option, Some, None, true, arith, option_and_then, slice_get, and_then_is, place_back, slice_get_past}
-use Rattle.wasm_tree_spec.specs.Prelude.{Space, Functions, Tables, Memories, Globals, Import, Module, ImportDesc, index_of_export, space_of_export, space_of_import}
-use Rattle.wasm_meaning.specs.Prelude.{Part, Site, Defined, Outside, has_kind, module_at, import_at, imports_of, Environment, ExternalValue, owned_of, same_key, own_count, defined_count, defined_before, base, external_value_at, address_of, own_key, outside_external_value, defined_external_value}
-use Rattle.wasm_tree.specs.declared.module.ImportDesc.TheVariants as im
+use Rattle.base_lists.proofs.Common.{◌≡◌, ◌∙◌, sym, ap, refl, ℕ, zero, suc, ◌+◌, ◌-◌, ◌<◌, ◌≤◌, List, [], ◌∷◌, length, Option, Some, None, true, arith, option_and_then, slice_get, and_then_is, place_back, slice_get_past}
+use Rattle.wasm_tree_spec.specs.Prelude.{Space, Functions, Tables, Memories, Globals, Import, Module, index_of_export, space_of_export, space_of_import}
+use Rattle.wasm_meaning.specs.Prelude.{Part, Site, Defined, Outside, has_kind, module_at, import_at, imports_of, Environment, ExternalValue, owned_of, same_key, own_count, defined_count, defined_before, base, external_value_at, address_of, own_key, outside_external_value}
 use Rattle.merge_spec.specs.Prelude.{link_fault, staying_of, new_index}
-use Rattle.merge_valid_proof.specs.Ended.{EndsInside, EndsOutside, Ended, inside, outside, is_external}
-use Rattle.merge_valid_proof.proofs.ByPart.{before, defined_is}
+use Rattle.merge_valid_proof.specs.Ended.{Ended, inside, outside, is_external}
+use Rattle.merge_valid_proof.proofs.Entities.{import_external}
 use Rattle.merge_valid_proof.proofs.Same.{kind_is}
 use Rattle.index_remap.specs.Prelude.{ExternalValueRel}
 use Rattle.world_simulation.proofs.Owned.{look_rel}
@@ -26,37 +25,11 @@ address_at Memories a e = refl
 address_at Globals a e = refl
 address_at k a e = cc
 
-import_external : (d : ImportDesc) → is_external (space_of_import d) ≡ true
-import_external (im.Func t) = refl
-import_external _ = refl
-
--- ---- counting by part ----
-
--- what the first parts and one more have, all have
-pub before_low : (count : Module → ℕ) (parts : List Part) (p : ℕ) (m : Module) → module_at parts p ≡ Some m → before count parts p + count m ≤ before count parts (length parts)
-before_low count [] p m e = absurd (let k = e in cc)
-before_low count (part ∷ parts) zero m e = let same : part.«module» ≡ m = cc in let n = ap count same in omega arith
-before_low count (part ∷ parts) (suc p) m e = let l = before_low count parts p m e in omega arith
-
+-- what the first parts and one more define, all do
 pub defined_low : (k : Space) (parts : List Part) (p : ℕ) (m : Module) → module_at parts p ≡ Some m → defined_before k parts p + defined_count k m ≤ defined_before k parts (length parts)
-defined_low k parts p m e =
-    let l = before_low (defined_count k) parts p m e in
-    let a = defined_is k parts p in
-    let b = defined_is k parts (length parts) in
-    omega arith
-
--- ---- imports of a part ----
-
-pub record IsImport (k : Space) (m : Module) (n : ℕ) : Type 0 where
-  pub import : Import
-  pub at : slice_get m.imports n ≡ Some import
-  pub kind : space_of_import import.desc ≡ k
-
-pub import_there : (k : Space) (m : Module) (x n : ℕ) → slice_get (imports_of k m) x ≡ Some n → IsImport k m n
-import_there k m x n h =
-    let r = place_back (has_kind k) m.imports 0 x n h in
-    let same : n ≡ r.0 = (let d = r.2 in omega arith) in
-    record { import = r.1; at = ap (slice_get m.imports) same ∙ r.3; kind = sym (kind_is k (space_of_import r.1.desc) r.4) }
+defined_low k [] p m e = absurd (let k = e in cc)
+defined_low k (part ∷ parts) zero m e = let same : part.«module» ≡ m = cc in let n = ap (defined_count k) same in omega arith
+defined_low k (part ∷ parts) (suc p) m e = let l = defined_low k parts p m e in omega arith
 
 -- ---- the environment's own ----
 
@@ -89,45 +62,33 @@ module _ (env : Environment) (parts : List Part) where
     stays : (u : Site) → slice_get (staying_of parts k) index ≡ Some u → address ≡ site_address k u → Stands k address index
 
   module _ (laws : SpaceLaws) (linked : link_fault parts true ≡ None) where
-    inside_stands : (k : Space) (p : ℕ) (m : Module) (x n : ℕ) (i : Import) → module_at parts p ≡ Some m → slice_get (imports_of k m) x ≡ Some n → space_of_import i.desc ≡ k → EndsInside parts (record { part = p; import = n }) i → Stands k (import_address env parts k p n) (new_index parts p k x)
-    inside_stands k p m x n i is h kind w =
-        let e = w.entity in
-        let j = index_of_export e.what - length (imports_of k w.of) in
-        let d = defined_before k parts e.part + j in
-        let follows = subst (λ k. length (imports_of k w.of) ≤ index_of_export e.what) kind w.follows in
-        let within = subst (λ k. index_of_export e.what < length (imports_of k w.of) + defined_count k w.of) kind w.within in
-        let low = defined_low k parts e.part w.of w.is_part in
-        let same : space_of_export e.what ≡ k = w.kind ∙ kind in
-        let thing : option_and_then (address_of k) (defined_external_value env parts e) ≡ Some (base env parts k e.part + j) =
-        ap (λ o. option_and_then (address_of k) o) (defined_at env parts e w.of w.is_part (rw same (omega arith)))
-        ∙ ap (λ l. option_and_then (address_of k) (external_value_at l (base env parts l e.part + (index_of_export e.what - length (imports_of l w.of))))) same
-        ∙ address_at k (base env parts k e.part + j) (ap is_external (sym kind) ∙ import_external i.desc) in
-        let number : base env parts k e.part + j ≡ own_count k env + d = omega arith in
-        own d (omega arith)
-        (rw w.end (thing ∙ ap Some number))
-        ((laws.indices parts p m k x is).0 n (Defined e) h w.linked ∙ laws.defined parts e w.of k w.is_part)
-
-    outside_stands : (k : Space) (p : ℕ) (m : Module) (x n : ℕ) (i : Import) → module_at parts p ≡ Some m → slice_get (imports_of k m) x ≡ Some n → space_of_import i.desc ≡ k → EndsOutside parts (record { part = p; import = n }) i → Stands k (import_address env parts k p n) (new_index parts p k x)
-    outside_stands k p m x n i is h kind w =
-        stays w.to (ap (slice_get (staying_of parts k)) ((laws.indices parts p m k x is).0 n (Outside w.to) h w.linked) ∙ laws.places parts w.to w.import w.at w.remains k (w.kind ∙ kind))
-        (rw (w.end, w.same_thing (owned_of env)) refl)
-
     -- an import of a part
     pub import_stands : (k : Space) (p : ℕ) (m : Module) (x n : ℕ) → module_at parts p ≡ Some m → slice_get (imports_of k m) x ≡ Some n → Stands k (import_address env parts k p n) (new_index parts p k x)
     import_stands k p m x n is h =
-        let i = import_there k m x n h in
-        by i.import i.kind (laws.ends parts linked (record { part = p; import = n }) i.import (rw is i.at))
+        let r = place_back (has_kind k) m.imports 0 x n h in
+        let same : n ≡ r.0 = (let d = r.2 in omega arith) in
+        let got = ap (slice_get m.imports) same ∙ r.3 in
+        by r.1 (sym (kind_is k (space_of_import r.1.desc) r.4)) (laws.ends parts linked (record { part = p; import = n }) r.1 (rw is got))
       where
         by : (i : Import) → space_of_import i.desc ≡ k → Ended parts (record { part = p; import = n }) i → Stands k (import_address env parts k p n) (new_index parts p k x)
-        by i kind (inside w) = inside_stands k p m x n i is h kind w
-        by i kind (outside w) = outside_stands k p m x n i is h kind w
+        by i kind (inside w) =
+            let e = w.entity in
+            let j = index_of_export e.what - length (imports_of k w.of) in
+            let follows = rw kind at w.follows in
+            let within = rw kind at w.within in
+            let low = defined_low k parts e.part w.of w.is_part in
+            let same : space_of_export e.what ≡ k = w.kind ∙ kind in
+            let number : base env parts k e.part + j ≡ own_count k env + (defined_before k parts e.part + j) = omega arith in
+            own (defined_before k parts e.part + j) (omega arith)
+            (rw (w.end, defined_at env parts e w.of w.is_part (rw same (omega arith)), same) (address_at k _ (rw (← kind) (import_external i.desc)) ∙ ap Some number))
+            ((laws.indices parts p m k x is).0 n (Defined e) h w.linked ∙ laws.defined parts e w.of k w.is_part)
+        by i kind (outside w) =
+            stays w.to (rw ((laws.indices parts p m k x is).0 n (Outside w.to) h w.linked) (laws.places parts w.to w.import w.at w.remains k (w.kind ∙ kind))) (rw (w.end, w.same_thing (owned_of env)) refl)
 
     -- what an index of a part names
     pub entry_stands : (k : Space) (p : ℕ) (m : Module) (x a : ℕ) → module_at parts p ≡ Some m → Entry env parts k p m x a → Stands k (Some a) (new_index parts p k x)
     entry_stands k p m x a is (imports n h e) = rw (← e) (import_stands k p m x n is h)
     entry_stands k p m x a is (defines j at l e) =
         let low = defined_low k parts p m is in
-        let back : x - length (imports_of k m) ≡ j = omega arith in
-        let number : a ≡ own_count k env + (defined_before k parts p + j) = omega arith in
-        own (defined_before k parts p + j) (omega arith) (ap Some number)
-        ((laws.indices parts p m k x is).1 (slice_get_past (imports_of k m) x (omega arith)) ∙ ap (λ j. length (staying_of parts k) + (defined_before k parts p + j)) back)
+        let index = (laws.indices parts p m k x is).1 (slice_get_past (imports_of k m) x (omega arith)) in
+        own (defined_before k parts p + j) (omega arith) (ap Some (omega arith)) (omega arith)

@@ -1,37 +1,33 @@
 -- The instances of the parts, and the instance of the merged module: all there or none, and each index of a part and its new one name one address.
-use Rattle.base_lists.proofs.Common.{◌≡◌, ◌∙◌, ap, ap₂, sym, refl, ℕ, ◌+◌, ◌<◌, ◌≤◌, List, [], ◌∷◌, ◌++◌, map, length, Option, Some, None, arith, option_and_then, slice_get, true, slice_index, length-append, same_Some, slice_get_within, place_there, length-numbers, numbers_at, and_then_is, all_there_at, all_there_length, all_there_from, slice_get_there, append_left, append_right, slice_index_is, map_at}
-use Rattle.wasm_tree_spec.specs.Prelude.{Space, Functions, Tables, Memories, Globals, ElementSegments, DataSegments, Module, imported_funcs, imported_tables, imported_memories, imported_globals}
+use Rattle.base_lists.proofs.Common.{◌≡◌, ◌∙◌, ap, sym, refl, ℕ, ◌+◌, ◌<◌, ◌≤◌, List, [], ◌∷◌, ◌++◌, map, length, Option, Some, None, arith, option_and_then, slice_get, true, slice_index, length-append, same_Some, slice_get_within, place_there, length-numbers, numbers_at, map_numbers_index, and_then_is, all_there_at, all_there_length, all_there_from, slice_get_there, append_left, append_right, slice_index_is}
+use Rattle.wasm_tree_spec.specs.Prelude.{Space, Functions, Tables, Memories, Globals, ElementSegments, DataSegments, Module}
 use Rattle.wasm_meaning.specs.Prelude.{Inst, Part, Site, has_kind, module_at, imports_of, Environment, own_count, defined_count, base, all_there, numbers, space, inst_of, insts_from, defined_before}
-use Rattle.index_remap.specs.Prelude.{declared_refs, OptRel, entries}
+use Rattle.index_remap.specs.Prelude.{OptRel, entries}
 use Rattle.merge_names.specs.declared.mode.Mode.{Mode}
-use Rattle.merge_spec.specs.Prelude.{link_fault, merged, staying_of, new_index, joined_module}
+use Rattle.merge_spec.specs.Prelude.{link_fault, staying_of, new_index, joined_module}
 use Rattle.merge_spec.specs.Merged.{map_of}
 use Rattle.merge_valid_proof.specs.Joinable.{CanBeJoined}
 use Rattle.merge_valid_proof.specs.Ended.{added_count, is_external}
 use Rattle.world_simulation.specs.Prelude.{one}
 use Rattle.world_simulation.proofs.Alone.{funcs_counted, tables_counted, memories_counted, globals_counted}
-use Rattle.world_simulation.proofs.Declared.{last_segments}
-use Rattle.world_simulation.proofs.Instancing.{addresses_in, import_address, IsSpace, is_space, entry_at, IsInst, inst_there, insts_are, inst_in, insts_in}
+use Rattle.world_simulation.proofs.Instancing.{addresses_in, import_address, is_space, entry_at, IsInst, inst_there, insts_are, inst_in, insts_in}
 use Rattle.world_simulation.proofs.Places.{map_length, both_or_none}
 use Rattle.world_simulation.proofs.Single.{one_inst}
 use Rattle.merge_behaves_proof.specs.Shared.{shared_count}
-use Rattle.merge_behaves_proof.specs.Instances.{SameAddress, SpaceAgrees, PartAgrees, InstancesAgree}
+use Rattle.merge_behaves_proof.specs.Instances.{SpaceAgrees, PartAgrees, InstancesAgree}
 use Rattle.merge_behaves_proof.proofs.SpaceLaws.{SpaceLaws}
 use Rattle.merge_behaves_proof.proofs.Counterparts.{defined_low, total, site_address, site_low, Stands, own, stays, import_stands, entry_stands}
 use Rattle.merge_behaves_proof.proofs.MergedAlone.{joined_keeps, joined_types, staying_kind, names_of, merged_space, elems_many, datas_many}
 
 -- ---- the entries of a part's map ----
 
-space_size : {A : Type 0} (xs ys : List A) (a b : ℕ) → a ≡ length xs → length ys ≡ b → length (xs ++ ys) ≡ a + b
-space_size xs ys a b e f = length-append xs ys ∙ ap₂ (λ a b. a + b) (sym e) f
-
 module _ (parts : List Part) (p : ℕ) (m : Module) where
   map_is : (k : Space) → is_external k ≡ true → entries (map_of parts p m) k ≡ map (new_index parts p k) (numbers 0 (length (imports_of k m) + defined_count k m))
   unfolding map_of
-  map_is Functions e = rw (space_size (imported_funcs m.imports) (map (λ f. f.ty) m.funcs) _ _ (funcs_counted m.imports 0) (map_length (λ f. f.ty) m.funcs)) refl
-  map_is Tables e = rw (space_size (imported_tables m.imports) m.tables _ _ (tables_counted m.imports 0) refl) refl
-  map_is Memories e = rw (space_size (imported_memories m.imports) m.mems _ _ (memories_counted m.imports 0) refl) refl
-  map_is Globals e = rw (space_size (imported_globals m.imports) (map (λ g. g.ty) m.globals) _ _ (globals_counted m.imports 0) (map_length (λ g. g.ty) m.globals)) refl
+  map_is Functions e = simp (length-append, map_length, funcs_counted)
+  map_is Tables e = simp (length-append, tables_counted)
+  map_is Memories e = simp (length-append, memories_counted)
+  map_is Globals e = simp (length-append, map_length, globals_counted)
   map_is k e = cc
 
   pub entries_many : (k : Space) → is_external k ≡ true → length (entries (map_of parts p m) k) ≡ length (imports_of k m) + defined_count k m
@@ -42,8 +38,7 @@ module _ (parts : List Part) (p : ℕ) (m : Module) where
   entry_is k e x l =
       let many = entries_many k e in
       let from_0 : 0 + x ≡ x = omega arith in
-      slice_index_is (entries (map_of parts p m) k) x (new_index parts p k x)
-      (rw (map_is k e) (map_at (new_index parts p k) (numbers 0 _) x x (numbers_at 0 _ x (omega arith) ∙ ap Some from_0)))
+      rw (map_is k e) (map_numbers_index (new_index parts p k) 0 _ x (omega arith) ∙ ap (new_index parts p k) from_0)
 
   pub map_elems : (map_of parts p m).elems ≡ numbers (defined_before ElementSegments parts p) (length m.elems)
   unfolding map_of
@@ -101,39 +96,39 @@ module _ (laws : SpaceLaws) (env : Environment) (parts : List Part) (linked : li
     tables = agrees Tables refl;
     mems = agrees Memories refl;
     globals = agrees Globals refl;
-    elems = segments_agree ElementSegments (length J.elems) a.elems b.elems (map_elems parts p m) refl (let e = ap length (joined_keeps parts mode).elems ∙ length-append (merged parts (names_of parts mode)).elems (last_segments (declared_refs (merged parts (names_of parts mode)))) in let d = elems_many parts (names_of parts mode) in omega arith);
-    datas = segments_agree DataSegments (length J.datas) a.datas b.datas (map_datas parts p m) refl (let e = ap length (joined_keeps parts mode).datas in let d = datas_many parts (names_of parts mode) in omega arith);
+    elems = segments_agree ElementSegments (length J.elems) a.elems b.elems (map_elems parts p m) (let e = simp length-append at (ap length (joined_keeps parts mode).elems) in let d = elems_many parts (names_of parts mode) in omega arith);
+    datas = segments_agree DataSegments (length J.datas) a.datas b.datas (map_datas parts p m) (let e = ap length (joined_keeps parts mode).datas in let d = datas_many parts (names_of parts mode) in omega arith);
   }
     where
       agrees : (k : Space) → is_external k ≡ true → SpaceAgrees env parts k (addresses_in k i) (addresses_in k j) (entries_of p m k)
       agrees k e =
           let s = is_space env parts k p m (addresses_in k i) (space_in a k e) in
-          record { size = s.size ∙ sym (entries_many parts p m k e); each = each s }
-        where
-          each : IsSpace env parts k p m (addresses_in k i) → (x : ℕ) → x < length (entries_of p m k) → SameAddress env parts k (addresses_in k i) (addresses_in k j) (entries_of p m k) x
-          each s x l =
-              let n = s.size in
-              let c = entries_many parts p m k e in
-              let o = slice_get_there (addresses_in k i) x (omega arith) in
-              let q = names_same k (addresses_in k j) (merged_part k e j b) o.0 (new_index parts p k x) (entry_stands env parts laws linked k p m x o.0 is (entry_at env parts k p m (addresses_in k i) s x o.0 o.1)) in
-              record { address = o.0; first = o.1; second = ap (slice_get (addresses_in k j)) (entry_is parts p m k e x l) ∙ q.0; shared = q.1 }
+          let n = s.size in
+          let many = entries_many parts p m k e in
+          record {
+            size = n ∙ sym many;
+            each = λ x l.
+                let o = slice_get_there (addresses_in k i) x (omega arith) in
+                let q = names_same k (addresses_in k j) (merged_part k e j b) o.0 (new_index parts p k x) (entry_stands env parts laws linked k p m x o.0 is (entry_at env parts k p m (addresses_in k i) s x o.0 o.1)) in
+                record { address = o.0; first = o.1; second = rw (entry_is parts p m k e x l) q.0; shared = q.1 };
+          }
 
-      segments_agree : (k : Space) (n : ℕ) {xs ys : List ℕ} {count : ℕ} → xs ≡ numbers (defined_before k parts p) count → ys ≡ numbers 0 n → entries_of p m k ≡ numbers (defined_before k parts p) count → defined_count k m ≡ count → shared_count env parts k ≤ n → SpaceAgrees env parts k xs ys (entries_of p m k)
-      segments_agree k n {xs} {ys} {count} e f g c h = record { size = ap length (e ∙ sym g); each = each }
-        where
-          each : (x : ℕ) → x < length (entries_of p m k) → SameAddress env parts k xs ys (entries_of p m k) x
-          each x l =
-              let first = defined_before k parts p in
-              let many = ap length g ∙ length-numbers first count in
-              let low = defined_low k parts p m is in
-              let at = numbers_at first count x (omega arith) in
-              let from_0 : 0 + (first + x) ≡ first + x = omega arith in
-              record {
-                address = first + x;
-                first = rw e at;
-                second = rw (f, slice_index_is (entries_of p m k) x (first + x) (rw g at)) (numbers_at 0 n (first + x) (omega arith) ∙ ap Some from_0);
-                shared = omega arith;
-              }
+      segments_agree : (k : Space) (n : ℕ) {xs ys : List ℕ} → xs ≡ numbers (defined_before k parts p) (defined_count k m) → ys ≡ numbers 0 n → entries_of p m k ≡ numbers (defined_before k parts p) (defined_count k m) → shared_count env parts k ≤ n → SpaceAgrees env parts k xs ys (entries_of p m k)
+      segments_agree k n e f g h = record {
+        size = ap length (e ∙ sym g);
+        each = λ x l.
+            let first = defined_before k parts p in
+            let many = ap length g ∙ length-numbers first (defined_count k m) in
+            let low = defined_low k parts p m is in
+            let at = numbers_at first (defined_count k m) x (omega arith) in
+            let from_0 : 0 + (first + x) ≡ first + x = omega arith in
+            record {
+              address = first + x;
+              first = rw e at;
+              second = rw (f, slice_index_is (entries_of p m k) x (first + x) (rw g at)) (numbers_at 0 n (first + x) (omega arith) ∙ ap Some from_0);
+              shared = omega arith;
+            };
+      }
 
   both_there : (insts js : List Inst) → insts_from env parts 0 parts ≡ Some insts → insts_from env (one J) 0 (one J) ≡ Some js → InstancesAgree env parts insts js
   both_there insts js h g =
@@ -157,7 +152,7 @@ module _ (laws : SpaceLaws) (env : Environment) (parts : List Part) (linked : li
   merged_there : AllPresent → (k : Space) → is_external k ≡ true → (ys : List ℕ) × (space env (one J) k 0 J ≡ Some ys)
   merged_there present k e =
       let r = all_there_from (site_address env parts k) (staying_of parts k) (present k e) in
-      (_, merged_space laws env parts linked mode k e ∙ ap (λ o. option_and_then (λ l. Some (l ++ numbers (own_count k env) (total env parts k + added_count parts k))) o) r.are)
+      (_, merged_space laws env parts linked mode k e ∙ ap (option_and_then _) r.are)
 
   import_present : (k : Space) → Present k → (o : Option ℕ) (index : ℕ) → Stands env parts k o index → (a : ℕ) × (o ≡ Some a)
   import_present k present o index (own d l e i) = (own_count k env + d, e)
@@ -166,15 +161,10 @@ module _ (laws : SpaceLaws) (env : Environment) (parts : List Part) (linked : li
   part_there : AllPresent → (p : ℕ) (m : Module) → module_at parts p ≡ Some m → (k : Space) → is_external k ≡ true → (xs : List ℕ) × (space env parts k p m ≡ Some xs)
   part_there present p m is k e =
       let r = all_there_from (import_address env parts k p) (imports_of k m) (λ x n h. import_present k (present k e) (import_address env parts k p n) (new_index parts p k x) (import_stands env parts laws linked k p m x n is h)) in
-      (_, ap (λ o. option_and_then (λ l. Some (l ++ numbers (base env parts k p) (defined_count k m))) o) r.are)
+      (_, ap (option_and_then (λ l. Some (l ++ numbers (base env parts k p) (defined_count k m)))) r.are)
 
   all_spaces : (q : List Part) (p : ℕ) (m : Module) → ((k : Space) → is_external k ≡ true → (xs : List ℕ) × (space env q k p m ≡ Some xs)) → (i : Inst) × (inst_of env q p m ≡ Some i)
-  all_spaces q p m there =
-      let f = there Functions refl in
-      let t = there Tables refl in
-      let s = there Memories refl in
-      let g = there Globals refl in
-      inst_there env q p m f.0 t.0 s.0 g.0 f.1 t.1 s.1 g.1
+  all_spaces q p m there = inst_there env q p m _ _ _ _ (there Functions refl).1 (there Tables refl).1 (there Memories refl).1 (there Globals refl).1
 
   -- an import that stays is one of its part
   parts_present : (insts : List Inst) → insts_from env parts 0 parts ≡ Some insts → AllPresent

@@ -1,10 +1,9 @@
 -- What the laws of lower crates say that the values and stores of parts and of their merged module rest on.
 use Rattle.base_lists.proofs.Common.{◌≡◌, ◌↔◌, ℕ, ◌<◌, List, length, Some, None, true, IsTrue, slice_get, sym, ◌∙◌, same_Some, slice_get_within}
-use Rattle.wasm_tree_spec.specs.Prelude.{Ref, GlobalDef, ElemSeg, DataSeg, ValType, ConstExpr, Module}
-use Rattle.wasm_tree.specs.declared.module.Func as tree
+use Rattle.wasm_tree_spec.specs.Prelude.{Ref, Func, GlobalDef, ElemSeg, DataSeg, ValType, ConstExpr, Module}
 use Rattle.wasm_valid.specs.declared.kinds.ItemKind.TheVariants as kind
-use Rattle.wasm_valid.specs.declared.kinds.ItemKind.{ItemKind}
 use Rattle.wasm_valid.specs.Prelude.{const_type, IsValid, HoldsAt, ElemModeHolds, DataModeHolds, count_of}
+use Rattle.wasm_valid.specs.declared.kinds.ItemKind.{ItemKind}
 use Rattle.wasm_meaning.specs.Prelude.{Inst, Part, Read, module_at, read_of, Environment}
 use Rattle.index_remap.specs.Prelude.{fits_tree, RenumberedCodeIsRelated}
 use Rattle.world_simulation.specs.Alone.{SpacesAreImportsAndOwn, ReadsStay}
@@ -51,5 +50,5 @@ module _ (laws : Laws) (m : Module) (valid : IsValid m) where
   pub data_holds : (n : ℕ) (d : DataSeg) → slice_get m.datas n ≡ Some d → DataModeHolds m d.mode
   data_holds n d h = let z = (laws.items m).0 valid kind.Segment n (slice_get_within m.datas n d h) in rw (← same_Some _ _ (sym z.1 ∙ h)) z.2
 
-  pub func_typed : (n : ℕ) (f : tree.Func) → slice_get m.funcs n ≡ Some f → f.ty < length m.types
+  pub func_typed : (n : ℕ) (f : Func) → slice_get m.funcs n ≡ Some f → f.ty < length m.types
   func_typed n f h = let z = (laws.items m).0 valid kind.Func n (slice_get_within m.funcs n f h) in rw (← same_Some _ _ (sym z.1 ∙ h)) z.2

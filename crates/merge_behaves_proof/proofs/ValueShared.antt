@@ -1,22 +1,22 @@
 -- The addresses that both worlds have: each is related to itself, and those of the environment's own entities are among them.
-use Rattle.base_lists.proofs.Common.{◌≡◌, ℕ, ◌<◌, List, true, refl, sym, ◌∙◌, arith, slice_get, nat_eq, nat_lt, slice_index, eqb-true, eq-eqb, ltb-true, lt-ltb, and_from, left_true, right_true}
+use Rattle.base_lists.proofs.Common.{◌≡◌, ℕ, ◌<◌, List, true, refl, sym, ◌∙◌, arith, slice_get, nat_eq, nat_lt, slice_index, eqb-true, eq-eqb, ltb-true, lt-ltb, and_from, and_parts}
 use Rattle.wasm_tree_spec.specs.Prelude.{Space, Functions, Tables, Memories, Globals}
 use Rattle.wasm_meaning.specs.Prelude.{Part, Environment}
 use Rattle.index_remap.specs.Prelude.{Pairing, OneToOne, OptRel, some, has}
 use Rattle.world_simulation.proofs.Places.{opt_at}
 use Rattle.merge_behaves_proof.specs.Instances.{SpaceAgrees}
-use Rattle.world_simulation.specs.Prelude.{SharesOwn, OwnCorrespond, OwnEntitiesCorrespond}
-use Rattle.merge_behaves_proof.specs.Shared.{shared_count, is_shared, sharing}
+use Rattle.world_simulation.specs.Prelude.{SharesOwn}
+use Rattle.merge_behaves_proof.specs.Shared.{shared_count, sharing}
 
 module _ (env : Environment) (parts : List Part) where
   abbrev R : Pairing
   R = sharing env parts
 
   pub shares : (k : Space) (a : ℕ) → a < shared_count env parts k → R.of k a a
-  shares k a h = and_from (nat_eq a a) (nat_lt a (shared_count env parts k)) (eq-eqb a a refl) (lt-ltb a (shared_count env parts k) h)
+  shares k a h = and_from _ _ (eq-eqb a a refl) (lt-ltb a _ h)
 
   pub is_same : (k : Space) (a b : ℕ) → R.of k a b → (a ≡ b) × (a < shared_count env parts k)
-  is_same k a b h = (eqb-true a b (left_true (nat_eq a b) (nat_lt a (shared_count env parts k)) h), ltb-true a (shared_count env parts k) (right_true (nat_eq a b) (nat_lt a (shared_count env parts k)) h))
+  is_same k a b h = let p = and_parts (nat_eq a b) (nat_lt a (shared_count env parts k)) h in (eqb-true a b p.0, ltb-true a _ p.1)
 
   -- an index and its entry name one address
   pub names_one : (k : Space) {xs ys entries : List ℕ} → SpaceAgrees env parts k xs ys entries → (x : ℕ) → has entries x ≡ true → OptRel (R.of k) (slice_get xs x) (slice_get ys (slice_index entries x))
@@ -34,6 +34,3 @@ module _ (env : Environment) (parts : List Part) where
     mems = λ a h. shares Memories a (omega arith);
     globals = λ a h. shares Globals a (omega arith);
   }
-
-  pub own_entities : OwnEntitiesCorrespond → OwnCorrespond R env
-  own_entities law = law (is_shared env parts) env shares_own

@@ -1,5 +1,5 @@
 -- How many stay or are defined before a place.
-use Rattle.base_lists.proofs.Common.{◌≡◌, ◌∙◌, sym, ap, refl, ℕ, zero, suc, ◌+◌, ◌<◌, ◌≤◌, List, [], ◌∷◌, ◌++◌, length, take, arith, Bool, true, false, cond, Some, append_assoc, append-nil, flat_map, length-append, take_all, filter-append}
+use Rattle.base_lists.proofs.Common.{◌≡◌, ◌∙◌, sym, ap, refl, ℕ, suc, ◌+◌, ◌<◌, ◌≤◌, List, [], ◌∷◌, ◌++◌, length, take, arith, Bool, true, false, cond, Some, append_assoc, append-nil, flat_map, length-append, take_all, filter-append}
 use Rattle.wasm_tree_spec.specs.Prelude.{Space, Types, Module}
 use Rattle.std.specs.Prelude.{filter}
 use Rattle.wasm_meaning.specs.Prelude.{defined_count, defined_before, Part, Site, module_at, sites_in, sites_from, sites}
@@ -83,11 +83,6 @@ staying_few ps k = both_few (imports_kind ps k) (stays ps) (sites ps)
 
 pub defined_more : (k : Space) (ps : List Part) (p : ℕ) (m : Module) → module_at ps p ≡ Some m → defined_before k ps (p + 1) ≡ defined_before k ps p + defined_count k m
 defined_more k ps p m h = let e : p + 1 ≡ suc p = omega arith in ap (defined_before k ps) e ∙ defined_next k ps p m h
-
-pub defined_all : (k : Space) (ps : List Part) (p : ℕ) → length ps ≤ p → defined_before k ps p ≡ defined_before k ps (length ps)
-defined_all k [] p h = refl
-defined_all k (part ∷ ps) zero h = absurd (omega arith)
-defined_all k (part ∷ ps) (suc p) h = ap (λ n. defined_count k part.«module» + n) (defined_all k ps p (omega arith))
 
 pub count_none : (ps : List Part) (k : Space) → count_before ps k 0 0 ≡ 0
 unfolding count_before

@@ -2,7 +2,7 @@
 use Rattle.base_lists.proofs.Common.{◌≡◌, ◌∙◌, ap, refl, Option, Some, None, Ok, Err}
 use Rattle.wasm_tree_spec.specs.Prelude.{Which, Module}
 use Rattle.wasm_meaning.specs.Prelude.{Text}
-use Rattle.merge_spec.specs.declared.faults.JoinFault.TheVariants.{ExportConflict, TooMany}
+use Rattle.merge_spec.specs.declared.faults.JoinFault.TheVariants.{TooMany}
 use Rattle.merge_spec.specs.Joined.{outcome}
 
 -- a module comes only where there is no conflict and no count too many
@@ -15,9 +15,6 @@ pub joined_from : (name : Option Text) (which : Option Which) (m t : Module) →
 joined_from (Some name) which m t h = cc
 joined_from None (Some which) m t h = cc
 joined_from None None m t h = record { no_name = refl; no_count = refl; same = cc }
-
-pub conflict_is : (name : Text) (o : Option Text) (which : Option Which) (m : Module) → o ≡ Some name → outcome o which m ≡ Err (ExportConflict name)
-conflict_is name o which m e = ap (λ x. outcome x which m) e
 
 pub many_is : (o : Option Text) (w : Option Which) (which : Which) (m : Module) → o ≡ None → w ≡ Some which → outcome o w m ≡ Err (TooMany which)
 many_is o w which m e f = ap (λ x. outcome x w m) e ∙ ap (λ x. outcome None x m) f

@@ -1,13 +1,13 @@
 -- What a constant expression of a part becomes, by what is read through the part's imported globals.
 use Rattle.base_lists.proofs.Common.{◌≡◌, ◌∙◌, ap, sym, subst, refl, ℕ, zero, suc, ◌+◌, ◌<◌, List, [], ◌∷◌, ◌++◌, length, Option, Some, None, Bool, true, false, cond, ◌&&◌, not, nat_lt, arith, slice_get, get_or, option_and_then, unwrap_or, is_some, cons_option, ltb-true, slice_get-map, slice_get_within, get_or_from_slice_get, and_then_is}
-use Rattle.wasm_tree_spec.specs.Prelude.{Globals, ValType, GlobalType, Import, ImportDesc, ConstExpr, Module, globals_of, global_of, imported_globals}
+use Rattle.wasm_tree_spec.specs.Prelude.{Globals, ValType, GlobalType, Import, ConstExpr, Module, globals_of, global_of, imported_globals}
 use Rattle.std.specs.Option.{option_map}
 use Rattle.wasm_tree.specs.declared.module.ImportDesc.TheVariants as im
 use Rattle.wasm_tree.specs.declared.module.ConstExpr.TheVariants as const
 use Rattle.wasm_valid_bodies.specs.Typing.{only}
 use Rattle.wasm_valid.specs.Prelude.{const_type, IsValid}
 use Rattle.wasm_meaning.specs.Linking as linking
-use Rattle.wasm_meaning.specs.Prelude.{Part, Site, places, has_kind, space_index, module_at, import_at, imports_of, read_of}
+use Rattle.wasm_meaning.specs.Prelude.{Part, places, has_kind, space_index, module_at, import_at, imports_of, read_of}
 use Rattle.index_remap.specs.Prelude.{new_const}
 use Rattle.index_remap_proof.proofs.Lists.{left_true, right_true, only_true}
 use Rattle.merge_spec.specs.declared.links.Read.{Read}
@@ -19,15 +19,9 @@ use Rattle.merge_valid_proof.specs.Joinable.{EachPart}
 use Rattle.merge_join.specs.declared.mapped_parts.MappedParts.{MappedParts}
 use Rattle.merge_join.specs.LinkedParts.{HaveTheirMaps, site}
 use Rattle.merge_join.specs.Reads.{AreReads, HasType}
-use Rattle.world_simulation.proofs.Alone.{global_kind}
+use Rattle.world_simulation.proofs.Alone.{global_desc, global_kind}
 
 -- ---- an imported global ----
-
-is_global : (d : ImportDesc) (g : GlobalType) → global_of d ≡ Some g → d ≡ im.Global g
-is_global (im.Func t) g h = cc
-is_global (im.Table t) g h = cc
-is_global (im.Memory l) g h = cc
-is_global (im.Global t) g h = let same : t ≡ g = cc in ap im.Global same
 
 front_only : {A : Type 0} (xs ys : List A) (i : ℕ) (x : A) → i < length xs → slice_get (xs ++ ys) i ≡ Some x → slice_get xs i ≡ Some x
 front_only [] ys i x l h = absurd (omega (arith, l))
@@ -74,7 +68,7 @@ found (i ∷ is) from x g h = by (λ x h. found is (suc from) x g h) (global_of 
           import = i;
           at = ap (λ b. slice_get (cond b (from ∷ rest) rest) 0) k ∙ ap Some z;
           there = refl;
-          desc = is_global i.desc g (e ∙ h);
+          desc = global_desc i.desc g (e ∙ h);
           index = refl;
         }
     by more (Some c) true e k t (suc x) h = let f = more x h in on x (suc x) true k f refl (ap suc f.index)

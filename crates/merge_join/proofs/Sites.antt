@@ -3,11 +3,10 @@ use Rattle.base_lists.proofs.Common.{◌≡◌, ◌∙◌, sym, ap, refl, inl, i
 use Rattle.wasm_tree_spec.specs.Prelude.{Space, Module}
 use Rattle.std.specs.Prelude.{filter}
 use Rattle.wasm_meaning.specs.Prelude.{Part, Site, places, module_at, same_site, first_place, sites_in, sites_from, sites}
-use Rattle.merge_spec.specs.Prelude.{stays, by_part, imports_kind}
+use Rattle.merge_spec.specs.Prelude.{stays, imports_kind}
 use Rattle.merge_spec.specs.Merged.{staying, staying_of}
 use Rattle.merge_join.specs.LinkedParts.{site}
 use Rattle.merge_join.specs.Spaces.{staying_place, picked, sites_before, count_before}
-use Rattle.merge_valid_proof.proofs.Linked.{sites_are}
 
 -- ---- places of a kind ----
 
@@ -34,9 +33,6 @@ places_push is xs x i h =
     ap (λ k. places is (take k xs) 0) e ∙ places_from_push is xs x 0 i h ∙ ap (λ k. places is (take i xs) 0 ++ cond (is x) (k ∷ []) []) z
 
 -- ---- the sites ----
-
-pub sites_is : (ps : List Part) → sites ps ≡ by_part (λ p m. sites_in p (length m.imports) 0) ps
-sites_is ps = sites_are 0 ps
 
 pub sites_in_push : (p n q : ℕ) → sites_in p (suc n) q ≡ sites_in p n q ++ site p (q + n) ∷ []
 sites_in_push p zero q = let e : q ≡ q + 0 = omega arith in ap (λ k. site p k ∷ []) e

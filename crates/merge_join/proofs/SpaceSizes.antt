@@ -34,7 +34,3 @@ pub globals_size : (m : Module) → length (globals_of m) ≡ space_size Globals
 globals_size m =
     length-append (imported_globals m.imports) (map (λ g. g.ty) m.globals) ∙ ap (λ n. n + length (map (λ g. g.ty) m.globals)) (sym (globals_many m.imports))
     ∙ ap (λ n. length (places (has_kind Globals) m.imports 0) + n) (length-map m.globals (λ g. g.ty))
-
--- how many globals a module imports
-pub imported_globals_size : (m : Module) → length (imported_globals m.imports) ≡ length (places (has_kind Globals) m.imports 0)
-imported_globals_size m = sym (globals_many m.imports)

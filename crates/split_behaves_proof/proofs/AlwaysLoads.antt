@@ -7,7 +7,7 @@ use Rattle.wasm_valid.specs.Prelude.{IsValid}
 use Rattle.base_simulation.specs.Machines.{state_after}
 use Rattle.wasm_meaning.specs.Prelude.{Gives, Inst, Store, Opening, CallsPlaceholder, Environment, Begun, address_in, Added, added, Move, InstanceTrapped, Out, Steps, Makes, Pending, Closed, began, fresh_run, LoaderWorld, LoaderRun, secondary_of, store_under, supplied, primary_added, begun_of, loader_made, tick_loader, fresh_loader}
 use Rattle.index_remap.specs.Prelude.{IsBegun}
-use Rattle.world_simulation.specs.Leaves.{AddedModulesLeave}
+use Rattle.world_contents_proof.specs.Leaves.{AddedModulesLeave}
 use Rattle.world_extension_proof.specs.Extends.{CallsExtend, LoadersExtend}
 use Rattle.world_extension_proof.specs.Typed.{IsTyped, AddedModulesAreTyped, InstancesStayTyped}
 use Rattle.world_extension_proof.specs.Over.{IsOver, RunsThatAreOverStaySo}

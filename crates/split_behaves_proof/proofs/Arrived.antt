@@ -8,8 +8,7 @@ use Rattle.wasm_meaning.specs.Control.{type_of_func as type_of}
 use Rattle.wasm_meaning.specs.Loader.{with_loaded}
 use Rattle.index_remap.specs.Prelude.{Pairing, ListRel, ValRel, ended, CodeAt, InSlot, WithPassing}
 use Rattle.index_remap.specs.Trampolines as between
-use Rattle.world_simulation.specs.Prelude.{PlaceholdersAreAnswered}
-use Rattle.world_simulation.specs.LoaderSteps.{IsAnswered}
+use Rattle.world_loader_proof.specs.LoaderSteps.{IsAnswered, PlaceholdersAreAnswered}
 use Rattle.split_spec.specs.declared.names.SplitNames.{SplitNames}
 use Rattle.split_spec.specs.Prelude.{slot_table, type_index}
 use Rattle.split_behaves_proof.specs.Worlds.{placeholders_for, type_in}

@@ -7,9 +7,9 @@ use Rattle.index_remap.specs.declared.remap.Remap.{Remap}
 use Rattle.index_remap.specs.Prelude.{renumbered_all, gets, slot_call, trampoline}
 use Rattle.index_remap.specs.Renumbered as tree_with
 use Rattle.world_simulation.specs.Prelude.{one}
-use Rattle.world_simulation.proofs.Added.{added_is}
+use Rattle.world_contents_proof.proofs.Added.{added_is}
 use Rattle.world_simulation.proofs.Allocated.{adds_with}
-use Rattle.world_simulation.proofs.FuncsAside.{segments_funcs}
+use Rattle.world_contents_proof.proofs.FuncsAside.{segments_funcs}
 use Rattle.world_simulation.proofs.Instancing.{IsInst}
 use Rattle.world_simulation.proofs.Single.{one_inst}
 use Rattle.split_spec.specs.declared.names.SplitNames.{SplitNames}

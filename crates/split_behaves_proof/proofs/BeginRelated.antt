@@ -13,12 +13,14 @@ use Rattle.index_remap.specs.Prelude.{declared_refs, Pairing, OptRel, none, some
 use Rattle.index_remap.proofs.Rel.{append_rel}
 use Rattle.index_remap_proof.specs.Indices.{Indices, ConstNamesOnly, ExportNamesOnly, TreeNamesOnly}
 use Rattle.index_remap_proof.proofs.Lists.{two_cases}
-use Rattle.world_simulation.specs.Prelude.{one, FuncsAt, GlobalsCorrespond, ElemsCorrespond, Partners, DefinitionsCorrespond, Instantiated, values_in, primary_world, EntriesName, InOrder, ends, both, only_second, ElemsPartner, ElemAlone, DatasPartner, DataAlone, ElemsInOrder, DatasInOrder, WorldsCorrespond, stubbed}
+use Rattle.world_simulation.specs.Prelude.{one, FuncsAt, GlobalsCorrespond, ElemsCorrespond, Partners, DefinitionsCorrespond, Instantiated, values_in, EntriesName, InOrder, ends, both, only_second, ElemsPartner, ElemAlone, DatasPartner, DataAlone, ElemsInOrder, DatasInOrder, WorldsCorrespond}
 use Rattle.world_simulation.specs.Definitions as partners
+use Rattle.world_loader_proof.specs.Loaded.{primary_world}
 use Rattle.world_simulation.specs.Segments as order
+use Rattle.world_loader_proof.specs.Stubbed.{stubbed}
 use Rattle.world_simulation.proofs.Declared.{last_segments}
-use Rattle.world_simulation.proofs.Holes.{all_in_step, kept_place, placed}
-use Rattle.world_simulation.proofs.Holes as holes
+use Rattle.world_removal_proof.proofs.Holes.{all_in_step, kept_place, placed}
+use Rattle.world_removal_proof.proofs.Holes as holes
 use Rattle.world_simulation.proofs.Instancing.{IsInst}
 use Rattle.world_simulation.proofs.Places.{then_rel}
 use Rattle.world_simulation.proofs.Renamed.{elems_alike, elem_mode_named, data_mode_named, start_named}

@@ -13,7 +13,9 @@ use Rattle.wasm_meaning.proofs.Slices.{copies_length}
 use Rattle.index_remap.specs.declared.remap.Remap.{Remap}
 use Rattle.index_remap.specs.Prelude.{declared_refs, OptRel, none, some, new_const, new_elem, new_elem_mode}
 use Rattle.index_remap_proof.specs.Indices.{ElemModeNamesOnly}
-use Rattle.world_simulation.specs.Prelude.{one, all_over, elem_copies, elem_copy, is_address, new_table, over, table_left, offset_in, stub}
+use Rattle.world_simulation.specs.Prelude.{one, new_table, offset_in}
+use Rattle.world_contents_proof.specs.Leaves.{all_over, elem_copies, elem_copy, is_address, over, table_left}
+use Rattle.world_loader_proof.specs.Stubbed.{stub}
 use Rattle.world_simulation.proofs.Alone.{funcs_counted}
 use Rattle.world_simulation.proofs.Declared.{last_segments}
 use Rattle.world_simulation.proofs.Instancing.{IsInst}

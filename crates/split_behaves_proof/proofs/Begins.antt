@@ -5,10 +5,9 @@ use Rattle.wasm_tree_spec.specs.Prelude.{Functions, FuncType, Module}
 use Rattle.wasm_meaning.specs.Prelude.{Entry, Func, Pair, Store, Text, Environment, ExternalValue, own_funcs, owned_of, Added, added, next_inst, LoaderWorld, begun_of, begun_under, placeholders_from, placeholders_of, primary_added, store_under, supplied, Move, began, fresh_run, tick, Begun, address_in, all_there, alone, const_value, instantiate, joined_stores, own_count, start_in}
 use Rattle.index_remap.specs.Prelude.{Pairing, OptRel, none, some, ListRel, nil, cons, EntryRel, StoreRel, BegunRel, closed, pending, EntryByEntry, FramesBetween, WithPassing}
 use Rattle.index_remap.specs.Trampolines as between
-use Rattle.world_simulation.specs.Prelude.{placeholders_begun}
-use Rattle.world_simulation.specs.Stubbed.{with_placeholders}
-use Rattle.world_simulation.proofs.Added.{added_is}
-use Rattle.world_simulation.proofs.FuncsAside.{segments_funcs}
+use Rattle.world_loader_proof.specs.Stubbed.{placeholders_begun, with_placeholders}
+use Rattle.world_contents_proof.proofs.Added.{added_is}
+use Rattle.world_contents_proof.proofs.FuncsAside.{segments_funcs}
 use Rattle.split_spec.specs.declared.names.SplitNames.{SplitNames}
 use Rattle.split_proof.proofs.Spaces.{ItemsHold}
 use Rattle.split_behaves_proof.specs.Worlds.{placeholders_for}
@@ -20,7 +19,7 @@ use Rattle.split_behaves_proof.proofs.Placeholders.{imports_them_last, placehold
 use Rattle.split_behaves_proof.proofs.Entries.{Laws, holds, split, types_moved}
 use Rattle.split_behaves_proof.proofs.BeginRelated.{stubs}
 use Rattle.split_behaves_proof.proofs.Linked.{instantiated}
-use Rattle.world_simulation.proofs.Stubbed.{placeholders_many}
+use Rattle.world_loader_proof.proofs.Stubbed.{placeholders_many}
 
 -- ---- placeholders in place of stubs ----
 

@@ -6,7 +6,7 @@ use Rattle.wasm_meaning.specs.Prelude.{Gives, bind, or_ill_typed, FuncRef, Inst,
 use Rattle.wasm_meaning.specs.Control.{type_of_func as type_of}
 use Rattle.index_remap.specs.Prelude.{Pairing, CodeAt, InSlot, HaveTypes, passing, trampoline, gets, slot_call, go_on}
 use Rattle.index_remap.specs.Trampolines.{TrampolinesEnterSlots}
-use Rattle.world_simulation.specs.Prelude.{PlaceholdersAreAnswered}
+use Rattle.world_loader_proof.specs.LoaderSteps.{PlaceholdersAreAnswered}
 use Rattle.split_spec.specs.declared.names.SplitNames.{SplitNames}
 use Rattle.split_spec.specs.Prelude.{params_of, slot_table, type_index}
 use Rattle.split_proof.proofs.Lists.{among_there}

@@ -20,17 +20,17 @@ use Rattle.index_remap.specs.Laws.{ReplacedCodeIsRelated}
 use Rattle.index_remap.proofs.Rel.{get_rel}
 use Rattle.index_remap_proof.specs.Indices.{Indices, with_entry, ConstNamesOnly, ImportNamesOnly, ExportNamesOnly, ElemModeNamesOnly, DataModeNamesOnly, TreeNamesOnly}
 use Rattle.index_remap_proof.proofs.Lists.{among_right, both_true}
-use Rattle.world_simulation.specs.Prelude.{one, addresses, Instantiated, values_in, LoadersHaveTheirPrimarysInstance, EntriesName, SharesOwn, stub, stubbed, LoadersAddAsStubbed}
+use Rattle.world_simulation.specs.Prelude.{one, addresses, Instantiated, values_in, EntriesName, SharesOwn}
 use Rattle.world_extension_proof.specs.Typed.{AddedModulesAreTyped}
-use Rattle.world_simulation.specs.Leaves.{PrimaryModulesLeave}
-use Rattle.world_simulation.specs.Loaded.{LoadersBeginAsTheirPrimary}
-use Rattle.world_simulation.specs.Stubbed.{LoadersBeginAsStubbed}
+use Rattle.world_contents_proof.specs.Leaves.{PrimaryModulesLeave}
+use Rattle.world_loader_proof.specs.Loaded.{LoadersBeginAsTheirPrimary, LoadersHaveTheirPrimarysInstance}
+use Rattle.world_loader_proof.specs.Stubbed.{stub, stubbed, LoadersAddAsStubbed, LoadersBeginAsStubbed}
 use Rattle.world_simulation.proofs.Alone.{funcs_counted, tables_counted, memories_counted, globals_counted}
 use Rattle.world_simulation.proofs.Declared.{Keeps, last_segments}
-use Rattle.world_simulation.proofs.Holes.{Down, Moved, stays, space_moves, stays_at}
-use Rattle.world_simulation.proofs.Holes as holes
+use Rattle.world_removal_proof.proofs.Holes.{Down, Moved, stays, space_moves, stays_at}
+use Rattle.world_removal_proof.proofs.Holes as holes
 use Rattle.world_simulation.proofs.Instancing.{IsInst}
-use Rattle.world_simulation.proofs.Loaded.{const_same}
+use Rattle.world_contents_proof.proofs.OwnValues.{const_same}
 use Rattle.world_simulation.proofs.Owned.{null_rel, own_globals_rel}
 use Rattle.world_simulation.proofs.Places.{opt_at, then_rel}
 use Rattle.world_simulation.proofs.Renamed.{func_named}

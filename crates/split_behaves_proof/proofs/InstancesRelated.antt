@@ -5,8 +5,9 @@ use Rattle.wasm_tree_spec.specs.Prelude.{Functions, Tables, Memories, Globals, M
 use Rattle.wasm_meaning.specs.Prelude.{Inst, Environment, Added, primary_added}
 use Rattle.index_remap.specs.Prelude.{OptRel, has}
 use Rattle.index_remap_proof.proofs.Lists.{both_true}
-use Rattle.world_simulation.specs.Prelude.{one, LoadersHaveTheirPrimarysInstance, stubbed, LoadersAddAsStubbed}
-use Rattle.world_simulation.specs.Stubbed.{placeholders_in}
+use Rattle.world_simulation.specs.Prelude.{one}
+use Rattle.world_loader_proof.specs.Loaded.{LoadersHaveTheirPrimarysInstance}
+use Rattle.world_loader_proof.specs.Stubbed.{stubbed, placeholders_in, LoadersAddAsStubbed}
 use Rattle.world_simulation.proofs.Instancing.{IsInst}
 use Rattle.world_simulation.proofs.Single.{one_inst}
 use Rattle.split_spec.specs.declared.names.SplitNames.{SplitNames}

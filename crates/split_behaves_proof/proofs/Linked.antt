@@ -8,7 +8,9 @@ use Rattle.wasm_meaning.specs.World as world
 use Rattle.index_remap.specs.declared.remap.Remap.{Remap}
 use Rattle.index_remap.specs.Prelude.{declared_refs, Pairing, OptRel, none, some, ListRel, GlobalRel, ElemRel, KeyRel, BegunRel, new_const, new_elem, new_func, new_global, EntryByEntry}
 use Rattle.index_remap_proof.specs.Indices.{Indices, TreeNamesOnly}
-use Rattle.world_simulation.specs.Prelude.{one, addresses, Instantiated, values_in, primary_world, AreSimilar, StartsCorrespond, WorldsCorrespond, stub}
+use Rattle.world_simulation.specs.Prelude.{one, addresses, Instantiated, values_in, AreSimilar, StartsCorrespond, WorldsCorrespond}
+use Rattle.world_loader_proof.specs.Loaded.{primary_world}
+use Rattle.world_loader_proof.specs.Stubbed.{stub}
 use Rattle.world_simulation.proofs.Alone.{funcs_counted, space_is}
 use Rattle.world_simulation.proofs.Allocated.{Adds, adds, part_there}
 use Rattle.world_simulation.proofs.Declared.{last_elems, last_segments}

@@ -18,7 +18,7 @@ use Rattle.split_behaves_proof.specs.LoadedCode.{loaded_from, LoadsKeepTheRelati
 use Rattle.split_behaves_proof.proofs.Entries.{Laws, holds}
 use Rattle.split_behaves_proof.proofs.LoadCode.{moves, pair_there, code_related}
 use Rattle.split_behaves_proof.proofs.LoadNames.{own_can}
-use Rattle.world_simulation.proofs.Added.{right_is}
+use Rattle.world_contents_proof.proofs.Added.{right_is}
 
 -- ---- stores ----
 

@@ -15,8 +15,7 @@ use Rattle.wasm_meaning.specs.World as world
 use Rattle.index_remap.specs.declared.remap.Remap.{Remap}
 use Rattle.index_remap.specs.Prelude.{declared_refs, declaring, new_const, new_func}
 use Rattle.index_remap.specs.Renumbered as renumbered
-use Rattle.world_simulation.specs.Prelude.{Leaves, contents, over, all_over, elem_copies, data_copies, table_left, memory_left}
-use Rattle.world_simulation.specs.Leaves.{AddedModulesLeave}
+use Rattle.world_contents_proof.specs.Leaves.{Leaves, AddedModulesLeave, contents, over, all_over, elem_copies, data_copies, table_left, memory_left}
 use Rattle.world_simulation.proofs.Allocated.{with_elems}
 use Rattle.world_simulation.proofs.Copied.{overwrite_fits}
 use Rattle.world_simulation.proofs.Declared.{Keeps, last_segments}

@@ -9,8 +9,7 @@ use Rattle.wasm_tree.specs.declared.module.ImportDesc.TheVariants as im
 use Rattle.wasm_meaning.specs.Prelude.{Text, Pair, same_pair, same_text, pair_of, flat, LoaderWorld, placeholders_of, slot_of}
 use Rattle.index_remap.specs.Prelude.{declared_refs}
 use Rattle.index_remap_proof.proofs.Lists.{both_true, same_number, two_cases}
-use Rattle.world_simulation.specs.Prelude.{ImportsThemLast}
-use Rattle.world_simulation.specs.Stubbed.{ArePlaceholders}
+use Rattle.world_loader_proof.specs.Stubbed.{ArePlaceholders, ImportsThemLast}
 use Rattle.world_simulation.proofs.Declared.{Keeps, keeps}
 use Rattle.split_spec.specs.declared.names.SplitNames.{SplitNames}
 use Rattle.split_spec.specs.Prelude.{placeholder_imports, type_index}

@@ -14,7 +14,7 @@ use Rattle.index_remap.proofs.Rel.{PairRel}
 use Rattle.index_remap.proofs.ValueSteps.{pop_typed_rel}
 use Rattle.index_remap.proofs.SlotCalls.{func_type_is, slot_act}
 use Rattle.index_remap.proofs.FramesBetween.{again, between, frames}
-use Rattle.world_simulation.specs.Prelude.{PlaceholdersAreAnswered}
+use Rattle.world_loader_proof.specs.LoaderSteps.{PlaceholdersAreAnswered}
 use Rattle.split_spec.specs.declared.names.SplitNames.{SplitNames}
 use Rattle.split_spec.specs.Prelude.{place_among}
 use Rattle.split_proof.proofs.Lists.{place_is}

@@ -2,7 +2,7 @@
 use Rattle.wasm_tree_spec.specs.Prelude.{Module}
 use Rattle.wasm_meaning.specs.Prelude.{Environment}
 use Rattle.index_remap.specs.Trampolines.{TrampolinesEnterSlots}
-use Rattle.world_simulation.specs.Prelude.{PlaceholdersAreAnswered}
+use Rattle.world_loader_proof.specs.LoaderSteps.{PlaceholdersAreAnswered}
 use Rattle.split_spec.specs.declared.names.SplitNames.{SplitNames}
 use Rattle.base_lists.proofs.Common.{ℕ, List}
 use Rattle.split_behaves_proof.specs.Laws.{CanBeSplit, SplitModuleEquivalent, most_params}

@@ -9,7 +9,7 @@ use Rattle.index_remap.proofs.Known.{top_known}
 use Rattle.world_extension_proof.specs.Extends.{LoadersExtend, StepsExtend}
 use Rattle.world_extension_proof.specs.Over.{RunsThatAreOverStaySo}
 use Rattle.world_extension_proof.specs.Typed.{InstancesStayTyped, IsTyped}
-use Rattle.world_simulation.specs.LoaderSteps.{GoesAsItsRun, LoadersGoAsTheirRun}
+use Rattle.world_loader_proof.specs.LoaderSteps.{GoesAsItsRun, LoadersGoAsTheirRun}
 use Rattle.split_behaves_proof.specs.Addresses.{is_partner, may_stand, moved_addresses, slot_table_address, split_pairing}
 use Rattle.split_behaves_proof.specs.Answered.{StepAnswered}
 use Rattle.split_behaves_proof.specs.Begins.{RunsRelated}

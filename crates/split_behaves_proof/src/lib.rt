@@ -18,10 +18,11 @@ use split_proof::{
 };
 use wasm_tree::operands_pass_layer_by_layer;
 use wasm_valid::valid_where_items_hold;
+use world_contents_proof::instantiated_stores_match_their_modules;
 use world_extension_proof::{closed_runs_stay_closed, instances_stay_typed, stores_are_extended};
-use world_simulation::{
-    instantiated_stores_match_their_modules, loaders_begin_as_their_primary,
-    loaders_begin_as_with_defined_placeholders, loaders_step_as_their_run,
+use world_loader_proof::{
+    loaders_begin_as_their_primary, loaders_begin_as_with_defined_placeholders,
+    loaders_step_as_their_run,
 };
 
 /// A module alone, and its split under the loader of its secondary modules, begin alike in every environment (WebAssembly Core 2.0, section 4.5.4): neither links or both do,

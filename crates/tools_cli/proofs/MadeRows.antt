@@ -13,8 +13,7 @@ use Rattle.module_limits.specs.Counts.{over_limit}
 use Rattle.merge_names.specs.declared.mode.Mode.TheVariants as mode
 use Rattle.merge_names.specs.Names.{conflict_behind}
 use Rattle.merge_spec.specs.Faults.{link_fault, import_fault, stays, kept_limits, clash_fault, memory_count, memory_fault, defined_globals, global_fault}
-use Rattle.merge_spec.specs.Prelude.{merged_import, starts, defined_funcs}
-use Rattle.merge_spec.specs.Merged.{staying, staying_of, place_of_end, new_index, merged_types, place_of_type, map_of, merged_const, all_exports, merged}
+use Rattle.merge_spec.specs.Merged.{staying, staying_of, place_of_end, new_index, merged_types, place_of_type, map_of, merged_const, merged_import, starts, defined_funcs, all_exports, merged}
 use Rattle.merge_spec.specs.Joined.{joined_module, repeated_name}
 use Rattle.dce_graph.specs.declared.graph.Graph.{Graph}
 use Rattle.dce_graph.specs.declared.point.Point.{Point}

@@ -7,7 +7,7 @@ use Rattle.wasm_meaning.specs.Prelude.{Gives, Traps, IllTyped, overwrite, RefVal
 use Rattle.wasm_meaning.specs.Loader.{loader_with, secondary_added, call_answered, secondary_called, placeholder_called}
 use Rattle.index_remap.specs.Prelude.{IsBegun}
 use Rattle.world_simulation.specs.Prelude.{offset_in}
-use Rattle.world_simulation.proofs.Added.{added_is}
+use Rattle.world_contents_proof.proofs.Added.{added_is}
 use Rattle.world_simulation.proofs.Copied.{then_holds, overwritten_length}
 use Rattle.wasm_meaning.proofs.Outcomes.{stopped}
 use Rattle.world_extension_proof.specs.Extends.{TableExtends, MemoryExtends, GlobalExtends, EachExtends, Extends, StaysIn, Kept, AddedModulesExtend, LoaderKept, LoadersExtend}

@@ -8,7 +8,7 @@ use Rattle.wasm_meaning.specs.Prelude.{Inst, Func, Table, Memory, Global, Store,
 use Rattle.wasm_meaning.proofs.Slices.{copies_length}
 use Rattle.index_remap.proofs.SlotCalls.{func_type_self}
 use Rattle.world_simulation.specs.Prelude.{new_table, new_memory}
-use Rattle.world_simulation.proofs.Added.{added_is}
+use Rattle.world_contents_proof.proofs.Added.{added_is}
 use Rattle.world_simulation.proofs.Allocated.{AddsWith, adds_with}
 use Rattle.world_extension_proof.specs.Extends.{StaysIn}
 use Rattle.world_extension_proof.specs.Typed.{Offers, IsTyped, AddedModulesAreTyped, InstancesStayTyped}

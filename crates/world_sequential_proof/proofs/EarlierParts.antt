@@ -1,61 +1,36 @@
 -- A part's instance has addresses of the environment's entities and of what parts up to it define, where each joined import leads to an earlier part.
-use Rattle.base_lists.proofs.Common.{◌≡◌, ◌∙◌, refl, sym, ap, subst, ℕ, zero, suc, ◌+◌, ◌<◌, ◌≤◌, List, [], ◌∷◌, ◌++◌, length, Option, Some, None, ◌⊎◌, inl, inr, arith, option_and_then, slice_get, and_then_is, same_Some}
-use Rattle.wasm_tree_spec.specs.Prelude.{Space, Functions, Tables, Memories, Globals, Types, ElementSegments, DataSegments, Import, Module, index_of_export, space_of_export}
-use Rattle.wasm_meaning.specs.Prelude.{Inst, walk, walk_on, Part, Entity, imports_of, module_at, import_at, export_named, source_of, joined, joined_step, import_step, sites, end_of, Environment, ExternalValue, owned_of, owned_at, own_key, defined_count, base, external_value_at, address_of, imported_external_value, external_value_of, all_there, numbers, insts_from, address_in, JoinsEarlier}
+use Rattle.base_lists.proofs.Common.{◌≡◌, ◌∙◌, refl, sym, subst, ℕ, zero, suc, ◌<◌, List, ◌++◌, length, Option, Some, None, ◌⊎◌, inl, inr, arith, option_and_then, slice_get, and_then_is, same_Some, append_from}
+use Rattle.wasm_tree_spec.specs.Prelude.{Space, Functions, Tables, Memories, Globals, Types, Import, Module, index_of_export, space_of_export}
+use Rattle.wasm_meaning.specs.Prelude.{Inst, Part, Entity, module_at, export_named, source_of, joined, Environment, ExternalValue, owned_of, owned_at, own_key, base, external_value_at, address_of, imported_external_value, insts_from, JoinsEarlier}
 use Rattle.world_simulation.specs.Prelude.{OwnEntitiesCorrespond}
-use Rattle.world_sequential_proof.proofs.ExternalValues.{inst_at, space_is, space_in, in_space, address_is, held_external}
+use Rattle.world_sequential_proof.proofs.ExternalValues.{inst_at, space_in, in_space, address_is, held_external}
 use Rattle.world_sequential_proof.proofs.Joined.{stays_own, joins, inst_of_part}
 use Rattle.world_sequential_proof.proofs.Reached.{defined_more, own_low}
-use Rattle.world_simulation.proofs.Instancing.{inst_is}
+use Rattle.world_simulation.proofs.Instancing.{imports, defines, is_space, entry_at}
 use Rattle.wasm_meaning.proofs.Counts.{defined_next}
-use Rattle.index_remap_proof.proofs.Lists.{all_there_back}
 
 -- ---- lists ----
 
 pub append_back : {A : Type 0} (xs ys : List A) (n : ℕ) (x : A) → slice_get (xs ++ ys) n ≡ Some x → (slice_get xs n ≡ Some x) ⊎ ((j : ℕ) × (slice_get ys j ≡ Some x))
-append_back [] ys n x e = inr (n, e)
-append_back (z ∷ zs) ys zero x e = inl e
-append_back (z ∷ zs) ys (suc n) x e = append_back zs ys n x e
-
-pub numbers_back : (from count j a : ℕ) → slice_get (numbers from count) j ≡ Some a → (a ≡ from + j) × (j < count)
-numbers_back from zero j a e = absurd (let k = e in cc)
-numbers_back from (suc count) zero a e = let s = same_Some _ _ e in (omega (arith, s), omega arith)
-numbers_back from (suc count) (suc j) a e = let r = numbers_back (suc from) count j a e in (omega (arith, r.0), omega (arith, r.1))
+append_back xs ys n x e = elim (append_from xs ys n x e) [ inl l ↦ inl l | inr r ↦ inr (r.0, r.2) ]
 
 -- ---- kinds ----
 
 pub same_thing : (k l : Space) (a b : ℕ) → option_and_then (address_of k) (external_value_at l a) ≡ Some b → (l ≡ k) × (a ≡ b)
+same_thing _ Types a b e = cc
 same_thing Functions Functions a b e = (refl, same_Some _ _ e)
 same_thing Tables Tables a b e = (refl, same_Some _ _ e)
 same_thing Memories Memories a b e = (refl, same_Some _ _ e)
 same_thing Globals Globals a b e = (refl, same_Some _ _ e)
-same_thing _ Types a b e = cc
-same_thing _ Functions a b e = cc
-same_thing _ Tables a b e = cc
-same_thing _ Memories a b e = cc
-same_thing _ Globals a b e = cc
-same_thing _ ElementSegments a b e = cc
-same_thing _ DataSegments a b e = cc
+same_thing _ _ a b e = cc
 
 module _ (env : Environment) (parts : List Part) (insts : List Inst) (are : insts_from env parts 0 parts ≡ Some insts) (size : length insts ≡ length parts) (earlier : JoinsEarlier parts) (own : OwnEntitiesCorrespond) where
-  more : (k : Space) (p q : ℕ) → p ≤ q → base env parts k p ≤ base env parts k q
-  more k p q l = let r = defined_more k parts p q l in omega (arith, r)
-
   -- an import that denotes something is there
   import_there : (p n : ℕ) (m : Module) (x : ExternalValue) → module_at parts p ≡ Some m → imported_external_value env parts (record { part = p; import = n }) ≡ Some x → (i : Import) × (slice_get m.imports n ≡ Some i)
-  import_there p n m x is h = go (slice_get m.imports n) refl
-    where
-      go : (o : Option Import) → slice_get m.imports n ≡ o → (i : Import) × (slice_get m.imports n ≡ Some i)
-      go (Some i) e = (i, e)
-      go None e =
-          let s = and_then_is (end_of parts (record { part = p; import = n })) (external_value_of env parts) x h in
-          let none : import_at parts (record { part = p; import = n }) ≡ None = ap (λ o. option_and_then (λ m. slice_get m.imports n) o) is ∙ e in
-          let step : import_step parts (record { part = p; import = n }) ≡ None = ap (λ o. option_and_then (λ i. Some (joined_step parts (record { part = p; import = n }) (joined parts i))) o) none in
-          let lost : None ≡ Some s.0 = sym (ap (walk_on (walk (import_step parts) (length (sites parts)))) step) ∙ s.1 in
-          absurd (let z = lost in cc)
-
-  inst_there : (q : ℕ) (m : Module) → module_at parts q ≡ Some m → (i : Inst) × (slice_get insts q ≡ Some i)
-  inst_there q m e = let r = inst_at env parts 0 parts insts are q m e in (r.0, r.1)
+  import_there p n m x is h = elim (slice_get m.imports n) as (λ o. slice_get m.imports n ≡ o → (i : Import) × (slice_get m.imports n ≡ Some i)) [
+    | Some i ↦ λ e. (i, e)
+    | None ↦ λ e. let lost = rw (is, e) at h in cc
+  ] refl
 
   abbrev pub LowThing : ℕ → Type 0
   LowThing p = (n : ℕ) (m : Module) (x : ExternalValue) → module_at parts p ≡ Some m → imported_external_value env parts (record { part = p; import = n }) ≡ Some x → (k : Space) (a : ℕ) → address_of k x ≡ Some a → a < base env parts k p
@@ -65,18 +40,12 @@ module _ (env : Environment) (parts : List Part) (insts : List Inst) (are : inst
 
   inst_by : (p : ℕ) → LowThing p → LowInst p
   inst_by p low m i is at k n a h =
-      let s = space_is env parts k p m (space_in i k) (in_space env parts p m i (inst_is env parts p m i (inst_of_part env parts insts are size earlier p m i is at)) k (held_external i k n a h)) in
+      let s = is_space env parts k p m (space_in i k) (in_space env parts p m i (inst_of_part env parts insts are size earlier p m i is at) k (held_external i k n a h)) in
       let next = defined_next k parts p m is in
-      go s.0 s.1 next (append_back s.0 (numbers (base env parts k p) (defined_count k m)) n a (ap (λ l. slice_get l n) s.2 ∙ h))
-    where
-      go : (l : List ℕ) → all_there (λ n. option_and_then (address_of k) (imported_external_value env parts (record { part = p; import = n }))) (imports_of k m) ≡ Some l → Rattle.wasm_meaning.specs.World.defined_before k parts (suc p) ≡ Rattle.wasm_meaning.specs.World.defined_before k parts p + defined_count k m →
-          (slice_get l n ≡ Some a) ⊎ ((j : ℕ) × (slice_get (numbers (base env parts k p) (defined_count k m)) j ≡ Some a)) → a < base env parts k (suc p)
-      go l all next (inl e) =
-          let b = all_there_back (λ n. option_and_then (address_of k) (imported_external_value env parts (record { part = p; import = n }))) (imports_of k m) l all n a e in
-          let x = and_then_is (imported_external_value env parts (record { part = p; import = b.0 })) (address_of k) a b.2 in
-          let r = low b.0 m x.0 is x.1 k a x.2 in
-          omega (arith, r, next)
-      go l all next (inr (j, e)) = let r = numbers_back (base env parts k p) (defined_count k m) j a e in omega (arith, r.0, r.1, next)
+      elim (entry_at env parts k p m (space_in i k) s n a h) [
+        | imports j at e ↦ let x = and_then_is (imported_external_value env parts (record { part = p; import = j })) (address_of k) a e in omega (arith, low j m x.0 is x.1 k a x.2, next)
+        | defines j place l e ↦ omega (arith, next)
+      ]
 
   thing_by : (p : ℕ) → ((q : ℕ) → q < p → LowInst q) → LowThing p
   thing_by p before n m x is h k a has = let i = import_there p n m x is h in go i.0 i.1 (joined parts i.0) refl
@@ -91,22 +60,18 @@ module _ (env : Environment) (parts : List Part) (insts : List Inst) (are : inst
           let b = and_then_is (module_at parts s.0) _ e s.2 in
           let c = and_then_is (export_named b.0.exports i.field) _ e b.2 in
           let part = and_then_is (slice_get parts s.0) (λ part. Some part.«module») b.0 b.1 in
-          let inst = inst_there s.0 b.0 b.1 in
-          let same = same_Some _ _ part.2 in
-          let named : export_named part.0.«module».exports i.field ≡ Some c.0 = ap (λ m. export_named m.exports i.field) same ∙ c.1 in
+          let inst = inst_at env parts 0 parts insts are s.0 b.0 b.1 in
           let j' : joined parts i ≡ Some (record { part = s.0; what = c.0 }) = j ∙ sym c.2 in
-          let address = joins env parts insts are size earlier p n m i is at x s.0 part.0 inst.0 c.0 j' part.1 inst.1 named h in
           let low : s.0 < p = earlier p n m i (record { part = s.0; what = c.0 }) is at j' in
+          let address = joins env parts insts are size earlier p n m i is at x s.0 part.0 inst.0 c.0 j' part.1 inst.1 h in
           let at_place = and_then_is (slice_get (space_in inst.0 (space_of_export c.0)) (index_of_export c.0)) (external_value_at (space_of_export c.0)) x (sym (address_is inst.0 c.0) ∙ address) in
-          let is_thing = same_thing k (space_of_export c.0) at_place.0 a (ap (option_and_then (address_of k)) at_place.2 ∙ has) in
-          let r = before s.0 low b.0 inst.0 b.1 inst.1 (space_of_export c.0) (index_of_export c.0) at_place.0 at_place.1 in
-          let t : at_place.0 < base env parts k (suc s.0) = subst (λ k. at_place.0 < base env parts k (suc s.0)) is_thing.0 r in
-          let l = more k (suc s.0) p low in
-          omega (arith, t, l, is_thing.1)
+          let is_thing = same_thing k (space_of_export c.0) at_place.0 a (rw at_place.2 has) in
+          let r : at_place.0 < base env parts k (suc s.0) = subst (λ k. at_place.0 < base env parts k (suc s.0)) is_thing.0 (before s.0 low b.0 inst.0 b.1 inst.1 (space_of_export c.0) (index_of_export c.0) at_place.0 at_place.1) in
+          omega (arith, defined_more k parts (suc s.0) p low, is_thing.1)
 
   below : (bound p : ℕ) → p < bound → LowInst p
-  below zero p l = absurd (omega (arith, l))
-  below (suc bound) p l = inst_by p (thing_by p (λ q h. below bound q (omega (arith, l, h))))
+  below zero p l = absurd (omega arith)
+  below (suc bound) p l = inst_by p (thing_by p (λ q h. below bound q (omega arith)))
 
   pub inst_low : (p : ℕ) → LowInst p
   inst_low p = below (suc p) p (omega arith)

@@ -1,5 +1,5 @@
 -- Two worlds of which the law of parts that are instantiated sequentially speaks: all that it asks holds of them together, and what is seen of both ways to run them is computed.
-use Rattle.base_lists.proofs.Common.{◌≡◌, refl, sym, ap, subst, ◌∙◌, ℕ, zero, suc, ◌+◌, List, [], ◌∷◌, slice_get, Some, None, true, arith, pos, Contains, same_Some}
+use Rattle.base_lists.proofs.Common.{◌≡◌, refl, ℕ, zero, suc, ◌+◌, List, [], ◌∷◌, slice_get, Some, None, true, arith, pos, Contains, same_Some}
 use Rattle.wasm_tree.specs.declared.types.RefType.TheVariants as reft
 use Rattle.wasm_tree.specs.declared.types.ValType.TheVariants as valt
 use Rattle.wasm_tree_spec.specs.Prelude.{FuncType, TableType, Instr, Func, Import, ConstExpr, Module}
@@ -10,7 +10,7 @@ use Rattle.wasm_tree.specs.declared.module.ExportDesc.TheVariants as ex
 use Rattle.wasm_tree.specs.declared.module.ConstExpr.TheVariants as const
 use Rattle.wasm_tree.specs.declared.module.ElemMode.TheVariants as elem
 use Rattle.wasm_num.specs.Operations.{wrapped}
-use Rattle.wasm_valid_bodies.specs.Typing.{Stack, Gives}
+use Rattle.wasm_valid_bodies.specs.Typing.{Stack}
 use Rattle.wasm_valid.specs.Prelude.{const_type, IsValid}
 use Rattle.wasm_meaning.specs.Prelude.{Text, Part, Entity, module_at, joined, Environment, is_environment, Number, World, Event, Linked, Asked, Returned, Move, Call, Answer, IsPrefix, events, events_sequential, JoinsEarlier, NoLateSegments, HasNoActive}
 use Rattle.wasm_meaning.specs.Sequential.{BeginsWell}
@@ -62,14 +62,19 @@ two_parts x y = record { name = Some a; «module» = x } ∷ (record { name = No
 abbrev asks : Event
 asks = Asked (own, f) nothing []
 
+-- what a valid module has, one after the other: its imports, functions, tables, exports, start and segments, then the bodies of its functions
+infixr 5 ◌&◌
+abbrev ◌&◌ : {A B : Type 0} → A → B → A × B
+a & b = (a, b)
+
 -- what holds of two modules holds of each part of the two
 of_both : (x y : Module) → IsValid x → IsValid y → (p : ℕ) (m : Module) → module_at (two_parts x y) p ≡ Some m → IsValid m
-of_both x y first second zero m e = subst IsValid (same_Some _ _ e) first
-of_both x y first second (suc zero) m e = subst IsValid (same_Some _ _ e) second
+of_both x y first second zero m e = rw (← same_Some _ _ e) first
+of_both x y first second (suc zero) m e = rw (← same_Some _ _ e) second
 of_both x y first second (suc (suc p)) m e = cc
 
 no_name : {A : Type 0} (x : A) → Contains [] x → ⊥
-no_name x (k, h, e) = absurd (omega (arith, h))
+no_name x (k, h, e) = absurd (omega arith)
 
 abbrev one_number : Stack
 one_number = Some valt.I32 ∷ []
@@ -94,41 +99,24 @@ first_starts = record { parts = two_parts starts_first calls_it; view = (g, reco
 
 starts_first_is_valid : IsValid starts_first
 unfolding out-Instr denote.Hole.Carrier.out
-starts_first_is_valid = (
-  (own_func, refl, omega arith),
-  (
-    (code 0 (i.Call 0 ∷ []), refl, omega arith),
-    (
-      (code 1 (i.I32Const (pos 5) ∷ []), refl, omega arith),
-      (
-        (record { name = f; desc = ex.Func 2 }, refl, omega arith, no_name f),
-        (
-          (1, nothing, refl, refl, refl, refl),
-          (
-            (code 0 (i.Call 0 ∷ []), nothing, refl, refl, ([], ([], (Gives [] [], refl, ([], [], refl, tt, refl)), refl), tt)),
-            (
-              (code 1 (i.I32Const (pos 5) ∷ []), to_i32, refl, refl, (one_number, (one_number, (Gives [] (valt.I32 ∷ []), refl, ([], [], refl, tt, refl)), refl), (refl, tt))),
-              tt,
-            ),
-          ),
-        ),
-      ),
-    ),
-  ),
-)
+starts_first_is_valid =
+    (_, refl, omega arith)
+    & (_, refl, omega arith)
+    & (_, refl, omega arith)
+    & (_, refl, omega arith, no_name f)
+    & (_, _, refl, refl, refl, refl)
+    & (_, _, refl, refl, ([], ([], (_, refl, ([], [], refl, tt, refl)), refl), tt))
+    & (_, _, refl, refl, (one_number, (one_number, (_, refl, ([], [], refl, tt, refl)), refl), (refl, tt)))
+    & tt
 
 calls_it_is_valid : IsValid calls_it
 unfolding out-Instr denote.Hole.Carrier.out
-calls_it_is_valid = (
-  (record { «module» = a; field = f; desc = im.Func 1 }, refl, omega arith),
-  (
-    (code 1 (i.Call 0 ∷ []), refl, omega arith),
-    (
-      (record { name = g; desc = ex.Func 1 }, refl, omega arith, no_name g),
-      ((code 1 (i.Call 0 ∷ []), to_i32, refl, refl, (one_number, (one_number, (Gives [] (valt.I32 ∷ []), refl, ([], [], refl, tt, refl)), refl), (refl, tt))), tt),
-    ),
-  ),
-)
+calls_it_is_valid =
+    (_, refl, omega arith)
+    & (_, refl, omega arith)
+    & (_, refl, omega arith, no_name g)
+    & (_, _, refl, refl, (one_number, (one_number, (_, refl, ([], [], refl, tt, refl)), refl), (refl, tt)))
+    & tt
 
 -- ---- a segment and a start in the second part ----
 
@@ -152,45 +140,24 @@ abbrev second_fills : World
 second_fills = record { parts = two_parts has_a_table fills_it; view = (t, record { part = 0; what = ex.Table 0 }) ∷ [] }
 
 has_a_table_is_valid : IsValid has_a_table
-has_a_table_is_valid = ((one_entry, refl, omega arith), ((record { name = t; desc = ex.Table 0 }, refl, omega arith, no_name t), tt))
+has_a_table_is_valid = (_, refl, omega arith) & (_, refl, omega arith, no_name t) & tt
 
 its_item : (n : ℕ) (e : ConstExpr) → slice_get (const.Func 1 ∷ []) n ≡ Some e → const_type fills_it e ≡ Some (valt.Ref reft.Func)
-its_item zero e is = subst (λ (x : ConstExpr). const_type fills_it x ≡ Some (valt.Ref reft.Func)) (same_Some _ _ is) refl
+its_item zero e is = rw (← same_Some _ _ is)
 its_item (suc n) e is = cc
 
 fills_it_is_valid : IsValid fills_it
 unfolding out-Instr denote.Hole.Carrier.out
-fills_it_is_valid = (
-  (record { «module» = a; field = t; desc = im.Table one_entry }, refl, omega arith),
-  (
-    (own_func, refl, omega arith),
-    (
-      (code 0 (i.Call 0 ∷ []), refl, omega arith),
-      (
-        (code 0 (i.I32Const (pos 0) ∷ (i.CallIndirect 0 0 ∷ [])), refl, omega arith),
-        (
-          (2, nothing, refl, refl, refl, refl),
-          (
-            (record { mode = elem.Active 0 (const.I32 (pos 0)); ty = reft.Func; items = const.Func 1 ∷ [] }, refl, its_item, (refl, refl)),
-            (
-              (code 0 (i.Call 0 ∷ []), nothing, refl, refl, ([], ([], (Gives [] [], refl, ([], [], refl, tt, refl)), refl), tt)),
-              (
-                (
-                  code 0 (i.I32Const (pos 0) ∷ (i.CallIndirect 0 0 ∷ [])),
-                  nothing,
-                  refl,
-                  refl,
-                  ([], (one_number, (Gives [] (valt.I32 ∷ []), refl, ([], [], refl, tt, refl)), ([], (Gives (valt.I32 ∷ []) [], refl, (one_number, [], refl, (refl, tt), refl)), refl)), tt),
-                ),
-                tt,
-              ),
-            ),
-          ),
-        ),
-      ),
-    ),
-  ),
-)
+fills_it_is_valid =
+    (_, refl, omega arith)
+    & (_, refl, omega arith)
+    & (_, refl, omega arith)
+    & (_, refl, omega arith)
+    & (_, _, refl, refl, refl, refl)
+    & (_, refl, its_item, (refl, refl))
+    & (_, _, refl, refl, ([], ([], (_, refl, ([], [], refl, tt, refl)), refl), tt))
+    & (_, _, refl, refl, ([], (one_number, (_, refl, ([], [], refl, tt, refl)), ([], (_, refl, (one_number, [], refl, (refl, tt), refl)), refl)), tt))
+    & tt
 
 -- ---- all that the law asks ----
 
@@ -198,31 +165,30 @@ module _ (x y : Module) where
   -- no import of the first is joined, and those of the second that are lead to the first
   joins_earlier : ((n : ℕ) (im : Import) → slice_get x.imports n ≡ Some im → joined (two_parts x y) im ≡ None) →
       ((n : ℕ) (im : Import) (e : Entity) → slice_get y.imports n ≡ Some im → joined (two_parts x y) im ≡ Some e → e.part ≡ 0) → JoinsEarlier (two_parts x y)
-  joins_earlier none first zero n m im e at is joins = let k = none n im (ap (λ (z : Module). slice_get z.imports n) (same_Some _ _ at) ∙ is) in let h : None ≡ Some e = sym k ∙ joins in cc
-  joins_earlier none first (suc zero) n m im e at is joins = let k = first n im e (ap (λ (z : Module). slice_get z.imports n) (same_Some _ _ at) ∙ is) joins in omega (arith, k)
+  joins_earlier none first zero n m im e at is joins = let k = none n im (rw (← same_Some _ _ at) at is) in cc
+  joins_earlier none first (suc zero) n m im e at is joins = omega (arith, first n im e (rw (← same_Some _ _ at) at is) joins)
   joins_earlier none first (suc (suc p)) n m im e at is joins = cc
 
   -- where the first has a start, the second has no active segment
   no_late : ((s : ℕ) → x.start ≡ Some s → HasNoActive y) → NoLateSegments (two_parts x y)
-  no_late h p zero s m n less at bt e = absurd (omega (arith, less))
-  no_late h zero (suc zero) s m n less at bt e = subst HasNoActive (same_Some _ _ bt) (h s (ap (λ (z : Module). z.start) (same_Some _ _ at) ∙ e))
-  no_late h (suc p) (suc zero) s m n less at bt e = absurd (omega (arith, less))
+  no_late h zero (suc zero) s m n less at bt e = rw (← same_Some _ _ bt) (h s (rw (← same_Some _ _ at) at e))
   no_late h p (suc (suc q)) s m n less at bt e = cc
+  no_late h p q s m n less at bt e = absurd (omega arith)
 
 starts_first_joins_none : (n : ℕ) (im : Import) → slice_get starts_first.imports n ≡ Some im → joined first_starts.parts im ≡ None
-starts_first_joins_none zero im e = subst (λ im. joined first_starts.parts im ≡ None) (same_Some _ _ e) refl
+starts_first_joins_none zero im e = rw (← same_Some _ _ e)
 starts_first_joins_none (suc n) im e = cc
 
 calls_it_joins_the_first : (n : ℕ) (im : Import) (e : Entity) → slice_get calls_it.imports n ≡ Some im → joined first_starts.parts im ≡ Some e → e.part ≡ 0
-calls_it_joins_the_first zero im e is joins = let h : Some (record { part = 0; what = ex.Func 2 }) ≡ Some e = ap (joined first_starts.parts) (same_Some _ _ is) ∙ joins in sym (ap (λ (x : Entity). x.part) (same_Some _ _ h))
+calls_it_joins_the_first zero im e is joins = rw (← same_Some _ _ (rw (← same_Some _ _ is) at joins))
 calls_it_joins_the_first (suc n) im e is joins = cc
 
 has_a_table_joins_none : (n : ℕ) (im : Import) → slice_get has_a_table.imports n ≡ Some im → joined second_fills.parts im ≡ None
 has_a_table_joins_none n im e = cc
 
 fills_it_joins_the_first : (n : ℕ) (im : Import) (e : Entity) → slice_get fills_it.imports n ≡ Some im → joined second_fills.parts im ≡ Some e → e.part ≡ 0
-fills_it_joins_the_first zero im e is joins = let h : Some (record { part = 0; what = ex.Table 0 }) ≡ Some e = ap (joined second_fills.parts) (same_Some _ _ is) ∙ joins in sym (ap (λ (x : Entity). x.part) (same_Some _ _ h))
-fills_it_joins_the_first (suc zero) im e is joins = let h : None ≡ Some e = ap (joined second_fills.parts) (same_Some _ _ is) ∙ joins in cc
+fills_it_joins_the_first zero im e is joins = rw (← same_Some _ _ (rw (← same_Some _ _ is) at joins))
+fills_it_joins_the_first (suc zero) im e is joins = let none = rw (← same_Some _ _ is) at joins in cc
 fills_it_joins_the_first (suc (suc n)) im e is joins = cc
 
 first_starts_begins_well : BeginsWell offers_it first_starts
@@ -242,12 +208,12 @@ answer = Answer [] ∷ []
 
 module _ (law : SequentialInstantiationIsEquivalent) where
   first_starts_in_turn : (moves : List Move) (n : ℕ) → IsPrefix (events first_starts offers_it moves n) (events_sequential first_starts offers_it moves (n + 8)) × IsPrefix (events_sequential first_starts offers_it moves n) (events first_starts offers_it moves (n + 8))
-  first_starts_in_turn moves n =
-      law first_starts (of_both starts_first calls_it starts_first_is_valid calls_it_is_valid) (omega arith) (joins_earlier starts_first calls_it starts_first_joins_none calls_it_joins_the_first) (no_late starts_first calls_it (λ s e. record { elems = refl; datas = refl })) offers_it refl first_starts_begins_well moves n
+  first_starts_in_turn =
+      law first_starts (of_both starts_first calls_it starts_first_is_valid calls_it_is_valid) (omega arith) (joins_earlier starts_first calls_it starts_first_joins_none calls_it_joins_the_first) (no_late starts_first calls_it (λ s e. record { elems = refl; datas = refl })) offers_it refl first_starts_begins_well
 
   second_fills_in_turn : (moves : List Move) (n : ℕ) → IsPrefix (events second_fills offers_it moves n) (events_sequential second_fills offers_it moves (n + 8)) × IsPrefix (events_sequential second_fills offers_it moves n) (events second_fills offers_it moves (n + 8))
-  second_fills_in_turn moves n =
-      law second_fills (of_both has_a_table fills_it has_a_table_is_valid fills_it_is_valid) (omega arith) (joins_earlier has_a_table fills_it has_a_table_joins_none fills_it_joins_the_first) (no_late has_a_table fills_it (λ s e. cc)) offers_it refl second_fills_begins_well moves n
+  second_fills_in_turn =
+      law second_fills (of_both has_a_table fills_it has_a_table_is_valid fills_it_is_valid) (omega arith) (joins_earlier has_a_table fills_it has_a_table_joins_none fills_it_joins_the_first) (no_late has_a_table fills_it (λ s e. cc)) offers_it refl second_fills_begins_well
 
 first_starts_at_once : events first_starts offers_it answers_and_calls 14 ≡ asks ∷ (Linked ∷ (Returned (Number 5 ∷ []) ∷ []))
 unfolding out-Instr denote.Hole.Carrier.out wrapped

@@ -1,15 +1,16 @@
 -- The next part's active segments, as its turn comes: what they do at once, with those of the parts before it and none of later ones.
-use Rattle.base_lists.proofs.Common.{◌≡◌, ◌∙◌, refl, sym, ap, ap₂, ℕ, suc, List, ◌++◌, length, Some, true, false, append_assoc, arith, slice_get}
-use Rattle.wasm_tree_spec.specs.Prelude.{Tables, Memories, DataSegments, ElementSegments, Module}
-use Rattle.wasm_meaning.specs.Prelude.{Inst, Table, Memory, Elem, Data, Store, no_items, no_bytes, Part, module_at, sites, Environment, all_of, base, is_matched, insts_from, own_store, stores_from, part_store, joined_stores, const_value, value_of, placed_elems, placed_datas, segments, defined_before, JoinsEarlier, own_segments}
+use Rattle.base_lists.proofs.Common.{◌≡◌, ◌∙◌, refl, ℕ, suc, List, ◌++◌, length, Some, true, false, append_assoc, arith, slice_get}
+use Rattle.wasm_tree_spec.specs.Prelude.{Space, Tables, Memories, DataSegments, ElementSegments, ConstExpr, Module}
+use Rattle.wasm_meaning.specs.Prelude.{Val, numbers, defined_count, Inst, Table, Memory, Elem, Data, Store, no_items, no_bytes, Part, module_at, sites, Environment, all_of, base, is_matched, insts_from, own_store, stores_from, part_store, joined_stores, const_value, value_of, placed_elems, placed_datas, segments, defined_before, JoinsEarlier, own_segments}
 use Rattle.world_sequential_proof.proofs.Joined.{ExportsThere}
 use Rattle.world_sequential_proof.proofs.FillAddresses.{numbers_low, space_low}
 use Rattle.world_sequential_proof.proofs.FillStores.{rest_from, rest_next, Lengths, lengths_next}
-use Rattle.world_sequential_proof.proofs.FillValues.{part_inst, HoldsFixed, value_given}
+use Rattle.world_sequential_proof.proofs.FillValues.{Constant, part_inst, value_given}
 use Rattle.world_sequential_proof.proofs.FillAdded.{Constants}
-use Rattle.world_sequential_proof.proofs.FillRuns.{Front, runs_front, runs_kept, next_runs}
-use Rattle.world_sequential_proof.proofs.FillTurns.{table_fill, elem_runs, elem_jobs, elems_low, elems_kept}
-use Rattle.world_sequential_proof.proofs.FillData.{memory_fill, data_runs, data_jobs, datas_low, datas_kept}
+use Rattle.world_sequential_proof.proofs.FillRuns.{runs_front, runs_kept, next_runs}
+use Rattle.world_sequential_proof.proofs.FillTurns.{table_fill, elem_jobs, elems_low, elems_kept}
+use Rattle.world_sequential_proof.proofs.FillData.{memory_fill, data_jobs, datas_low, datas_kept}
+use Rattle.world_sequential_proof.proofs.FillJobs.{AllBelow}
 use Rattle.world_sequential_proof.proofs.FillSegments.{both_went, own_go, elem_jobs_of, data_jobs_of, elem_jobs_at, data_jobs_at, FilledUpto, filled_holds, all_elems, all_datas}
 use Rattle.world_simulation.proofs.Instancing.{IsInst}
 use Rattle.wasm_meaning.proofs.Counts.{defined_next, module_there}
@@ -36,58 +37,38 @@ module _ (env : Environment) (parts : List Part) (insts : List Inst) (are : inst
     abbrev later : Store
     later = rest_from env parts insts (suc k)
 
-    abbrev ElemFront : List Table × List Elem → Type 0
-    ElemFront = Front Table Elem table_fill no_items (t.tables ++ a.tables) later.tables (t.elems ++ a.elems) later.elems (elem_runs (elem_jobs (value_of env parts insts k) i i.elems m.elems) (t.tables ++ a.tables, t.elems ++ a.elems))
-
-    abbrev DataFront : List Memory × List Data → Type 0
-    DataFront = Front Memory Data memory_fill no_bytes (t.mems ++ a.mems) later.mems (t.datas ++ a.datas) later.datas (data_runs (data_jobs (value_of env parts insts k) i i.datas m.datas) (t.mems ++ a.mems, t.datas ++ a.datas))
-
-    elem_front : (e : List Table × List Elem) → elem_runs (elem_jobs_of env parts insts k) (t.tables ++ (rest_from env parts insts k).tables, t.elems ++ (rest_from env parts insts k).elems) ≡ Some e → ElemFront e
-    elem_front e h =
-        let low = elems_low (value_of env parts insts k) i (base env parts Tables (suc k)) (defined_before ElementSegments parts (suc k)) (λ x b at. space_low env parts there earlier k m i is_part inst Tables x b at) i.elems m.elems
-        (λ x b at. let l = numbers_low (defined_before ElementSegments parts k) (length m.elems) x b (ap (λ l. slice_get l x) (sym inst.elems) ∙ at) in let n = defined_next ElementSegments parts k m is_part in omega (arith, l, n)) in
-        runs_front Table Elem table_fill no_items later.tables later.elems (elem_jobs (value_of env parts insts k) i i.elems m.elems) (base env parts Tables (suc k)) (defined_before ElementSegments parts (suc k)) low (t.tables ++ a.tables) (t.elems ++ a.elems) lengths.tables lengths.elems e
-        (ap₂ (λ xs ys. elem_runs (elem_jobs (value_of env parts insts k) i i.elems m.elems) (xs, ys)) (append_assoc t.tables a.tables later.tables) (append_assoc t.elems a.elems later.elems)
-        ∙ ap (λ r. elem_runs (elem_jobs (value_of env parts insts k) i i.elems m.elems) (t.tables ++ r.tables, t.elems ++ r.elems)) (sym rest)
-        ∙ ap (λ js. elem_runs js (t.tables ++ (rest_from env parts insts k).tables, t.elems ++ (rest_from env parts insts k).elems)) (sym (elem_jobs_at env parts insts k m i is_part is_inst)) ∙ h)
-
-    data_front : (e : List Memory × List Data) → data_runs (data_jobs_of env parts insts k) (t.mems ++ (rest_from env parts insts k).mems, t.datas ++ (rest_from env parts insts k).datas) ≡ Some e → DataFront e
-    data_front e h =
-        let low = datas_low (value_of env parts insts k) i (base env parts Memories (suc k)) (defined_before DataSegments parts (suc k)) (λ x b at. space_low env parts there earlier k m i is_part inst Memories x b at) i.datas m.datas
-        (λ x b at. let l = numbers_low (defined_before DataSegments parts k) (length m.datas) x b (ap (λ l. slice_get l x) (sym inst.datas) ∙ at) in let n = defined_next DataSegments parts k m is_part in omega (arith, l, n)) in
-        runs_front Memory Data memory_fill no_bytes later.mems later.datas (data_jobs (value_of env parts insts k) i i.datas m.datas) (base env parts Memories (suc k)) (defined_before DataSegments parts (suc k)) low (t.mems ++ a.mems) (t.datas ++ a.datas) lengths.mems lengths.datas e
-        (ap₂ (λ xs ys. data_runs (data_jobs (value_of env parts insts k) i i.datas m.datas) (xs, ys)) (append_assoc t.mems a.mems later.mems) (append_assoc t.datas a.datas later.datas)
-        ∙ ap (λ r. data_runs (data_jobs (value_of env parts insts k) i i.datas m.datas) (t.mems ++ r.mems, t.datas ++ r.datas)) (sym rest)
-        ∙ ap (λ js. data_runs js (t.mems ++ (rest_from env parts insts k).mems, t.datas ++ (rest_from env parts insts k).datas)) (sym (data_jobs_at env parts insts k m i is_part is_inst)) ∙ h)
+    -- the part's own segments are before those of later parts
+    own_low : (s : Space) (ns : List ℕ) → ns ≡ numbers (defined_before s parts k) (defined_count s m) → AllBelow (defined_before s parts (suc k)) ns
+    own_low s ns are x b at =
+        let l = numbers_low (defined_before s parts k) (defined_count s m) x b (rw are at at) in
+        let n = defined_next s parts k m is_part in
+        omega arith
 
     module _ (constants : Constants m) where
-      holds : HoldsFixed env parts allocated k t
-      holds = filled_holds env parts insts allocated k t filled
-
-      elem_own : (c : List Table × List Elem) → elem_runs (elem_jobs (value_of env parts insts k) i i.elems m.elems) (t.tables ++ a.tables, t.elems ++ a.elems) ≡ Some c → elem_runs (elem_jobs (const_value t.globals i) i i.elems m.elems) (t.tables ++ a.tables, t.elems ++ a.elems) ≡ Some c
-      elem_own c h =
-          runs_kept Table Elem table_fill no_items (elems_kept (value_of env parts insts k) (const_value t.globals i) i i.elems m.elems (λ n s x e at mode u v. value_given env parts insts are allocated stores_are matched size there earlier k m i is_part is_inst t holds e (constants.tables n s x e at mode) u v)) _ c h
-
-      data_own : (c : List Memory × List Data) → data_runs (data_jobs (value_of env parts insts k) i i.datas m.datas) (t.mems ++ a.mems, t.datas ++ a.datas) ≡ Some c → data_runs (data_jobs (const_value t.globals i) i i.datas m.datas) (t.mems ++ a.mems, t.datas ++ a.datas) ≡ Some c
-      data_own c h =
-          runs_kept Memory Data memory_fill no_bytes (datas_kept (value_of env parts insts k) (const_value t.globals i) i i.datas m.datas (λ n s x e at mode u v. value_given env parts insts are allocated stores_are matched size there earlier k m i is_part is_inst t holds e (constants.memories n s x e at mode) u v)) _ c h
+      -- a constant expression of the part has its value as its turn comes
+      given : (e : ConstExpr) → Constant m e → (v : Val) → value_of env parts insts k e ≡ Some v → const_value t.globals i e ≡ Some v
+      given = value_given env parts insts are allocated stores_are matched size there earlier k m i is_part is_inst t (filled_holds env parts insts allocated k t filled)
 
       pub filled_next : (segments env parts insts allocated).trapped ≡ false → Next k m i t a
       filled_next well =
           let all = both_went (value_of env parts insts) (placed_elems 0 parts insts) (placed_datas 0 parts insts) allocated well in
           let l = module_there parts k m is_part in
-          let es = next_runs Table Elem table_fill no_items (elem_jobs_of env parts insts) (length parts) k l (allocated.tables, allocated.elems) _ all.0 (ap (λ js. elem_runs js (allocated.tables, allocated.elems)) (sym (all_elems env parts insts allocated stores_are size)) ∙ all.2) filled.tables in
-          let ds = next_runs Memory Data memory_fill no_bytes (data_jobs_of env parts insts) (length parts) k l (allocated.mems, allocated.datas) _ all.1 (ap (λ js. data_runs js (allocated.mems, allocated.datas)) (sym (all_datas env parts insts allocated stores_are size)) ∙ all.3) filled.mems in
-          let e = elem_front es.0 es.1 in
-          let d = data_front ds.0 ds.1 in
+          let es = next_runs Table Elem table_fill no_items (elem_jobs_of env parts insts) (length parts) k l (allocated.tables, allocated.elems) _ all.0 (rw (all_elems env parts insts allocated stores_are size) at all.2) (rw (rest, ← append_assoc t.tables a.tables later.tables, ← append_assoc t.elems a.elems later.elems) at filled.tables) in
+          let ds = next_runs Memory Data memory_fill no_bytes (data_jobs_of env parts insts) (length parts) k l (allocated.mems, allocated.datas) _ all.1 (rw (all_datas env parts insts allocated stores_are size) at all.3) (rw (rest, ← append_assoc t.mems a.mems later.mems, ← append_assoc t.datas a.datas later.datas) at filled.mems) in
+          let elems = elems_low (value_of env parts insts k) i (base env parts Tables (suc k)) (defined_before ElementSegments parts (suc k)) (space_low env parts there earlier k m i is_part inst Tables) i.elems m.elems (own_low ElementSegments i.elems inst.elems) in
+          let e = runs_front Table Elem table_fill no_items later.tables later.elems (elem_jobs (value_of env parts insts k) i i.elems m.elems) _ _ elems (t.tables ++ a.tables) (t.elems ++ a.elems) lengths.tables lengths.elems es.0 (rw (← elem_jobs_at env parts insts k m i is_part is_inst) es.1) in
+          let datas = datas_low (value_of env parts insts k) i (base env parts Memories (suc k)) (defined_before DataSegments parts (suc k)) (space_low env parts there earlier k m i is_part inst Memories) i.datas m.datas (own_low DataSegments i.datas inst.datas) in
+          let d = runs_front Memory Data memory_fill no_bytes later.mems later.datas (data_jobs (value_of env parts insts k) i i.datas m.datas) _ _ datas (t.mems ++ a.mems) (t.datas ++ a.datas) lengths.mems lengths.datas ds.0 (rw (← data_jobs_at env parts insts k m i is_part is_inst) ds.1) in
           record {
             store = record (joined_stores t a) { tables = e.targets; elems = e.segments; mems = d.targets; datas = d.segments };
-            is = own_go (const_value t.globals i) m i (joined_stores t a) (e.targets, e.segments) (d.targets, d.segments) (elem_own (e.targets, e.segments) e.is) (data_own (d.targets, d.segments) d.is);
+            is = own_go (const_value t.globals i) m i (joined_stores t a) (e.targets, e.segments) (d.targets, d.segments)
+                (runs_kept Table Elem table_fill no_items (elems_kept (value_of env parts insts k) (const_value t.globals i) i i.elems m.elems (λ n s x e at mode. given e (constants.tables n s x e at mode))) _ _ e.is)
+                (runs_kept Memory Data memory_fill no_bytes (datas_kept (value_of env parts insts k) (const_value t.globals i) i i.datas m.datas (λ n s x e at mode. given e (constants.memories n s x e at mode))) _ _ d.is);
             filled = record {
-              tables = es.2 ∙ ap Some e.whole;
-              mems = ds.2 ∙ ap Some d.whole;
-              funcs = filled.funcs ∙ ap (λ r. t.funcs ++ r.funcs) rest ∙ sym (append_assoc t.funcs a.funcs later.funcs);
-              globals = filled.globals ∙ ap (λ r. t.globals ++ r.globals) rest ∙ sym (append_assoc t.globals a.globals later.globals);
+              tables = rw e.whole at es.2;
+              mems = rw d.whole at ds.2;
+              funcs = rw (append_assoc t.funcs a.funcs later.funcs) (rw rest at filled.funcs);
+              globals = rw (append_assoc t.globals a.globals later.globals) (rw rest at filled.globals);
               lengths = record {
                 funcs = lengths.funcs;
                 tables = e.target_count ∙ lengths.tables;

@@ -1,7 +1,12 @@
 -- Segments that are copied part by part, as a matter of two lists alone: what is written to, and the segments, which are dropped.
 -- What stands behind all that is written stays, and does not matter.
-use Rattle.base_lists.proofs.Common.{◌≡◌, ◌∙◌, refl, sym, ap, ap₂, subst, ℕ, zero, suc, ◌-◌, ◌<◌, ◌≤◌, List, [], ◌∷◌, ◌++◌, length, Option, Some, None, append_assoc, arith, option_and_then, slice_get, slice_set, length-set, append_left, and_then_is, same_Some}
+use Rattle.base_lists.proofs.Common.{◌≡◌, ◌∙◌, refl, sym, ap₂, ℕ, zero, suc, ◌-◌, ◌<◌, ◌≤◌, List, [], ◌∷◌, ◌++◌, length, Option, Some, append_assoc, arith, slice_get, slice_set, length-set, append_left, and_then_is, same_Some}
+use Rattle.base_lists.specs.Options.{◌>>=◌}
 use Rattle.std.proofs.lemmas.List.{set-append_left}
+
+-- what is written to, and the segments
+abbrev pub Lists : Type 0 → Type 0 → Type 0
+Lists X Y = List X × List Y
 
 -- a segment, where it goes and from where on; or one that is not copied
 pub data Job : Type 0 where
@@ -27,25 +32,21 @@ pub data KeptAll : List Job → List Job → Type 0 where
   kept_more : {j k : Job} {js ks : List Job} → Kept j k → KeptAll js ks → KeptAll (j ∷ js) (k ∷ ks)
 
 module _ (X Y : Type 0) (fill : X → Y → ℕ → Option X) (empty : Y) where
-  abbrev pub run : Job → List X × List Y → Option (List X × List Y)
+  abbrev pub run : Job → Lists X Y → Option (Lists X Y)
   run Skip c = Some c
-  run (Fill n target offset) c = option_and_then (λ o. option_and_then (λ a. option_and_then (λ x. option_and_then (λ y. option_and_then (λ z. Some (slice_set c.0 a z, slice_set c.1 n empty)) (fill x y o)) (slice_get c.1 n)) (slice_get c.0 a)) target) offset
+  run (Fill n target offset) c = offset >>= λ o. target >>= λ a. slice_get c.0 a >>= λ x. slice_get c.1 n >>= λ y. fill x y o >>= λ z. Some (slice_set c.0 a z, slice_set c.1 n empty)
 
-  abbrev pub runs : List Job → List X × List Y → Option (List X × List Y)
+  abbrev pub runs : List Job → Lists X Y → Option (Lists X Y)
   runs [] c = Some c
-  runs (j ∷ js) c = option_and_then (runs js) (run j c)
+  runs (j ∷ js) c = run j c >>= (runs js)
 
-  pub runs_both : (js ks : List Job) (c : List X × List Y) → runs (js ++ ks) c ≡ option_and_then (runs ks) (runs js c)
+  pub runs_both : (js ks : List Job) (c : Lists X Y) → runs (js ++ ks) c ≡ (runs js c >>= (runs ks))
   runs_both [] ks c = refl
-  runs_both (j ∷ js) ks c = go (run j c) (runs_both js ks)
-    where
-      go : (o : Option (List X × List Y)) → ((d : List X × List Y) → runs (js ++ ks) d ≡ option_and_then (runs ks) (runs js d)) → option_and_then (runs (js ++ ks)) o ≡ option_and_then (runs ks) (option_and_then (runs js) o)
-      go None h = refl
-      go (Some d) h = h d
+  runs_both (j ∷ js) ks c = grind (arith, runs_both js ks)
 
   -- ---- the front of the lists ----
 
-  pub record Front (xs us : List X) (ys vs : List Y) (o : Option (List X × List Y)) (d : List X × List Y) : Type 0 where
+  pub record Front (xs us : List X) (ys vs : List Y) (o : Option (Lists X Y)) (d : Lists X Y) : Type 0 where
     pub targets : List X
     pub segments : List Y
     pub is : o ≡ Some (targets, segments)
@@ -53,7 +54,7 @@ module _ (X Y : Type 0) (fill : X → Y → ℕ → Option X) (empty : Y) where
     pub target_count : length targets ≡ length xs
     pub segment_count : length segments ≡ length ys
 
-  run_front : (xs us : List X) (ys vs : List Y) (j : Job) → LowJob (length xs) (length ys) j → (d : List X × List Y) → run j (xs ++ us, ys ++ vs) ≡ Some d → Front xs us ys vs (run j (xs, ys)) d
+  run_front : (xs us : List X) (ys vs : List Y) (j : Job) → LowJob (length xs) (length ys) j → (d : Lists X Y) → run j (xs ++ us, ys ++ vs) ≡ Some d → Front xs us ys vs (run j (xs, ys)) d
   run_front xs us ys vs Skip low_skip d h = record { targets = xs; segments = ys; is = refl; whole = sym (same_Some _ _ h); target_count = refl; segment_count = refl }
   run_front xs us ys vs (Fill n target offset) (low_fill l f) d h =
       let o = and_then_is offset _ d h in
@@ -61,30 +62,28 @@ module _ (X Y : Type 0) (fill : X → Y → ℕ → Option X) (empty : Y) where
       let x = and_then_is (slice_get (xs ++ us) a.0) _ d a.2 in
       let y = and_then_is (slice_get (ys ++ vs) n) _ d x.2 in
       let z = and_then_is (fill x.0 y.0 o.0) _ d y.2 in
-      let at_target = sym (append_left xs us a.0 (f a.0 a.1)) ∙ x.1 in
-      let at_segment = sym (append_left ys vs n l) ∙ y.1 in
       record {
         targets = slice_set xs a.0 z.0;
         segments = slice_set ys n empty;
-        is = front o.0 a.0 x.0 y.0 z.0 o.1 a.1 at_target at_segment z.1;
+        is = filled o.1 a.1 (sym (append_left xs us a.0 (f a.0 a.1)) ∙ x.1) (sym (append_left ys vs n l) ∙ y.1) z.1;
         whole = sym (same_Some _ _ z.2) ∙ ap₂ (λ xs ys. (xs, ys)) (set-append_left xs us a.0 z.0 (f a.0 a.1)) (set-append_left ys vs n empty l);
         target_count = length-set xs a.0 z.0;
         segment_count = length-set ys n empty;
       }
     where
-      front : (o a : ℕ) (x : X) (y : Y) (z : X) → offset ≡ Some o → target ≡ Some a → slice_get xs a ≡ Some x → slice_get ys n ≡ Some y → fill x y o ≡ Some z → run (Fill n target offset) (xs, ys) ≡ Some (slice_set xs a z, slice_set ys n empty)
-      front o a x y z e f g h k = rw (e, f, g, h, k) refl
+      filled : {o a : ℕ} {x z : X} {y : Y} → offset ≡ Some o → target ≡ Some a → slice_get xs a ≡ Some x → slice_get ys n ≡ Some y → fill x y o ≡ Some z → run (Fill n target offset) (xs, ys) ≡ Some (slice_set xs a z, slice_set ys n empty)
+      filled e f g h k = rw (e, f, g, h, k)
 
-  pub runs_front : (us : List X) (vs : List Y) (js : List Job) (targets segments : ℕ) → LowJobs targets segments js → (xs : List X) (ys : List Y) → length xs ≡ targets → length ys ≡ segments → (d : List X × List Y) → runs js (xs ++ us, ys ++ vs) ≡ Some d → Front xs us ys vs (runs js (xs, ys)) d
+  pub runs_front : (us : List X) (vs : List Y) (js : List Job) (targets segments : ℕ) → LowJobs targets segments js → (xs : List X) (ys : List Y) → length xs ≡ targets → length ys ≡ segments → (d : Lists X Y) → runs js (xs ++ us, ys ++ vs) ≡ Some d → Front xs us ys vs (runs js (xs, ys)) d
   runs_front us vs [] targets segments low_none xs ys e f d h = record { targets = xs; segments = ys; is = refl; whole = sym (same_Some _ _ h); target_count = refl; segment_count = refl }
   runs_front us vs (j ∷ js) targets segments (low_more l ls) xs ys e f d h =
       let c = and_then_is (run j (xs ++ us, ys ++ vs)) (runs js) d h in
-      let first = run_front xs us ys vs j (subst (λ n. LowJob n (length ys) j) (sym e) (subst (λ n. LowJob targets n j) (sym f) l)) c.0 c.1 in
-      let rest = runs_front us vs js targets segments ls first.targets first.segments (first.target_count ∙ e) (first.segment_count ∙ f) d (ap (runs js) (sym first.whole) ∙ c.2) in
+      let first = run_front xs us ys vs j (rw (e, f) l) c.0 c.1 in
+      let rest = runs_front us vs js targets segments ls first.targets first.segments (first.target_count ∙ e) (first.segment_count ∙ f) d (rw first.whole at c.2) in
       record {
         targets = rest.targets;
         segments = rest.segments;
-        is = ap (λ o. option_and_then (runs js) o) first.is ∙ rest.is;
+        is = rw first.is rest.is;
         whole = rest.whole;
         target_count = rest.target_count ∙ first.target_count;
         segment_count = rest.segment_count ∙ first.segment_count;
@@ -92,17 +91,13 @@ module _ (X Y : Type 0) (fill : X → Y → ℕ → Option X) (empty : Y) where
 
   -- ---- other offsets ----
 
-  run_kept : {j k : Job} → Kept j k → (c d : List X × List Y) → run j c ≡ Some d → run k c ≡ Some d
+  run_kept : {j k : Job} → Kept j k → (c d : Lists X Y) → run j c ≡ Some d → run k c ≡ Some d
   run_kept kept_skip c d h = h
-  run_kept (kept_fill {n = n} {target = target} {o = o} {p = p} f) c d h =
-      let a = and_then_is o _ d h in
-      ap (λ o. option_and_then (λ o. option_and_then (λ a. option_and_then (λ x. option_and_then (λ y. option_and_then (λ z. Some (slice_set c.0 a z, slice_set c.1 n empty)) (fill x y o)) (slice_get c.1 n)) (slice_get c.0 a)) target) o) (f a.0 a.1) ∙ a.2
+  run_kept (kept_fill {o = o} f) c d h = let a = and_then_is o _ d h in rw (f a.0 a.1) a.2
 
-  pub runs_kept : {js ks : List Job} → KeptAll js ks → (c d : List X × List Y) → runs js c ≡ Some d → runs ks c ≡ Some d
+  pub runs_kept : {js ks : List Job} → KeptAll js ks → (c d : Lists X Y) → runs js c ≡ Some d → runs ks c ≡ Some d
   runs_kept kept_none c d h = h
-  runs_kept (kept_more {j = j} {k = k} {js = js} {ks = ks} e es) c d h =
-      let a = and_then_is (run j c) (runs js) d h in
-      ap (λ o. option_and_then (runs ks) o) (run_kept e c a.0 a.1) ∙ runs_kept es a.0 d a.2
+  runs_kept (kept_more {j = j} {js = js} e es) c d h = let a = and_then_is (run j c) (runs js) d h in rw (run_kept e c a.0 a.1) (runs_kept es a.0 d a.2)
 
   -- ---- by part ----
 
@@ -118,27 +113,23 @@ module _ (X Y : Type 0) (fill : X → Y → ℕ → Option X) (empty : Y) where
     rest_jobs (suc count) k = jobs_of k ++ rest_jobs count (suc k)
 
     pub jobs_split : (n k : ℕ) → k ≤ n → rest_jobs n 0 ≡ first_jobs k ++ rest_jobs (n - k) k
-    jobs_split n zero l = let e : n ≡ n - 0 = omega arith in ap (λ n. rest_jobs n 0) e
+    jobs_split n zero l = let e : n - 0 ≡ n = omega arith in rw e
     jobs_split n (suc k) l =
-        let e : n - k ≡ suc (n - suc k) = omega (arith, l) in
-        jobs_split n k (omega (arith, l)) ∙ ap (λ c. first_jobs k ++ rest_jobs c k) e ∙ sym (append_assoc (first_jobs k) (jobs_of k) (rest_jobs (n - suc k) (suc k)))
+        let e : n - k ≡ suc (n - suc k) = omega arith in
+        rw (jobs_split n k (omega arith), e, append_assoc)
 
     -- where these do nothing
-    pub rest_skips : (count k : ℕ) → ((q : ℕ) → k ≤ q → (c : List X × List Y) → runs (jobs_of q) c ≡ Some c) → (c : List X × List Y) → runs (rest_jobs count k) c ≡ Some c
+    pub rest_skips : (count k : ℕ) → ((q : ℕ) → k ≤ q → (c : Lists X Y) → runs (jobs_of q) c ≡ Some c) → (c : Lists X Y) → runs (rest_jobs count k) c ≡ Some c
     rest_skips zero k h c = refl
-    rest_skips (suc count) k h c =
-        runs_both (jobs_of k) (rest_jobs count (suc k)) c ∙ ap (λ o. option_and_then (runs (rest_jobs count (suc k))) o) (h k (omega arith) c) ∙ rest_skips count (suc k) (λ q l. h q (omega (arith, l))) c
+    rest_skips (suc count) k h c = rw (runs_both (jobs_of k) (rest_jobs count (suc k)) c, h k (omega arith) c) (rest_skips count (suc k) (λ q l. h q (omega arith)) c)
 
     -- what the next part's do, where all of them are done
-    pub next_runs : (n k : ℕ) → k < n → (a c d : List X × List Y) → runs (rest_jobs n 0) a ≡ Some d → runs (first_jobs k) a ≡ Some c → (e : List X × List Y) × (runs (jobs_of k) c ≡ Some e) × (runs (first_jobs (suc k)) a ≡ Some e)
+    pub next_runs : (n k : ℕ) → k < n → (a c d : Lists X Y) → runs (rest_jobs n 0) a ≡ Some d → runs (first_jobs k) a ≡ Some c → (e : Lists X Y) × (runs (jobs_of k) c ≡ Some e) × (runs (first_jobs (suc k)) a ≡ Some e)
     next_runs n k l a c d h first =
-        let e : n - k ≡ suc (n - suc k) = omega (arith, l) in
-        let split = jobs_split n k (omega (arith, l)) ∙ ap (λ c. first_jobs k ++ rest_jobs c k) e in
-        let all : runs (jobs_of k ++ rest_jobs (n - suc k) (suc k)) c ≡ Some d = sym (ap (λ o. option_and_then (runs (jobs_of k ++ rest_jobs (n - suc k) (suc k))) o) first) ∙ sym (runs_both (first_jobs k) (jobs_of k ++ rest_jobs (n - suc k) (suc k)) a) ∙ ap (λ js. runs js a) (sym split) ∙ h in
-        let b = and_then_is (runs (jobs_of k) c) (runs (rest_jobs (n - suc k) (suc k))) d (sym (runs_both (jobs_of k) (rest_jobs (n - suc k) (suc k)) c) ∙ all) in
-        (b.0, b.1, runs_both (first_jobs k) (jobs_of k) a ∙ ap (λ o. option_and_then (runs (jobs_of k)) o) first ∙ b.1)
+        let e : n - k ≡ suc (n - suc k) = omega arith in
+        let b = and_then_is (runs (jobs_of k) c) _ d (rw (jobs_split n k (omega arith), e, runs_both (first_jobs k), first, runs_both (jobs_of k)) at h) in
+        (b.0, b.1, rw (runs_both (first_jobs k) (jobs_of k) a, first) b.1)
 
     -- all are done, where the rest do nothing
-    pub all_runs : (n k : ℕ) → k ≤ n → (a c : List X × List Y) → runs (first_jobs k) a ≡ Some c → ((q : ℕ) → k ≤ q → (c : List X × List Y) → runs (jobs_of q) c ≡ Some c) → runs (rest_jobs n 0) a ≡ Some c
-    all_runs n k l a c first h =
-        ap (λ js. runs js a) (jobs_split n k l) ∙ runs_both (first_jobs k) (rest_jobs (n - k) k) a ∙ ap (λ o. option_and_then (runs (rest_jobs (n - k) k)) o) first ∙ rest_skips (n - k) k h c
+    pub all_runs : (n k : ℕ) → k ≤ n → (a c : Lists X Y) → runs (first_jobs k) a ≡ Some c → ((q : ℕ) → k ≤ q → (c : Lists X Y) → runs (jobs_of q) c ≡ Some c) → runs (rest_jobs n 0) a ≡ Some c
+    all_runs n k l a c first h = rw (jobs_split n k l, runs_both (first_jobs k) (rest_jobs (n - k) k) a, first) (rest_skips (n - k) k h c)

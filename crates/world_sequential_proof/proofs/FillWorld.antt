@@ -1,7 +1,7 @@
 -- What the sequential run asks of stores whose first parts' segments were copied.
-use Rattle.base_lists.proofs.Common.{◌≡◌, ◌∙◌, sym, ap, subst, ℕ, zero, suc, ◌+◌, ◌-◌, ◌≤◌, List, length, Some, false, arith, slice_get}
+use Rattle.base_lists.proofs.Common.{◌≡◌, ◌∙◌, refl, sym, ap, ℕ, zero, suc, ◌+◌, ◌-◌, List, length, Some, false, arith}
 use Rattle.wasm_tree_spec.specs.Prelude.{Module}
-use Rattle.wasm_meaning.specs.Prelude.{Text, Inst, Store, module_at, Environment, ExternalValue, World, own_store, stores_from, const_value, joined_stores, all_there, seen_as, segments, StartDependsOnlyOnItsFrames, own_segments, HasNoActive}
+use Rattle.wasm_meaning.specs.Prelude.{Text, Inst, Store, module_at, Environment, ExternalValue, World, own_store, stores_from, joined_stores, all_there, seen_as, segments, StartDependsOnlyOnItsFrames}
 use Rattle.index_remap.specs.Prelude.{CodeIsRelatedToItself, RelatedTicksAgree, OthersStay}
 use Rattle.world_extension_proof.specs.Extends.{StepsExtend}
 use Rattle.world_sequential_proof.proofs.Given.{IsGiven}
@@ -17,27 +17,21 @@ module _ (env : Environment) (w : World) (insts : List Inst) (allocated : Store)
   -- what the rest adds is the same, however the store is laid out
   rest_same : (n k : ℕ) → n + k ≡ length w.parts → rest_from env w.parts insts k ≡ g.laid.rest k
   rest_same zero k e =
-      let last : length w.parts ≡ k = omega (arith, e) in
-      ap (rest_from env w.parts insts) (sym last) ∙ rest_last env w.parts insts ∙ sym g.laid.rest_end ∙ ap g.laid.rest last
+      let last : k ≡ length w.parts = omega arith in
+      rw (last, rest_last env w.parts insts) (sym g.laid.rest_end)
   rest_same (suc n) k e =
-      let x = inst_there env w.parts insts allocated stores_are g.size k (omega (arith, e)) in
+      let x = inst_there env w.parts insts allocated stores_are g.size k (omega arith) in
       let added = g.laid.part_adds k x.0 x.1 x.2 x.3 in
-      rest_next env w.parts insts k x.0 x.1 (g.laid.adds k) x.2 x.3 added ∙ ap (joined_stores (g.laid.adds k)) (rest_same n (suc k) (omega (arith, e))) ∙ sym (g.laid.rest_next k x.0 x.2)
-
-  pub all_filled : (k : ℕ) (t : Store) → k ≤ length w.parts → FilledUpto env w.parts insts allocated k t → ((p : ℕ) (m : Module) → k ≤ p → module_at w.parts p ≡ Some m → HasNoActive m) → (segments env w.parts insts allocated).store ≡ joined_stores t (g.laid.rest k)
-  all_filled k t l h none =
-      let more : (n : ℕ) × (n + k ≡ length w.parts) = (length w.parts - k, omega (arith, l)) in
-      ap (λ f. f.store) (FillSegments.filled_all env w.parts insts allocated stores_are g.size k t l h none) ∙ ap (joined_stores t) (rest_same more.0 k more.1)
-
-  pub next_filled : (k : ℕ) (m : Module) (i : Inst) (t : Store) → module_at w.parts k ≡ Some m → slice_get insts k ≡ Some i → FilledUpto env w.parts insts allocated k t → ((own_segments (const_value t.globals i) m i (joined_stores t (g.laid.adds k))).trapped ≡ false) × FilledUpto env w.parts insts allocated (suc k) (own_segments (const_value t.globals i) m i (joined_stores t (g.laid.adds k))).store
-  next_filled k m i t is_part is_inst h =
-      let n = FillNext.filled_next env w.parts insts g.are allocated stores_are g.matched g.size g.exports g.earlier k m i is_part is_inst t (g.laid.adds k) (g.laid.part_adds k m i is_part is_inst) h (constants k m is_part) well in
-      (ap (λ f. f.trapped) n.is, subst (λ f. FilledUpto env w.parts insts allocated (suc k) f.store) (sym n.is) n.filled)
+      rw (rest_next env w.parts insts k x.0 x.1 (g.laid.adds k) x.2 x.3 added, rest_same n (suc k) (omega arith)) (sym (g.laid.rest_next k x.0 x.2))
 
   pub fill_laws : (itself : CodeIsRelatedToItself) (below : StartDependsOnlyOnItsFrames) (extend : StepsExtend) (ticks : RelatedTicksAgree) (others : OthersStay) (view : List (Text × ExternalValue)) (view_is : all_there (seen_as insts) w.view ≡ Some view) → FillLaws env w insts allocated g itself below extend ticks others view view_is (FilledUpto env w.parts insts allocated)
   fill_laws itself below extend ticks others view view_is = record {
     filled_none = FillSegments.filled_none env w.parts insts allocated stores_are g.size;
-    filled_next = next_filled;
-    filled_all = all_filled;
+    filled_next = λ k m i t is_part is_inst h.
+        let n = FillNext.filled_next env w.parts insts g.are allocated stores_are g.matched g.size g.exports g.earlier k m i is_part is_inst t (g.laid.adds k) (g.laid.part_adds k m i is_part is_inst) h (constants k m is_part) well in
+        rw n.is (refl, n.filled);
+    filled_all = λ k t l h none.
+        let n : length w.parts - k + k ≡ length w.parts = omega arith in
+        ap (λ f. f.store) (FillSegments.filled_all env w.parts insts allocated stores_are g.size k t l h none) ∙ ap (joined_stores t) (rest_same (length w.parts - k) k n);
     filled_sized = λ k t l h. FillGiven.filled_sized env w.parts insts g.are allocated stores_are g.matched g.size g.exports g.earlier k t h;
   }

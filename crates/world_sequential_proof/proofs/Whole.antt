@@ -1,14 +1,14 @@
 -- The whole run: parts that are instantiated sequentially show what the world shows at once.
-use Rattle.base_lists.proofs.Common.{◌≡◌, ◌∙◌, refl, sym, ap, ap₂, subst, ℕ, zero, suc, ◌+◌, ◌*◌, ◌<◌, ◌≤◌, List, [], ◌∷◌, ◌++◌, length, Option, Some, None, false, cond, ◌⊎◌, inl, inr, arith, drop, option_and_then, slice_get, unwrap_or, cases_lt, slice_get_there}
+use Rattle.base_lists.proofs.Common.{◌≡◌, ◌∙◌, refl, sym, ap, ap₂, ℕ, zero, suc, ◌+◌, ◌*◌, ◌<◌, ◌≤◌, List, [], ◌∷◌, ◌++◌, length, Option, Some, None, false, ◌⊎◌, inl, inr, arith, drop, slice_get, unwrap_or, cases_lt, slice_get_there, slice_get_within, and_then_is}
 use Rattle.wasm_tree_spec.specs.Prelude.{Module}
-use Rattle.wasm_meaning.specs.Prelude.{Text, Inst, Store, Opening, Part, Entity, module_at, Environment, ExternalValue, owned_of, World, Begun, own_store, begun, all_there, start_in, starts_of, seen_as, segments, InstanceTrapped, Pending, Closed, Move, Run, IsPrefix, fresh_run, tick, events_of, StartDependsOnlyOnItsFrames, SequentialRun, view_over, goes_on, tick_sequential, events_sequential, HasNoActive}
+use Rattle.wasm_meaning.specs.Prelude.{Text, Inst, Store, Opening, Part, Entity, module_at, Environment, ExternalValue, owned_of, World, Begun, own_store, begun, all_there, start_in, starts_of, seen_as, segments, Pending, Move, Run, IsPrefix, fresh_run, tick, events_of, StartDependsOnlyOnItsFrames, SequentialRun, view_over, goes_on, tick_sequential, events_sequential, HasNoActive}
 use Rattle.wasm_meaning.specs.Sequential.{before_parts}
 use Rattle.base_simulation.proofs.Prefixes.{in_more_steps}
 use Rattle.index_remap.specs.Prelude.{nil, cons, opening, pending, CodeIsRelatedToItself, RelatedTicksAgree, OthersStay}
 use Rattle.base_simulation.proofs.LedRuns.{Leads, both, second, led_traces_are_equal}
-use Rattle.world_extension_proof.specs.Extends.{Extends, StepsExtend}
+use Rattle.world_extension_proof.specs.Extends.{StepsExtend}
 use Rattle.world_extension_proof.proofs.Extends.{stays}
-use Rattle.world_sequential_proof.proofs.Joined.{made_upto}
+use Rattle.world_sequential_proof.proofs.Joined.{module_is}
 use Rattle.world_sequential_proof.proofs.Reached.{reaching}
 use Rattle.world_sequential_proof.proofs.Closed.{self_by, func_self}
 use Rattle.world_sequential_proof.proofs.Filling.{all_fill}
@@ -50,7 +50,7 @@ module _ (env : Environment) (w : World) (insts : List Inst) (allocated : Store)
     next_state = goes_on q part (drop (suc k) w.parts) i a.next_store
 
     is_part : module_at w.parts k ≡ Some part.«module»
-    is_part = ap (λ o. option_and_then (λ part. Some part.«module») o) at_part
+    is_part = module_is w.parts k part at_part
 
     low : suc k ≤ length w.parts
     low = within env w insts allocated g itself k part i at_part at_inst
@@ -66,24 +66,23 @@ module _ (env : Environment) (w : World) (insts : List Inst) (allocated : Store)
     waits_now quiet ys e =
         let whole = laws.filled_all (suc k) a.next_store low a.filled quiet in
         let sized = laws.filled_sized (suc k) a.next_store low a.filled in
-        let beside = beside_after env w insts allocated g itself below extend ticks others view view_is IsFilled laws moves (suc k) a.next_store low whole sized a.extends a.closed a.sound in
+        let beside = beside_after env w insts allocated g (suc k) a.next_store low whole sized a.of_first in
         record {
-          abreast = subst (λ r. Rattle.world_sequential_proof.proofs.Making.Abreast below extend ticks others env w.parts allocated (suc k) [] [] r next_state.run) (sym h.first)
-              (subst (λ u. Rattle.world_sequential_proof.proofs.Making.Abreast below extend ticks others env w.parts allocated (suc k) [] [] at_once (record u { store = a.next_store; entries = Opening (start_in i part.«module».start) ∷ []; phase = Pending (view_over next_state.made q.view) })) (sym h.second_run) (record {
-                related = record {
-                  store = beside.related;
-                  entries = cons (opening nil) nil;
-                  phase = pending nil;
-                  shown = nil;
-                  view = nil;
-                  owned = (own_related env w insts allocated g itself below extend ticks others view view_is IsFilled laws moves (suc k)).owned;
-                  moves = refl;
-                };
-                beside = beside;
-                extends = (all_fill (reaching env w.parts (suc k)) env w.parts insts allocated).extends;
-                first_owned = refl;
-                second_owned = refl;
-              }));
+          abreast = rw (h.first, h.second_run) (record {
+            related = record {
+              store = beside.related;
+              entries = cons (opening nil) nil;
+              phase = pending nil;
+              shown = nil;
+              view = nil;
+              owned = (own_related env w insts allocated g (suc k)).owned;
+              moves = refl;
+            };
+            beside = beside;
+            extends = (all_fill (reaching env w.parts (suc k)) env w.parts insts allocated).extends;
+            first_owned = refl;
+            second_owned = refl;
+          });
           first = ap (λ r. r.entries) h.first ∙ ap (λ xs. Opening xs ∷ []) (starts_are ∙ ap (λ ys. ys ++ starts_from w insts (suc k)) e);
           phase = ap (λ r. r.phase) h.first;
           second_entries = ap (λ ys. Opening ys ∷ []) e;
@@ -99,23 +98,14 @@ module _ (env : Environment) (w : World) (insts : List Inst) (allocated : Store)
     -- it has no start, and is not the last
     fills_on : start_in i part.«module».start ≡ [] → suc k < length w.parts → Early d r next_state
     fills_on none less = fills (suc k) (omega (arith, l)) (record {
-      store = a.next_store;
       filled = a.filled;
-      extends = a.extends;
-      closed = a.closed;
-      sound = a.sound;
+      of_first = a.of_first;
       first = h.first;
-      second_run = run_is q.run h.second_run;
+      second_run = rw (h.second_run, none, turn.made, h.turn.view);
       turn = turn;
       none_before = sym (starts_are ∙ ap (λ ys. ys ++ starts_from w insts (suc k)) none);
       most = less;
     })
-      where
-        run_is : (u : Run) → u ≡ record { store = h.store; entries = Opening [] ∷ []; phase = Pending (view_over (made_upto k w.parts insts) w.view); shown = []; view = []; owned = owned_of env; moves = moves } →
-            record u { store = a.next_store; entries = Opening (start_in i part.«module».start) ∷ []; phase = Pending (view_over next_state.made q.view) } ≡ record { store = a.next_store; entries = Opening [] ∷ []; phase = Pending (view_over (made_upto (suc k) w.parts insts) w.view); shown = []; view = []; owned = owned_of env; moves = moves }
-        run_is u e =
-            ap {A = Run} {B = Run} (λ u. record u { store = a.next_store; entries = Opening (start_in i part.«module».start) ∷ []; phase = Pending (view_over next_state.made q.view) }) e
-            ∙ ap₂ {A = List ℕ} {B = List (Text × ExternalValue)} {C = Run} (λ xs v. record { store = a.next_store; entries = Opening xs ∷ []; phase = Pending v; shown = []; view = []; owned = owned_of env; moves = moves }) none (ap₂ view_over turn.made h.turn.view)
 
     pub after_turn : Early d r next_state
     after_turn = go part.«module».start refl (cases_lt (suc k) (length w.parts))
@@ -123,87 +113,62 @@ module _ (env : Environment) (w : World) (insts : List Inst) (allocated : Store)
         go : (s : Option ℕ) → part.«module».start ≡ s → (suc k < length w.parts) ⊎ (length w.parts ≤ suc k) → Early d r next_state
         go (Some x) e last = stage_now (λ p m less is. g.late k p x part.«module» m (omega (arith, less)) is_part is e)
         go None e (inl less) = fills_on (ap (start_in i) e) less
-        go None e (inr all) = stage_now (λ p m less is. absurd (let b = module_there w.parts p m is in omega (arith, less, all, b)))
-          where
-            module_there : (parts : List Part) (p : ℕ) (m : Module) → module_at parts p ≡ Some m → p < length parts
-            module_there [] p m e = absurd (let z = e in cc)
-            module_there (part ∷ parts) zero m e = omega arith
-            module_there (part ∷ parts) (suc p) m e = let b = module_there parts p m e in omega (arith, b)
+        go None e (inr all) = stage_now (λ p m less is. let part = and_then_is (slice_get w.parts p) _ m is in absurd (omega (arith, slice_get_within w.parts p part.0 part.1)))
 
-  abbrev Next : ℕ → Run → SequentialRun → Type 0
-  Next d r q = Leads tick tick_sequential (λ d e r q. Early d r q) d 0 r q
+  abbrev Next : ℕ → ℕ → Run → SequentialRun → Type 0
+  Next d e r q = Leads tick tick_sequential (λ d e r q. Early d r q) d e r q
 
   -- ---- the first step ----
 
   first_tick : tick (fresh_run env (Some instance) moves) ≡ (at_once, None)
-  first_tick = ap (λ b. cond b (record (fresh_run env (Some instance) moves) { store = after; entries = []; phase = Closed; owned = owned_of env }, Some InstanceTrapped) (at_once, None)) fine
+  first_tick = rw fine
 
   nothing_yet : 0 < length w.parts → Filling 0 at_once (before_parts env w moves)
   nothing_yet some =
-      let own = own_related env w insts allocated g itself below extend ticks others view view_is IsFilled laws moves 0 in
+      let own = own_related env w insts allocated g 0 in
       let sound = own_sound env w.parts 0 env in
       record {
-        store = own_store env;
         filled = laws.filled_none;
-        extends = subst (λ s. Extends s (own_store env)) (sym g.laid.first_none) (stays (own_store env));
-        closed = record { funcs = self_by (own_store env).funcs (λ n f e. func_self itself env w.parts 0 f (sound n f e)); tables = own.tables; globals = own.globals; elems = nil };
-        sound = sound;
+        of_first = record {
+          extends = rw g.laid.first_none (stays (own_store env));
+          closed = record { funcs = self_by (own_store env).funcs (λ n f e. func_self itself env w.parts 0 f (sound n f e)); tables = own.tables; globals = own.globals; elems = nil };
+          sound = sound;
+        };
         first = refl;
-        second_run = ap {A = List (Text × ExternalValue)} {B = Run} (λ v. record { store = own_store env; entries = Opening [] ∷ []; phase = Pending v; shown = []; view = []; owned = owned_of env; moves = moves }) (sym (no_view w.view));
+        second_run = rw (no_view w.view);
         turn = record { made = refl; rest = refl; view = refl };
         none_before = refl;
         most = some;
       }
 
-  -- the next part, by its place
-  part_at : (k : ℕ) → k < length w.parts → (part : Part) × (i : Inst) × (slice_get w.parts k ≡ Some part) × (slice_get insts k ≡ Some i)
-  part_at k less =
-      let part = slice_get_there w.parts k less in
-      let i = slice_get_there insts k (let s = g.size in omega (arith, less, s)) in
-      (part.0, i.0, part.1, i.1)
-
   step_of : (k d : ℕ) (r : Run) (q : SequentialRun) → (h : Filling k r q) → length w.parts ≤ suc k + d → (q' : SequentialRun) × (tick_sequential q ≡ (q', None)) × Early d r q'
   step_of k d r q h l =
-      let p = part_at k h.most in
-      let a = advances env w insts allocated g itself below extend ticks others view view_is IsFilled laws moves k p.0 p.1 r q p.2 p.3 h in
-      (goes_on q p.0 (drop (suc k) w.parts) p.1 a.next_store, a.is, after_turn k d p.0 p.1 r q p.2 p.3 h a l)
+      let part = slice_get_there w.parts k h.most in
+      let i = slice_get_there insts k (rw g.size h.most) in
+      let a = advances env w insts allocated g itself below extend ticks others view view_is IsFilled laws moves k part.0 i.0 r q part.1 i.1 h in
+      (goes_on q part.0 (drop (suc k) w.parts) i.0 a.next_store, a.is, after_turn k d part.0 i.0 r q part.1 i.1 h a l)
 
-  next : (d : ℕ) (r : Run) (q : SequentialRun) → Early d r q → Next d r q
-  next d r q (fresh e f some l) =
-      let s = step_of 0 d at_once (before_parts env w moves) (nothing_yet some) (omega (arith, l)) in
-      let a = ap tick e ∙ first_tick in
-      let b = ap tick_sequential f ∙ s.1 in
-      both (ap (λ o. o.1) a ∙ sym (ap (λ o. o.1) b)) (subst (λ o. Early d o.0 (tick_sequential q).0) (sym a) (subst (λ o. Early d at_once o.0) (sym b) s.2))
-  next d r q (fills k l h) = go d l
+  next : (d e : ℕ) (r : Run) (q : SequentialRun) → Early d r q → Next d e r q
+  next d e r q (fresh at_start before some l) =
+      let s = step_of 0 d at_once (before_parts env w moves) (nothing_yet some) (omega arith) in
+      both (rw (at_start, before, first_tick, s.1)) (rw (at_start, before, first_tick, s.1) s.2)
+  next d e r q (fills k l h) = go d l
     where
-      go : (d : ℕ) → length w.parts ≤ k + d → Next d r q
-      go zero l = absurd (let m = h.most in omega (arith, l, m))
-      go (suc d) l =
-          let s = step_of k d r q h (omega (arith, l)) in
-          second (ap (λ o. o.1) s.1) (subst (λ o. Early d r o.0) (sym s.1) s.2)
-  next d r q (later_on h) = on (stages.next env w insts allocated g itself below extend ticks others view view_is d r q h)
+      go : (d : ℕ) → length w.parts ≤ k + d → Next d e r q
+      go zero l = absurd (omega (arith, h.most))
+      go (suc d) l = let s = step_of k d r q h (omega arith) in second (rw s.1) (rw s.1 s.2)
+  next d e r q (later_on h) = on (stages.next env w insts allocated g itself below extend ticks others view view_is d r q h)
     where
-      on : {d : ℕ} → Leads tick tick_sequential (λ d e r q. TheStage d r q) d 0 r q → Next d r q
+      on : {d : ℕ} → Leads tick tick_sequential (λ d e r q. TheStage d r q) d 0 r q → Next d e r q
       on (both p i) = both p (later_on i)
       on (second p i) = second p (later_on i)
 
   -- ---- what is seen ----
-
-  abbrev Credit : ℕ → ℕ → Run → SequentialRun → Type 0
-  Credit d e r q = (e ≡ 0) × Early d r q
-
-  credited : (d e : ℕ) (r : Run) (q : SequentialRun) → Credit d e r q → Leads tick tick_sequential (λ d e r q. Credit d e r q) d e r q
-  credited d e r q h = subst (λ e. Leads tick tick_sequential (λ d e r q. Credit d e r q) d e r q) (sym h.0) (on (next d r q h.1))
-    where
-      on : {d : ℕ} → Next d r q → Leads tick tick_sequential (λ d e r q. Credit d e r q) d 0 r q
-      on (both p i) = both p (refl, i)
-      on (second p i) = second p (refl, i)
 
   pub seen_the_same : 0 < length w.parts → (n : ℕ) → IsPrefix (events_of tick (fresh_run env (Some instance) moves) n) (events_sequential w env moves (n + 4 * length w.parts)) × IsPrefix (events_sequential w env moves n) (events_of tick (fresh_run env (Some instance) moves) (n + 4 * length w.parts))
   seen_the_same some n =
       let k = length w.parts in
       let r = fresh_run env (Some instance) moves in
       let q = before_parts env w moves in
-      let start : Early k r q = fresh refl refl some (omega arith) in
-      let seen = led_traces_are_equal tick tick_sequential Credit credited k 0 r q (refl, start) n in
+      let seen = led_traces_are_equal tick tick_sequential (λ d e r q. Early d r q) next k 0 r q (fresh refl refl some (omega arith)) n in
       (in_more_steps tick_sequential _ (n + k) (n + 4 * k) q (omega arith) seen.0, in_more_steps tick _ (n + 0) (n + 4 * k) r (omega arith) seen.1)

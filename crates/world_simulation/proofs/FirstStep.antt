@@ -13,24 +13,18 @@ module _ (law : RelatedRunsHaveEqualTraces) (of : Space → ℕ → ℕ → Bool
   after_step : {b c : Begun} (n : ℕ) → BegunRel R (EntryByEntry R) b c → events_of tick (fresh_run env (Some b) moves) (suc n) ≡ events_of tick (fresh_run env (Some c) moves) (suc n)
   after_step {b} {c} n g = rw g.trapped (go c.trapped)
     where
-      shown : Out → List Event
-      shown o = noted o.1 (events_of tick o.0 n)
+      trapped : Begun → Out
+      trapped b = (record (fresh_run env (Some b) moves) { store = b.store; phase = Closed; owned = b.owned }, Some InstanceTrapped)
 
-      trapped_first : Out
-      trapped_first = (record (fresh_run env (Some b) moves) { store = b.store; phase = Closed; owned = b.owned }, Some InstanceTrapped)
+      begins : Begun → Out
+      begins b = (record (fresh_run env (Some b) moves) { store = b.store; entries = Opening b.starts ∷ []; phase = Pending b.view; owned = b.owned }, None)
 
-      trapped_second : Out
-      trapped_second = (record (fresh_run env (Some c) moves) { store = c.store; phase = Closed; owned = c.owned }, Some InstanceTrapped)
+      shown : Bool → Begun → List Event
+      shown x b = let o = cond x (trapped b) (begins b) in noted o.1 (events_of tick o.0 n)
 
-      begun_first : Out
-      begun_first = (record (fresh_run env (Some b) moves) { store = b.store; entries = Opening b.starts ∷ []; phase = Pending b.view; owned = b.owned }, None)
-
-      begun_second : Out
-      begun_second = (record (fresh_run env (Some c) moves) { store = c.store; entries = Opening c.starts ∷ []; phase = Pending c.view; owned = c.owned }, None)
-
-      go : (x : Bool) → shown (cond x trapped_first begun_first) ≡ shown (cond x trapped_second begun_second)
-      go true = rw (law of apart trapped_first.0 trapped_second.0 (record { store = g.store; entries = g.closed; phase = closed; shown = nil; view = nil; owned = g.owned; moves = refl }) n) refl
-      go false = law of apart begun_first.0 begun_second.0 (record { store = g.store; entries = g.entries; phase = pending g.view; shown = nil; view = nil; owned = g.owned; moves = refl }) n
+      go : (x : Bool) → shown x b ≡ shown x c
+      go true = rw (law of apart (trapped b).0 (trapped c).0 (record { store = g.store; entries = g.closed; phase = closed; shown = nil; view = nil; owned = g.owned; moves = refl }) n) refl
+      go false = law of apart (begins b).0 (begins c).0 (record { store = g.store; entries = g.entries; phase = pending g.view; shown = nil; view = nil; owned = g.owned; moves = refl }) n
 
   pub runs_same : {b c : Option Begun} (n : ℕ) → OptRel (BegunRel R (EntryByEntry R)) b c → events_of tick (fresh_run env b moves) n ≡ events_of tick (fresh_run env c moves) n
   runs_same zero r = refl

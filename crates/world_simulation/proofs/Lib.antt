@@ -14,17 +14,4 @@ pub mod Simulated
 pub mod Renamed
 pub mod Declared
 pub mod Single
-pub mod Holes
-pub mod SameItems
-pub mod Unreachable
-pub mod Added
-pub mod Leaves
-pub mod Loaded
-pub mod LoaderSteps
-pub mod FuncsAside
-pub mod Stubbed
-mod Examples
-mod LeavesRows
-mod LoadedRows
 mod SegmentRows
-pub mod Copies

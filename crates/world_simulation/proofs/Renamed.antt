@@ -8,9 +8,9 @@ use Rattle.wasm_tree.specs.declared.module.Func as tree
 use Rattle.wasm_num.specs.Operations.{W32}
 use Rattle.wasm_meaning.specs.Prelude.{Val, Inst, num_of, PlacedSegment, one_place, start_in, address_in}
 use Rattle.index_remap.specs.declared.remap.Remap.{Remap}
-use Rattle.index_remap.specs.Prelude.{new_func, new_const, new_elem, new_elem_mode, new_data_mode, new_export_desc, new_start, Pairing, OptRel, none, some, ListRel, nil, cons, ValRel, number, reference, ExternalValueRel, a_func, a_table, a_memory, a_global, passed, RenumberedCodeIsRelated}
+use Rattle.index_remap.specs.Prelude.{new_func, new_const, new_elem, new_elem_mode, new_data_mode, new_export_desc, new_start, Pairing, OptRel, none, some, ListRel, nil, cons, ValRel, reference, ExternalValueRel, a_func, a_table, a_memory, a_global, passed, RenumberedCodeIsRelated}
 use Rattle.index_remap_proof.specs.Indices.{Indices, ConstNamesOnly, FuncNamesOnly, ExportNamesOnly, ElemModeNamesOnly, DataModeNamesOnly}
-use Rattle.world_simulation.specs.Prelude.{EntriesName, FuncsCorrespond, is_declarative, offset_in, ElemsPartner, DatasPartner}
+use Rattle.world_simulation.specs.Prelude.{EntriesName, FuncsCorrespond, is_declarative, ElemsPartner, DatasPartner}
 use Rattle.world_simulation.specs.Segments as segments
 use Rattle.world_simulation.proofs.Places.{then_rel}
 use Rattle.world_simulation.proofs.Named.{all_named}
@@ -18,31 +18,21 @@ use Rattle.world_simulation.proofs.Stored.{ElemsAlike}
 
 -- the offset of a segment, by values that are related
 pub offset_same : (R : Pairing) {o p : Option Val} → OptRel (ValRel R) o p → option_and_then (num_of W32) o ≡ option_and_then (num_of W32) p
-offset_same R none = refl
-offset_same R (some number) = refl
 offset_same R (some (reference r)) = refl
+offset_same R _ = refl
 
 module _ (of : Space → ℕ → ℕ → Bool) (m : Remap) (kept : Indices) (i j : Inst) (names : EntriesName (passed of of []) m kept i j) where
   abbrev R : Pairing
   R = passed of of []
 
   pub func_named : (x : ℕ) → IsTrue (kept Functions x) → OptRel (R.of Functions) (slice_get i.funcs x) (slice_get j.funcs (slice_index m.funcs x))
-  func_named x h = names Functions x h
-
-  pub table_named : (x : ℕ) → IsTrue (kept Tables x) → OptRel (R.of Tables) (slice_get i.tables x) (slice_get j.tables (slice_index m.tables x))
-  table_named x h = names Tables x h
-
-  pub memory_named : (x : ℕ) → IsTrue (kept Memories x) → OptRel (R.of Memories) (slice_get i.mems x) (slice_get j.mems (slice_index m.mems x))
-  memory_named x h = names Memories x h
-
-  pub global_named : (x : ℕ) → IsTrue (kept Globals x) → OptRel (R.of Globals) (slice_get i.globals x) (slice_get j.globals (slice_index m.globals x))
-  global_named x h = names Globals x h
+  func_named = names Functions
 
   pub export_named : (d : ExportDesc) → ExportNamesOnly kept d → OptRel (ExternalValueRel R) (address_in i d) (address_in j (new_export_desc m d))
-  export_named (ex.Func x) h = then_rel (func_named x h) (λ _ _ r. some (a_func r))
-  export_named (ex.Table x) h = then_rel (table_named x h) (λ _ _ r. some (a_table r))
-  export_named (ex.Memory x) h = then_rel (memory_named x h) (λ _ _ r. some (a_memory r))
-  export_named (ex.Global x) h = then_rel (global_named x h) (λ _ _ r. some (a_global r))
+  export_named (ex.Func x) h = then_rel (names Functions x h) (λ _ _ r. some (a_func r))
+  export_named (ex.Table x) h = then_rel (names Tables x h) (λ _ _ r. some (a_table r))
+  export_named (ex.Memory x) h = then_rel (names Memories x h) (λ _ _ r. some (a_memory r))
+  export_named (ex.Global x) h = then_rel (names Globals x h) (λ _ _ r. some (a_global r))
 
   pub start_named : (start : Option ℕ) → ((f : ℕ) → start ≡ Some f → IsTrue (kept Functions f)) → ListRel (R.of Functions) (start_in i start) (start_in j (new_start m start))
   start_named None h = nil
@@ -60,15 +50,13 @@ module _ (of : Space → ℕ → ℕ → Bool) (m : Remap) (kept : Indices) (i j
   module _ (value second_value : ConstExpr → Option Val) (consts : (e : ConstExpr) → ConstNamesOnly kept e → OptRel (ValRel R) (value e) (second_value (new_const m e))) where
     pub elem_mode_named : (x y : PlacedSegment ElemSeg) → x.inst ≡ i → y.inst ≡ j → R.of ElementSegments x.address y.address → (mode : ElemMode) → ElemModeNamesOnly kept mode → ElemsPartner R value second_value x y mode (new_elem_mode m mode)
     elem_mode_named x y e f r (elem.Active t d) h =
-        segments.ElemsPartner.active r (rw e (rw f (table_named t h.0)))
-        (offset_same R (consts d h.1))
+        segments.ElemsPartner.active r (rw (e, f) (names Tables t h.0)) (offset_same R (consts d h.1))
     elem_mode_named x y e f r elem.Passive h = segments.ElemsPartner.passive
     elem_mode_named x y e f r elem.Declarative h = segments.ElemsPartner.declarative
 
     pub data_mode_named : (x y : PlacedSegment DataSeg) → x.inst ≡ i → y.inst ≡ j → R.of DataSegments x.address y.address → (mode : DataMode) → DataModeNamesOnly kept mode → DatasPartner R value second_value x y mode (new_data_mode m mode)
     data_mode_named x y e f r (data'.Active t d) h =
-        segments.DatasPartner.active r (rw e (rw f (memory_named t h.0)))
-        (offset_same R (consts d h.1))
+        segments.DatasPartner.active r (rw (e, f) (names Memories t h.0)) (offset_same R (consts d h.1))
     data_mode_named x y e f r data'.Passive h = segments.DatasPartner.passive
 
     pub elems_alike : (e : ElemSeg) → ((p : ℕ) (x : ConstExpr) → slice_get e.items p ≡ Some x → ConstNamesOnly kept x) → ElemsAlike R value second_value e (new_elem m e)
@@ -76,8 +64,7 @@ module _ (of : Space → ℕ → ℕ → Bool) (m : Remap) (kept : Indices) (i j
       where
         same : (mode : ElemMode) → is_declarative mode ≡ is_declarative (new_elem_mode m mode)
         same (elem.Active t d) = refl
-        same elem.Passive = refl
-        same elem.Declarative = refl
+        same _ = refl
 
         items : (xs : List ConstExpr) → ((p : ℕ) (x : ConstExpr) → slice_get xs p ≡ Some x → ConstNamesOnly kept x) → ListRel (λ x y. OptRel (ValRel R) (value x) (second_value y)) xs (map (new_const m) xs)
         items [] h = nil

@@ -40,5 +40,4 @@ not_without_its_item (declared h k) = cc
 not_without_its_item (kept h k items) = elim items [ ]
 
 not_of_another_mode : ElemsCorrespond R value value (segment of_null elem.Declarative) (segment of_null elem.Passive) → ⊥
-not_of_another_mode (declared h k) = cc
-not_of_another_mode (kept h k items) = cc
+not_of_another_mode = elim [ declared h k ↦ cc | kept h k items ↦ cc ]

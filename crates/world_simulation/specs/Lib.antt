@@ -6,10 +6,5 @@ pub mod Starts
 pub mod Definitions
 pub mod Segments
 pub mod Simulation
-pub mod Unreachable
-pub mod Added
-pub mod Leaves
-pub mod Loaded
-pub mod LoaderSteps
-pub mod Stubbed
+pub mod NewContents
 pub mod Prelude

@@ -2,7 +2,6 @@
 //! functions.
 #![tactic(auto)]
 
-ghost use Rattle.world_simulation.specs.Added.{AddedToTheFirstStayRelated, AddedToTheSecondStayRelated};
 ghost use Rattle.world_simulation.specs.Alone.{
   ImportsDenoteTheEnvironment,
   ImportsStay,
@@ -10,9 +9,6 @@ ghost use Rattle.world_simulation.specs.Alone.{
   SpacesAreImportsAndOwn,
 };
 ghost use Rattle.world_simulation.specs.Instances.{RelatedBegunHaveEqualTraces, RelatedInstancesHaveEqualTraces};
-ghost use Rattle.world_simulation.specs.Leaves.{AddedModulesLeave, ModulesAloneLeave, PrimaryModulesLeave};
-ghost use Rattle.world_simulation.specs.Loaded.{LoadersBeginAsTheirPrimary, LoadersHaveTheirPrimarysInstance};
-ghost use Rattle.world_simulation.specs.LoaderSteps.{LoadersGoAsTheirRun, LoadersStepAsTheirRun, PlaceholdersAreAnswered};
 ghost use Rattle.world_simulation.specs.Named.{FittingCodeIsNamed, KeptCodeIsNamed};
 ghost use Rattle.world_simulation.specs.Owned.{OwnEntitiesCorrespond};
 ghost use Rattle.world_simulation.specs.Simulation.{
@@ -23,8 +19,6 @@ ghost use Rattle.world_simulation.specs.Simulation.{
   WhatIsInstantiated,
 };
 ghost use Rattle.world_simulation.specs.Starts.{OneStartMayCallSeveral};
-ghost use Rattle.world_simulation.specs.Stubbed.{LoadersAddAsStubbed, LoadersBeginAsStubbed};
-ghost use Rattle.world_simulation.specs.Unreachable.{UnreachableFunctionRemovalEquivalent};
 
 use index_remap::{related_runs_have_equal_traces, steps_agree};
 use index_remap_proof::renumbering_keeps_typing;
@@ -85,51 +79,3 @@ pub fn one_start_for_several_equivalent()
 {
     start_depends_only_on_its_frames();
 }
-
-/// A module without one function that nothing else of it names, with the functions behind it moved down by one and references declared where they have to be, shows what
-/// the module shows, step by step, to each embedder whose environment links the module (WebAssembly Core 2.0, section 2.5.1).
-pub fn unreachable_function_removal_equivalent()
-    ensures equivalent { UnreachableFunctionRemovalEquivalent }
-{
-    steps_agree();
-    related_instances_have_equal_traces();
-}
-
-/// Two related stores stay related where a module is added to one of them, as a loader adds one (WebAssembly Core 2.0, section 4.5.4), and its active segments are copied
-/// into tables and memories that are related to nothing: to the second (`second`), and to the first (`first`). Whether a segment traps makes no difference.
-pub fn stores_stay_related_where_a_module_is_added()
-    ensures second { AddedToTheSecondStayRelated }
-    ensures first { AddedToTheFirstStayRelated }
-{}
-
-/// What the instantiation of a module leaves where no segment traps, entity by entity (WebAssembly Core 2.0, sections 4.5.3 and 4.5.4): each function, global and segment is
-/// what the module says, tables are empty and memories zero but for the active segments that are copied over them, in order, active and declarative segments are dropped;
-/// and of what was there before only tables and memories are changed, by these copies. So it is where the module is added to a store, as a loader adds one (`added`), where
-/// it is instantiated alone (`alone`), and where it is the primary module of a loader (`primary`).
-pub fn instantiated_stores_match_their_modules()
-    ensures added { AddedModulesLeave }
-    ensures alone { ModulesAloneLeave }
-    ensures primary { PrimaryModulesLeave }
-{}
-
-/// A loader that supplies nothing begins as its primary module alone is instantiated, with the loader's view, and where one is not linked neither does the other begin
-/// (`begin`); and it has the instance of the primary module alone (`inst`).
-pub fn loaders_begin_as_their_primary()
-    ensures begin { LoadersBeginAsTheirPrimary }
-    ensures inst { LoadersHaveTheirPrimarysInstance }
-{}
-
-/// A step under a loader that calls no placeholder is the step of its run (`step`), and so are several (`steps`). One that calls a placeholder of a secondary module that can
-/// be loaded, or was, goes on in the function that is then in its slot, with the same arguments (`answered`).
-pub fn loaders_step_as_their_run()
-    ensures step { LoadersStepAsTheirRun }
-    ensures steps { LoadersGoAsTheirRun }
-    ensures answered { PlaceholdersAreAnswered }
-{}
-
-/// A loader whose primary module imports its placeholders behind all else has the instance, and begins as, one that supplies nothing and whose primary module has functions of
-/// its own in their place, but for the placeholders themselves (`added`, `begin`): where one is linked so is the other, and where one traps so does the other.
-pub fn loaders_begin_as_with_defined_placeholders()
-    ensures added { LoadersAddAsStubbed }
-    ensures begin { LoadersBeginAsStubbed }
-{}

@@ -1,0 +1,80 @@
+-- Copies one after the other, computed; and a module with a table into which two segments are copied.
+use Rattle.base_lists.proofs.Common.{◌≡◌, refl, ℕ, List, [], ◌∷◌, Some, None, true, false, pos}
+use Rattle.base_lists.specs.Options.{◌>>=◌}
+use Rattle.wasm_tree.specs.declared.types.RefType.TheVariants as reft
+use Rattle.wasm_tree.specs.declared.module.ConstExpr.TheVariants as const
+use Rattle.wasm_tree_spec.specs.Prelude.{ElemMode, ElemSeg, Module}
+use Rattle.wasm_tree.specs.declared.module.ElemMode.TheVariants as elem
+use Rattle.wasm_num.specs.Operations.{wrapped}
+use Rattle.wasm_meaning.specs.Prelude.{RefVal, FuncRef, Store, added}
+use Rattle.world_contents_proof.specs.Leaves.{Copy, nothing, contents, over, all_over}
+
+abbrev to : (address offset : ℕ) → List ℕ → Copy ℕ
+to a n xs = contents (Some a) (Some n) (Some xs)
+
+abbrev zeros : List ℕ
+zeros = 0 ∷ 0 ∷ 0 ∷ 0 ∷ []
+
+-- the later lies over the earlier
+in_order : all_over 5 (to 5 1 (7 ∷ 8 ∷ []) ∷ to 5 2 (9 ∷ []) ∷ []) zeros ≡ Some (0 ∷ 7 ∷ 9 ∷ 0 ∷ [])
+in_order = refl
+
+in_the_other_order : all_over 5 (to 5 2 (9 ∷ []) ∷ to 5 1 (7 ∷ 8 ∷ []) ∷ []) zeros ≡ Some (0 ∷ 7 ∷ 8 ∷ 0 ∷ [])
+in_the_other_order = refl
+
+-- what is copied elsewhere, or nowhere, is not here
+elsewhere : all_over 5 (to 6 1 (7 ∷ 8 ∷ []) ∷ nothing ∷ []) zeros ≡ Some zeros
+elsewhere = refl
+
+-- it fits up to the end, and not past it; nor does one without an offset
+up_to_the_end : over 5 (to 5 2 (7 ∷ 8 ∷ [])) zeros ≡ Some (0 ∷ 0 ∷ 7 ∷ 8 ∷ [])
+up_to_the_end = refl
+
+past_the_end : over 5 (to 5 3 (7 ∷ 8 ∷ [])) zeros ≡ None
+past_the_end = refl
+
+without_an_offset : over 5 (contents (Some 5) None (Some (7 ∷ []))) zeros ≡ None
+without_an_offset = refl
+
+-- ---- a module ----
+
+abbrev segment : ElemMode → ElemSeg
+segment mode = record { ty = reft.Func; items = const.Func 0 ∷ []; mode = mode }
+
+abbrev with_table : List ElemSeg → Module
+with_table elems = record {
+  types = record { params = []; results = [] } ∷ [];
+  imports = [];
+  funcs = record { ty = 0; locals = []; body = [] } ∷ [];
+  tables = record { ty = reft.Func; limits = record { min = 3; max = None } } ∷ [];
+  mems = [];
+  globals = [];
+  exports = [];
+  start = None;
+  elems = elems;
+  datas = [];
+}
+
+abbrev no_store : Store
+no_store = record { funcs = []; tables = []; mems = []; globals = []; elems = []; datas = [] }
+
+abbrev null : RefVal
+null = FuncRef None
+
+-- its function in slot 1 alone, or in slots 1 and 2; a passive segment is copied nowhere
+once : (added no_store (with_table (segment (elem.Active 0 (const.I32 (pos 1))) ∷ segment elem.Passive ∷ [])) [] >>= λ a. Some a.filled.store.tables) ≡ Some (record { ty = reft.Func; most = None; slots = null ∷ FuncRef (Some 0) ∷ null ∷ [] } ∷ [])
+unfolding wrapped
+once = refl
+
+twice : (added no_store (with_table (segment (elem.Active 0 (const.I32 (pos 1))) ∷ segment (elem.Active 0 (const.I32 (pos 2))) ∷ [])) [] >>= λ a. Some a.filled.store.tables) ≡ Some (record { ty = reft.Func; most = None; slots = null ∷ FuncRef (Some 0) ∷ FuncRef (Some 0) ∷ [] } ∷ [])
+unfolding wrapped
+twice = refl
+
+-- past the end it traps, and the law says nothing
+past_its_end : (added no_store (with_table (segment (elem.Active 0 (const.I32 (pos 3))) ∷ [])) [] >>= λ a. Some a.filled.trapped) ≡ Some true
+unfolding wrapped
+past_its_end = refl
+
+up_to_its_end : (added no_store (with_table (segment (elem.Active 0 (const.I32 (pos 2))) ∷ [])) [] >>= λ a. Some a.filled.trapped) ≡ Some false
+unfolding wrapped
+up_to_its_end = refl

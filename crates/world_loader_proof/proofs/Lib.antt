@@ -1,0 +1,4 @@
+pub mod Loaded
+mod LoadedRows
+pub mod LoaderSteps
+pub mod Stubbed

@@ -1,0 +1,60 @@
+-- A loader that supplies something begins where its primary module alone is not linked; one that supplies nothing begins as that module.
+use Rattle.base_lists.proofs.Common.{◌≡◌, refl, List, [], ◌∷◌, Some, None, Bool, true, false}
+use Rattle.base_lists.specs.Options.{◌>>=◌}
+use Rattle.wasm_tree_spec.specs.Prelude.{FuncType, Import, Module}
+use Rattle.wasm_tree.specs.declared.module.ImportDesc.TheVariants as im
+use Rattle.wasm_meaning.specs.Prelude.{Func, Placeholder, is_there, links, instantiate, Secondary, LoaderWorld, begun_under}
+use Rattle.world_loader_proof.specs.Loaded.{primary_world}
+use Rattle.world_loader_proof.specs.Stubbed.{ImportsThemLast, stubbed, placeholders_begun}
+
+abbrev nothing : FuncType
+nothing = record { params = []; results = [] }
+
+abbrev importing : List Import → Module
+importing imports = record { types = nothing ∷ []; imports = imports; funcs = []; tables = []; mems = []; globals = []; exports = []; start = None; elems = []; datas = [] }
+
+abbrev one_import : Import
+one_import = record { «module» = 112 ∷ []; field = 48 ∷ []; desc = im.Func 0 }
+
+-- a primary module with this import, for which the loader has these secondary modules
+abbrev loading : List Secondary → LoaderWorld
+loading secondaries = record { primary = importing (one_import ∷ []); secondaries = secondaries; slot_table = 0; view = [] }
+
+abbrev a_placeholder : List Secondary
+a_placeholder = record { «module» = importing []; placeholders = ((112 ∷ [], 48 ∷ []), nothing) ∷ [] } ∷ []
+
+it_is_supplied : is_there (begun_under [] (loading a_placeholder)) ≡ true
+it_is_supplied = refl
+
+alone_it_is_not_linked : links [] (primary_world (loading a_placeholder)) ≡ false
+alone_it_is_not_linked = refl
+
+-- where nothing is supplied neither begins
+it_is_not_supplied : is_there (begun_under [] (loading [])) ≡ false
+it_is_not_supplied = refl
+
+nor_is_it_linked : links [] (primary_world (loading [])) ≡ false
+nor_is_it_linked = refl
+
+-- without an import both begin alike
+without_an_import : begun_under [] (record (loading []) { primary = importing [] }) ≡ instantiate [] (primary_world (record (loading []) { primary = importing [] }))
+without_an_import = refl
+
+-- ---- a function in place of the placeholder ----
+
+its_placeholder_is_last : ImportsThemLast (loading a_placeholder) [] (0 ∷ [])
+its_placeholder_is_last = record { slots = one_import ∷ []; all = refl; own = tt; placeholders = (refl, refl, refl, tt) }
+
+it_begins_as_with_a_function : begun_under [] (loading a_placeholder) ≡ begun_under [] (stubbed (loading a_placeholder) [] (0 ∷ [])) >>= λ b. Some (placeholders_begun [] (loading a_placeholder) b)
+it_begins_as_with_a_function = refl
+
+-- but for the placeholder itself
+abbrev has_placeholder : List Func → Bool
+has_placeholder (Placeholder slot ty ∷ fs) = true
+has_placeholder fs = false
+
+it_has_the_placeholder : begun_under [] (loading a_placeholder) >>= (λ b. Some (has_placeholder b.store.funcs)) ≡ Some true
+it_has_the_placeholder = refl
+
+the_other_has_a_function : begun_under [] (stubbed (loading a_placeholder) [] (0 ∷ [])) >>= (λ b. Some (has_placeholder b.store.funcs)) ≡ Some false
+the_other_has_a_function = refl

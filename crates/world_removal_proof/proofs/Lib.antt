@@ -1,0 +1,4 @@
+pub mod Holes
+pub mod SameItems
+pub mod Unreachable
+mod Examples

@@ -1,5 +1,0 @@
-use Rattle.world_simulation.proofs.Leaves.{added_leaves, alone_leaves, primary_leaves}
-use Rattle.world_simulation.proofs.instantiated_stores_match_their_modules.Goals as goal
-
-pub returns : goal.returns
-returns c = record { added = added_leaves; alone = alone_leaves; primary = primary_leaves }

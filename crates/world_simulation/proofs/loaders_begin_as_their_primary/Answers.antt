@@ -1,5 +1,0 @@
-use Rattle.world_simulation.proofs.Loaded.{begins_as_primary, primary_inst}
-use Rattle.world_simulation.proofs.loaders_begin_as_their_primary.Goals as goal
-
-pub returns : goal.returns
-returns c = record { begin = begins_as_primary; inst = primary_inst }

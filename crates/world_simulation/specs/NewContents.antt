@@ -1,0 +1,10 @@
+-- Tables and memories as they are allocated (WebAssembly Core 2.0, sections 4.5.3.2 and 4.5.3.3).
+use Rattle.std.specs.Prelude.{ℕ, ◌*◌}
+use Rattle.wasm_tree_spec.specs.Prelude.{TableType, Limits}
+use Rattle.wasm_meaning.specs.Prelude.{copies, Table, Memory, null_of}
+
+abbrev pub new_table : TableType → Table
+new_table t = record { ty = t.ty; most = t.limits.max; slots = copies t.limits.min (null_of t.ty) }
+
+abbrev pub new_memory : Limits → Memory
+new_memory l = record { most = l.max; pages = l.min; bytes = copies (65536 * l.min) 0 }
