@@ -21,10 +21,6 @@ older_not_before (Kept c) b e f g = cc
 older_not_before (New c) b e f g = cc
 older_not_before (Changed c d) b e f g = f g
 
--- the places of a block
-block_of : (at k : ℕ) → 4096 * k ≤ at → at < 4096 * k + 4096 → at / 4096 ≡ k
-block_of at k h i = omega arith
-
 -- the memory has as many bytes as the table says
 pub size_is : (t : Table) → size (pages_of t) ≡ t.size
 size_is t = length-map (numbers 0 t.size) (byte_at t.pool t.slots.items present) ∙ length-numbers 0 t.size

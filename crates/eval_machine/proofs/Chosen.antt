@@ -1,6 +1,6 @@
 -- What a `select` comes to, and a value that is written to a local or a global.
-use Rattle.base_lists.proofs.Common.{◌≡◌, ℕ, zero, suc, List, [], ◌∷◌, map, true, false, cond, Some, None, Ok, Err, refl, ap, slice_get, slice_set, nat_eq, map_at}
-use Rattle.wasm_tree_spec.specs.Prelude.{ValType, same_type}
+use Rattle.base_lists.proofs.Common.{◌≡◌, ℕ, zero, suc, List, [], ◌∷◌, map, true, false, Some, None, Ok, Err, refl, ap, slice_get, slice_set, map_at}
+use Rattle.wasm_tree_spec.specs.Prelude.{same_type}
 use Rattle.wasm_num.specs.Operations.{W32}
 use Rattle.wasm_meaning.specs.Prelude.{Val, Num, type_of, select_of, select_any}
 use Rattle.wasm_meaning.specs.Values.{is_number}
@@ -8,9 +8,6 @@ use Rattle.eval_spec.specs.declared.stop.Stop.TheVariants as why
 use Rattle.eval_machine.specs.declared.value.Value.{Value}
 use Rattle.eval_machine.specs.Prelude.{ended, val_of}
 use Rattle.eval_machine.specs.Held.{local_written}
-
-pub select_gives : (t : ValType) (c : ℕ) (b a : Val) (vs rest : List Val) → vs ≡ Num W32 c ∷ b ∷ a ∷ rest → same_type t (type_of b) ≡ true → same_type t (type_of a) ≡ true → ended (select_of t vs) ≡ Ok (cond (nat_eq c 0) b a ∷ rest)
-select_gives t c b a vs rest e f g = rw (e, f, g)
 
 pub any_is : (c : ℕ) (b : Val) (vs rest : List Val) → vs ≡ Num W32 c ∷ b ∷ rest → is_number (type_of b) ≡ true → select_any vs ≡ select_of (type_of b) vs
 any_is c b vs rest e f = rw (e, f)

@@ -1,6 +1,6 @@
 -- The globals, pages and segments that an instantiation begins with.
 use Rattle.base_lists.proofs.Common.{◌≡◌, ℕ, zero, suc, ◌+◌, ◌*◌, ◌<◌, ◌≤◌, List, [], ◌∷◌, ◌++◌, map, length, take, replicate, false, Option, Some, None, refl, sym, ap, ap₂, ◌∙◌, arith, get_or, min, slice_get, map-append, length-replicate, filter_map-append, same_Some, slice_get-get_or}
-use Rattle.std.proofs.lemmas.List.{append-nil, replicate-append-replicate}
+use Rattle.std.proofs.lemmas.List.{append-nil}
 use Rattle.base_lists.specs.Options.{◌>>=◌, all_there}
 use Rattle.wasm_tree_spec.specs.Prelude.{GlobalType, Limits, DataSeg, GlobalDef, Import, Module, imported_globals}
 use Rattle.wasm_tree.specs.Spaces.{global_of as global_imported}
@@ -76,9 +76,6 @@ module _ (m : Module) (slots : List GlobalSlot) (i : ℕ) (x : Import) (at : sli
       record { globals = rw same are.globals; standings = rw same are.standings }
 
 -- ---- segments and bytes ----
-
-pub one_false : (i : ℕ) → replicate i false ++ false ∷ [] ≡ replicate (i + 1) false
-one_false i = replicate-append-replicate i 1 false
 
 pub copies_are : {A : Type 0} (n : ℕ) (v : A) → copies n v ≡ replicate n v
 copies_are zero v = refl

@@ -11,12 +11,11 @@ use Rattle.wasm_meaning.specs.Control.{type_of_func as type_of}
 use Rattle.eval_spec.specs.declared.limits.TheConstants.{MOST_TURNS}
 use Rattle.eval_spec.specs.declared.stop.Stop.{Stop}
 use Rattle.eval_spec.specs.declared.stop.Stop.TheVariants as why
-use Rattle.eval_spec.specs.Prelude.{State, Stage, Going, Stopped, Finished, is_going, stop_of, takes_and_gives_nothing, ComesTo, here, call_end, host_call, host_opened, after_start, booted, imported_func, instantiated, own_inst}
+use Rattle.eval_spec.specs.Prelude.{State, Stage, Going, Stopped, Finished, is_going, stop_of, takes_and_gives_nothing, ComesTo, here, call_end, host_call, host_opened, after_start, booted, imported_func, own_inst}
 use Rattle.eval_proof.specs.Laws.{QuietEndsAreUnique}
 use Rattle.eval_machine.specs.declared.kept.Kept.{Kept}
 use Rattle.eval_machine.specs.declared.registers.Registers.{Registers}
 use Rattle.eval_machine.specs.Prelude.{IsInstantiated, CallEnds, IsReady, MemoryStays, Stays, Fits, IsUnmarked, base_of, state_in}
-use Rattle.eval_machine.specs.Calls.{StopsBoot}
 use Rattle.eval_machine.specs.Flows.{RunsFrame, entered}
 use Rattle.block_pool.specs.Pages.{Pages}
 use Rattle.eval_machine.proofs.Stays.{fits_still}
@@ -145,17 +144,11 @@ pub ready_after : EvaluatedRefsAreThere → EvaluatedGlobalsAreTyped → (m : Mo
 ready_after there typed m valid k new func is some ends stays =
     is_ready m valid there typed new (fits_still m k new is.fits stays) (unmarked_still k.memory new.memory stays.memory is.unmarked) (started m k func is some ∙ ends)
 
-pub start_stops : (m : Module) (k new : Kept) (func : ℕ) (x : Stop) → IsInstantiated m k → m.start ≡ Some func → CallEnds m func k (Some x) new → StopsBoot m x
-start_stops m k new func x is some ends = ap stop_of (started m k func is some ∙ ends)
-
 still_stopped : (m : Module) (t : Stage) (start : Option ℕ) (x : Stop) → stop_of t ≡ Some x → stop_of (after_start m t start) ≡ Some x
 still_stopped m (Stopped y left) None x e = e
 still_stopped m (Stopped y left) (Some f) x e = e
 still_stopped m (Finished s) start x e = absurd (let k = e in cc)
 still_stopped m (Going s es) start x e = absurd (let k = e in cc)
-
-pub stops_before : (m : Module) (x : Stop) → stop_of (instantiated m MOST_TURNS) ≡ Some x → StopsBoot m x
-stops_before m x e = still_stopped m (instantiated m MOST_TURNS) m.start x e
 
 -- the start of a valid module has its type
 pub start_typed : (m : Module) → ItemsHold m → (func : ℕ) → m.start ≡ Some func → IsSome (type_of_func m func)

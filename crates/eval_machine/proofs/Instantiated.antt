@@ -1,5 +1,5 @@
 -- The instantiation of a valid module, from its state at first to the last data segment.
-use Rattle.base_lists.proofs.Common.{◌≡◌, ℕ, suc, ◌+◌, ◌*◌, ◌<◌, ◌≤◌, List, [], ◌∷◌, ◌++◌, map, length, replicate, Bool, true, false, Option, Some, None, refl, sym, ap, ◌∙◌, arith, nat_lt, slice_get, le-ltb, lt-ltb, same_Some, slice_get_within, length-replicate}
+use Rattle.base_lists.proofs.Common.{◌≡◌, ℕ, suc, ◌+◌, ◌*◌, ◌<◌, ◌≤◌, List, [], ◌∷◌, ◌++◌, map, length, replicate, Bool, false, Option, Some, None, refl, sym, ap, ◌∙◌, arith, nat_lt, slice_get, le-ltb, same_Some, slice_get_within}
 use Rattle.std.proofs.Common.{length-append}
 use Rattle.base_lists.specs.Places.{places}
 use Rattle.wasm_tree_spec.specs.Prelude.{Limits, GlobalDef, Module, imported_memories, memories_of}
@@ -58,20 +58,6 @@ blank_written (l ∷ []) None b = elim b [ ]
 blank_written (l ∷ []) (Some p) b = ap (λ c. c.written) (sym b.0)
 blank_written (l ∷ k ∷ ls) p b = elim b [ ]
 
-pub blank_fits : (ls : List Limits) (p : Option Pages) → IsBlank ls p → MemoryFits ls p
-blank_fits [] None b = tt
-blank_fits [] (Some p) b = elim b [ ]
-blank_fits (l ∷ []) None b = elim b [ ]
-blank_fits (l ∷ []) (Some p) b = (ap (λ c. length c.bytes) b.0 ∙ length-replicate (65536 * l.min) 0, b.1.1)
-blank_fits (l ∷ k ∷ ls) p b = elim b [ ]
-
-pub blank_unmarked : (ls : List Limits) (p : Option Pages) → IsBlank ls p → IsUnmarked p
-blank_unmarked [] None b = tt
-blank_unmarked [] (Some p) b = elim b [ ]
-blank_unmarked (l ∷ []) None b = elim b [ ]
-blank_unmarked (l ∷ []) (Some p) b = b.1.0
-blank_unmarked (l ∷ k ∷ ls) p b = elim b [ ]
-
 -- ---- the stages ----
 
 still_stopped : {A : Type 0} (f : State → A → Stage) (t : Stage) (xs : List A) (x : Stop) → stop_of t ≡ Some x → stop_of (in_order f t xs) ≡ Some x
@@ -79,9 +65,6 @@ still_stopped f (Stopped y left) [] x e = e
 still_stopped f (Stopped y left) (z ∷ xs) x e = e
 still_stopped f (Finished s) xs x e = absurd (let k = e in cc)
 still_stopped f (Going s es) xs x e = absurd (let k = e in cc)
-
-pub many_stop : (m : Module) → 1 < length (memories_of m) → stop_of (instantiated m MOST_TURNS) ≡ Some why.Memory
-many_stop m lt = let b : nat_lt 1 (length (memories_of m)) ≡ true = lt-ltb 1 (length (memories_of m)) lt in rw b refl
 
 module _ (m : Module) (hold : ItemsHold m) (single : length (memories_of m) ≤ 1) (gs : List GlobalSlot) (g : AreFirst m gs) where
   abbrev first : State

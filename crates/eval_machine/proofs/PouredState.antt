@@ -1,7 +1,7 @@
 -- The active data segments of an instantiation, one after the other.
 use Rattle.base_lists.proofs.Common.{◌≡◌, ℕ, ℤ, zero, suc, ◌+◌, ◌<◌, ◌≤◌, List, [], ◌∷◌, ◌++◌, length, drop, replicate, Bool, true, false, cond, ◌||◌, Option, Some, None, refl, sym, ap, ◌∙◌, inl, inr, arith, slice_set, subst, length-map, length-replicate, length-set, nat_eq, nat_le, slice_get, cases_lt, cases_eq, cases_order, eq-eqb, eqb-true, leb-true, get_or_from_slice_get, same_Some, slice_get_past, slice_get_within, left_true, right_true, numbers_at, length-numbers, push_last, set_other, replicate_at}
 use Rattle.std.proofs.Common.{length-append}
-use Rattle.std.proofs.Math.Seq.{drop-cons, drop-length}
+use Rattle.std.proofs.Math.Seq.{drop-cons}
 use Rattle.std.proofs.lemmas.Bool.{leb-false}
 use Rattle.base_lists.specs.Options.{◌>>=◌}
 use Rattle.wasm_tree_spec.specs.Prelude.{Memories, Limits, ConstExpr, DataSeg, DataMode, Module, imported_memories, memories_of}
@@ -301,6 +301,3 @@ module _ (m : Module) (single : length (memories_of m) ≤ 1) (first : Option Pa
       by (data'.Active memory offset) is None h k = absurd (let j = k in cc)
       by (data'.Active memory offset) is (Some y) h k = stops_there memory offset new x is (subst (λ y. PoursData m memory offset d.bytes p (Some y) new) (same_Some y x k) h) s
       by data'.Passive is stop h k = absurd (let j : None ≡ Some x = sym h.0 ∙ k in cc)
-
-pub all_poured : (m : Module) (first : Option Pages) (flags : List Bool) (p : Option Pages) (now : List Bool) → Stands m first flags (length m.datas) p now → PoursDatas m first flags None p now
-all_poured m first flags p now stands s = stands.leads s ∙ ap (λ xs. in_order (with_data m) (Finished (data_state m s p now)) (datas_from m (length m.datas) xs)) (drop-length m.datas)

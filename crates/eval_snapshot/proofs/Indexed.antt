@@ -1,5 +1,5 @@
 -- Steps of a loop that goes over a list and writes one item at a time, by its place.
-use Rattle.std.proofs.Common.{◌≡◌, ◌∙◌, ap, refl, ℕ, zero, suc, ◌+◌, List, [], ◌∷◌, ◌++◌, take, drop, set, length, Some, slice_get, add-one, arith}
+use Rattle.std.proofs.Common.{◌≡◌, ◌∙◌, ap, refl, ℕ, zero, suc, ◌+◌, List, [], ◌∷◌, ◌++◌, take, drop, set, Some, slice_get, add-one, arith}
 use Rattle.eval_snapshot_spec.specs.Snapshot.{indexed}
 
 -- xs with f of each item before i, whose place is counted from n on
@@ -20,16 +20,3 @@ written_suc f n (z ∷ zs) (suc i) x y e h = ap (λ ws. f n z ∷ ws) (written_s
 -- f of the item at i goes into its place
 pub written_more : {A : Type 0} (f : ℕ → A → A) (n : ℕ) (xs : List A) (i : ℕ) (x y : A) → Some x ≡ slice_get xs i → y ≡ f (n + i) x → set (written f n xs i) i y ≡ written f n xs (i + 1)
 written_more f n xs i x y e h = rw add-one (written_suc f n xs i x y e h)
-
--- an item that f leaves as it is
-pub written_same : {A : Type 0} (f : ℕ → A → A) (n : ℕ) (xs : List A) (i : ℕ) (x : A) → Some x ≡ slice_get xs i → x ≡ f (n + i) x → written f n xs i ≡ written f n xs (i + 1)
-written_same f n xs i x e h = rw add-one (by n xs i e h)
-  where
-    by : (n : ℕ) (xs : List _) (i : ℕ) → Some x ≡ slice_get xs i → x ≡ f (n + i) x → written f n xs i ≡ written f n xs (suc i)
-    by n [] i e h = cc
-    by n (z ∷ zs) zero e h = let same : x ≡ z = cc in ap (λ w. w ∷ zs) ((let q : z ≡ x = cc in q) ∙ h ∙ ap (λ k. f k x) (let p : n + 0 ≡ n = omega arith in p) ∙ ap (f n) same)
-    by n (z ∷ zs) (suc i) e h = ap (λ ws. f n z ∷ ws) (by (suc n) zs i e (h ∙ ap (λ k. f k x) (let p : n + suc i ≡ suc n + i = omega arith in p)))
-
-pub all_written : {A : Type 0} (f : ℕ → A → A) (n : ℕ) (xs : List A) → written f n xs (length xs) ≡ indexed f n xs
-all_written f n [] = refl
-all_written f n (x ∷ xs) = ap (λ ys. f n x ∷ ys) (all_written f (suc n) xs)

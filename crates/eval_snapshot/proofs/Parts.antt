@@ -6,7 +6,7 @@ use Rattle.wasm_meaning.specs.Prelude.{Text}
 use Rattle.eval_spec.specs.Prelude.{State}
 use Rattle.eval_machine.specs.declared.kept.Kept.{Kept}
 use Rattle.eval_machine.specs.Prelude.{state_in}
-use Rattle.eval_snapshot_spec.specs.Snapshot.{added_funcs, declared_snapshot, export_left, globals_left, memory_segments, old_segments, snapshot, snapshot_tree}
+use Rattle.eval_snapshot_spec.specs.Snapshot.{added_funcs, export_left, globals_left, memory_segments, old_segments, snapshot, snapshot_tree}
 
 -- the segments, then the globals, the functions and the exports
 pub tree_is : (m : Module) (s : State) (evaluated kept : List Text) (n i : ℕ) (put t : Module) (gs : List GlobalDef) (es : List Export) → n ≡ length (funcs_of m) → i ≡ length (imported_globals m.imports) →
@@ -18,10 +18,6 @@ tree_is m s evaluated kept n i put t gs es en ei ep eg et ee = rw (ee, et, eg, e
 pub of_none : (m : Module) (s : State) (evaluated kept : List Text) → length evaluated ≡ 0 → m ≡ snapshot m s evaluated kept
 of_none m s [] kept e = refl
 of_none m s (name ∷ names) kept e = absurd (omega (arith, e))
-
-pub of_some : (m : Module) (s : State) (evaluated kept : List Text) → 0 < length evaluated → declared_snapshot m s evaluated kept ≡ snapshot m s evaluated kept
-of_some m s [] kept lt = absurd (omega (arith, lt))
-of_some m s (name ∷ names) kept lt = refl
 
 -- of the same module, with the same names
 pub of_same : (m n t : Module) (k : Kept) (evaluated ev kept kp : List Text) → t ≡ snapshot n (state_in n k) ev kp → n ≡ m → ev ≡ evaluated → kp ≡ kept → t ≡ snapshot m (state_in m k) evaluated kept

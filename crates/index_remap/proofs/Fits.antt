@@ -1,20 +1,13 @@
 -- What holds of a whole list holds of each item, and of a block what holds of what it holds.
 use Rattle.base_lists.proofs.Common.{◌≡◌, ℕ, ◌<◌, List, [], ◌∷◌, length, get_or, Bool, ◌&&◌, IsTrue, refl, sym, ap, ap₂, ◌∙◌, list_all, map, slice_get_read, list_all-append, list_all-map, left_true, right_true, list_all_each}
-use Rattle.wasm_tree_spec.specs.Prelude.{BlockType, Instr, fold_out-Instr, map-Instr, Block, Loop, If, outs-Block, outs-Loop, outs-If, all_pass_step, FuncType}
+use Rattle.wasm_tree_spec.specs.Prelude.{BlockType, Instr, fold_out-Instr, map-Instr, Block, Loop, If, outs-Block, outs-Loop, outs-If, all_pass_step}
 use Rattle.wasm_tree.specs.declared.instr.Instr.TheOpen.{Instr-F}
 use Rattle.index_remap.specs.declared.remap.Remap.{Remap}
 use Rattle.index_remap.specs.Prelude.{has_entry, fits_all}
-use Rattle.index_remap.specs.Renumbered.{fits_type, fits, any_type}
+use Rattle.index_remap.specs.Renumbered.{fits_type, fits}
 
 pub each_at : {A : Type 0} (test : A → Bool) (xs : List A) (i : ℕ) (x : A) → IsTrue (list_all test xs) → i < length xs → x ≡ get_or xs i x → IsTrue (test x)
 each_at test xs i x h lt is = list_all_each test xs h i x (slice_get_read xs _ i x refl lt is)
-
-pub fits_at : (m : Remap) (body : List Instr) (i : ℕ) (x : Instr) → IsTrue (fits_all m body) → i < length body → x ≡ get_or body i x → IsTrue (fits m x)
-fits_at m = each_at (fits m)
-
-pub any_types : (m : Remap) (xs : List FuncType) → IsTrue (list_all (any_type m) xs)
-any_types m [] = refl
-any_types m (x ∷ xs) = any_types m xs
 
 module _ (m : Remap) where
   abbrev step : Instr-F Instr → Bool

@@ -2,7 +2,7 @@
 use Rattle.base_lists.proofs.Common.{◌≡◌, ℕ, zero, suc, List, [], ◌∷◌, ◌++◌, length, Option, Some, None, Bool, true, false, cond, option_and_then, slice_get, refl, sym, ap, subst, drop, slice_set, set_other}
 use Rattle.wasm_tree_spec.specs.Prelude.{Space}
 use native.Mathlib.Decide.{ℕ_discrete}
-use Rattle.wasm_meaning.specs.Prelude.{Outcome, Gives, Traps, IllTyped, or_trap, bind, onto, split_at, slice, overwrite, copies, or_ill_typed}
+use Rattle.wasm_meaning.specs.Prelude.{Outcome, Gives, Traps, IllTyped, or_trap, bind, onto, split_at, overwrite, copies, or_ill_typed}
 use Rattle.wasm_meaning.proofs.Outcomes.{AllOf, ill_typed, stopped, just}
 use Rattle.index_remap.specs.Prelude.{Pairing, OneToOne, OneToOneWhereWritten, is_written, OptRel, none, some, BothRel, both, ResRel, done, trap, wrong, ListRel, nil, cons}
 
@@ -55,11 +55,6 @@ pub any : {A : Type 0} (o : Outcome A) → AllOf (λ a. Unit {0}) o
 any IllTyped = ill_typed
 any Traps = stopped
 any (Gives a) = just tt
-
-pub same_rel : {A : Type 0} {P : A → A → Type 0} (o : Outcome A) → ((a : A) → P a a) → ResRel P o o
-same_rel Traps h = trap
-same_rel IllTyped h = wrong
-same_rel (Gives a) h = done (h a)
 
 pub cond_rel : {A B : Type 0} {P : A → B → Type 0} (b : Bool) {x y : Outcome A} {u v : Outcome B} → ResRel P x u → ResRel P y v → ResRel P (cond b x y) (cond b u v)
 cond_rel true p q = p
@@ -150,6 +145,11 @@ pub length_rel : {A B : Type 0} {P : A → B → Type 0} {xs : List A} {ys : Lis
 length_rel nil = refl
 length_rel (cons p r) = ap suc (length_rel r)
 
+-- what is so of related items
+pub each_rel : {A B : Type 0} {P Q : A → B → Type 0} {xs : List A} {ys : List B} → ((a : A) (b : B) → P a b → Q a b) → ListRel P xs ys → ListRel Q xs ys
+each_rel h nil = nil
+each_rel h (cons p r) = cons (h _ _ p) (each_rel h r)
+
 pub copies_rel : {A B : Type 0} {P : A → B → Type 0} (v : A) (w : B) (n : ℕ) → P v w → ListRel P (copies n v) (copies n w)
 copies_rel v w zero p = nil
 copies_rel v w (suc n) p = cons p (copies_rel v w n p)
@@ -158,9 +158,6 @@ pub split_rel : {A B : Type 0} {P : A → B → Type 0} {xs : List A} {ys : List
 split_rel zero r = some (record { first = nil; second = r })
 split_rel (suc n) nil = none
 split_rel (suc n) (cons p r) = then_rel (split_rel n r) (λ _ _ q. some (record { first = cons p q.first; second = q.second }))
-
-pub slice_rel : {A B : Type 0} {P : A → B → Type 0} {xs : List A} {ys : List B} (place n : ℕ) → ListRel P xs ys → OptRel (ListRel P) (slice xs place n) (slice ys place n)
-slice_rel place n r = then_rel (split_rel place r) (λ _ _ p. then_rel (split_rel n p.second) (λ _ _ q. some q.first))
 
 pub overwrite_rel : {A B : Type 0} {P : A → B → Type 0} {xs vs : List A} {ys ws : List B} (place : ℕ) → ListRel P xs ys → ListRel P vs ws → OptRel (ListRel P) (overwrite xs place vs) (overwrite ys place ws)
 overwrite_rel {P = P} {vs = vs} {ws = ws} place r s =

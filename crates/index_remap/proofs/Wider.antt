@@ -7,11 +7,7 @@ use Rattle.index_remap.specs.Related
 use Rattle.index_remap.specs.Prelude.{Pairing, OptRel, none, some, ListRel, nil, cons, RefRel, func, extern, ValRel, number, reference, OpRel, CodeRel, end, then, instead, FuncRel, defined, own, slot, StoreRel, LevelRel, FrameRel, GrowthRel, memory_grows, table_grows, EntryRel, running, mark, opening, waiting, ended, growing, ExternalValueRel, a_func, a_table, a_memory, a_global, KeyRel, BegunRel, PhaseRel, fresh, pending, opened, closed, RunRel, WithPassing, through, FramesBetween}
 use Rattle.index_remap.specs.Related.{by}
 use Rattle.index_remap.specs.Trampolines as between
-use Rattle.index_remap.proofs.Rel.{both_map}
-
-each : {A B : Type 0} {P Q : A → B → Type 0} {xs : List A} {ys : List B} → ((a : A) (b : B) → P a b → Q a b) → ListRel P xs ys → ListRel Q xs ys
-each h nil = nil
-each h (cons p ps) = cons (h _ _ p) (each h ps)
+use Rattle.index_remap.proofs.Rel.{both_map, each_rel}
 
 module _ (R : Pairing) (Stands : Inst → ℕ → List Instr → Type 0) (may : (j : Inst) (a : ℕ) (e : List Instr) → R.stands j a e → Stands j a e) where
   abbrev pub W : Pairing
@@ -85,10 +81,10 @@ module _ (R : Pairing) (Stands : Inst → ℕ → List Instr → Type 0) (may : 
   value_wider (reference r) = reference (ref_wider r)
 
   values_wider : {vs ws : List Val} → ListRel (ValRel R) vs ws → ListRel (ValRel W) vs ws
-  values_wider = each (λ _ _ v. value_wider v)
+  values_wider = each_rel (λ _ _ v. value_wider v)
 
   refs_wider : {rs ss : List RefVal} → ListRel (RefRel R) rs ss → ListRel (RefRel W) rs ss
-  refs_wider = each (λ _ _ r. ref_wider r)
+  refs_wider = each_rel (λ _ _ r. ref_wider r)
 
   func_wider : {f g : Func} → FuncRel R f g → FuncRel W f g
   func_wider (defined c) = defined (code_wider c)
@@ -113,7 +109,7 @@ module _ (R : Pairing) (Stands : Inst → ℕ → List Instr → Type 0) (may : 
   level_wider l = record { values = values_wider l.values; code = code_wider l.code; gives = l.gives; takes = l.takes; back = code_wider l.back }
 
   frame_wider : {f g : Frame} → FrameRel R f g → FrameRel W f g
-  frame_wider f = record { locals = values_wider f.locals; results = f.results; levels = each (λ _ _ l. level_wider l) f.levels }
+  frame_wider f = record { locals = values_wider f.locals; results = f.results; levels = each_rel (λ _ _ l. level_wider l) f.levels }
 
   growth_wider : {g h : Growth} → GrowthRel R g h → GrowthRel W g h
   growth_wider (memory_grows a) = memory_grows a
@@ -141,7 +137,7 @@ module _ (R : Pairing) (Stands : Inst → ℕ → List Instr → Type 0) (may : 
   thing_wider (a_global a) = a_global a
 
   keys_wider : {K : Type 0} {xs ys : List (K × ExternalValue)} → ListRel (KeyRel R) xs ys → ListRel (KeyRel W) xs ys
-  keys_wider = each (λ _ _ k. record { key = k.key; thing = thing_wider k.thing })
+  keys_wider = each_rel (λ _ _ k. record { key = k.key; thing = thing_wider k.thing })
 
   begun_wider : {b c : Begun} → BegunRel R (FramesBetween R) b c → BegunRel W (FramesBetween W) b c
   begun_wider b = record { store = store_wider b.store; entries = stack_wider b.entries; closed = stack_wider b.closed; trapped = b.trapped; view = keys_wider b.view; owned = keys_wider b.owned }

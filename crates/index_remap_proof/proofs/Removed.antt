@@ -57,12 +57,6 @@ apart e = absurd (let k = ap count e in cc)
     count None = []
     count (Some t) = t.results
 
--- no entry would do for it
-none_agrees : (x : ℕ) → Keeps (type_of_func before 1) (type_of_func after x) → ⊥
-none_agrees zero h = apart (h gives_number refl)
-none_agrees (suc zero) h = apart (h gives_number refl)
-none_agrees (suc (suc x)) h = absurd (let k = h gives_number refl in cc)
-
 types_agree : (i : ℕ) → IsTrue (kept Types i) → Keeps (slice_get before.types i) (slice_get after.types (slice_index map.types i))
 types_agree zero h t e = e
 types_agree (suc zero) h t e = e

@@ -44,9 +44,6 @@ table_at lp ts p t are h =
     let m = module_there lp p (omega (arith, are.one_each)) in
     record { tree = m.0; at = m.1; table = are.right p m.0 t m.1 h }
 
-entity_in : ℕ → ExportDesc → linking.Entity
-entity_in p d = record { part = p; what = d }
-
 pub joined_found : (lp : List linking.Part) (ts : List Table) (i : Import) (p : ℕ) (t : Table) (o : Option ExportDesc) → AreTables lp ts → linking.source_of lp i ≡ Some p → slice_get ts p ≡ Some t
     → get_by (λ k. slice_cmp nat_cmp i.field k.now) t.exports ≡ o → linking.joined lp i ≡ option_map (λ d. let e : linking.Entity = record { part = p; what = d } in e) o
 joined_found lp ts i p t o are source at found =
@@ -87,7 +84,3 @@ imported_some lp ts e t n are at found =
     let z : 0 + e.part ≡ e.part = omega arith in
     let number : slice_get (linking.sites lp) (imports_before lp e.part + n) ≡ Some s = site_at lp 0 e.part n x.tree x.at (omega (arith, within)) ∙ ap (λ p. let q : linking.Site = record { part = p; import = n } in Some q) z in
     (s, ap (λ k. slice_get (linking.sites lp) (k + n)) x.table.first_import ∙ number, rw (x.at, look) refl)
-
--- a part that is not there has no entities
-pub imported_past : (lp : List linking.Part) (ts : List Table) (e : linking.Entity) → AreTables lp ts → length ts ≤ e.part → linking.imported_as lp e ≡ None
-imported_past lp ts e are h = rw (module_past lp e.part (omega (arith, are.one_each))) refl

@@ -106,9 +106,6 @@ step_to ps e n (g, at, part, init) = (
   ap (λ o. option_and_then (λ x. let r : linking.Read = record { part = e.part; expr = x } in Some (paths.LeadsTo r)) o) init ∙ ap (λ p. let r : linking.Read = record { part = p; expr = g.init } in Some (paths.LeadsTo r)) (sym part),
 )
 
-pub step_none : (ps : List Part) (e : linking.Entity) → linking.initial (named_modules ps) e ≡ None → IsEndStep ps (linking.Defined e) Nowhere
-step_none ps e h = ap (λ o. option_and_then (λ x. let r : linking.Read = record { part = e.part; expr = x } in Some (paths.LeadsTo r)) o) h
-
 -- the end of an import that has a number
 pub end_numbered : (ps : List Part) (sites : List Site) (ends : List Ending) (n : ℕ) (s : linking.Site) (e : Ending) → AreSites ps sites → AreKnown ps sites ends → slice_get (linking.sites (named_modules ps)) n ≡ Some s → slice_get ends n ≡ Some e
     → linking.end_of (named_modules ps) s ≡ Some (the_end e)
@@ -130,9 +127,6 @@ step_read ps p x s e step at end is = by step is
     by (Goes n) (r, a, b) = (r, a, same ∙ b)
     by (Ends r) a = same ∙ a
     by Nowhere a = same ∙ a
-
-pub step_unread : (ps : List Part) (p x : ℕ) → linking.global_import (named_modules ps) p x ≡ None → IsStep {F = Read} (linking.read_step (named_modules ps)) (own_reads (named_modules ps)) the_read (record { part = p; expr = const.Global x }) Nowhere
-step_unread ps p x at = ap (λ o. linking.end_step (named_modules ps) (option_and_then (linking.end_of (named_modules ps)) o)) at
 
 -- ---- faults ----
 

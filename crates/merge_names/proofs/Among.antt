@@ -5,9 +5,6 @@ use Rattle.merge_names.specs.Names.{among}
 pub same_from : (x y : List ℕ) → bytes_eq x y ≡ true → x ≡ y
 same_from x y e = (bytes_eq-Decides x y).0 e
 
-pub eq_self : (x : List ℕ) → bytes_eq x x ≡ true
-eq_self x = (bytes_eq-Decides x x).1 refl
-
 -- the tests of one more name
 pub among_push : (ns : List (List ℕ)) (x q : List ℕ) → among (ns ++ x ∷ []) q ≡ cond (bytes_eq x q) true (among ns q)
 among_push [] x q = elim (bytes_eq x q) as (λ b. b || false ≡ cond b true false) [ true ↦ refl | false ↦ refl ]

@@ -1,16 +1,8 @@
 -- The first that a function gives of a list, looked for from the left.
-use Rattle.base_lists.proofs.Common.{◌≡◌, ℕ, ◌+◌, ◌<◌, ◌≤◌, length, drop, get_or, List, Option, Some, None, refl, ◌∙◌, drop_all, at_drop_more}
+use Rattle.base_lists.proofs.Common.{◌≡◌, ℕ, ◌+◌, ◌<◌, ◌≤◌, length, drop, get_or, List, Option, None, refl, ◌∙◌, at_drop_more}
 use Rattle.split_plan.specs.Plans.{first_given}
 
 module _ {A B : Type 0} (f : A → Option B) (xs : List A) where
   -- nothing is given here
   pub goes_on : (i : ℕ) (d : A) → i < length xs → f (get_or xs i d) ≡ None → first_given f xs ≡ first_given f (drop i xs) → first_given f xs ≡ first_given f (drop (i + 1) xs)
   goes_on i d lt none h = h ∙ at_drop_more (first_given f) xs i d lt ∙ rw none refl
-
-  -- something is
-  pub is_here : (i : ℕ) (d : A) (y : B) → i < length xs → f (get_or xs i d) ≡ Some y → first_given f xs ≡ first_given f (drop i xs) → first_given f xs ≡ Some y
-  is_here i d y lt some h = h ∙ at_drop_more (first_given f) xs i d lt ∙ rw some refl
-
-  -- nothing is left
-  pub is_nowhere : (i : ℕ) → length xs ≤ i → first_given f xs ≡ first_given f (drop i xs) → first_given f xs ≡ None
-  is_nowhere i le h = h ∙ rw (drop_all i xs le) refl

@@ -1,13 +1,12 @@
 -- From the inputs of a task to its job.
-use Rattle.base_lists.proofs.Common.{◌≡◌, ◌∙◌, sym, refl, ap, subst, Bool, true, false, cond, Result, Ok, Err, IfOk, IfErr, map, ℕ, zero, suc, ◌≤◌, List, [], ◌∷◌, ◌++◌, take, drop, length, arith, Contains, list_all}
+use Rattle.base_lists.proofs.Common.{◌≡◌, ◌∙◌, sym, refl, ap, subst, Bool, true, false, cond, map, ℕ, zero, suc, ◌≤◌, List, [], ◌∷◌, ◌++◌, take, drop, length, arith, Contains, list_all}
 use Rattle.std.proofs.Common.{length-append}
-use Rattle.tools_cli.specs.Prelude.{Text, MetadceTask, SplitTask, CtorEvalTask, SampleTask, Task, Merge, Metadce, Split, CtorEval, Sample, many_of, modules_of, texts_of, inputs_of, Job, Usage, Refused, Done, Output, Decision, Refuses, Makes, not_linked, not_joined, merged, Reduces, no_graph, not_swept, reduced, Splits, no_plan, not_parted, parted, Evaluates, not_evaluated, evaluated, Samples, not_merged, sampled, Decides, is_within, spelled_output, job_of, AllLoad, OneFails, module_files, contents_of, InputsJob, not_loaded, decided, Entry, written_names, total, StopsWith, PrintsAsAllowed, input_entry, input_entries, input_texts, decision_value}
+use Rattle.tools_cli.specs.Prelude.{Text, MetadceTask, SplitTask, CtorEvalTask, SampleTask, Task, Merge, Metadce, Split, CtorEval, Sample, many_of, modules_of, texts_of, inputs_of, Job, Usage, Refused, Done, Output, Decision, Refuses, Makes, not_linked, not_joined, merged, Reduces, no_graph, not_swept, reduced, Splits, no_plan, not_parted, parted, Evaluates, not_evaluated, evaluated, Samples, not_merged, sampled, Decides, is_within, spelled_output, job_of, AllLoad, OneFails, module_files, contents_of, InputsJob, not_loaded, decided, Entry, written_names, total, PrintsAsAllowed, input_entry, input_entries, input_texts}
 use Rattle.tools_cli.specs.CommandLine.{outputs_of}
 use Rattle.tools_cli.specs.Job.{Missing}
 use Rattle.wasm_tree_spec.specs.Prelude.{Module}
 use Rattle.tools_cli.specs.declared.gather.Input.{Input}
 use Rattle.tools_cli.specs.declared.decide.Decision as code
-use Rattle.tools_cli.specs.declared.stop.Stop.{Stop}
 use Rattle.tools_cli.proofs.MetadceDecided.{of_one}
 use Rattle.tools_cli.proofs.SplitDecided.{of_one as of_one_split}
 use Rattle.tools_cli.proofs.CtorEvalDecided.{of_one as of_one_eval}
@@ -130,12 +129,3 @@ job_allowed t texts (Makes outputs lines) h = within_allowed t texts outputs lin
 pub inputs_job_allowed : (t : Task) (inputs : List Entry) (job : Job) → InputsJob t inputs job → JobIsAllowed t (text_contents t inputs) job
 inputs_job_allowed t inputs job (not_loaded text h) = tt
 inputs_job_allowed t inputs job (decided trees decision loads h) = job_allowed t (text_contents t inputs) decision (decision_allowed t trees (contents_of inputs) (text_contents t inputs) decision h)
-
--- a task's decision, and why there is none
-pub task_decided : {E : Type 0} (r : Result code.Decision E) (t u : Task) (trees : List Module) (contents : List Text) → IfOk r (λ made. Decides u trees contents (decision_value made)) → t ≡ u → IfOk r (λ made. Decides t trees contents (decision_value made))
-task_decided (Ok made) t u trees contents h e = subst (λ v. Decides v trees contents (decision_value made)) (sym e) h
-task_decided (Err x) t u trees contents h e = tt
-
-pub task_stops : {A : Type 0} (r : Result A Stop) (t u : Task) (trees : List Module) (contents : List Text) → IfErr r (StopsWith (λ text. Decides u trees contents (Refuses text))) → t ≡ u → IfErr r (StopsWith (λ text. Decides t trees contents (Refuses text)))
-task_stops (Ok a) t u trees contents h e = tt
-task_stops (Err s) t u trees contents h e = let P : Task → Type 0 = λ v. StopsWith (λ text. Decides v trees contents (Refuses text)) s in subst P (sym e) h

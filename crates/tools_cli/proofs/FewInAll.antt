@@ -1,5 +1,5 @@
 -- What stands in the parts of a merge together.
-use Rattle.base_lists.proofs.Common.{◌≡◌, refl, ℕ, zero, suc, ◌*◌, ◌≤◌, ◌<◌, ◌^◌, List, [], ◌∷◌, length, Some, None, cond, ltb, true, false, Bool, arith, nat_tests}
+use Rattle.base_lists.proofs.Common.{◌≡◌, ℕ, zero, suc, ◌*◌, ◌≤◌, ◌<◌, ◌^◌, List, [], ◌∷◌, length, cond, true, false, Bool, arith}
 use Rattle.std.proofs.Common.{length-append}
 use Rattle.wasm_tree_spec.specs.Prelude.{Space, Types, Functions, Tables, Memories, Globals, ElementSegments, DataSegments, limit, Module}
 use Rattle.wasm_tree.specs.declared.which.Which.TheVariants as which
@@ -8,8 +8,7 @@ use Rattle.wasm_meaning.specs.Prelude.{defined_count, defined_before, Part, site
 use Rattle.base_lists.specs.Places.{count_of}
 use Rattle.merge_spec.specs.Prelude.{imports_kind}
 use Rattle.merge_spec.specs.Joined as joined
-use Rattle.tools_cli.specs.Prelude.{Source, MergeTask, Merge, parts_of, refused_before, IsWithinLimits}
-use Rattle.tools_cli.specs.Texts.{too_many_parts}
+use Rattle.tools_cli.specs.Prelude.{Source, parts_of, IsWithinLimits}
 use Rattle.tools_cli.specs.Job.{most_parts}
 use Rattle.merge_join.proofs.ByPart.{sites_in_length}
 
@@ -96,10 +95,3 @@ parts_few sources trees few h = few_in_all (parts_of sources trees) (omega (arit
 
 pub imports_few : (sources : List Source) (trees : List Module) → length sources ≤ most_parts → Every IsWithinLimits trees → length (sites (parts_of sources trees)) < 2 ^ 32
 imports_few sources trees few h = let within = sites_few 0 (parts_of sources trees) (parts_within sources trees h) in omega (arith, parts_count sources trees, within)
-
-over_or_not : (b : Bool) → cond b (Some too_many_parts) None ≡ None → b ≡ false
-over_or_not true e = absurd (cc)
-over_or_not false e = refl
-
-pub begun_few : (merge : MergeTask) → refused_before (Merge merge) ≡ None → length merge.sources ≤ most_parts
-begun_few merge e = let test = over_or_not (ltb most_parts (length merge.sources)) e in grind (arith, nat_tests)

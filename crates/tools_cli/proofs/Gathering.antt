@@ -138,19 +138,6 @@ this_turn (Some held) names i d most left h before =
     (let P : List Text → Type 0 = λ ns. Contains (turns ns held left) (get_or names i d).now in
     subst P (sym (names-drop names i d h)) (contains_first (get_or names i d).now _))
 
-pub no_turn_yet : (o : Option Contents) (names : List (Bor Text)) (most : ℕ) → IfSome o (AreTurns names 0 most most)
-no_turn_yet None names most = tt
-no_turn_yet (Some held) names most = λ name h. h
-
-add_none : (g : Gathered) → g ≡ add_all [] g
-add_none (Whole rest) = refl
-add_none (Lacks name) = refl
-add_none (TooLong name) = refl
-
-pub no_file_yet : (o : Option Contents) (names : List (Bor Text)) (most : ℕ) → IfSome o (λ held. gathered (names_of names) held most ≡ add_all [] (gathered (names_of (drop 0 names)) held most))
-no_file_yet None names most = tt
-no_file_yet (Some held) names most = add_none _
-
 pub contains_name : (names : List (Bor Text)) (i : ℕ) (d : Bor Text) → i < length names → Contains (names_of names) (get_or names i d).now
 contains_name [] i d h = absurd (omega arith)
 contains_name (x ∷ names) zero d h = contains_first x.now (names_of names)

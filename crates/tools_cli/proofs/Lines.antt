@@ -6,8 +6,7 @@ use Rattle.tools_cli_words.specs.Vocabularies.{vocabulary_of}
 use Rattle.tools_cli_words.specs.declared.tool.Tool.{Tool}
 use Rattle.tools_cli_words.specs.declared.tool.Tool.TheVariants as tool
 use Rattle.tools_cli.specs.Prelude.{Source, are_apart, source_values, source_names}
-use Rattle.tools_cli.specs.CommandLine.{some_apart, make_merge, merge_of, metadce_of, split_of, ctor_eval_of, sample_of, task_of, tool_named, tool_in, said_to_tool, task_of_arguments}
-use Rattle.merge_names.specs.declared.mode.Mode.{Mode}
+use Rattle.tools_cli.specs.CommandLine.{some_apart, merge_of, metadce_of, split_of, ctor_eval_of, sample_of, task_of, tool_named, tool_in, said_to_tool, task_of_arguments}
 use Rattle.tools_cli.specs.declared.merge.Source as code
 
 -- a text, or another in its place
@@ -16,15 +15,6 @@ one_or None other = refl
 one_or (Some x) other = refl
 
 -- ---- the merge of arguments ----
-
-pub no_output : (sources : Option (List Source)) (mode : Option Mode) → make_merge sources None mode ≡ None
-no_output None mode = refl
-no_output (Some sources) mode = refl
-
-pub no_mode : (sources : Option (List Source)) (output : Option Text) → make_merge sources output None ≡ None
-no_mode None output = refl
-no_mode (Some sources) None = refl
-no_mode (Some sources) (Some output) = refl
 
 pub names_once : (xs : List code.Source) → map (λ (s : Source). s.name) (source_values xs) ≡ source_names xs
 names_once [] = refl
@@ -74,7 +64,3 @@ no_said (word ∷ rest) e = by (tool_named word) e ∙ sym (by_tool word rest)
     by : (o : Option Tool) → None ≡ option_and_then (λ t. said_together (vocabulary_of t) rest) o → None ≡ option_and_then (λ t. option_and_then (task_of_arguments t) (said_together (vocabulary_of t) rest)) o
     by None h = refl
     by (Some t) h = ap (option_and_then (task_of_arguments t)) h
-
-pub no_tool : (words : List Text) → None ≡ tool_in words → None ≡ task_of words
-no_tool [] e = sym no_words
-no_tool (word ∷ rest) e = ap (option_and_then (λ t. option_and_then (task_of_arguments t) (said_together (vocabulary_of t) rest))) e ∙ sym (by_tool word rest)

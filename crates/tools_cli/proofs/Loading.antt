@@ -1,5 +1,5 @@
 -- Files that are loaded one after another.
-use Rattle.base_lists.proofs.Common.{◌≡◌, ◌∙◌, sym, refl, ap, subst, ◌⊎◌, inl, inr, Bool, false, Some, Result, Ok, Err, ℕ, zero, suc, ◌+◌, ◌<◌, ◌≤◌, ◌^◌, List, [], ◌∷◌, ◌++◌, append_assoc, append-nil, add-one, drop, drop-cons, length, get_or, arith, drop_all}
+use Rattle.base_lists.proofs.Common.{◌≡◌, ◌∙◌, sym, refl, ap, subst, ◌⊎◌, inl, inr, Bool, false, Some, Result, Ok, Err, ℕ, zero, suc, ◌+◌, ◌<◌, ◌≤◌, ◌^◌, List, [], ◌∷◌, ◌++◌, append-nil, add-one, drop, drop-cons, length, get_or, arith, drop_all}
 use Rattle.base_lists.specs.Every.{Every}
 use Rattle.tools_cli.specs.Prelude.{Text, Loads, faulty, invalid, loaded, IsRead, IsAccepted, AllLoad, OneFails, most_input, Entry, fault_text, total, StopsWith, IsWithinLimits, refusal_text, input_entry, input_entries}
 use Rattle.wasm_tree_spec.specs.Prelude.{Module}
@@ -34,18 +34,6 @@ LoadSoFar inputs i trees = (rest : List Module) → AllLoad false (input_entries
 
 abbrev pub FailLater : List Input → ℕ → Type 0
 FailLater inputs i = (text : Text) → OneFails false (input_entries (drop i inputs)) text → OneFails false (input_entries inputs) text
-
-pub load_one_more : (inputs : List Input) (i : ℕ) (x : Input) (trees more : List Module) (tree : Module) → i < length inputs → x ≡ get_or inputs i x → more ≡ trees ++ tree ∷ [] → Loads false x.name.now x.bytes.items (Ok tree)
-    → LoadSoFar inputs i trees → LoadSoFar inputs (i + 1) more
-load_one_more inputs i x trees more tree lt is added loads before rest h =
-    let P : List Entry → Type 0 = λ l. AllLoad false l (tree ∷ rest) in
-    let Q : List Module → Type 0 = AllLoad false (input_entries inputs) in
-    subst Q (sym (append_assoc trees (tree ∷ []) rest) ∙ ap (λ l. l ++ rest) (sym added)) (before (tree ∷ rest) (subst P (sym (entries_at inputs i x lt is)) (loads, h)))
-
-pub fail_one_later : (inputs : List Input) (i : ℕ) (x : Input) (tree : Module) → i < length inputs → x ≡ get_or inputs i x → Loads false x.name.now x.bytes.items (Ok tree) → FailLater inputs i → FailLater inputs (i + 1)
-fail_one_later inputs i x tree lt is loads before text h =
-    let P : List Entry → Type 0 = λ l. OneFails false l text in
-    before text (subst P (sym (entries_at inputs i x lt is)) (inr (tree, loads, h)))
 
 pub all_load : (inputs : List Input) (i : ℕ) (trees : List Module) → length inputs ≤ i → LoadSoFar inputs i trees → AllLoad false (input_entries inputs) trees
 all_load inputs i trees over h =

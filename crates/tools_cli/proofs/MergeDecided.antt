@@ -1,5 +1,5 @@
 -- What merging the modules of a task decides.
-use Rattle.base_lists.proofs.Common.{◌≡◌, ◌∙◌, sym, refl, ap, subst, ◌⊎◌, inl, inr, None, Some, Err, map, ℕ, zero, suc, ◌+◌, ◌<◌, List, [], ◌∷◌, ◌++◌, append_assoc, append-nil, add-one, drop, drop-cons, length, get_or, slice_get, slice_index_or, arith, Bool, false, Result, Ok, IfOk, IfErr}
+use Rattle.base_lists.proofs.Common.{◌≡◌, ◌∙◌, sym, refl, ap, subst, ◌⊎◌, inl, inr, None, Some, Err, map, ℕ, zero, suc, ◌+◌, ◌<◌, List, [], ◌∷◌, ◌++◌, append-nil, length, slice_get, slice_index_or, arith, Bool, false, Result, Ok, IfOk, IfErr}
 use Rattle.tools_cli.specs.Prelude.{Text, Source, MergeTask, Merge, source_files, many_of, Decision, Refuses, Makes, Merges, not_linked, not_joined, merged, AreMerged, parts_of, link_text, StopsWith, source_values}
 use Rattle.tools_cli.specs.Texts.{join_text}
 use Rattle.wasm_tree_spec.specs.Prelude.{Module}
@@ -58,13 +58,6 @@ stops_named (Err stop) merge parts trees named h = stops_weaker (MergeFails merg
 pub length_once : (xs : List code.Source) → length (source_values xs) ≡ length xs
 length_once [] = refl
 length_once (x ∷ xs) = ap suc (length_once xs)
-
-pub named_one_more : (xs : List code.Source) (d : code.Source) (done : List Part) (tree : Module) (trees : List Module) → length done < length xs
-    → done ++ parts_of (source_values (drop (length done) xs)) (tree ∷ trees) ≡ (done ++ record { name = Some (get_or xs (length done) d).name.now; «module» = tree } ∷ []) ++ parts_of (source_values (drop (length done + 1) xs)) trees
-named_one_more xs d done tree trees lt =
-    ap (λ l. done ++ parts_of (source_values l) (tree ∷ trees)) (drop-cons xs (length done) d lt)
-    ∙ sym (append_assoc done (record { name = Some (get_or xs (length done) d).name.now; «module» = tree } ∷ []) (parts_of (source_values (drop (suc (length done)) xs)) trees))
-    ∙ ap (λ n. (done ++ record { name = Some (get_or xs (length done) d).name.now; «module» = tree } ∷ []) ++ parts_of (source_values (drop n xs)) trees) (sym (add-one (length done)))
 
 parts_end : (sources : List Source) → parts_of sources [] ≡ []
 parts_end [] = refl

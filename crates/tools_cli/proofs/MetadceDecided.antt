@@ -81,13 +81,6 @@ of_one metadce (tree ∷ []) (bytes ∷ text ∷ []) decision h = (tree, bytes, 
 of_one metadce (tree ∷ []) (bytes ∷ text ∷ other ∷ more) decision h = absurd h
 of_one metadce (tree ∷ other ∷ trees) contents decision h = absurd h
 
-pub one_decides : (metadce : MetadceTask) (tree : Module) (trees : List Module) (bytes text : Text) (contents : List Text) (decision : Decision) → trees ≡ tree ∷ [] → contents ≡ bytes ∷ text ∷ [] → Reduces metadce tree text decision
-    → Decides (Metadce metadce) trees contents decision
-one_decides metadce tree trees bytes text contents decision e f h =
-    let P : List Module → Type 0 = λ ts. Decides (Metadce metadce) ts contents decision in
-    let Q : List Text → Type 0 = λ cs. Decides (Metadce metadce) (tree ∷ []) cs decision in
-    subst P (sym e) (subst Q (sym f) h)
-
 pub decoding_is_unique : (trees rest : List Module) (tree : Module) → length trees ≡ 1 → trees ≡ tree ∷ rest → trees ≡ tree ∷ []
 decoding_is_unique trees [] tree one e = e
 decoding_is_unique trees (other ∷ rest) tree one e = absurd (let long = ap length e in omega arith)

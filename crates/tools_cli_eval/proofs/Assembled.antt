@@ -1,51 +1,31 @@
 -- What the calls that came to their ends make of the module.
-use Rattle.base_lists.proofs.Common.{◌≡◌, ◌∙◌, ap, ap₂, sym, refl, subst, ℕ, zero, suc, ◌≤◌, arith, List, [], ◌∷◌, length, take, is_some, Bool, true, false, cond, Option, Some, None, Result, Ok, Err, ◌⊎◌, inl, inr, option_map, cons_option, option_or}
+use Rattle.base_lists.proofs.Common.{◌≡◌, ◌∙◌, ap, sym, refl, subst, ℕ, zero, suc, ◌≤◌, arith, List, [], ◌∷◌, length, take, is_some, cond, Option, Some, None, ◌⊎◌, option_map, cons_option, option_or}
 use Rattle.wasm_tree_spec.specs.Prelude.{Which, Module}
 use Rattle.module_limits.specs.Counts.{over_limit}
 use Rattle.wasm_meaning.specs.Prelude.{Text}
 use Rattle.eval_spec.specs.declared.limits.TheConstants.{MOST_TURNS}
 use Rattle.eval_spec.specs.declared.stop.Stop.{Stop}
-use Rattle.eval_spec.specs.Prelude.{State, Stage, Going, Stopped, Finished, state_of, stop_of, booted, called_in_order, calls_finished, done_count, evaluated, state_at_end, stopped_by}
+use Rattle.eval_spec.specs.Prelude.{State, Stage, Going, Stopped, Finished, state_of, stop_of, booted, called_in_order, calls_finished, evaluated, state_at_end, stopped_by}
 use Rattle.eval_machine.specs.declared.kept.Kept.{Kept}
 use Rattle.eval_machine.specs.Prelude.{IsReady, state_in}
 use Rattle.eval_machine.specs.Calls.{StopsBoot}
 use Rattle.eval_snapshot_spec.specs.After.{IsAfter, TellsTheSame}
 use Rattle.eval_snapshot_spec.specs.Evaluated.{evaluated_count, evaluated_tree, first_missing, func_named, funcs_named, tree_in}
 use Rattle.eval_snapshot_spec.specs.Snapshot.{declared_snapshot, snapshot}
-use Rattle.eval_snapshot.specs.declared.faults.SnapshotFault.{SnapshotFault}
 use Rattle.eval_snapshot.specs.declared.faults.SnapshotFault.TheVariants as fault
-use Rattle.eval_snapshot.specs.Outcome.{SnapshotGives, outcome}
-use Rattle.tools_cli_eval.specs.declared.evaluation.Ending.{Ending}
 use Rattle.tools_cli_eval.specs.declared.evaluation.EvalFault.{EvalFault}
 use Rattle.tools_cli_eval.specs.declared.evaluation.EvalFault.TheVariants.{NoSuchExport, TooMany}
 use Rattle.tools_cli_eval.specs.declared.evaluation.Evaluation.{Evaluation}
 use Rattle.tools_cli_eval.specs.declared.evaluation.Ending.TheVariants.{Instantiation}
 use Rattle.tools_cli_eval.specs.declared.running.Calls.{Calls}
 use Rattle.tools_cli_eval.specs.Calls.{HaveEnded}
-use Rattle.tools_cli_eval.specs.Evaluations.{IsEvaluation, ended, ending_of, fault_of}
+use Rattle.tools_cli_eval.specs.Evaluations.{IsEvaluation, ended, fault_of}
 
 -- the turns that are left are not told
 turns_aside : (m : Module) (s : State) (t : ℕ) (evaluated kept : List Text) → snapshot m (record s { turns = t }) evaluated kept ≡ snapshot m s evaluated kept
 unfolding declared_snapshot
 turns_aside m s t [] kept = refl
 turns_aside m s t (name ∷ names) kept = refl
-
--- what a snapshot gives
-of_outcome : (o : Option Which) (t v : Module) → outcome o t ≡ Ok v → (o ≡ None) × (v ≡ t)
-of_outcome None t v e = let same : t ≡ v = cc in (refl, sym same)
-of_outcome (Some which) t v e = absurd (cc)
-
-pub snapshot_made : (m : Module) (s : State) (evaluated kept : List Text) (v : Module) → SnapshotGives m s evaluated kept (Ok v) → (over_limit (snapshot m s evaluated kept) ≡ None) × (v ≡ snapshot m s evaluated kept)
-snapshot_made m s evaluated kept v e = of_outcome (over_limit (snapshot m s evaluated kept)) (snapshot m s evaluated kept) v e
-
-of_fault : (o : Option Which) (t : Module) (which : Which) → outcome o t ≡ Err (fault.TooMany which) → option_map TooMany o ≡ Some (TooMany which)
-of_fault None t which e = absurd (cc)
-of_fault (Some w) t which e = let same : w ≡ which = cc in ap (λ x. Some (TooMany x)) same
-
-pub snapshot_refused : (m : Module) (s : State) (evaluated kept : List Text) (which : Which) → (◌≡◌ {A = SnapshotFault} (fault.TooMany which) fault.NoMemory) ⊎ SnapshotGives m s evaluated kept (Err (fault.TooMany which)) →
-    option_map TooMany (over_limit (snapshot m s evaluated kept)) ≡ Some (TooMany which)
-snapshot_refused m s evaluated kept which (inl e) = absurd (cc)
-snapshot_refused m s evaluated kept which (inr e) = of_fault (over_limit (snapshot m s evaluated kept)) (snapshot m s evaluated kept) which e
 
 -- the first of names that are there are there, and theirs are the first of the functions
 pub first_there : (m : Module) (names : List Text) (n : ℕ) → first_missing m names ≡ None → first_missing m (take n names) ≡ None

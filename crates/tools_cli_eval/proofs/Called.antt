@@ -1,13 +1,11 @@
 -- Calls in order: where a machine stands after some of them.
-use Rattle.base_lists.proofs.Common.{◌≡◌, ◌∙◌, ap, sym, refl, subst, ℕ, zero, suc, ◌+◌, ◌<◌, ◌≤◌, arith, List, [], ◌∷◌, ◌++◌, length, take, drop, get_or, Bool, true, false, cond, Option, Some, None, drop_all, drop_more, take_more}
+use Rattle.base_lists.proofs.Common.{◌≡◌, ◌∙◌, ap, sym, refl, ℕ, suc, ◌+◌, ◌<◌, ◌≤◌, arith, List, [], ◌∷◌, ◌++◌, length, take, drop, get_or, false, cond, Some, None, drop_all, drop_more, take_more}
 use Rattle.wasm_tree_spec.specs.Prelude.{Module}
-use Rattle.eval_spec.specs.declared.limits.TheConstants.{MOST_TURNS}
 use Rattle.eval_spec.specs.declared.stop.Stop.{Stop}
-use Rattle.eval_spec.specs.Prelude.{State, Stage, Going, Stopped, Finished, is_finished, stop_of, call_end, called_in_order, calls_finished, done_count, evaluated, stopped_by}
-use Rattle.eval_lists_proof.specs.Lists.{AddedAreEvaluated, NoneIsTheInstantiation}
+use Rattle.eval_spec.specs.Prelude.{State, Stage, Going, Stopped, Finished, is_finished, stop_of, call_end, called_in_order, calls_finished, done_count, evaluated}
+use Rattle.eval_lists_proof.specs.Lists.{AddedAreEvaluated}
 use Rattle.eval_machine.specs.declared.kept.Kept.{Kept}
-use Rattle.eval_machine.specs.Prelude.{IsLeft, IsReady, StopsCall, Rests, state_in}
-use Rattle.tools_cli_eval.specs.declared.running.Calls.{Calls}
+use Rattle.eval_machine.specs.Prelude.{IsLeft, StopsCall, Rests, state_in}
 use Rattle.tools_cli_eval.specs.Calls.{HaveEnded}
 
 -- so many came to their ends, and the rest is called from the machine's state
@@ -16,17 +14,6 @@ pub record Stands (m : Module) (funcs : List ℕ) (n : ℕ) (k : Kept) : Type 0 
   pub rest : evaluated m funcs ≡ called_in_order m (Finished (state_in m k)) (drop n funcs)
   pub counted : done_count m funcs ≡ n + calls_finished m (Finished (state_in m k)) (drop n funcs)
   pub quiet : evaluated m (take n funcs) ≡ Finished (state_in m k)
-
-behind_zero : (x y : ℕ) → x ≡ y → x ≡ 0 + y
-behind_zero x y e = omega (arith, e)
-
-pub stands_first : NoneIsTheInstantiation → (m : Module) (funcs : List ℕ) (k : Kept) → IsReady m k → Stands m funcs 0 k
-stands_first none m funcs k ready = record {
-  rests = ready.rests;
-  rest = ap (λ t. called_in_order m t funcs) ready.ends;
-  counted = behind_zero (done_count m funcs) (calls_finished m (Finished (state_in m k)) funcs) (ap (λ t. calls_finished m t funcs) ready.ends);
-  quiet = none m ∙ ready.ends;
-}
 
 module _ (m : Module) (funcs : List ℕ) (n : ℕ) (k : Kept) (stands : Stands m funcs n k) (within : n < length funcs) where
   abbrev f : ℕ

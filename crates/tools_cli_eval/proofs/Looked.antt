@@ -1,5 +1,5 @@
 -- Exports and functions that are looked up by their names.
-use Rattle.base_lists.proofs.Common.{◌≡◌, ◌∙◌, ap, sym, refl, subst, ℕ, zero, suc, ◌+◌, ◌-◌, ◌<◌, ◌≤◌, arith, List, [], ◌∷◌, ◌++◌, append_assoc, length, take, drop, get_or, slice_get, is_some, Bool, true, false, cond, Option, Some, None, filter_map, bytes_eq, at_drop_more, drop_more, cases_eq, same_Some, bytes_eq-Decides, same_tests}
+use Rattle.base_lists.proofs.Common.{◌≡◌, ◌∙◌, ap, sym, refl, subst, ℕ, zero, suc, ◌+◌, ◌-◌, ◌<◌, ◌≤◌, arith, List, [], ◌∷◌, ◌++◌, append_assoc, length, drop, get_or, slice_get, is_some, Bool, true, false, cond, Option, Some, None, bytes_eq, at_drop_more, drop_more, same_Some, bytes_eq-Decides, same_tests}
 use Rattle.base_lists.specs.Options.{◌>>=◌}
 use Rattle.wasm_tree_spec.specs.Prelude.{Export, ExportDesc, Module, funcs_of}
 use Rattle.wasm_tree.specs.declared.module.ExportDesc.TheVariants as ex
@@ -89,6 +89,3 @@ module _ (m : Module) (names : List Text) (n : ℕ) (x : Text) (funcs : List ℕ
     missing = h.missing ∙ (ap (first_missing m) next ∙ ap (λ o. cond (is_some o) (first_missing m rest) (Some x)) e);
     there = added_there m funcs func h.there (func_there m hold x func e);
   }
-
-  pub missing_here : func_named m x ≡ None → first_missing m names ≡ Some x
-  missing_here e = h.missing ∙ (ap (first_missing m) next ∙ ap (λ o. cond (is_some o) (first_missing m rest) (Some x)) e)

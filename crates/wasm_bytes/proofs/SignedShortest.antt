@@ -1,6 +1,6 @@
 -- The shortest spelling of a number with a sign is one, and no other is shorter.
 use Rattle.base_lists.proofs.Common.{◌≡◌, ℕ, zero, suc, ◌+◌, ◌-◌, ◌*◌, ◌/◌, ◌%◌, ◌^◌, ◌<◌, ◌≤◌, List, [], ◌∷◌, length, true, false, ℤ, pos, negsuc, ◌-ℤ◌, Some, refl, sym, ap, ◌∙◌, subst, arith, ⊎_elim, cases_lt, lt-ltb, le-ltb, ltb-false, pow-add, ints, pow_mono}
-use Rattle.std.proofs.Common.{neg_ℤ, ◌<ℤ◌, ◌≤ℤ◌}
+use Rattle.std.proofs.Common.{◌<ℤ◌, ◌≤ℤ◌}
 use Rattle.wasm_bytes.specs.Prelude.{IsWithin, Signed, last_signed, join_signed}
 use Rattle.wasm_bytes.specs.Writing.{low, high, is_small, signed_text, IsShortest}
 use Rattle.wasm_bytes.proofs.NumberLaws.{Spells-more, signed_ends}
@@ -42,9 +42,6 @@ step_large (suc (suc p)) z h w =
     let s = within_size (7 * suc (suc p)) z w in
     let t = size_high z in
     (suc p, omega arith, size_within (7 * suc p) (high z) (omega arith), rw h)
-
-pub fits_32 : (z : ℤ) → neg_ℤ (pos (2 ^ 31)) ≤ℤ z → z <ℤ pos (2 ^ 31) → IsWithin 35 z
-fits_32 z a b = (omega (arith, ints), omega (arith, ints))
 
 last_small : (bits : ℕ) (z : ℤ) → size z < 64 → size z < 2 ^ (bits - 1) → (low z < 128) × (last_signed bits (low z) ≡ Some z)
 last_small bits (pos n) s w =

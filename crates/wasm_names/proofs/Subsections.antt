@@ -49,9 +49,6 @@ one_map_sound (suc fuel) found (b ∷ bs) r small e =
     let first : Took (λ z. SpellsSubsection z (b, s.0.0)) (b ∷ bs) s.0.1 = (b ∷ t.0, (b ∷ [], t.0, refl, t.1, refl), ap (λ z. b ∷ z) t.2) in
     ((b, s.0.0) ∷ later.0, (first.0, s.0.1, first.1, later.1, first.2), found_step found next.0 (b, s.0.0) later.0 r next.1 later.2)
 
-none_spelled : (s : Section) (h : SpellsSubsection [] s) → ⊥
-none_spelled s h = let e : [] ≡ s.0 ∷ h.1 = h.4 ∙ ap (λ z. z ++ h.1) h.2 in cc
-
 pub one_map_complete : (fuel : ℕ) (found : Option (List ℕ)) (bytes : List ℕ) (ss : List Section) (r : Option (List ℕ)) → length bytes ≤ fuel → Each SpellsSubsection bytes ss → IsFound found (func_name_maps ss) r → name_map_at fuel found bytes ≡ Ok r
 unfolding name_map_at
 one_map_complete fuel found bytes [] r enough h k = rw h (ap Ok (same_found found r (k ∙ append-nil (option_to_list found))))

@@ -1,8 +1,8 @@
 -- What is read is bounded, and names no memory but memory 0 where memories have no indices.
-use Rattle.base_lists.proofs.Common.{◌≡◌, ℕ, ◌≤◌, List, [], ◌∷◌, length, map, slice_get, Bool, true, false, Option, Some, None, refl, sym, ap, ◌∙◌, subst, arith, ◌==◌, and_parts, and_from, length-map, every_at, filter_map_most}
+use Rattle.base_lists.proofs.Common.{◌≡◌, ℕ, ◌≤◌, List, [], ◌∷◌, length, slice_get, Bool, true, false, Option, Some, None, refl, arith, rules, ◌==◌, and_parts, length-map, every_at, filter_map_most}
 use Rattle.std.proofs.Common.{length-append}
 use Rattle.wasm_bytes.specs.Prelude.{Each, Section}
-use Rattle.wasm_tree_spec.specs.Prelude.{FuncType, Func, Module, func_of, table_of, memory_of, global_of, imported_funcs, imported_tables, imported_memories, imported_globals, param_count, declared_count, IsBounded, memory_zero_all, memory_zero_funcs, limit, Imports, Exports, Locals, Parameters}
+use Rattle.wasm_tree_spec.specs.Prelude.{FuncType, Func, Module, func_of, table_of, memory_of, global_of, param_count, declared_count, IsBounded, memory_zero_all, memory_zero_funcs, limit, Imports, Exports, Locals, Parameters}
 use Rattle.wasm_tree.specs.OperandLaws.{BlockPasses, LoopPasses, IfPasses}
 use Rattle.wasm_tree.specs.declared.which.Which.TheVariants.{Types, Functions, Tables, Memories, Globals, ElementSegments, DataSegments}
 use Rattle.wasm_read_spec.specs.declared.parts.Parts.{Parts}
@@ -28,63 +28,61 @@ pub record Small (p : Parts) : Type 0 where
 record Keeps (K : Parts → Type 0) (P : List ℕ → Parts → Type 0) (S : List ℕ → Type 0) : Type 0 where
   keep : (c : List ℕ) (q : Parts) → P c q → S c → K q
 
-keep_when : {K : Parts → Type 0} {P Q : List ℕ → Parts → Type 0} {S T : List ℕ → Type 0} (test : Bool) → Keeps K P S → Keeps K Q T → Keeps K (When test P Q) (WhenSmall test S T)
-keep_when true a b = record { keep = a.keep }
-keep_when false a b = record { keep = b.keep }
+module _ {K : Parts → Type 0} where
+  keep_when : {P Q : List ℕ → Parts → Type 0} {S T : List ℕ → Type 0} (test : Bool) → Keeps K P S → Keeps K Q T → Keeps K (When test P Q) (WhenSmall test S T)
+  keep_when true a b = a
+  keep_when false a b = b
 
--- where the value is small, what is put keeps it
-keep_put : {A : Type 0} {K : Parts → Type 0} {P : List ℕ → A → Type 0} {S : A → Type 0} (make : A → Parts) → ((c : List ℕ) (x : A) → P c x → S x → K (make x)) → Keeps K (Made make P) (Limited P S)
-keep_put {A} {K} {P} {S} make keep = record { keep = λ c q h s. subst K (sym h.2) (keep c h.0 h.1 (s h.0 h.1)) }
+  -- where the value is small, what is put keeps it
+  keep_put : {A : Type 0} {P : List ℕ → A → Type 0} {S : A → Type 0} (make : A → Parts) → ((x : A) → S x → K (make x)) → Keeps K (Made make P) (Limited P S)
+  keep_put make keep = record { keep = λ c q h s. rw h.2 (keep h.0 (s h.0 h.1)) }
 
-keep_free : {A : Type 0} {K : Parts → Type 0} {P : List ℕ → A → Type 0} (make : A → Parts) → ((x : A) → K (make x)) → Keeps K (Made make P) Any
-keep_free {A} {K} {P} make keep = record { keep = λ c q h s. subst K (sym h.2) (keep h.0) }
+  keep_free : {A : Type 0} {P : List ℕ → A → Type 0} (make : A → Parts) → ((x : A) → K (make x)) → Keeps K (Made make P) Any
+  keep_free make keep = record { keep = λ c q h s. rw h.2 (keep h.0) }
 
-keep_same : {K : Parts → Type 0} (p : Parts) → K p → Keeps K (SpellsCustom p) Any
-keep_same {K} p k = record { keep = λ c q h s. subst K (sym h.1) k }
+  keep_same : (p : Parts) → K p → Keeps K (SpellsCustom p) Any
+  keep_same p k = record { keep = λ c q h s. rw h.1 k }
 
-keep_never : {K : Parts → Type 0} → Keeps K Never Any
-keep_never = record { keep = λ c q h s. absurd h }
+  keep_never : Keeps K Never Any
+  keep_never = record { keep = λ c q h s. absurd h }
 
 small_kept : (many : Bool) (p : Parts) (id : ℕ) → Small p → Keeps Small (section_form many p id) (small_form many id)
 unfolding section_form small_form
 small_kept many p id s =
     keep_when (id == 0) (keep_same p s)
-    (keep_when (id == 1) (keep_put (with_types p) (λ c x h k. record { types = k; imports = s.imports; func_types = s.func_types; tables = s.tables; mems = s.mems; globals = s.globals; exports = s.exports; elems = s.elems; codes = s.codes; datas = s.datas }))
-    (keep_when (id == 2) (keep_put (with_imports p) (λ c x h k. record { types = s.types; imports = k.0; func_types = s.func_types; tables = s.tables; mems = s.mems; globals = s.globals; exports = s.exports; elems = s.elems; codes = s.codes; datas = s.datas }))
-    (keep_when (id == 3) (keep_put (with_func_types p) (λ c x h k. record { types = s.types; imports = s.imports; func_types = k.0; tables = s.tables; mems = s.mems; globals = s.globals; exports = s.exports; elems = s.elems; codes = s.codes; datas = s.datas }))
-    (keep_when (id == 4) (keep_put (with_tables p) (λ c x h k. record { types = s.types; imports = s.imports; func_types = s.func_types; tables = k.0; mems = s.mems; globals = s.globals; exports = s.exports; elems = s.elems; codes = s.codes; datas = s.datas }))
-    (keep_when (id == 5) (keep_put (with_mems p) (λ c x h k. record { types = s.types; imports = s.imports; func_types = s.func_types; tables = s.tables; mems = k.0; globals = s.globals; exports = s.exports; elems = s.elems; codes = s.codes; datas = s.datas }))
-    (keep_when (id == 6) (keep_put (with_globals p) (λ c x h k. record { types = s.types; imports = s.imports; func_types = s.func_types; tables = s.tables; mems = s.mems; globals = k.0; exports = s.exports; elems = s.elems; codes = s.codes; datas = s.datas }))
-    (keep_when (id == 7) (keep_put (with_exports p) (λ c x h k. record { types = s.types; imports = s.imports; func_types = s.func_types; tables = s.tables; mems = s.mems; globals = s.globals; exports = k.0; elems = s.elems; codes = s.codes; datas = s.datas }))
-    (keep_when (id == 8) (keep_free (with_start p) (λ x. record { types = s.types; imports = s.imports; func_types = s.func_types; tables = s.tables; mems = s.mems; globals = s.globals; exports = s.exports; elems = s.elems; codes = s.codes; datas = s.datas }))
-    (keep_when (id == 9) (keep_put (with_elems p) (λ c x h k. record { types = s.types; imports = s.imports; func_types = s.func_types; tables = s.tables; mems = s.mems; globals = s.globals; exports = s.exports; elems = k.0; codes = s.codes; datas = s.datas }))
-    (keep_when (id == 10) (keep_put (with_codes p) (λ c x h k. record { types = s.types; imports = s.imports; func_types = s.func_types; tables = s.tables; mems = s.mems; globals = s.globals; exports = s.exports; elems = s.elems; codes = k; datas = s.datas }))
-    (keep_when (id == 11) (keep_put (with_datas p) (λ c x h k. record { types = s.types; imports = s.imports; func_types = s.func_types; tables = s.tables; mems = s.mems; globals = s.globals; exports = s.exports; elems = s.elems; codes = s.codes; datas = k.0 }))
-    (keep_when (id == 12) (keep_free (with_count p) (λ x. record { types = s.types; imports = s.imports; func_types = s.func_types; tables = s.tables; mems = s.mems; globals = s.globals; exports = s.exports; elems = s.elems; codes = s.codes; datas = s.datas }))
+    (keep_when (id == 1) (keep_put (with_types p) (λ x k. assumption))
+    (keep_when (id == 2) (keep_put (with_imports p) (λ x k. assumption))
+    (keep_when (id == 3) (keep_put (with_func_types p) (λ x k. assumption))
+    (keep_when (id == 4) (keep_put (with_tables p) (λ x k. assumption))
+    (keep_when (id == 5) (keep_put (with_mems p) (λ x k. assumption))
+    (keep_when (id == 6) (keep_put (with_globals p) (λ x k. assumption))
+    (keep_when (id == 7) (keep_put (with_exports p) (λ x k. assumption))
+    (keep_when (id == 8) (keep_free (with_start p) (λ x. assumption))
+    (keep_when (id == 9) (keep_put (with_elems p) (λ x k. assumption))
+    (keep_when (id == 10) (keep_put (with_codes p) (λ x k. assumption))
+    (keep_when (id == 11) (keep_put (with_datas p) (λ x k. assumption))
+    (keep_when (id == 12) (keep_free (with_count p) (λ x. assumption))
     keep_never))))))))))))
 
 small_contents : (many : Bool) (p : Parts) (ss : List Section) (q : Parts) → Small p → Contents many p ss q → Every (SectionIsSmall many) ss → Small q
-small_contents many p [] q s h k = subst Small h s
+small_contents many p [] q s h k = rw (← h) s
 small_contents many p (t ∷ ss) q s h k = small_contents many h.0 ss q ((small_kept many p t.0 s).keep t.1 h.0 h.1 k.0) h.2 k.1
 
 small_nothing : Small nothing
-small_nothing = record { types = (omega arith, tt); imports = omega arith; func_types = omega arith; tables = omega arith; mems = omega arith; globals = omega arith; exports = omega arith; elems = omega arith; codes = (omega arith, tt); datas = omega arith }
+small_nothing = search (rules, arith)
 
 -- ---- the tree
 
 length_typed : (ts : List ℕ) (fs : List Func) → length (typed ts fs) ≤ length ts
-length_typed [] fs = omega arith
-length_typed (t ∷ ts) [] = omega arith
-length_typed (t ∷ ts) (f ∷ fs) = let k = length_typed ts fs in omega (arith, k)
+length_typed (t ∷ ts) (f ∷ fs) = omega (arith, length_typed ts fs)
+length_typed _ _ = omega arith
 
-few_declared : List Func → Type 0
-few_declared fs = Every (λ (f : Func). declared_count f.locals ≤ limit Locals) fs
+abbrev FewDeclared : List Func → Type 0
+FewDeclared fs = Every (λ (f : Func). declared_count f.locals ≤ limit Locals) fs
 
-typed_few : (ts : List ℕ) (fs : List Func) → Every SmallCode fs → few_declared (typed ts fs)
-unfolding few_declared
-typed_few [] fs h = tt
-typed_few (t ∷ ts) [] h = tt
+typed_few : (ts : List ℕ) (fs : List Func) → Every SmallCode fs → FewDeclared (typed ts fs)
 typed_few (t ∷ ts) (f ∷ fs) h = (h.0.0, typed_few ts fs h.1)
+typed_few _ _ h = tt
 
 few_params : (types : List FuncType) (ty : ℕ) (o : Option FuncType) → Every SmallFuncType types → slice_get types ty ≡ o → param_count o ≤ limit Parameters
 few_params types ty None h e = omega arith
@@ -92,78 +90,69 @@ few_params types ty (Some t) h e = (every_at SmallFuncType types ty t h e).0.0
 
 module _ (p : Parts) (s : Small p) where
   bounded_parts : IsBounded (tree_of p)
-  unfolding few_declared
   bounded_parts = record {
-    types = omega (arith, s.types.0);
-    imports = omega (arith, s.imports);
-    funcs = omega (arith, s.imports, s.func_types, length-append (imported_funcs p.imports) (map (λ (f : Func). f.ty) (typed p.func_types p.codes)), length-map (typed p.func_types p.codes) (λ (f : Func). f.ty), length_typed p.func_types p.codes, filter_map_most (λ i. func_of i.desc) p.imports);
-    tables = omega (arith, s.imports, s.tables, length-append (imported_tables p.imports) p.tables, filter_map_most (λ i. table_of i.desc) p.imports);
-    memories = omega (arith, s.imports, s.mems, length-append (imported_memories p.imports) p.mems, filter_map_most (λ i. memory_of i.desc) p.imports);
-    globals = omega (arith, s.imports, s.globals, length-append (imported_globals p.imports) (map (λ g. g.ty) p.globals), length-map p.globals (λ g. g.ty), filter_map_most (λ i. global_of i.desc) p.imports);
-    exports = omega (arith, s.exports);
-    elems = omega (arith, s.elems);
-    datas = omega (arith, s.datas);
-    locals = λ i f e.
-        let few = every_at (λ (g : Func). declared_count g.locals ≤ limit Locals) (typed p.func_types p.codes) i f (typed_few p.func_types p.codes s.codes.1) e in
-        omega (arith, few, few_params p.types f.ty (slice_get p.types f.ty) s.types.1 refl);
+    types = omega arith;
+    imports = omega arith;
+    funcs = simp (length-append, length-map) (omega (arith, length_typed p.func_types p.codes, filter_map_most (λ i. func_of i.desc) p.imports));
+    tables = simp length-append (omega (arith, filter_map_most (λ i. table_of i.desc) p.imports));
+    memories = simp length-append (omega (arith, filter_map_most (λ i. memory_of i.desc) p.imports));
+    globals = simp (length-append, length-map) (omega (arith, filter_map_most (λ i. global_of i.desc) p.imports));
+    exports = omega arith;
+    elems = omega arith;
+    datas = omega arith;
+    locals = λ i f e. omega (arith, every_at _ _ i f (typed_few p.func_types p.codes s.codes.1) e, few_params p.types f.ty (slice_get p.types f.ty) s.types.1 refl);
   }
 
 pub tree_bounded : (many : Bool) (bytes : List ℕ) (m : Module) → Spells bytes m many → Within bytes many → IsBounded m
-tree_bounded many bytes m h k = subst IsBounded (sym h.5) (bounded_parts h.1 (small_contents many nothing h.0 h.1 small_nothing h.3 (k h.0 h.2)))
+tree_bounded many bytes m h k = rw h.5 (bounded_parts h.1 (small_contents many nothing h.0 h.1 small_nothing h.3 (k h.0 h.2)))
 
 -- ---- memory 0
 
-Zeros : Parts → Type 0
+abbrev Zeros : Parts → Type 0
 Zeros p = memory_zero_funcs p.codes ≡ true
-
-entries_zero : (blocks : BlockPasses) (loops : LoopPasses) (ifs : IfPasses) (fs : List Func) (bytes : List ℕ) → Each (SpellsEntry false) bytes fs → memory_zero_funcs fs ≡ true
-entries_zero blocks loops ifs [] bytes h = refl
-entries_zero blocks loops ifs (f ∷ fs) bytes h = and_from (memory_zero_all f.body) (memory_zero_funcs fs) (body_zero blocks loops ifs h.2.2.0.1 f.body h.2.2.0.3) (entries_zero blocks loops ifs fs h.1 h.3)
 
 -- without limits
 record Keeps' (K : Parts → Type 0) (P : List ℕ → Parts → Type 0) : Type 0 where
   keep : (c : List ℕ) (q : Parts) → P c q → K q
 
-when_keeps : {K : Parts → Type 0} {P Q : List ℕ → Parts → Type 0} (test : Bool) → Keeps' K P → Keeps' K Q → Keeps' K (When test P Q)
-when_keeps true a b = record { keep = a.keep }
-when_keeps false a b = record { keep = b.keep }
+module _ {K : Parts → Type 0} where
+  when_keeps : {P Q : List ℕ → Parts → Type 0} (test : Bool) → Keeps' K P → Keeps' K Q → Keeps' K (When test P Q)
+  when_keeps true a b = a
+  when_keeps false a b = b
 
-put_keeps : {A : Type 0} {K : Parts → Type 0} {P : List ℕ → A → Type 0} (make : A → Parts) → ((c : List ℕ) (x : A) → P c x → K (make x)) → Keeps' K (Made make P)
-put_keeps {A} {K} {P} make keep = record { keep = λ c q h. subst K (sym h.2) (keep c h.0 h.1) }
+  put_keeps : {A : Type 0} {P : List ℕ → A → Type 0} (make : A → Parts) → ((c : List ℕ) (x : A) → P c x → K (make x)) → Keeps' K (Made make P)
+  put_keeps make keep = record { keep = λ c q h. rw h.2 (keep c h.0 h.1) }
 
-same_keeps : {K : Parts → Type 0} (p : Parts) → K p → Keeps' K (SpellsCustom p)
-same_keeps {K} p k = record { keep = λ c q h. subst K (sym h.1) k }
+module _ (blocks : BlockPasses) (loops : LoopPasses) (ifs : IfPasses) where
+  entries_zero : (fs : List Func) (bytes : List ℕ) → Each (SpellsEntry false) bytes fs → memory_zero_funcs fs ≡ true
+  entries_zero [] bytes h = refl
+  entries_zero (f ∷ fs) bytes h = rw (body_zero blocks loops ifs h.2.2.0.1 f.body h.2.2.0.3, entries_zero fs h.1 h.3)
 
-never_keeps : {K : Parts → Type 0} → Keeps' K Never
-never_keeps = record { keep = λ c q h. absurd h }
+  zeros_kept : (p : Parts) (id : ℕ) → Zeros p → Keeps' Zeros (section_form false p id)
+  unfolding section_form
+  zeros_kept p id z =
+      when_keeps (id == 0) (record { keep = λ c q h. rw h.1 z })
+      (when_keeps (id == 1) (put_keeps (with_types p) (λ c x h. z))
+      (when_keeps (id == 2) (put_keeps (with_imports p) (λ c x h. z))
+      (when_keeps (id == 3) (put_keeps (with_func_types p) (λ c x h. z))
+      (when_keeps (id == 4) (put_keeps (with_tables p) (λ c x h. z))
+      (when_keeps (id == 5) (put_keeps (with_mems p) (λ c x h. z))
+      (when_keeps (id == 6) (put_keeps (with_globals p) (λ c x h. z))
+      (when_keeps (id == 7) (put_keeps (with_exports p) (λ c x h. z))
+      (when_keeps (id == 8) (put_keeps (with_start p) (λ c x h. z))
+      (when_keeps (id == 9) (put_keeps (with_elems p) (λ c x h. z))
+      (when_keeps (id == 10) (put_keeps (with_codes p) (λ c x h. entries_zero x h.1 h.3))
+      (when_keeps (id == 11) (put_keeps (with_datas p) (λ c x h. z))
+      (when_keeps (id == 12) (put_keeps (with_count p) (λ c x h. z))
+      (record { keep = λ c q h. absurd h })))))))))))))
 
-zeros_kept : (blocks : BlockPasses) (loops : LoopPasses) (ifs : IfPasses) (p : Parts) (id : ℕ) → Zeros p → Keeps' Zeros (section_form false p id)
-unfolding section_form Zeros
-zeros_kept blocks loops ifs p id z =
-    when_keeps (id == 0) (same_keeps p z)
-    (when_keeps (id == 1) (put_keeps (with_types p) (λ c x h. z))
-    (when_keeps (id == 2) (put_keeps (with_imports p) (λ c x h. z))
-    (when_keeps (id == 3) (put_keeps (with_func_types p) (λ c x h. z))
-    (when_keeps (id == 4) (put_keeps (with_tables p) (λ c x h. z))
-    (when_keeps (id == 5) (put_keeps (with_mems p) (λ c x h. z))
-    (when_keeps (id == 6) (put_keeps (with_globals p) (λ c x h. z))
-    (when_keeps (id == 7) (put_keeps (with_exports p) (λ c x h. z))
-    (when_keeps (id == 8) (put_keeps (with_start p) (λ c x h. z))
-    (when_keeps (id == 9) (put_keeps (with_elems p) (λ c x h. z))
-    (when_keeps (id == 10) (put_keeps (with_codes p) (λ c x h. entries_zero blocks loops ifs x h.1 h.3))
-    (when_keeps (id == 11) (put_keeps (with_datas p) (λ c x h. z))
-    (when_keeps (id == 12) (put_keeps (with_count p) (λ c x h. z))
-    never_keeps))))))))))))
+  zeros_contents : (p : Parts) (ss : List Section) (q : Parts) → Zeros p → Contents false p ss q → Zeros q
+  zeros_contents p [] q z h = rw (← h) z
+  zeros_contents p (t ∷ ss) q z h = zeros_contents h.0 ss q ((zeros_kept p t.0 z).keep t.1 h.0 h.1) h.2
 
-zeros_contents : (blocks : BlockPasses) (loops : LoopPasses) (ifs : IfPasses) (p : Parts) (ss : List Section) (q : Parts) → Zeros p → Contents false p ss q → Zeros q
-zeros_contents blocks loops ifs p [] q z h = subst Zeros h z
-zeros_contents blocks loops ifs p (t ∷ ss) q z h = zeros_contents blocks loops ifs h.0 ss q ((zeros_kept blocks loops ifs p t.0 z).keep t.1 h.0 h.1) h.2
+  typed_zero : (ts : List ℕ) (fs : List Func) → memory_zero_funcs fs ≡ true → memory_zero_funcs (typed ts fs) ≡ true
+  typed_zero (t ∷ ts) (f ∷ fs) h = let k = and_parts (memory_zero_all f.body) (memory_zero_funcs fs) h in rw (k.0, typed_zero ts fs k.1)
+  typed_zero _ _ h = refl
 
-typed_zero : (ts : List ℕ) (fs : List Func) → memory_zero_funcs fs ≡ true → memory_zero_funcs (typed ts fs) ≡ true
-typed_zero [] fs h = refl
-typed_zero (t ∷ ts) [] h = refl
-typed_zero (t ∷ ts) (f ∷ fs) h = let k = and_parts (memory_zero_all f.body) (memory_zero_funcs fs) h in and_from (memory_zero_all f.body) (memory_zero_funcs (typed ts fs)) k.0 (typed_zero ts fs k.1)
-
-pub tree_zero : (blocks : BlockPasses) (loops : LoopPasses) (ifs : IfPasses) (bytes : List ℕ) (m : Module) → Spells bytes m false → memory_zero_funcs m.funcs ≡ true
-unfolding Zeros
-tree_zero blocks loops ifs bytes m h = ap (λ (t : Module). memory_zero_funcs t.funcs) h.5 ∙ typed_zero h.1.func_types h.1.codes (zeros_contents blocks loops ifs nothing h.0 h.1 refl h.3)
+  pub tree_zero : (bytes : List ℕ) (m : Module) → Spells bytes m false → memory_zero_funcs m.funcs ≡ true
+  tree_zero bytes m h = rw h.5 (typed_zero h.1.func_types h.1.codes (zeros_contents nothing h.0 h.1 refl h.3))

@@ -106,9 +106,6 @@ module _ (many : Bool) where
 
   -- ---- the code section
 
-  next_small : ℕ → Func → Type 0
-  next_small state f = SmallCode f
-
   along_every : (state : ℕ) (fs : List Func) → Along (λ s. SmallCode) next_func state fs → Every SmallCode fs
   along_every state [] h = tt
   along_every state (f ∷ fs) h = (h.0, along_every (state + 1) fs h.1)

@@ -312,9 +312,6 @@ module _ {A : Type 0} (P : List ℕ → A → Type 0) (S : A → Type 0) (item :
 pub list_exact : {A : Type 0} {P : List ℕ → A → Type 0} {item : Reader A} → Exact P Any item → Exact (Vector P) Any (list_at item)
 list_exact {A} {P} {item} exact = other_small (λ xs h. tt) (λ xs h. every_any xs) (list_exact_at P Any item exact)
 
-pub every_exact : {A : Type 0} {P : List ℕ → A → Type 0} {S : A → Type 0} {item : Reader A} → Exact P S item → Exact (Vector P) (Every S) (list_at item)
-every_exact {A} {P} {S} {item} exact = list_exact_at P S item exact
-
 pub vector_exact : {A : Type 0} {P : List ℕ → A → Type 0} {S : A → Type 0} {item : Reader A} (which : Which) → Exact P S item → Exact (Vector P) (Few (limit which) S) (vector_at which item)
 vector_exact {A} {P} {S} {item} which exact = vector_exact_at P S item exact which
 

@@ -95,8 +95,9 @@ module _ (many : Bool) (Q : Instr → Type 0) (leaves : Leaves many Q) where
   of_form b = option (un_of b) (λ op. plain (Un op)) _ (λ op. sure (plain (Un op)) (leaves.of_Un op)) (option (bin_of b) (λ op. plain (Bin op)) _ (λ op. sure (plain (Bin op)) (leaves.of_Bin op))
       (option (load_of b) (λ op. access (Load op)) _ (λ op. sure (access (Load op)) (leaves.of_Load op)) (option (store_of b) (λ op. access (Store op)) _ (λ op. sure (access (Store op)) (leaves.of_Store op)) (of_rest b))))
 
-  same_plain : (i j : Instr) → ◌≡◌ {A = Token} (Plain i) (Plain j) → j ≡ i
-  same_plain i j e = cc
+  -- of what the token holds
+  made : {i j : Instr} → ◌≡◌ {A = Token} (Plain i) (Plain j) → Q j → Q i
+  made {i} {j} e q = let same : j ≡ i = cc in subst Q same q
 
   arg_named : (b : Bool) (text : List ℕ) (m : MemArg) → SpellsMemArg b text m → Named b m.memory
   unfolding arg_form
@@ -109,44 +110,28 @@ module _ (many : Bool) (Q : Instr → Type 0) (leaves : Leaves many Q) where
 
   of_simple : (f : Form) (text : List ℕ) (i : Instr) → Holds f → Simple many f text (Plain i) → Q i
   unfolding Holds
-  of_simple (plain j) text i p h = subst Q (same_plain i j h.1) p
-  of_simple (number f) text i p h = subst Q (same_plain i (f h.0) h.2) (p h.0)
-  of_simple (numbers f) text i p h = subst Q (same_plain i (f h.0.0 h.0.1) h.2) (p h.0.0 h.0.1)
-  of_simple const32 text i p h = subst Q (same_plain i (I32Const h.0) h.2) (leaves.of_I32Const h.0)
-  of_simple const64 text i p h = subst Q (same_plain i (I64Const h.0) h.2) (leaves.of_I64Const h.0)
-  of_simple table text i p h = subst Q (same_plain i (BrTable h.0.0 h.0.1) h.2) (leaves.of_BrTable h.0.0 h.0.1)
-  of_simple typed text i p h = subst Q (same_plain i (SelectTyped h.0) h.2) (leaves.of_SelectTyped h.0)
-  of_simple (access f) text i p h = subst Q (same_plain i (f h.0) h.2) (p h.0 (arg_named many text h.0 h.1))
-  of_simple (memory f) text i p h = subst Q (same_plain i (f h.0) h.2) (p h.0 (memory_named many text h.0 h.1))
-  of_simple (memories f) text i p h = subst Q (same_plain i (f h.0.0 h.0.1) h.2) (p h.0.0 h.0.1 (memory_named many h.1.0 h.0.0 h.1.2) (memory_named many h.1.1 h.0.1 h.1.3))
-  of_simple (with_memory f) text i p h = subst Q (same_plain i (f h.0.0 h.0.1) h.2) (p h.0.0 h.0.1 (memory_named many h.1.1 h.0.1 h.1.3))
-  of_simple null text i p h = subst Q (same_plain i (RefNull h.0) h.2) (leaves.of_RefNull h.0)
-  of_simple (open' k) text i p h = absurd (let e = h.2 in cc)
-  of_simple else' text i p h = absurd (let e = h.1 in cc)
-  of_simple end' text i p h = absurd (let e = h.1 in cc)
+  of_simple (plain j) text i p h = made h.1 p
+  of_simple (number f) text i p h = made h.2 (p h.0)
+  of_simple (numbers f) text i p h = made h.2 (p h.0.0 h.0.1)
+  of_simple const32 text i p h = made h.2 (leaves.of_I32Const h.0)
+  of_simple const64 text i p h = made h.2 (leaves.of_I64Const h.0)
+  of_simple table text i p h = made h.2 (leaves.of_BrTable h.0.0 h.0.1)
+  of_simple typed text i p h = made h.2 (leaves.of_SelectTyped h.0)
+  of_simple (access f) text i p h = made h.2 (p h.0 (arg_named many text h.0 h.1))
+  of_simple (memory f) text i p h = made h.2 (p h.0 (memory_named many text h.0 h.1))
+  of_simple (memories f) text i p h = made h.2 (p h.0.0 h.0.1 (memory_named many h.1.0 h.0.0 h.1.2) (memory_named many h.1.1 h.0.1 h.1.3))
+  of_simple (with_memory f) text i p h = made h.2 (p h.0.0 h.0.1 (memory_named many h.1.1 h.0.1 h.1.3))
+  of_simple null text i p h = made h.2 (leaves.of_RefNull h.0)
+  of_simple (open' k) text i p h = cc
+  of_simple else' text i p h = cc
+  of_simple end' text i p h = cc
   of_simple prefixed text i p h = absurd h
   of_simple unsupported text i p h = absurd h
   of_simple unknown text i p h = absurd h
 
   of_follows : (f : Form) (text : List ℕ) (i : Instr) → Holds f → FollowsOpcode many f text (Plain i) → Q i
   of_follows prefixed text i p h = of_simple (sub_form h.0) h.1.1 i (of_sub h.0).it h.1.3
-  of_follows (plain j) text i p h = of_simple (plain j) text i p h
-  of_follows (number f) text i p h = of_simple (number f) text i p h
-  of_follows (numbers f) text i p h = of_simple (numbers f) text i p h
-  of_follows const32 text i p h = of_simple const32 text i p h
-  of_follows const64 text i p h = of_simple const64 text i p h
-  of_follows table text i p h = of_simple table text i p h
-  of_follows typed text i p h = of_simple typed text i p h
-  of_follows (access f) text i p h = of_simple (access f) text i p h
-  of_follows (memory f) text i p h = of_simple (memory f) text i p h
-  of_follows (memories f) text i p h = of_simple (memories f) text i p h
-  of_follows (with_memory f) text i p h = of_simple (with_memory f) text i p h
-  of_follows null text i p h = of_simple null text i p h
-  of_follows (open' k) text i p h = of_simple (open' k) text i p h
-  of_follows else' text i p h = of_simple else' text i p h
-  of_follows end' text i p h = of_simple end' text i p h
-  of_follows unsupported text i p h = of_simple unsupported text i p h
-  of_follows unknown text i p h = of_simple unknown text i p h
+  of_follows f text i p h = of_simple f text i p h
 
   -- of an instruction that is a token
   pub of_token : (text : List ℕ) (i : Instr) → SpellsToken many text (Plain i) → Q i
@@ -155,89 +140,9 @@ module _ (many : Bool) (Q : Instr → Type 0) (leaves : Leaves many Q) where
 -- ---- they enclose nothing
 
 pub flat : (many : Bool) → Leaves many (λ i. depth_of i ≡ 0)
-flat many = record {
-  of_Unreachable = search (rules, the_lemmas);
-  of_Nop = search (rules, the_lemmas);
-  of_Return = search (rules, the_lemmas);
-  of_Drop = search (rules, the_lemmas);
-  of_Select = search (rules, the_lemmas);
-  of_RefIsNull = search (rules, the_lemmas);
-  of_Br = λ x. search (rules, the_lemmas);
-  of_BrIf = λ x. search (rules, the_lemmas);
-  of_Call = λ x. search (rules, the_lemmas);
-  of_LocalGet = λ x. search (rules, the_lemmas);
-  of_LocalSet = λ x. search (rules, the_lemmas);
-  of_LocalTee = λ x. search (rules, the_lemmas);
-  of_GlobalGet = λ x. search (rules, the_lemmas);
-  of_GlobalSet = λ x. search (rules, the_lemmas);
-  of_TableGet = λ x. search (rules, the_lemmas);
-  of_TableSet = λ x. search (rules, the_lemmas);
-  of_RefFunc = λ x. search (rules, the_lemmas);
-  of_DataDrop = λ x. search (rules, the_lemmas);
-  of_ElemDrop = λ x. search (rules, the_lemmas);
-  of_TableGrow = λ x. search (rules, the_lemmas);
-  of_TableSize = λ x. search (rules, the_lemmas);
-  of_TableFill = λ x. search (rules, the_lemmas);
-  of_CallIndirect = λ x y. search (rules, the_lemmas);
-  of_TableInit = λ x y. search (rules, the_lemmas);
-  of_TableCopy = λ x y. search (rules, the_lemmas);
-  of_BrTable = λ xs y. search (rules, the_lemmas);
-  of_SelectTyped = λ ts. search (rules, the_lemmas);
-  of_Load = λ op m k. search (rules, the_lemmas);
-  of_Store = λ op m k. search (rules, the_lemmas);
-  of_MemorySize = λ x k. search (rules, the_lemmas);
-  of_MemoryGrow = λ x k. search (rules, the_lemmas);
-  of_MemoryFill = λ x k. search (rules, the_lemmas);
-  of_MemoryInit = λ x y k. search (rules, the_lemmas);
-  of_MemoryCopy = λ x y k l. search (rules, the_lemmas);
-  of_I32Const = λ z. search (rules, the_lemmas);
-  of_I64Const = λ z. search (rules, the_lemmas);
-  of_Un = λ op. search (rules, the_lemmas);
-  of_Bin = λ op. search (rules, the_lemmas);
-  of_RefNull = λ t. search (rules, the_lemmas);
-}
+flat many = search (rules, the_lemmas)
 
 -- ---- without several memories they name memory 0 alone
 
 pub zero_memory : Leaves false (λ i. memory_zero i ≡ true)
-zero_memory = record {
-  of_Unreachable = search (rules, the_lemmas);
-  of_Nop = search (rules, the_lemmas);
-  of_Return = search (rules, the_lemmas);
-  of_Drop = search (rules, the_lemmas);
-  of_Select = search (rules, the_lemmas);
-  of_RefIsNull = search (rules, the_lemmas);
-  of_Br = λ x. search (rules, the_lemmas);
-  of_BrIf = λ x. search (rules, the_lemmas);
-  of_Call = λ x. search (rules, the_lemmas);
-  of_LocalGet = λ x. search (rules, the_lemmas);
-  of_LocalSet = λ x. search (rules, the_lemmas);
-  of_LocalTee = λ x. search (rules, the_lemmas);
-  of_GlobalGet = λ x. search (rules, the_lemmas);
-  of_GlobalSet = λ x. search (rules, the_lemmas);
-  of_TableGet = λ x. search (rules, the_lemmas);
-  of_TableSet = λ x. search (rules, the_lemmas);
-  of_RefFunc = λ x. search (rules, the_lemmas);
-  of_DataDrop = λ x. search (rules, the_lemmas);
-  of_ElemDrop = λ x. search (rules, the_lemmas);
-  of_TableGrow = λ x. search (rules, the_lemmas);
-  of_TableSize = λ x. search (rules, the_lemmas);
-  of_TableFill = λ x. search (rules, the_lemmas);
-  of_CallIndirect = λ x y. search (rules, the_lemmas);
-  of_TableInit = λ x y. search (rules, the_lemmas);
-  of_TableCopy = λ x y. search (rules, the_lemmas);
-  of_BrTable = λ xs y. search (rules, the_lemmas);
-  of_SelectTyped = λ ts. search (rules, the_lemmas);
-  of_Load = λ op m k. search (rules, the_lemmas, k);
-  of_Store = λ op m k. search (rules, the_lemmas, k);
-  of_MemorySize = λ x k. search (rules, the_lemmas, k);
-  of_MemoryGrow = λ x k. search (rules, the_lemmas, k);
-  of_MemoryFill = λ x k. search (rules, the_lemmas, k);
-  of_MemoryInit = λ x y k. search (rules, the_lemmas, k);
-  of_MemoryCopy = λ x y k l. rw (k, l) (search (rules, the_lemmas));
-  of_I32Const = λ z. search (rules, the_lemmas);
-  of_I64Const = λ z. search (rules, the_lemmas);
-  of_Un = λ op. search (rules, the_lemmas);
-  of_Bin = λ op. search (rules, the_lemmas);
-  of_RefNull = λ t. search (rules, the_lemmas);
-}
+zero_memory = search (rules, the_lemmas)

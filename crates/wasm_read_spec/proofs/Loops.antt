@@ -1,5 +1,5 @@
 -- Steps of the loops that read so many items.
-use Rattle.base_lists.proofs.Common.{◌≡◌, ℕ, suc, ◌+◌, ◌-◌, ◌<◌, ◌≤◌, Bool, ◌||◌, List, [], ◌∷◌, ◌++◌, append-nil, Result, Ok, Err, refl, sym, ap, ◌∙◌, arith, append_assoc, list_any, or-false, or_assoc, list_any-append}
+use Rattle.base_lists.proofs.Common.{◌≡◌, ℕ, suc, ◌+◌, ◌-◌, ◌<◌, ◌≤◌, Bool, ◌||◌, List, [], ◌∷◌, ◌++◌, Result, Ok, Err, refl, sym, ap, ◌∙◌, arith, append_assoc, list_any, or-false, or_assoc, list_any-append}
 use Rattle.wasm_bytes.specs.Prelude.{◌>>=◌}
 use Rattle.wasm_read_spec.specs.declared.fault.Fault.{Fault}
 use Rattle.wasm_read_spec.specs.declared.fault.Fault.TheVariants as fault
@@ -51,11 +51,6 @@ module _ {A E : Type 0} (item : ℕ → List ℕ → Result (A × List ℕ) E) (
   each_err n i state items bs e lt bad h =
       let k : n - i ≡ suc (n - (i + 1)) = omega arith in
       h ∙ rw (k, bad)
-
-  -- they are all read
-  pub each_end : (n i state : ℕ) (items : List A) (bs : List ℕ) → n ≤ i → whole ≡ with_front items (each_from item next (n - i) state bs) → whole ≡ Ok (items, bs)
-  unfolding each_from
-  each_end n i state items bs le h = let k : n - i ≡ 0 = omega arith in h ∙ rw k (simp append-nil)
 
 pub each_stop : {A : Type 0} (item : ℕ → List ℕ → Result (A × List ℕ) Fault) (next : ℕ → A → ℕ) (whole : Result (List A × List ℕ) Fault) (n i state : ℕ) (items : List A) (bs : List ℕ) (e : Fault) →
     i < n → Fails e (item state bs) → whole ≡ with_front items (each_from item next (n - i) state bs) → Fails e whole

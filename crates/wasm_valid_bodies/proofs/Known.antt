@@ -1,5 +1,5 @@
 -- The operands of the innermost block, in the list that holds those of all blocks.
-use Rattle.base_lists.proofs.Common.{◌≡◌, ℕ, suc, ◌+◌, ◌<◌, ◌≤◌, nat_le, Bool, true, false, cond, ◌&&◌, ◌||◌, is_some, List, [], ◌∷◌, ◌++◌, map, reverse, length, take, drop, Option, Some, None, refl, sym, ap, ◌∙◌, subst, arith, append-nil, option_and_then, length-append, reverse-append, length-reverse, length-map, length-take-le, length-drop, map-append, take-append-drop, take-append-le, drop_all, lt-leb, same_tests, each_same_is, each_same_self}
+use Rattle.base_lists.proofs.Common.{◌≡◌, ℕ, suc, ◌+◌, ◌<◌, ◌≤◌, nat_le, Bool, true, false, cond, ◌&&◌, ◌||◌, is_some, List, [], ◌∷◌, ◌++◌, map, reverse, length, take, drop, Option, Some, None, refl, sym, ap, ◌∙◌, subst, arith, append-nil, option_and_then, length-append, reverse-append, length-reverse, length-map, length-take-le, length-drop, map-append, take-append-drop, drop_all, lt-leb, same_tests, each_same_is, each_same_self}
 use Rattle.std.proofs.lemmas.List.{reverse-reverse, append_assoc, drop-append-le}
 use Rattle.std.proofs.Math.Seq.{drop-append_seam}
 use Rattle.wasm_tree_spec.specs.Prelude.{ValType, same_type, same_types}
@@ -135,19 +135,6 @@ taken_all us b n lt = drop_all n (operands us ++ lowest b) (omega (arith, length
     few : (b : Bool) → length (lowest b) ≤ 1
     few false = omega arith
     few true = omega arith
-
--- what lies below the innermost block stays
-pub beneath_taken : (items : List ValType) (base k : ℕ) → base ≤ k → k ≤ length items → take base (take k items) ≡ take base items
-beneath_taken items base k le within =
-    sym (take-append-le base (take k items) (drop k items) (omega (arith, length-take-le k items within))) ∙ ap (take base) (take-append-drop k items)
-
--- types are put on
-pub pushed_on : (items ts all : List ValType) (base : ℕ) (low : Stack) → base ≤ length items → all ≡ items ++ ts → operands (drop base all) ++ low ≡ operands ts ++ (operands (drop base items) ++ low)
-pushed_on items ts all base low le e =
-    ap (λ z. operands (drop base z) ++ low) e ∙ ap (λ z. operands z ++ low) (drop-append-le base items ts le) ∙ operands_append (drop base items) ts low
-
-pub beneath_pushed : (items ts all : List ValType) (base : ℕ) → base ≤ length items → all ≡ items ++ ts → take base all ≡ take base items
-beneath_pushed items ts all base le e = ap (take base) e ∙ take-append-le base items ts le
 
 -- no operand stands there
 pub none_kept : (items : List ValType) (base : ℕ) → length items ≤ base → operands (drop base items) ++ [] ≡ []
