@@ -12,7 +12,7 @@ ghost use Rattle.dce_sweep_spec.specs.Swept.{swept};
 
 use wasm_tree::operands_pass_layer_by_layer;
 use wasm_valid::valid_where_items_hold;
-use wasm_write_proof::{encoded_operands_are_in_range, renumbering_keeps_other_numbers};
+use wasm_write_proof::{encoded_operands_are_in_range, renumbering_keeps_numbers_in_range};
 
 /// Where a module has its numbers in range and its names in UTF-8, so has what is left of it by some marks, if that is valid and has at most one memory
 /// (`range`): what it names is there, and its other numbers stand in the module. And its bodies name no memory but memory 0 (`memory`).
@@ -22,6 +22,6 @@ pub fn swept_modules_are_in_range()
 {
     valid_where_items_hold();
     operands_pass_layer_by_layer();
-    renumbering_keeps_other_numbers();
+    renumbering_keeps_numbers_in_range();
     encoded_operands_are_in_range();
 }

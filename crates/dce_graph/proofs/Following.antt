@@ -11,7 +11,7 @@ use Rattle.dce_graph.specs.Prelude.{Text, Spread, place_in_kind, AreFollowed, fo
 use Rattle.dce_graph.specs.Walks.{AreLookups, AreMet}
 use Rattle.dce_graph.proofs.Marking.{list_other}
 use Rattle.dce_graph.proofs.Searching.{none_marked}
-use Rattle.dce_graph.proofs.StandingNodes.{IsLastBefore, last_before, meeting_starts, meeting_ends, pair_there}
+use Rattle.dce_graph.proofs.NodeChainLaws.{IsLastBefore, last_before, meeting_starts, meeting_ends, pair_there}
 
 -- points that are met are met once more without a step
 pub met_already : (s : Search) (ps : List Point) → AreMet s.marks ps → Spread s ps s
@@ -36,7 +36,7 @@ still_followed nodes followed a b ps are f = λ x y n is set q h has. f.kept q (
 -- what the map gives for the texts of a module and a field
 pub stands_last : (w : Walk) (a b x y : Text) (found : Option ℕ) → AreLookups w → found ≡ found_pair w.last x y → x ≡ a → y ≡ b → last_place (is_of_pair a b) w.graph.now.nodes 0 ≡ found
 stands_last w a b x y found lookups is same_module same_field =
-    sym (is ∙ lookups.standing.last_one x y ∙ ap₂ (λ m f. last_place (is_of_pair m f) w.graph.now.nodes 0) same_module same_field)
+    sym (is ∙ lookups.chains.last_one x y ∙ ap₂ (λ m f. last_place (is_of_pair m f) w.graph.now.nodes 0) same_module same_field)
 
 -- where no node denotes a module and a field, there is none to meet
 pub none_stands : (nodes : List GraphNode) (test : GraphNode → Bool) (s : Search) → last_place test nodes 0 ≡ None → Spread s (map Node (places test nodes 0)) s

@@ -14,7 +14,7 @@ use Rattle.wasm_tree.specs.declared.module.ImportDesc.TheVariants as im
 use Rattle.dce_graph.specs.declared.graph.Graph.{Graph}
 use Rattle.dce_graph.specs.declared.point.Point.{Point}
 use Rattle.dce_graph.specs.declared.point.Point.TheVariants.{Node, Export, Import, Func, Global}
-use Rattle.dce_graph.specs.Prelude.{Text, IsReached, root, along, roots, edges, operand_point, body_points, body_operands, const_point, const_points, imports_into, export_place, export_of_node, from_node, from_import, stays_imported, stands_for, elem_points, data_points, root_nodes, start_points, import_points}
+use Rattle.dce_graph.specs.Prelude.{Text, IsReached, root, along, roots, edges, operand_point, body_points, body_operands, const_point, const_points, imports_into, export_place, export_of_node, from_node, from_import, stays_imported, denotes_import, elem_points, data_points, root_nodes, start_points, import_points}
 use Rattle.dce_graph.specs.Reach.{point_of, from_export, from_funcs, from_globals, edges_of}
 use Rattle.dce_graph.proofs.Marking.{nowhere, alone, only_one}
 
@@ -135,7 +135,7 @@ if_there f h (Some x) = h x
 edge_to_import : (g : Graph) (m : Module) (p : Point) (n : ℕ) → Contains (edges g m p) (Import n) → FromEntry m n p
 edge_to_import g m (Node i) n h = absurd (none_there (edges g m (Node i)) (if_there (from_node m.exports) (λ x. both (map Node x.reaches) (export_of_node m.exports x.export) (nodes x.reaches) (of_name m.exports x.export)) (slice_get g.nodes i)) n h)
 edge_to_import g m (Export i) n h = absurd (none_there (edges g m (Export i)) (if_there (λ e. from_export e.desc) (λ e. of_export e.desc) (slice_get m.exports i)) n h)
-edge_to_import g m (Import i) n h = absurd (none_there (edges g m (Import i)) (if_there (from_import g.nodes) (λ x. nodes (places (stands_for x) g.nodes 0)) (slice_get m.imports i)) n h)
+edge_to_import g m (Import i) n h = absurd (none_there (edges g m (Import i)) (if_there (from_import g.nodes) (λ x. nodes (places (denotes_import x) g.nodes 0)) (slice_get m.imports i)) n h)
 edge_to_import g m (Func i) n h = inl (i, refl, in_row (imports_into Functions m.imports) (map (λ f. body_points f.body) m.funcs) (bodies m.funcs) i n (slice_get (from_funcs m) i) refl h)
 edge_to_import g m (Global i) n h = inr (i, refl, in_row (imports_into Globals m.imports) (map (λ x. const_points x.init) m.globals) (initialisers m.globals) i n (slice_get (from_globals m) i) refl h)
 

@@ -5,7 +5,7 @@ pub mod Results
 pub mod Sizes
 pub mod Marking
 pub mod Walking
-pub mod StandingNodes
+pub mod NodeChainLaws
 pub mod Following
 pub mod Searching
 pub mod Rows

@@ -102,8 +102,8 @@ abbrev pub pair_is : List ℕ → List ℕ → Option ImportPair → Bool
 pair_is module_name field None = false
 pair_is module_name field (Some pair) = bytes_eq pair.«module» module_name && bytes_eq pair.base field
 
-abbrev pub stands_for : ModuleImport → GraphNode → Bool
-stands_for i n = pair_is i.«module» i.field n.import
+abbrev pub denotes_import : ModuleImport → GraphNode → Bool
+denotes_import i n = pair_is i.«module» i.field n.import
 
 -- the export that a node names, if there is one
 abbrev pub export_of_node : List ModuleExport → Option (List ℕ) → List Point
@@ -123,7 +123,7 @@ from_export (export.Global i) = Global i ∷ []
 
 -- from an import to each node that denotes its module and field. No edge leads from such a node to the import
 abbrev pub from_import : List GraphNode → ModuleImport → List Point
-from_import nodes i = map Node (places (stands_for i) nodes 0)
+from_import nodes i = map Node (places (denotes_import i) nodes 0)
 
 -- for each function, in the order of their index space: from an imported one to its import, from a defined one to what its body names
 abbrev pub from_funcs : Module → List (List Point)

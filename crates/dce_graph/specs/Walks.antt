@@ -36,14 +36,14 @@ abbrev pub last_of_pair : List Node → ImportPair → Option ℕ
 last_of_pair nodes pair = last_place (is_of_pair pair.«module» pair.base) nodes 0
 
 -- of each module and field the last node that denotes them, and of each node the one before it that denotes the same
-pub record AreStanding (nodes : List Node) (last : BTreeMap (Bor Text × Bor Text) ℕ) (before : List (Option ℕ)) : Type 0 where
+pub record AreNodeChains (nodes : List Node) (last : BTreeMap (Bor Text × Bor Text) ℕ) (before : List (Option ℕ)) : Type 0 where
   pub last_one : (a b : Text) → found_pair last a b ≡ last_place (is_of_pair a b) nodes 0
   pub before_it : (n : ℕ) (node : Node) → slice_get nodes n ≡ Some node → slice_get before n ≡ Some (option_and_then (last_of_pair (take n nodes)) node.import)
 
 -- the places of the names of exports, the nodes that denote modules and fields, and the places of the imports of functions and of globals
 pub record AreLookups (w : Walk) : Type 0 where
   pub exports : (q : Text) → place_in_map w.exports q ≡ export_place w.«module».now.exports q
-  pub standing : AreStanding w.graph.now.nodes w.last w.before.items
+  pub chains : AreNodeChains w.graph.now.nodes w.last w.before.items
   pub funcs : w.funcs.items ≡ imports_into Functions w.«module».now.imports
   pub globals : w.globals.items ≡ imports_into Globals w.«module».now.imports
 

@@ -6,7 +6,7 @@ ghost use Rattle.wasm_tree.specs.declared.space.Space.TheVariants.{Functions, Gl
 ghost use Rattle.dce_graph.specs.Entries.{place_in_map};
 ghost use Rattle.dce_graph.specs.GraphFile.{Text};
 ghost use Rattle.dce_graph.specs.Reach.{export_place, imports_into, pair_is};
-ghost use Rattle.dce_graph.specs.Walks.{AreLookups, AreStanding, found_pair};
+ghost use Rattle.dce_graph.specs.Walks.{AreLookups, AreNodeChains, found_pair};
 
 use crate::graph::{Graph, ImportPair, Node};
 use crate::walk::Walk;
@@ -47,14 +47,14 @@ fn note<'a>(
 
 // The nodes that denote modules and fields.
 #[derive(Drop)]
-struct Standing<'a> {
+struct NodeChains<'a> {
     last: BTreeMap<(&'a str, &'a str), u32>,
     before: Vec<Option<u32>>,
 }
 
-fn standing_nodes<'a>(alloc: Global, nodes: &'a [Node]) -> Result<Standing<'a>, NoMemory>
+fn node_chains<'a>(alloc: Global, nodes: &'a [Node]) -> Result<NodeChains<'a>, NoMemory>
     requires { length nodes.now < 2 ^ 32 }
-    ensures { IfOk result (λ s. AreStanding nodes.now s.last s.before.items) }
+    ensures { IfOk result (λ s. AreNodeChains nodes.now s.last s.before.items) }
 {
     let mut last = BTreeMap::new(alloc);
     let mut before = Vec::new(alloc);
@@ -62,7 +62,7 @@ fn standing_nodes<'a>(alloc: Global, nodes: &'a [Node]) -> Result<Standing<'a>, 
         let one = note(&mut last, &nodes[place].import, place as u32)?;
         before.push(one)?;
     }
-    Ok(Standing { last, before })
+    Ok(NodeChains { last, before })
 }
 
 // The places of the imports of functions and of globals.
@@ -103,14 +103,14 @@ pub(crate) fn walk<'a>(
     ensures tree { IfOk result (λ w. w.«module».now ≡ «module».now) }
 {
     let exports = export_places(alloc, module.exports.as_slice())?;
-    let standing = standing_nodes(alloc, graph.nodes.as_slice())?;
+    let chains = node_chains(alloc, graph.nodes.as_slice())?;
     let imported = imported_places(alloc, module.imports.as_slice())?;
     Ok(Walk {
         graph,
         module,
         exports,
-        last: standing.last,
-        before: standing.before,
+        last: chains.last,
+        before: chains.before,
         funcs: imported.funcs,
         globals: imported.globals,
     })

@@ -2,7 +2,7 @@
 
 ghost use Rattle.std.specs.Prelude.{◌≡◌, ◌<◌, ◌^◌, [], ◌∷◌, Some, cond, map, length, OnOk, slice_get};
 ghost use Rattle.wasm_tree.specs.Spaces.{space_of_import};
-ghost use Rattle.dce_graph.specs.Reach.{edges, edges_of, export_of_node, from_export, from_funcs, from_globals, from_import, from_node, import_points, root_nodes, roots, stands_for, start_points, stays_imported};
+ghost use Rattle.dce_graph.specs.Reach.{edges, edges_of, export_of_node, from_export, from_funcs, from_globals, from_import, from_node, import_points, root_nodes, roots, denotes_import, start_points, stays_imported};
 ghost use Rattle.dce_graph.specs.declared.point.Point.TheVariants.{Node as node_point};
 ghost use Rattle.dce_graph.specs.Marks.{Spread};
 ghost use Rattle.dce_graph.specs.Walks.{AreFollowed, AreLookups, last_place};
@@ -132,7 +132,7 @@ impl<'a> Walk<'a> {
         last: u32,
     ) -> Result<(), NoMemory>
         requires lookups { AreLookups self.now }
-        requires last { last_place (stands_for import.now) self.now.graph.now.nodes 0 ≡ Some last }
+        requires last { last_place (denotes_import import.now) self.now.graph.now.nodes 0 ≡ Some last }
         ensures { OnOk result (Spread search.old (from_import self.now.graph.now.nodes import.now) search.new) }
     {
         let mut next = Some(last);

@@ -26,7 +26,7 @@ use Rattle.dce_graph.specs.declared.graph.Node.{Node as GraphNode}
 use Rattle.dce_graph.specs.declared.marks.Reached.{Reached}
 use Rattle.dce_graph.specs.declared.point.Point.{Point}
 use Rattle.dce_graph.specs.declared.point.Point.TheVariants.{Node, Export, Import, Func, Global}
-use Rattle.dce_graph.specs.Prelude.{marked, IsReached, root, along, routes, roots, edges, place_in_kind, point_count, body_points, const_point, const_points, imports_into, from_node, from_import, export_of_node, elem_points, data_points, root_nodes, start_points, import_points, stays_imported, stands_for, export_place}
+use Rattle.dce_graph.specs.Prelude.{marked, IsReached, root, along, routes, roots, edges, place_in_kind, point_count, body_points, const_point, const_points, imports_into, from_node, from_import, export_of_node, elem_points, data_points, root_nodes, start_points, import_points, stays_imported, denotes_import, export_place}
 use Rattle.dce_graph.specs.Reach.{IsThere, edges_of, point_of, from_export, from_funcs, from_globals, module_roots}
 use Rattle.dce_sweep_spec.specs.Reached.{AreExact, marks_of}
 use Rattle.dce_reach_proof.proofs.Points.{has, contains, contains_joined, contains_chosen, none_fails, all_mapped, all_joined, all_chosen, places_apart, point_passes, passes, body_passes}
@@ -306,7 +306,7 @@ module _ (g : Graph) (m : Module) (r : Reached) (exact : AreExact g m r) (law : 
 
   import_no_import : (o : Option ModuleImport) → list_all no_import (edges_of (option_map (from_import g.nodes) o)) ≡ true
   import_no_import None = refl
-  import_no_import (Some i) = all_mapped no_import Node (places (stands_for i) g.nodes 0) (λ n. refl)
+  import_no_import (Some i) = all_mapped no_import Node (places (denotes_import i) g.nodes 0) (λ n. refl)
 
   fails : {A : Type 0} (ps : List Point) (n : ℕ) → list_all no_import ps ≡ true → Contains ps (Import n) → A
   fails ps n h c = absurd (true≢false (sym (none_fails no_import ps (Import n) h c)))

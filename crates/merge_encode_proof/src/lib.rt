@@ -13,7 +13,7 @@ ghost use Rattle.wasm_write_proof.specs.Ranges.{InRange};
 
 use wasm_tree::operands_pass_layer_by_layer;
 use wasm_valid::valid_where_items_hold;
-use wasm_write_proof::{encoded_operands_are_in_range, renumbering_keeps_other_numbers};
+use wasm_write_proof::{encoded_operands_are_in_range, renumbering_keeps_numbers_in_range};
 
 /// Where the parts of a merge have their numbers in range and their names in UTF-8, so has the merged module, if it is valid and has at
 /// most one memory (`range`): what it names is there, and its other numbers stand in some part. And its bodies name no memory but memory 0
@@ -27,6 +27,6 @@ pub fn merged_modules_are_in_range()
 {
     valid_where_items_hold();
     operands_pass_layer_by_layer();
-    renumbering_keeps_other_numbers();
+    renumbering_keeps_numbers_in_range();
     encoded_operands_are_in_range();
 }

@@ -15,7 +15,7 @@ ghost use Rattle.split_spec.specs.Secondary.{secondary_with};
 use module_limits::counts_are_within_where_none_is_over;
 use wasm_tree::operands_pass_layer_by_layer;
 use wasm_valid::valid_where_items_hold;
-use wasm_write_proof::{encoded_operands_are_in_range, renumbering_keeps_other_numbers};
+use wasm_write_proof::{encoded_operands_are_in_range, renumbering_keeps_numbers_in_range};
 
 /// Where a module has its numbers in range and its names in UTF-8, and a u32 can count what it has, so have both modules of a split of it (`primary`, `secondary`), if
 /// these are valid and have at most one memory, a u32 can count what they have, the names that the split is given are UTF-8, and the slots are below 2^31, so that an `i32.const`
@@ -41,7 +41,7 @@ pub fn split_modules_are_in_range()
 {
     valid_where_items_hold();
     operands_pass_layer_by_layer();
-    renumbering_keeps_other_numbers();
+    renumbering_keeps_numbers_in_range();
     encoded_operands_are_in_range();
     counts_are_within_where_none_is_over();
 }

@@ -7,7 +7,7 @@ use Rattle.wasm_names.specs.Reading.{or_else}
 use Rattle.split_plan.specs.declared.fault.PlanFault.{PlanFault}
 use Rattle.split_plan.specs.declared.fault.PlanFault.TheVariants.{NoSuchFunction, AmbiguousFunction, KeptAndSplit, NoMemory}
 use Rattle.split_plan.specs.declared.plans.Plan.{Plan}
-use Rattle.split_plan.specs.Words.{bearers, exported_among, function_of, word_fault, names_func}
+use Rattle.split_plan.specs.Words.{entries_with_name, exported_among, function_of, word_fault, names_func}
 use Rattle.split_plan.specs.Plans.{first_given, kept_fault, words_of, plan_fault}
 use Rattle.split_plan.specs.Causes.{Names, NamesNone, IsShared, IsKept, Cause, FaultsHaveCauses, Told}
 
@@ -63,18 +63,18 @@ module _ {A B : Type 0} (f : A → Option B) where
 
 module _ (m : Module) (names : List FuncName) where
   right_word : (word : List ℕ) → word_fault m names word ≡ None → Names m names word
-  right_word word = split (bearers m names word) (exported_among m m.exports word) refl refl
+  right_word word = split (entries_with_name m names word) (exported_among m m.exports word) refl refl
     where
-      split : (fs : List ℕ) (exported : Option ℕ) → bearers m names word ≡ fs → exported_among m m.exports word ≡ exported → word_fault m names word ≡ None → Names m names word
+      split : (fs : List ℕ) (exported : Option ℕ) → entries_with_name m names word ≡ fs → exported_among m m.exports word ≡ exported → word_fault m names word ≡ None → Names m names word
       split [] None b x h = absurd (let t = rw (b, x) at h in cc)
       split [] (Some func) b x h = (func, rw (b, x) refl)
       split (func ∷ []) exported b x h = (func, rw b refl)
       split (func ∷ other ∷ more) exported b x h = absurd (let t = rw b at h in cc)
 
   word_right : (word : List ℕ) → Names m names word → word_fault m names word ≡ None
-  word_right word = split (bearers m names word) (exported_among m m.exports word) refl refl
+  word_right word = split (entries_with_name m names word) (exported_among m m.exports word) refl refl
     where
-      split : (fs : List ℕ) (exported : Option ℕ) → bearers m names word ≡ fs → exported_among m m.exports word ≡ exported → Names m names word → word_fault m names word ≡ None
+      split : (fs : List ℕ) (exported : Option ℕ) → entries_with_name m names word ≡ fs → exported_among m m.exports word ≡ exported → Names m names word → word_fault m names word ≡ None
       split [] None b x h = absurd (let t = rw (b, x) at h.1 in cc)
       split [] (Some func) b x h = rw (b, x) refl
       split (func ∷ []) exported b x h = rw b refl
@@ -85,9 +85,9 @@ module _ (m : Module) (names : List FuncName) where
   WordFault word e = ((e ≡ NoSuchFunction word) × NamesNone m names word) ⊎ ((e ≡ AmbiguousFunction word) × IsShared m names word)
 
   word_at_fault : (word : List ℕ) (e : PlanFault) → word_fault m names word ≡ Some e → WordFault word e
-  word_at_fault word e = split (bearers m names word) (exported_among m m.exports word) refl refl
+  word_at_fault word e = split (entries_with_name m names word) (exported_among m m.exports word) refl refl
     where
-      split : (fs : List ℕ) (exported : Option ℕ) → bearers m names word ≡ fs → exported_among m m.exports word ≡ exported → word_fault m names word ≡ Some e → WordFault word e
+      split : (fs : List ℕ) (exported : Option ℕ) → entries_with_name m names word ≡ fs → exported_among m m.exports word ≡ exported → word_fault m names word ≡ Some e → WordFault word e
       split [] None b x h = let same : NoSuchFunction word ≡ e = (let t = rw (b, x) at h in cc) in inl (sym same, (b, x))
       split [] (Some func) b x h = absurd (let t = rw (b, x) at h in cc)
       split (func ∷ []) exported b x h = absurd (let t = rw b at h in cc)
@@ -97,9 +97,9 @@ module _ (m : Module) (names : List FuncName) where
   none_at_fault word h = rw (h.0, h.1) refl
 
   shared_at_fault : (word : List ℕ) → IsShared m names word → word_fault m names word ≡ Some (AmbiguousFunction word)
-  shared_at_fault word h = split (bearers m names word) refl h
+  shared_at_fault word h = split (entries_with_name m names word) refl h
     where
-      split : (fs : List ℕ) → bearers m names word ≡ fs → 2 ≤ length fs → word_fault m names word ≡ Some (AmbiguousFunction word)
+      split : (fs : List ℕ) → entries_with_name m names word ≡ fs → 2 ≤ length fs → word_fault m names word ≡ Some (AmbiguousFunction word)
       split [] b le = absurd (omega arith)
       split (func ∷ []) b le = absurd (omega arith)
       split (func ∷ other ∷ more) b le = rw b refl

@@ -8,7 +8,7 @@ use Rattle.wasm_names.specs.Reading.{or_else}
 use Rattle.split_plan.specs.declared.fault.PlanFault.{PlanFault}
 use Rattle.split_plan.specs.declared.fault.PlanFault.TheVariants.{NoMemory}
 use Rattle.split_plan.specs.declared.named.Named.{Named}
-use Rattle.split_plan.specs.Words.{is_defined, is_defined_export, bearers, exported_among, one_of, function_of, word_fault, names_func}
+use Rattle.split_plan.specs.Words.{is_defined, is_defined_export, entries_with_name, exported_among, one_of, function_of, word_fault, names_func}
 use Rattle.split_plan.specs.Looking.{AreMarks, entry_of, func_in, fault_in, enters_func, has_wanted_mark}
 use Rattle.split_plan.specs.Plans.{first_given, kept_fault, words_of, plan_fault, is_wanted, plan_for, plan_of}
 use Rattle.split_plan.proofs.Tables.{entered_func, entered_fault}
@@ -33,7 +33,7 @@ found_passes test (y ∷ ys) x h = ⊎_elim
     (λ k. found_passes test ys x k.1)
     (cond_is (test y) _ _ _ h)
 
-bearer_defined : (m : Module) (names : List FuncName) (word : List ℕ) (func : ℕ) → slice_get (bearers m names word) 0 ≡ Some func → is_defined m func ≡ true
+bearer_defined : (m : Module) (names : List FuncName) (word : List ℕ) (func : ℕ) → slice_get (entries_with_name m names word) 0 ≡ Some func → is_defined m func ≡ true
 bearer_defined m names word func h =
     let test = λ (n : FuncName). bytes_eq n.name word && is_defined m n.index in
     let n = map_from (λ (n : FuncName). n.index) (filter test names) 0 func h in
@@ -48,9 +48,9 @@ export_defined m exports word func h =
     ap (is_defined m) (sym e.2) ∙ right_true _ (is_defined m (index_of_export e.0.desc)) passes
 
 named_defined : (m : Module) (names : List FuncName) (word : List ℕ) (func : ℕ) → function_of m names word ≡ Some func → is_defined m func ≡ true
-named_defined m names word func h = split (bearers m names word) refl h
+named_defined m names word func h = split (entries_with_name m names word) refl h
   where
-    split : (fs : List ℕ) → bearers m names word ≡ fs → one_of fs (exported_among m m.exports word) ≡ Some func → is_defined m func ≡ true
+    split : (fs : List ℕ) → entries_with_name m names word ≡ fs → one_of fs (exported_among m m.exports word) ≡ Some func → is_defined m func ≡ true
     split [] e k = export_defined m m.exports word func k
     split (f ∷ []) e k = bearer_defined m names word func (rw e k)
     split (f ∷ g ∷ more) e k = cc
@@ -62,11 +62,11 @@ defined_below m func h = ltb-true func (length (funcs_of m)) (right_true _ _ h)
 
 module _ (m : Module) (names : List FuncName) (held : List ℕ → Option Named) (told : (word : List ℕ) → held word ≡ entry_of m names word) where
   func_told : (word : List ℕ) → func_in (held word) ≡ function_of m names word
-  func_told word = ap func_in (told word) ∙ entered_func (bearers m names word) (exported_among m m.exports word)
+  func_told word = ap func_in (told word) ∙ entered_func (entries_with_name m names word) (exported_among m m.exports word)
 
   faults_told : (words : List (List ℕ)) → first_given (λ word. fault_in (held word) word) words ≡ first_given (word_fault m names) words
   faults_told words =
-      ap (λ (f : List ℕ → Option PlanFault). first_given f words) (same_function (λ word. ap (λ o. fault_in o word) (told word) ∙ entered_fault (bearers m names word) (exported_among m m.exports word) word))
+      ap (λ (f : List ℕ → Option PlanFault). first_given f words) (same_function (λ word. ap (λ o. fault_in o word) (told word) ∙ entered_fault (entries_with_name m names word) (exported_among m m.exports word) word))
 
   enters_told : (func : ℕ) (words : List (List ℕ)) → list_any (enters_func held func) words ≡ list_any (names_func m names func) words
   enters_told func words =

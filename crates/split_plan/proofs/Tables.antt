@@ -6,7 +6,7 @@ use Rattle.wasm_tree_spec.specs.Prelude.{Export, Module, index_of_export}
 use Rattle.wasm_names.specs.declared.func_name.FuncName.{FuncName}
 use Rattle.split_plan.specs.declared.named.Named.{Named}
 use Rattle.split_plan.specs.declared.named.Named.TheVariants.{Exported}
-use Rattle.split_plan.specs.Words.{is_defined, is_defined_export, exported_among, bearers, one_of, fault_of}
+use Rattle.split_plan.specs.Words.{is_defined, is_defined_export, exported_among, entries_with_name, one_of, fault_of}
 use Rattle.split_plan.specs.Looking.{entered, once_more, func_in, fault_in}
 
 -- a function of what is behind a place, one step towards the front
@@ -43,14 +43,14 @@ one_more func (f ∷ []) exported = refl
 one_more func (f ∷ g ∷ fs) exported = refl
 
 module _ (m : Module) (n : FuncName) (ns : List FuncName) (word : List ℕ) (exported : Option ℕ) where
-  pub name_enters : is_defined m n.index ≡ true → entered (bearers m (n ∷ ns) word) exported ≡ cond (bytes_eq n.name word) (once_more n.index (entered (bearers m ns word) exported)) (entered (bearers m ns word) exported)
+  pub name_enters : is_defined m n.index ≡ true → entered (entries_with_name m (n ∷ ns) word) exported ≡ cond (bytes_eq n.name word) (once_more n.index (entered (entries_with_name m ns word) exported)) (entered (entries_with_name m ns word) exported)
   name_enters defined = rw (defined, and-true) (split (bytes_eq n.name word))
     where
-      split : (b : Bool) → entered (map (λ x. x.index) (cond b (n ∷ filter (λ x. bytes_eq x.name word && is_defined m x.index) ns) (filter (λ x. bytes_eq x.name word && is_defined m x.index) ns))) exported ≡ cond b (once_more n.index (entered (bearers m ns word) exported)) (entered (bearers m ns word) exported)
-      split true = one_more n.index (bearers m ns word) exported
+      split : (b : Bool) → entered (map (λ x. x.index) (cond b (n ∷ filter (λ x. bytes_eq x.name word && is_defined m x.index) ns) (filter (λ x. bytes_eq x.name word && is_defined m x.index) ns))) exported ≡ cond b (once_more n.index (entered (entries_with_name m ns word) exported)) (entered (entries_with_name m ns word) exported)
+      split true = one_more n.index (entries_with_name m ns word) exported
       split false = refl
 
-  pub name_passes : is_defined m n.index ≡ false → entered (bearers m (n ∷ ns) word) exported ≡ entered (bearers m ns word) exported
+  pub name_passes : is_defined m n.index ≡ false → entered (entries_with_name m (n ∷ ns) word) exported ≡ entered (entries_with_name m ns word) exported
   name_passes other = rw (other, and-false) refl
 
 -- what is entered in place of what was there

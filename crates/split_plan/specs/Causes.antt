@@ -7,7 +7,7 @@ use Rattle.wasm_names.specs.declared.func_name.FuncName.{FuncName}
 use Rattle.split_plan.specs.declared.fault.PlanFault.{PlanFault}
 use Rattle.split_plan.specs.declared.fault.PlanFault.TheVariants.{NoSuchFunction, AmbiguousFunction, KeptAndSplit, NoMemory}
 use Rattle.split_plan.specs.declared.plans.Plan.{Plan}
-use Rattle.split_plan.specs.Words.{bearers, exported_among, function_of, names_func}
+use Rattle.split_plan.specs.Words.{entries_with_name, exported_among, function_of, names_func}
 use Rattle.split_plan.specs.Plans.{words_of, plan_fault}
 
 -- the word is one of these, and none before it is at fault
@@ -20,11 +20,11 @@ Names m names word = (func : ℕ) × (function_of m names word ≡ Some func)
 
 -- no defined function bears the word, and none is exported under it
 abbrev pub NamesNone : Module → List FuncName → List ℕ → Type 0
-NamesNone m names word = (bearers m names word ≡ []) × (exported_among m m.exports word ≡ None)
+NamesNone m names word = (entries_with_name m names word ≡ []) × (exported_among m m.exports word ≡ None)
 
 -- several bear it
 abbrev pub IsShared : Module → List FuncName → List ℕ → Type 0
-IsShared m names word = 2 ≤ length (bearers m names word)
+IsShared m names word = 2 ≤ length (entries_with_name m names word)
 
 -- a word to keep names its function too
 abbrev pub IsKept : Module → List FuncName → List (List ℕ) → List ℕ → Type 0

@@ -10,24 +10,24 @@ use Rattle.wasm_names.specs.declared.func_name.FuncName.{FuncName}
 use Rattle.split_plan.specs.declared.fault.PlanFault.{PlanFault}
 use Rattle.split_plan.specs.declared.fault.PlanFault.TheVariants.{NoSuchFunction, AmbiguousFunction}
 use Rattle.split_plan.specs.declared.named.Named.{Named}
-use Rattle.split_plan.specs.declared.named.Named.TheVariants.{Borne, Shared, Exported}
-use Rattle.split_plan.specs.Words.{bearers, exported_among}
+use Rattle.split_plan.specs.declared.named.Named.TheVariants.{InNameList, Shared, Exported}
+use Rattle.split_plan.specs.Words.{entries_with_name, exported_among}
 
 -- what is entered of a word, by those that bear it and what is exported under it
 abbrev pub entered : List ℕ → Option ℕ → Option Named
 entered [] exported = option_map Exported exported
-entered (func ∷ []) exported = Some (Borne func)
+entered (func ∷ []) exported = Some (InNameList func)
 entered (func ∷ other ∷ more) exported = Some Shared
 
 -- where one function more bears the word
 abbrev pub once_more : ℕ → Option Named → Option Named
-once_more func None = Some (Borne func)
-once_more func (Some (Exported other)) = Some (Borne func)
-once_more func (Some (Borne other)) = Some Shared
+once_more func None = Some (InNameList func)
+once_more func (Some (Exported other)) = Some (InNameList func)
+once_more func (Some (InNameList other)) = Some Shared
 once_more func (Some Shared) = Some Shared
 
 abbrev pub entry_of : Module → List FuncName → List ℕ → Option Named
-entry_of m names word = entered (bearers m names word) (exported_among m m.exports word)
+entry_of m names word = entered (entries_with_name m names word) (exported_among m m.exports word)
 
 -- what a table holds of a word
 abbrev pub held_of : {S : Type 0} → HashMap (Bor (List ℕ)) Named S → List ℕ → Option Named
@@ -35,13 +35,13 @@ held_of table word = get_by (λ k. bytes_eq word k.now) table
 
 -- the function that an entry tells, and the fault
 abbrev pub func_in : Option Named → Option ℕ
-func_in (Some (Borne func)) = Some func
+func_in (Some (InNameList func)) = Some func
 func_in (Some Shared) = None
 func_in (Some (Exported func)) = Some func
 func_in None = None
 
 abbrev pub fault_in : Option Named → List ℕ → Option PlanFault
-fault_in (Some (Borne func)) word = None
+fault_in (Some (InNameList func)) word = None
 fault_in (Some Shared) word = Some (AmbiguousFunction word)
 fault_in (Some (Exported func)) word = None
 fault_in None word = Some (NoSuchFunction word)

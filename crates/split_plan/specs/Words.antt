@@ -12,8 +12,8 @@ abbrev pub is_defined : Module → ℕ → Bool
 is_defined m func = nat_le (length (imported_funcs m.imports)) func && nat_lt func (length (funcs_of m))
 
 -- the defined functions that bear the word in the name list
-abbrev pub bearers : Module → List FuncName → List ℕ → List ℕ
-bearers m names word = map (λ n. n.index) (filter (λ n. bytes_eq n.name word && is_defined m n.index) names)
+abbrev pub entries_with_name : Module → List FuncName → List ℕ → List ℕ
+entries_with_name m names word = map (λ n. n.index) (filter (λ n. bytes_eq n.name word && is_defined m n.index) names)
 
 abbrev pub is_defined_export : Module → Export → Bool
 is_defined_export m e = same_space (space_of_export e.desc) Functions && is_defined m (index_of_export e.desc)
@@ -30,7 +30,7 @@ one_of (func ∷ other ∷ more) exported = None
 
 -- the function that a word names
 abbrev pub function_of : Module → List FuncName → List ℕ → Option ℕ
-function_of m names word = one_of (bearers m names word) (exported_among m m.exports word)
+function_of m names word = one_of (entries_with_name m names word) (exported_among m m.exports word)
 
 abbrev pub fault_of : List ℕ → Option ℕ → List ℕ → Option PlanFault
 fault_of [] None word = Some (NoSuchFunction word)
@@ -40,7 +40,7 @@ fault_of (func ∷ other ∷ more) exported word = Some (AmbiguousFunction word)
 
 -- why it names none
 abbrev pub word_fault : Module → List FuncName → List ℕ → Option PlanFault
-word_fault m names word = fault_of (bearers m names word) (exported_among m m.exports word) word
+word_fault m names word = fault_of (entries_with_name m names word) (exported_among m m.exports word) word
 
 -- whether a word names this function
 abbrev pub names_func : Module → List FuncName → ℕ → List ℕ → Bool

@@ -23,7 +23,7 @@ fn function_named(
     ensures fault { IfErr result (λ e. (e ≡ OutOfMemory) ⊎ (fault_in (held_of table.now word.now) word.now ≡ Some e)) }
 {
     match table.get(word.as_str()) {
-        Some(Named::Borne(func) | Named::Exported(func)) => Ok(*func),
+        Some(Named::InNameList(func) | Named::Exported(func)) => Ok(*func),
         Some(Named::Shared) => Err(PlanFault::AmbiguousFunction {
             name: word.copy(alloc)?,
         }),

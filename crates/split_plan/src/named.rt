@@ -19,7 +19,7 @@ use wasm_tree::{Export, Module, Space};
 #[derive(Clone, Copy, Drop)]
 pub enum Named {
     /// The one defined function that bears the word in the name list.
-    Borne(u32),
+    InNameList(u32),
     /// Several bear it.
     Shared,
     /// None bears it, and this one is exported under it.
@@ -32,7 +32,7 @@ impl Named {
         ensures { result ≡ func_in (Some self) }
     {
         match self {
-            Named::Borne(func) | Named::Exported(func) => Some(func),
+            Named::InNameList(func) | Named::Exported(func) => Some(func),
             Named::Shared => None,
         }
     }
@@ -85,8 +85,8 @@ fn once_more(entry: Option<Named>, func: u32) -> Named
     ensures { Some result ≡ once_more func entry }
 {
     match entry {
-        None | Some(Named::Exported(_)) => Named::Borne(func),
-        Some(Named::Borne(_)) | Some(Named::Shared) => Named::Shared,
+        None | Some(Named::Exported(_)) => Named::InNameList(func),
+        Some(Named::InNameList(_)) | Some(Named::Shared) => Named::Shared,
     }
 }
 

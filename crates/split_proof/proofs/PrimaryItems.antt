@@ -20,7 +20,7 @@ use Rattle.index_remap_proof.specs.ButForReferences.{HoldsButForReferences, any_
 use Rattle.index_remap_proof.specs.Trees.{TreesAgree}
 use Rattle.index_remap_proof.proofs.Lists.{among_joined, among_left, among_right, is_marked, left_either, only_rest, only_true, right_either}
 use Rattle.split_spec.specs.Prelude.{call_by_slot, call_through_slot, in_slots, params_of, place_among, slot_segment, slot_table, slot_table_type, trampoline_body, type_index, is_needed, is_left, left_marks, primary_func, primary_funcs}
-use Rattle.split_spec.specs.Needed.{named_but_called}
+use Rattle.split_spec.specs.Needed.{named_other_than_by_calls}
 use Rattle.split_proof.specs.Premises.{CanMove}
 use Rattle.split_proof.proofs.Bodies.{BodyLaws, CodeIsTyped, body_typed, entry_agrees}
 use Rattle.split_proof.proofs.Lists.{no_place, none_among, there_among}
@@ -44,7 +44,7 @@ module _ (laws : BodyLaws) (namespace : ℕ → List ℕ) (prefix : List ℕ) (m
 
   -- ---- what is named is left ----
 
-  needed_left : (f : ℕ) → is_among (named_but_called m) f ≡ true → is_left m moved f ≡ true
+  needed_left : (f : ℕ) → is_among (named_other_than_by_calls m) f ≡ true → is_left m moved f ≡ true
   needed_left f h = right_either (not (is_among moved f)) (is_needed m f) h
 
   pub refs_left : (f : ℕ) → is_among (refs_of m) f ≡ true → is_left m moved f ≡ true

@@ -6,11 +6,11 @@ use Rattle.wasm_valid.specs.Prelude.{refs_of}
 use Rattle.index_remap.specs.Prelude.{body_refs, is_among}
 
 -- the functions that an item of an element segment, the initialiser of a global, an export, the start, or `ref.func` in a body names
-abbrev pub named_but_called : Module → List ℕ
-named_but_called m = refs_of m ++ (cons_option m.start [] ++ body_refs m.funcs)
+abbrev pub named_other_than_by_calls : Module → List ℕ
+named_other_than_by_calls m = refs_of m ++ (cons_option m.start [] ++ body_refs m.funcs)
 
 abbrev pub is_needed : Module → ℕ → Bool
-is_needed m func = is_among (named_but_called m) func
+is_needed m func = is_among (named_other_than_by_calls m) func
 
 abbrev pub needed : Module → (moved : List ℕ) → List ℕ
 needed m moved = filter (is_needed m) moved

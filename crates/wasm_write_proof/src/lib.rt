@@ -41,6 +41,6 @@ pub fn encoded_operands_are_in_range()
 {}
 
 /// With other indices code keeps its other numbers: labels, locals, constants, alignments and offsets.
-pub fn renumbering_keeps_other_numbers()
+pub fn renumbering_keeps_numbers_in_range()
     ensures { (f : IndexSpace → ℕ → ℕ) (code : List Code) → all_numbers_in (mapped_all f code) ≡ all_numbers_in code }
 {}

@@ -9,7 +9,7 @@ returns c =
     let layers = c.operands_pass_layer_by_layer.ensures.layers in
     let spelled = c.encoded_operands_are_in_range.ensures in
     let items = c.valid_where_items_hold.ensures in
-    let stay = c.renumbering_keeps_other_numbers.ensures in
+    let stay = c.renumbering_keeps_numbers_in_range.ensures in
     record {
       few = few_move c.counts_are_within_where_none_is_over.ensures;
       primary = λ namespace prefix m moved namespaces utf8 h few most valid single bounded.

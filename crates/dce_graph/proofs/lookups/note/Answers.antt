@@ -1,6 +1,6 @@
 use Rattle.base_lists.proofs.Common.{◌∙◌, ap, sym, cond, Some}
 use Rattle.dce_graph.specs.Prelude.{pair_is, found_pair}
-use Rattle.dce_graph.proofs.StandingNodes.{pair_tested}
+use Rattle.dce_graph.proofs.NodeChainLaws.{pair_tested}
 use Rattle.dce_graph.proofs.lookups.note.Goals as goal
 
 pub returns-in_ok-insert-in-Some-clause-noted : goal.returns-in_ok-insert-in-Some-clause-noted

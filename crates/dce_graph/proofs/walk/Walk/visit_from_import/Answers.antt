@@ -1,5 +1,5 @@
 use Rattle.base_lists.proofs.Common.{◌∙◌, sym, ap, subst, false, get_or}
-use Rattle.dce_graph.specs.Prelude.{from_import, stands_for, AreFollowed}
+use Rattle.dce_graph.specs.Prelude.{from_import, denotes_import, AreFollowed}
 use Rattle.dce_graph.proofs.Following.{met_already, none_stands, one_followed, stands_last}
 use Rattle.dce_graph.proofs.walk.Walk.visit_from_import.Goals as goal
 
@@ -30,5 +30,5 @@ pub returns-in-None-clause-spread : goal.returns-in-None-clause-spread
 returns-in-None-clause-spread c =
     let import = c.args.import.now in
     let w = c.args.self.now in
-    none_stands w.graph.now.nodes (stands_for import) c.args.search.now
+    none_stands w.graph.now.nodes (denotes_import import) c.args.search.now
     (stands_last w import.«module» import.field _ _ _ c.requires.lookups c.in-None.ensures.value c.as_str.ensures.text c.as_str-2.ensures.text)

@@ -1,6 +1,6 @@
 use Rattle.base_lists.proofs.Common.{◌≡◌, ◌∙◌, sym, take, Some, rules, slice_get_within, get_or_from_slice_get}
 use Rattle.dce_graph.specs.Prelude.{is_of_pair, last_place}
-use Rattle.dce_graph.proofs.StandingNodes.{meeting_starts, meeting_last, meeting_more, meeting_ends, nearer, next_is}
+use Rattle.dce_graph.proofs.NodeChainLaws.{meeting_starts, meeting_last, meeting_more, meeting_ends, nearer, next_is}
 use Rattle.dce_graph.proofs.walk.Walk.visit_standing.Goals as goal
 
 pub loop-next-init : goal.loop-next-init

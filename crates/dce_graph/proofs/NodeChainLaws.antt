@@ -10,7 +10,7 @@ use Rattle.dce_graph.specs.declared.point.Point.{Point}
 use Rattle.dce_graph.specs.declared.point.Point.TheVariants.{Node}
 use Rattle.dce_graph.specs.declared.search.Search.{Search}
 use Rattle.dce_graph.specs.declared.walk.Walk.{Walk}
-use Rattle.dce_graph.specs.Prelude.{Text, Spread, pair_is, last_place, is_of_pair, found_pair, AreStanding}
+use Rattle.dce_graph.specs.Prelude.{Text, Spread, pair_is, last_place, is_of_pair, found_pair, AreNodeChains}
 use Rattle.dce_graph.specs.Walks.{last_of_pair, AreLookups, IsMeeting, ahead}
 use Rattle.dce_graph.proofs.Marking.{spread_none, spread_then, spread_as}
 
@@ -144,7 +144,7 @@ pub next_is : (w : Walk) (a b : Text) (k n : ℕ) → AreLookups w → IsLastBef
 next_is w a b k n lookups l =
     let nodes = w.graph.now.nodes in
     let p = pair_there a b l.element.import l.passes in
-    lookups.standing.before_it n l.element l.at
+    lookups.chains.before_it n l.element l.at
     ∙ ap Some (ap (option_and_then (last_of_pair (take n nodes))) p.1 ∙ ap (λ x. last_place (is_of_pair x p.0.base) (take n nodes) 0) p.2 ∙ ap (λ y. last_place (is_of_pair a y) (take n nodes) 0) p.3)
 
 pub meeting_more : (nodes : List GraphNode) (test : GraphNode → Bool) (next following : Option ℕ) (old s new : Search) (n : ℕ) → IsMeeting nodes test next old s → next ≡ Some n → Spread s (Node n ∷ []) new
@@ -191,9 +191,9 @@ pub one_longer : {A : Type 0} (xs : List A) (x : A) (n : ℕ) → length xs ≡ 
 one_longer xs x n h = omega (arith, length-append xs (x ∷ []), h)
 
 -- one node more
-pub standing_more : (ns : List GraphNode) (x : GraphNode) (old new : BTreeMap (Bor Text × Bor Text) ℕ) (before : List (Option ℕ)) (d : Option ℕ) → AreStanding ns old before → length before ≡ length ns
+pub standing_more : (ns : List GraphNode) (x : GraphNode) (old new : BTreeMap (Bor Text × Bor Text) ℕ) (before : List (Option ℕ)) (d : Option ℕ) → AreNodeChains ns old before → length before ≡ length ns
     → ((a b : Text) → found_pair new a b ≡ cond (pair_is a b x.import) (Some (length ns)) (found_pair old a b)) → d ≡ option_and_then (λ pair. found_pair old pair.«module» pair.base) x.import
-    → AreStanding (ns ++ x ∷ []) new (before ++ d ∷ [])
+    → AreNodeChains (ns ++ x ∷ []) new (before ++ d ∷ [])
 standing_more ns x old new before d are long noted is = record {
   last_one = λ a b. noted a b ∙ ap (cond (pair_is a b x.import) (Some (length ns))) (are.last_one a b) ∙ sym (last_more (is_of_pair a b) ns x 0 ∙ ap (λ n. cond (pair_is a b x.import) (Some n) (last_place (is_of_pair a b) ns 0)) (let e : 0 + length ns ≡ length ns = omega arith in e));
   before_it = λ n node h. elim (cases_eq n (length ns)) [

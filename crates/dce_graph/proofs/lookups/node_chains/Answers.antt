@@ -1,8 +1,8 @@
 use Rattle.base_lists.proofs.Common.{◌≡◌, ◌∙◌, ◌+◌, ◌++◌, ◌∷◌, [], ap, sym, subst, take, get_or, length, cond, Some, arith, get_or_default, length-take-le}
-use Rattle.dce_graph.specs.Prelude.{pair_is, AreStanding, found_pair}
+use Rattle.dce_graph.specs.Prelude.{pair_is, AreNodeChains, found_pair}
 use Rattle.dce_graph.proofs.Steps.{done_more}
-use Rattle.dce_graph.proofs.StandingNodes.{standing_more, one_longer}
-use Rattle.dce_graph.proofs.lookups.standing_nodes.Goals as goal
+use Rattle.dce_graph.proofs.NodeChainLaws.{standing_more, one_longer}
+use Rattle.dce_graph.proofs.lookups.node_chains.Goals as goal
 
 pub loop-place-preserved : goal.loop-place-preserved
 loop-place-preserved c =
@@ -18,5 +18,5 @@ loop-place-preserved c =
     (λ a b. c.in_ok-one.ensures.noted a b ∙ ap (λ n. cond (pair_is a b x.import) (Some n) (found_pair old a b)) (sym long)) c.in_ok-one.ensures.before in
     record {
       one_each = ap length c.in_ok-push.ensures.items ∙ one_longer before c.in_ok-one.one i c.loop-place.invariant.one_each;
-      are = subst (λ xs. AreStanding xs new c.push.new.self.items) (sym more) (subst (AreStanding (take i nodes ++ x ∷ []) new) (sym c.in_ok-push.ensures.items) are);
+      are = subst (λ xs. AreNodeChains xs new c.push.new.self.items) (sym more) (subst (AreNodeChains (take i nodes ++ x ∷ []) new) (sym c.in_ok-push.ensures.items) are);
     }
