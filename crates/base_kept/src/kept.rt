@@ -1,5 +1,3 @@
-// What is kept of a list by marks.
-
 ghost use Rattle.std.specs.Prelude.{◌≡◌, ◌++◌, ◌≤◌, length, reverse, IfOk};
 ghost use Rattle.base_kept.specs.Kept.{kept};
 
@@ -37,7 +35,8 @@ fn backward<T: Drop>(alloc: Global, items: Items<T>) -> Result<Items<T>, NoMemor
     Ok(back)
 }
 
-/// The items that are marked, in their order. They are moved; the others are let go.
+/// Returns the items that are marked, in their order. They are moved, and the others are dropped.
+/// The only error is `NoMemory`.
 pub fn keep_marked<T: Drop>(
     alloc: Global,
     items: Items<T>,

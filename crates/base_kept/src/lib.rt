@@ -1,4 +1,4 @@
-//! Lists of which some elements are kept, by marks, and the places to which these go.
+//! Lists of which some elements are kept, those that are marked, and the new places of these.
 #![tactic(auto)]
 
 mod kept;

@@ -1,5 +1,3 @@
-// Where what is kept of a list goes.
-
 ghost use Rattle.std.specs.Prelude.{◌≡◌, ◌+◌, ◌++◌, ◌<◌, ◌≤◌, ◌^◌, length, IfOk, OnOk};
 ghost use Rattle.base_lists.specs.Places as places;
 ghost use Rattle.base_kept.specs.Kept as kept;
@@ -7,7 +5,8 @@ ghost use Rattle.base_kept.specs.Kept as kept;
 use std::alloc::Global;
 use wasm_bytes::{Items, NoMemory};
 
-/// For each place how many marked ones come before it, which is where its element goes if it is kept.
+/// Returns for each place how many marked places come before it: the new place of its element, if
+/// it is kept. The only error is `NoMemory`.
 pub fn new_places(alloc: Global, marks: &[bool]) -> Result<Items<u32>, NoMemory>
     requires { length marks.now < 2 ^ 32 }
     ensures { IfOk result (λ all. all ≡ kept.new_places marks.now) }
@@ -23,7 +22,8 @@ pub fn new_places(alloc: Global, marks: &[bool]) -> Result<Items<u32>, NoMemory>
     Ok(all)
 }
 
-/// Appends so many numbers from one on.
+/// Appends `count` consecutive numbers, beginning with `first`. After `NoMemory` the list is not
+/// specified.
 pub fn add_numbers(all: &mut Items<u32>, first: u32, count: usize) -> Result<(), NoMemory>
     requires { first + count ≤ 2 ^ 32 }
     ensures { OnOk result (all.new ≡ all.old ++ places.numbers first count) }

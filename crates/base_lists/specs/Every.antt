@@ -1,4 +1,4 @@
--- What holds of each element, as a product that computes with the list.
+-- Each element of a list has a property: a product with one factor for each element.
 use Rattle.std.specs.Prelude.{List, [], ◌∷◌}
 
 abbrev pub Every : {A : Type 0} → (A → Type 0) → List A → Type 0

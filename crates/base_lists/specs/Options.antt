@@ -1,12 +1,12 @@
--- Chains of look-ups, any of which may find nothing.
+-- Chains of look-ups, each of which may find nothing.
 use Rattle.std.specs.Prelude.{List, [], ◌∷◌, Option, Some, option_and_then}
 
--- what f gives for what is there, as `Option::and_then`
+-- What `f` gives for the value, if there is one, as `Option::and_then`.
 infixl 10 ◌>>=◌
 abbrev pub ◌>>=◌ : {A B : Type 0} → Option A → (A → Option B) → Option B
 o >>= f = option_and_then f o
 
--- what f gives for each, where it gives something for all
+-- What `f` gives for each element, if it gives something for all.
 abbrev pub all_there : {A B : Type 0} → (A → Option B) → List A → Option (List B)
 all_there f [] = Some []
 all_there f (x ∷ xs) = f x >>= λ y. all_there f xs >>= λ ys. Some (y ∷ ys)

@@ -3,22 +3,22 @@ use Rattle.std.specs.Prelude.{◌≡◌, ℕ, ◌<◌, List, Option, Some, None,
 use Rattle.base_paths.specs.declared.follow.Step.{Step}
 use Rattle.base_paths.specs.declared.follow.Step.TheVariants.{Goes, Ends, Nowhere}
 
--- going on from n ends with e
+-- The path from n ends with e.
 pub data LeadsTo {E : Type 0} (steps : List (Step E)) : ℕ → E → Type 0 where
   there : (n : ℕ) (e : E) → slice_get steps n ≡ Some (Ends e) → LeadsTo steps n e
   on : (n m : ℕ) (e : E) → slice_get steps n ≡ Some (Goes m) → LeadsTo steps m e → LeadsTo steps n e
 
--- what a place leads to, or none where going on never ends or leads nowhere
+-- What the path from a place ends with, or `None` if it never ends or leads nowhere.
 abbrev pub IsEnding : {E : Type 0} → List (Step E) → ℕ → Option E → Type 0
 IsEnding steps n (Some e) = LeadsTo steps n e
 IsEnding {E = E} steps n None = (e : E) → LeadsTo steps n e → ⊥
 
--- what each place leads to
+-- `all` has for each place what its path ends with.
 pub record AreEndings {E : Type 0} (steps : List (Step E)) (all : List (Option E)) : Type 0 where
   pub one_each : length all ≡ length steps
   pub right : (n : ℕ) (end : Option E) → slice_get all n ≡ Some end → IsEnding steps n end
 
--- each place that is named is there
+-- Each place that a step goes to is a place of the list.
 abbrev pub AreNamed : {E : Type 0} → List (Step E) → Type 0
 AreNamed steps = (n m : ℕ) → slice_get steps n ≡ Some (Goes m) → m < length steps
 

@@ -1,4 +1,4 @@
-// What going on ends with, where a place that stops has something to end with.
+// Paths that end with something, or lead nowhere.
 
 ghost use Rattle.base_paths.specs.Paths.{AreThere};
 ghost use Rattle.base_paths.specs.Steps.{AreEndings, AreNamed, next_place, ending_of};
@@ -8,7 +8,7 @@ ghost use Rattle.std.specs.Option.{option_and_then};
 use crate::stops::ends;
 use std::alloc::{AllocError, Global};
 
-/// From a place: on to another place, or what going on ends with, or nowhere.
+/// A step from a place: on to another place, to what the path ends with, or nowhere.
 #[derive(Clone, Copy, Drop)]
 pub enum Step<E> {
     Goes(u32),
@@ -16,7 +16,7 @@ pub enum Step<E> {
     Nowhere,
 }
 
-// Of each place the place to go on to, or none where one stops.
+// The next place of each place, or `None` if the path stops there.
 fn next_places<E: Copy>(alloc: Global, steps: &[Step<E>]) -> Result<Vec<Option<u32>>, AllocError>
     ensures { IfOk result (λ nexts. nexts.items ≡ map next_place steps.now) }
 {
@@ -32,7 +32,7 @@ fn next_places<E: Copy>(alloc: Global, steps: &[Step<E>]) -> Result<Vec<Option<u
     Ok(nexts)
 }
 
-// What the place at which going on stops has.
+// What the path ends with at the place where it stops.
 fn ending<E: Copy>(steps: &[Step<E>], stop: Option<u32>) -> Option<E>
     ensures { result ≡ option_and_then (λ n. option_and_then ending_of (slice_get steps.now n)) stop }
 {
@@ -47,7 +47,8 @@ fn ending<E: Copy>(steps: &[Step<E>], stop: Option<u32>) -> Option<E>
     }
 }
 
-/// What going on from each place ends with, or none where it never ends or leads nowhere. The one error is want of memory.
+/// Returns for each place what the path from it ends with, or `None` if the path never ends or
+/// leads nowhere. The only error is running out of memory.
 pub fn endings<E: Copy>(alloc: Global, steps: &[Step<E>]) -> Result<Vec<Option<E>>, AllocError>
     requires there { AreNamed steps.now }
     requires few { length steps.now < 2 ^ 32 }

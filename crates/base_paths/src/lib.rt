@@ -1,4 +1,4 @@
-//! Where going on from a place to the next ends, for all places of a list in one pass.
+//! Computes where the paths from all places of a list end, in one pass.
 #![tactic(auto)]
 
 mod follow;

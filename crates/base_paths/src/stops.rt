@@ -1,12 +1,11 @@
-// Ends of places, each place followed once.
-
 ghost use Rattle.base_paths.specs.Paths.{AreEnds, AreThere, Keeps, Marked, the_end};
 ghost use Rattle.std.specs.Prelude.{IfOk, None, Some, length, slice_get, ℕ, ◌++◌, ◌<◌, ◌^◌, ◌≡◌, ◌∷◌, []};
 
 use std::alloc::{AllocError, Global};
 
-// Follows from `start` until the path stops, meets a place that an earlier walk took, or meets itself.
-// A mark is the number of the walk that took the place; that walk has one answer for all that it took.
+// Follows the path from `start` until it stops, meets a place that an earlier walk took, or meets
+// itself. Returns its end. `marks` has for each place the number of the walk that took it, and
+// `answers` the end that each walk found for all its places.
 fn walk(
     steps: &[Option<u32>],
     marks: &mut Vec<Option<u32>>,
@@ -38,10 +37,11 @@ fn walk(
     }
 }
 
-/// The end of each place: the place at which going on stops, or none where it never ends.
+/// Returns for each place the end of the path from it: the place where it stops, or `None` if it
+/// never ends.
 ///
-/// `steps` has at each place the place to go on to, or none where one stops. Each place is followed once.
-/// The one error is want of memory.
+/// `steps` has for each place the next place, or `None` if the path stops there. Each place is
+/// followed once. The only error is running out of memory.
 pub fn ends(alloc: Global, steps: &[Option<u32>]) -> Result<Vec<Option<u32>>, AllocError>
     requires there { AreThere steps.now }
     requires few { length steps.now < 2 ^ 32 }

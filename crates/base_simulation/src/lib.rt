@@ -1,2 +1,3 @@
-//! No WebAssembly: machines that make steps and show events, and when one shows what another shows. Definitions and lemmas, for states and events of any type.
+//! Machines that make steps and have events, and when one machine has the trace of another:
+//! definitions and lemmas for states and events of any type, independent of WebAssembly.
 #![tactic(auto)]

@@ -1,13 +1,13 @@
--- How much of each quantity that is counted a module has, against the most that it may have.
+-- The counts of a module, compared with their limits.
 use Rattle.std.specs.Prelude.{◌≡◌, ℕ, ◌≤◌, length, Option, Some, None, cond, nat_lt}
 use Rattle.wasm_tree_spec.specs.Prelude.{Which, limit, Module}
 use Rattle.wasm_tree.specs.declared.which.Which.TheVariants as which
 
--- the quantity, where its count is above its limit, or what comes after it
+-- The quantity if its count is over its limit, and otherwise `rest`.
 abbrev pub or_above : (count : ℕ) → Which → Option Which → Option Which
 or_above count which rest = cond (nat_lt (limit which) count) (Some which) rest
 
--- the first count above its limit, in the order of the sections
+-- The first count over its limit, in the order of the sections.
 unfoldable pub over_limit : Module → Option Which
 over_limit m =
     or_above (length m.types) which.Types
@@ -21,7 +21,7 @@ over_limit m =
     (or_above (length m.datas) which.DataSegments
     None))))))))
 
--- each count is at most its limit
+-- Each count is at most its limit.
 pub record CountsAreWithin (m : Module) : Type 0 where
   pub types : length m.types ≤ limit which.Types
   pub imports : length m.imports ≤ limit which.Imports
@@ -33,6 +33,6 @@ pub record CountsAreWithin (m : Module) : Type 0 where
   pub elems : length m.elems ≤ limit which.ElementSegments
   pub datas : length m.datas ≤ limit which.DataSegments
 
--- that is so where no count is above its limit
+-- If no count is over its limit, each is at most its limit.
 abbrev pub CountsAreWithinWhereNoneIsOver : Type 0
 CountsAreWithinWhereNoneIsOver = (m : Module) → over_limit m ≡ None → CountsAreWithin m

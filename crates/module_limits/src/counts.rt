@@ -1,4 +1,4 @@
-// The counts of a module against their limits.
+// The counts of a module, compared with their limits.
 
 ghost use Rattle.std.specs.Prelude.{◌≡◌, nat_lt};
 ghost use Rattle.wasm_tree.specs.Limits.{limit};
@@ -6,15 +6,15 @@ ghost use Rattle.module_limits.specs.Counts as counts;
 
 use wasm_tree::{Module, Which};
 
-// Whether there are more than there may be.
+// Returns whether the count is over its limit.
 fn is_above(count: usize, which: Which) -> bool
     ensures { result ≡ nat_lt (limit which) count }
 {
     count > which.limit() as usize
 }
 
-/// The first count above its limit, in the order types, imports, functions, tables, memories, globals, exports, element segments and data segments; none where each is
-/// within its own.
+/// Returns the first count that is over its limit, in the order types, imports, functions, tables,
+/// memories, globals, exports, element segments and data segments, or `None` if there is none.
 #[tactic(auto, unfolding(crate::specs::Counts::over_limit))]
 pub fn over_limit(module: &Module) -> Option<Which>
     ensures { result ≡ counts.over_limit «module».now }

@@ -1,4 +1,4 @@
-//! The first count of a module that is above its limit: types, imports, functions, tables, memories, globals, exports, element segments and data segments.
+//! The first count of a module that is over its limit.
 #![tactic(auto)]
 
 ghost use Rattle.module_limits.specs.Counts.{CountsAreWithinWhereNoneIsOver};
@@ -7,7 +7,7 @@ mod counts;
 
 pub use counts::over_limit;
 
-/// Where no count of a module is above its limit, each is within its own.
+/// If no count of a module is over its limit, each count is at most its limit.
 pub fn counts_are_within_where_none_is_over()
     ensures { CountsAreWithinWhereNoneIsOver }
 {}

@@ -1,4 +1,4 @@
--- Names of bytes, passed on from one place. Declares nothing.
+-- The names of bytes, passed on from one place. This file declares nothing.
 pub use Rattle.wasm_bytes.specs.FrameViews.{Stand, framed, framed_all, frames_behind}
 pub use Rattle.wasm_bytes.specs.Frames.{FirstBad, Framed, Frames, HasHeader, Section, frame_at, frames_at, header, may_follow, order_after}
 pub use Rattle.wasm_bytes.specs.Joins.{Each, Named, Sized, Then, U32, Vector}

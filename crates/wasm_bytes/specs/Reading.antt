@@ -1,4 +1,4 @@
--- Reading from the left: what a call gives of a list of bytes, and what is left.
+-- Reading functions on lists: the value at the front and the bytes after it, or what is wrong.
 use Rattle.std.specs.Prelude.{◌≡◌, ℕ, ◌-◌, ◌<◌, slice_index, List, [], ◌∷◌, length, take, drop, Option, Some, None, Result, Ok, Err, nat_lt, if◌then◌else◌, ℤ}
 use Rattle.std.specs.Str.{is_utf8}
 use Rattle.std.specs.Borrow.{Bor}
@@ -20,7 +20,7 @@ map_value f (Ok r) = Ok (f r.0, r.1)
 map_value f (Err e) = Err e
 
 module _ {V : Type 0} (last : ℕ → ℕ → Option V) (join : ℕ → V → V) where
-  -- the value at the front and what is left, or what is wrong
+  -- The number at the front and the bytes after it, or what is wrong.
   abbrev pub reading : ℕ → List ℕ → Result (V × List ℕ) Wrong
   reading bits [] = Err Short
   reading bits (b ∷ bs) = if nat_lt b 128 then ok_or_spelling (last bits b) bs else (if nat_lt 7 bits then map_value (join b) (reading (bits - 7) bs) else Err Spelling)
@@ -31,20 +31,22 @@ unsigned_at = reading last_unsigned join_unsigned
 unfoldable pub signed_at : ℕ → List ℕ → Result (ℤ × List ℕ) Wrong
 signed_at = reading last_signed join_signed
 
--- what a function gave, with the slice as its bytes
+-- The result of a program function, with the slice seen as its bytes.
 abbrev pub seen : {V : Type 0} → Result (V × Bor (List ℕ)) Wrong → Result (V × List ℕ) Wrong
 seen (Ok r) = Ok (r.0, r.1.now)
 seen (Err e) = Err e
 
--- what a cursor gave and where it stands
+-- A cursor's result and the bytes that it leaves are those of the reading function. An error leaves
+-- the bytes unchanged.
 abbrev pub Gives : {V : Type 0} → Result (V × List ℕ) Wrong → List ℕ → Result V Wrong → List ℕ → Type 0
 Gives (Ok r) old result new = (result ≡ Ok r.0) × (new ≡ r.1)
 Gives (Err e) old result new = (result ≡ Err e) × (new ≡ old)
 
+-- Each number in the list is a byte.
 abbrev pub IsBytes : List ℕ → Type 0
 IsBytes bytes = (i : ℕ) → slice_index bytes i < 256
 
--- what a cursor gave, with what is left
+-- What a cursor returned, with the bytes left.
 abbrev pub with_rest : {V : Type 0} → Result V Wrong → List ℕ → Result (V × List ℕ) Wrong
 with_rest (Ok v) rest = Ok (v, rest)
 with_rest (Err e) rest = Err e
@@ -53,11 +55,11 @@ abbrev pub byte_at : List ℕ → Result (ℕ × List ℕ) Wrong
 byte_at [] = Err Short
 byte_at (b ∷ bs) = Ok (b, bs)
 
--- so many bytes
+-- The given number of bytes.
 abbrev pub take_at : ℕ → List ℕ → Result (List ℕ × List ℕ) Wrong
 take_at count bytes = if nat_lt (length bytes) count then Err Short else Ok (take count bytes, drop count bytes)
 
--- a slice, or a text, as its bytes
+-- A slice or a text, seen as its bytes.
 abbrev pub lent : Result (Bor (List ℕ)) Wrong → Result (List ℕ) Wrong
 lent (Ok s) = Ok s.now
 lent (Err e) = Err e
@@ -69,10 +71,10 @@ seen_text (Err e) = Err e
 abbrev pub utf8_or_spelling : List ℕ → List ℕ → Result (List ℕ × List ℕ) Wrong
 utf8_or_spelling text rest = if is_utf8 text then Ok (text, rest) else Err Spelling
 
--- a length and so many bytes
+-- A length and as many bytes.
 abbrev pub sized_at : List ℕ → Result (List ℕ × List ℕ) Wrong
 sized_at bytes = unsigned_at 32 bytes >>= (λ n. take_at n.0 n.1)
 
--- a name
+-- A name.
 unfoldable pub name_at : List ℕ → Result (List ℕ × List ℕ) Wrong
 name_at bytes = sized_at bytes >>= (λ n. utf8_or_spelling n.0 n.1)

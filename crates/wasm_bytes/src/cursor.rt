@@ -12,11 +12,11 @@ use std::str;
 pub enum Wrong {
     /// The bytes end too early.
     Short,
-    /// The bytes spell nothing of the kind, whatever follows them.
+    /// The bytes neither begin with an encoding nor are the beginning of one.
     Spelling,
 }
 
-/// The name that the bytes begin with, and the bytes after it.
+/// Returns the name that the bytes begin with, and the bytes after it.
 #[tactic(auto, unfolding(crate::specs::Reading::name_at))]
 fn named(bytes: &[u8]) -> Result<(&str, &[u8]), Wrong>
     ensures gives { name_at bytes.now ≡ seen_text result }
@@ -34,8 +34,8 @@ fn named(bytes: &[u8]) -> Result<(&str, &[u8]), Wrong>
     }
 }
 
-/// Reads bytes from the left. Contracts see the bytes that are left.
-/// After a refusal it stands where it stood. No call takes memory.
+/// Reads bytes from the left. Contracts see the bytes that are left, which an error does not
+/// change. No call allocates.
 #[derive(Drop)]
 pub struct Cursor<'a> {
     rest: &'a [u8],
@@ -50,28 +50,28 @@ impl<'a> Model for Cursor<'a> {
 }
 
 impl<'a> Cursor<'a> {
-    /// Stands before the first of these bytes.
+    /// Returns a cursor at the first of these bytes.
     pub fn new(bytes: &'a [u8]) -> Cursor<'a>
         ensures { result ≡ bytes.now }
     {
         Cursor { rest: bytes }
     }
 
-    /// How many bytes are left.
+    /// Returns how many bytes are left.
     pub fn left(&self) -> usize
         ensures { result ≡ length self.now }
     {
         self.rest.len()
     }
 
-    /// The next byte, which stays.
+    /// Returns the next byte without reading past it, or `None` if none is left.
     pub fn peek(&self) -> Option<u8>
         ensures { result ≡ slice_get self.now 0 }
     {
         self.rest.first().copied()
     }
 
-    /// The next byte. Short exactly where none is left.
+    /// Reads the next byte. The error is `Short`, exactly if no byte is left.
     pub fn byte(&mut self) -> Result<u8, Wrong>
         ensures gives { byte_at self.old ≡ with_rest result self.new }
         ensures shorter { OnOk result (length self.new < length self.old) }
@@ -85,8 +85,9 @@ impl<'a> Cursor<'a> {
         Ok(*first)
     }
 
-    /// A u32 (WebAssembly Core 2.0, section 5.2.2). Short exactly where the bytes left are a spelling cut short;
-    /// Spelling exactly where they aren't, and don't begin with a spelling.
+    /// Reads a u32 (WebAssembly Core 2.0, section 5.2.2). The error is `Short` exactly if the bytes
+    /// left are an encoding cut short, and `Spelling` exactly if they neither are that nor begin
+    /// with one.
     pub fn u32(&mut self) -> Result<u32, Wrong>
         ensures gives { unsigned_at 32 self.old ≡ with_rest result self.new }
         ensures shorter { OnOk result (length self.new < length self.old) }
@@ -97,7 +98,7 @@ impl<'a> Cursor<'a> {
         Ok(value as u32)
     }
 
-    /// An s32. The refusals are those of `u32`.
+    /// Reads an s32, with the errors of `u32`.
     pub fn s32(&mut self) -> Result<i32, Wrong>
         ensures gives { signed_at 32 self.old ≡ with_rest result self.new }
         ensures shorter { OnOk result (length self.new < length self.old) }
@@ -108,7 +109,7 @@ impl<'a> Cursor<'a> {
         Ok(value as i32)
     }
 
-    /// An s33. The refusals are those of `u32`.
+    /// Reads an s33, with the errors of `u32`.
     pub fn s33(&mut self) -> Result<i64, Wrong>
         ensures gives { signed_at 33 self.old ≡ with_rest result self.new }
         ensures shorter { OnOk result (length self.new < length self.old) }
@@ -120,7 +121,7 @@ impl<'a> Cursor<'a> {
         Ok(value)
     }
 
-    /// An s64. The refusals are those of `u32`.
+    /// Reads an s64, with the errors of `u32`.
     pub fn s64(&mut self) -> Result<i64, Wrong>
         ensures gives { signed_at 64 self.old ≡ with_rest result self.new }
         ensures shorter { OnOk result (length self.new < length self.old) }
@@ -131,7 +132,7 @@ impl<'a> Cursor<'a> {
         Ok(value)
     }
 
-    /// So many bytes. Short exactly where fewer are left.
+    /// Reads `count` bytes. The error is `Short`, exactly if fewer are left.
     pub fn take(&mut self, count: usize) -> Result<&'a [u8], Wrong>
         ensures gives { take_at count self.old ≡ with_rest (lent result) self.new }
         ensures ok { IfOk result (λ s. (self.old ≡ s.now ++ self.new) × (length s.now ≡ count)) }
@@ -146,9 +147,9 @@ impl<'a> Cursor<'a> {
         Ok(front)
     }
 
-    /// A name (WebAssembly Core 2.0, section 5.2.4): a length and as many bytes of UTF-8. Short exactly where the
-    /// length is cut short or says more than is left; Spelling exactly where the length is misspelled or its bytes
-    /// aren't UTF-8.
+    /// Reads a name (WebAssembly Core 2.0, section 5.2.4): a length, and as many bytes of UTF-8.
+    /// The error is `Short` exactly if the length is cut short or exceeds what is left, and
+    /// `Spelling` exactly if the length is malformed or its bytes are not UTF-8.
     pub fn name(&mut self) -> Result<&'a str, Wrong>
         ensures gives { name_at self.old ≡ with_rest (lent result) self.new }
         ensures shorter { OnOk result (length self.new < length self.old) }

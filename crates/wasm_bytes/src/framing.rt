@@ -7,7 +7,7 @@ use crate::cursor::{Cursor, Wrong};
 use crate::items::Items;
 use std::alloc::Global;
 
-/// Where a section stands in a file: its id, and its content's section_order and length.
+/// A section in a file: its id, and where its content starts and how long it is.
 #[derive(Clone, Copy, Debug, PartialEq, Eq)]
 pub struct Frame {
     pub id: u8,
@@ -15,12 +15,12 @@ pub struct Frame {
     pub len: usize,
 }
 
-/// Why there are no frames.
+/// Why a file has no frames.
 #[derive(Clone, Copy, Debug, PartialEq, Eq)]
 pub enum FrameFault {
-    /// The bytes don't begin with the magic number and the version.
+    /// The bytes do not begin with the magic number and the version.
     NotModule,
-    /// The first bad frame, counted from 0.
+    /// The number of the first bad frame, counted from 0.
     BadFrame { section: u32 },
     NoMemory,
 }
@@ -34,7 +34,7 @@ fn has_header(bytes: &[u8]) -> bool
     bytes.starts_with(&HEADER)
 }
 
-/// The section_order of a section's id in their order.
+/// Returns the position of a section id in the order of the sections.
 fn place_of(id: u8) -> u8
     requires { id ≤ 12 }
     ensures value { result ≡ section_order id }
@@ -49,7 +49,7 @@ fn place_of(id: u8) -> u8
     }
 }
 
-/// The section_order of the last section that is no custom one.
+/// Returns the position of the last section that is not custom, after one with this id.
 fn place_after(last: u8, id: u8) -> u8
     requires { id ≤ 12 }
     ensures { result ≡ order_after last id }
@@ -57,7 +57,8 @@ fn place_after(last: u8, id: u8) -> u8
     if id == 0 { last } else { place_of(id) }
 }
 
-/// Whether a section with this id may come where the last one has that section_order.
+/// Returns whether a section with this id may follow. `last` is the position of the last section
+/// that is not custom (0: none).
 fn follows(last: u8, id: u8) -> bool
     ensures value { result ≡ may_follow last id }
     ensures known { IsTrue result → id ≤ 12 }
@@ -71,7 +72,7 @@ fn follows(last: u8, id: u8) -> bool
     }
 }
 
-/// A length and so many bytes.
+/// Reads a length and as many bytes.
 fn read_sized<'a>(cursor: &mut Cursor<'a>) -> Result<&'a [u8], Wrong>
     ensures gives { sized_at cursor.old ≡ with_rest (lent result) cursor.new }
     ensures err { IfErr result (λ e. sized_at cursor.old ≡ Err e) }
@@ -80,7 +81,7 @@ fn read_sized<'a>(cursor: &mut Cursor<'a>) -> Result<&'a [u8], Wrong>
     cursor.take(count as usize)
 }
 
-/// The frame that begins there.
+/// Reads the frame that begins at `at`, or returns `None` if no frame that may follow begins there.
 #[tactic(auto, unfolding(crate::specs::Frames::frame_at))]
 fn read_frame(bytes: &[u8], at: usize, last: u8) -> Option<Frame>
     requires { at ≤ length bytes.now }
@@ -106,7 +107,7 @@ fn read_frame(bytes: &[u8], at: usize, last: u8) -> Option<Frame>
     })
 }
 
-/// The frames behind the header, or the number of the first bad one.
+/// Reads the frames behind the header.
 fn frames_behind(alloc: Global, bytes: &[u8]) -> Result<Items<Frame>, FrameFault>
     requires header { 8 ≤ length bytes.now }
     requires most { length bytes.now < 2 ^ 32 }
@@ -134,10 +135,11 @@ fn frames_behind(alloc: Global, bytes: &[u8]) -> Result<Items<Frame>, FrameFault
     Ok(frames)
 }
 
-/// The sections of a module file, in its order (WebAssembly Core 2.0, section 5.5.2). NotModule comes exactly where the
-/// first eight bytes aren't the header; BadFrame exactly where, order_after so many good frames, something stands that
-/// doesn't begin with a frame that may follow: its id is above 12, its size is cut off, misspelled or too long, or its
-/// id repeats or breaks the order.
+/// Reads the sections of a module file, in its order (WebAssembly Core 2.0, section 5.5.2). The
+/// error is `NotModule` exactly if the first eight bytes are not the header. Unless memory runs
+/// out, it is `BadFrame` exactly if, behind the header, `section` good frames are followed by bytes
+/// that do not begin with a frame that may follow: the id is above 12, repeated or out of order, or
+/// the size is malformed, cut short or exceeds what is left.
 pub fn frames(alloc: Global, bytes: &[u8]) -> Result<Items<Frame>, FrameFault>
     requires { length bytes.now < 2 ^ 32 }
     ensures ok { IfOk result (λ fs. Framed bytes.now (framed_all bytes.now fs)) }

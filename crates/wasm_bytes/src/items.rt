@@ -7,7 +7,8 @@ use crate::name::NoMemory;
 use std::alloc::Global;
 use std::marker::Model;
 
-/// A list over a `Vec`. Contracts see the list of its items, so that equal trees are equal.
+/// A list over a `Vec`. Contracts see it as the list of its items, so two trees with equal items
+/// are equal.
 #[derive(Drop)]
 pub struct Items<T> {
     items: Vec<T>,
@@ -25,7 +26,7 @@ impl<T> Model for Items<T> {
 }
 
 impl<T> Items<T> {
-    /// An empty list. It takes no memory.
+    /// Returns an empty list. The call allocates nothing.
     pub fn new(alloc: Global) -> Items<T>
         ensures { result ≡ [] }
     {
@@ -34,7 +35,7 @@ impl<T> Items<T> {
         }
     }
 
-    /// Appends the item. For want of memory it is handed back, and the list stays as it was.
+    /// Appends the item. If memory runs out, the error is the item, and the list is unchanged.
     pub fn push(&mut self, item: T) -> Result<(), T>
         ensures ok { OnOk result (self.new ≡ self.old ++ item ∷ []) }
         ensures err { IfErr result (λ back. (back ≡ item) × (self.new ≡ self.old)) }
@@ -45,14 +46,14 @@ impl<T> Items<T> {
         }
     }
 
-    /// The number of items.
+    /// Returns the number of items.
     pub fn len(&self) -> usize
         ensures { result ≡ length self.now }
     {
         self.items.len()
     }
 
-    /// The item at a place, and none from the length on.
+    /// Returns the item at position `at`, or `None` exactly if `at` is out of bounds.
     pub fn get(&self, at: usize) -> Option<&T>
         ensures value { option_copied result ≡ slice_get self.now at }
         ensures some { IsSome result ↔ (at < length self.now) }
@@ -60,7 +61,8 @@ impl<T> Items<T> {
         self.items.get(at)
     }
 
-    /// The item at a place, to be changed, and none from the length on. The others stay.
+    /// Lends the item at position `at` for writing, or returns `None` exactly if `at` is out of
+    /// bounds. The other items are unchanged.
     pub fn get_mut(&mut self, at: usize) -> Option<&mut T>
         ensures* writes_back { sem 𝓛 (LendsItem T.row self.entry at result) }
         ensures value { option_now result ≡ slice_get self.old at }
@@ -69,14 +71,15 @@ impl<T> Items<T> {
         self.items.get_mut(at)
     }
 
-    /// The items as a slice.
+    /// Returns the items as a slice.
     pub fn as_slice(&self) -> &[T]
         ensures { result.now ≡ self.now }
     {
         self.items.as_slice()
     }
 
-    /// Takes the last item out; None exactly where the list is empty. It takes no memory.
+    /// Takes the last item out. The result is `None` exactly if the list is empty. The call
+    /// allocates nothing.
     pub fn pop(&mut self) -> Option<T>
         ensures some { IfSome result (λ item. self.old ≡ self.new ++ item ∷ []) }
         ensures none { IsNone result ↔ (self.old ≡ []) }
@@ -85,7 +88,8 @@ impl<T> Items<T> {
         self.items.pop()
     }
 
-    /// Moves all items of the other list behind the own ones, in order, and leaves it empty. For want of memory both stay as they were.
+    /// Moves all items of `other` behind those of this list, in order, and leaves `other` empty. If
+    /// memory runs out, both lists are unchanged.
     pub fn append(&mut self, other: &mut Items<T>) -> Result<(), NoMemory>
         ensures ok { OnOk result (self.new ≡ self.old ++ other.old) }
         ensures empty { OnOk result (other.new ≡ []) }
@@ -97,7 +101,8 @@ impl<T> Items<T> {
         }
     }
 
-    /// Takes off the items from a place on, as a list that takes no more memory than they need. For want of memory the list stays as it was.
+    /// Takes off the items from position `at` on and returns them as a list, which takes no more
+    /// memory than they need. If memory runs out, `self` is unchanged.
     pub fn split_off(&mut self, at: usize) -> Result<Items<T>, NoMemory>
         requires { at ≤ length self.old }
         ensures front { OnOk result (self.new ≡ take at self.old) }
@@ -112,7 +117,7 @@ impl<T> Items<T> {
 }
 
 impl<T: Drop> Items<T> {
-    /// Appends the item, or lets it go for want of memory; then the list stays as it was.
+    /// Appends the item. If memory runs out, the item is dropped, and the list is unchanged.
     #[inline(always)]
     pub fn keep(&mut self, item: T) -> Result<(), NoMemory>
         ensures ok { OnOk result (self.new ≡ self.old ++ item ∷ []) }
@@ -126,7 +131,7 @@ impl<T: Drop> Items<T> {
 }
 
 impl<T: Copy> Items<T> {
-    /// A list of the same items.
+    /// Returns a list of the same items, or `NoMemory`.
     pub fn from_slice(alloc: Global, items: &[T]) -> Result<Items<T>, NoMemory>
         ensures { IfOk result (λ it. it ≡ items.now) }
     {

@@ -2,13 +2,13 @@ ghost use Rattle.std.specs.Prelude.{◌≡◌, ◌<◌, ◌≤◌, ◌++◌, ◌
 ghost use Rattle.wasm_bytes.specs.Numbers.{Unsigned, Signed, IsWithin};
 ghost use Rattle.wasm_bytes.specs.Writing.{u32_text, s32_text, s33_text, s64_text, IsShortest};
 
-/// No spelling of a number is a proper prefix of another, of a value the same or not.
+/// No encoding of a number is a proper prefix of another, and no bytes encode two numbers.
 pub fn integer_encodings_are_prefix_free()
     ensures unsigned { (bits : ℕ) (text : List ℕ) (more : List ℕ) (v : ℕ) (w : ℕ) → Unsigned bits text v → Unsigned bits (text ++ more) w → (more ≡ []) × (v ≡ w) }
     ensures signed { (bits : ℕ) (text : List ℕ) (more : List ℕ) (v : ℤ) (w : ℤ) → Signed bits text v → Signed bits (text ++ more) w → (more ≡ []) × (v ≡ w) }
 {}
 
-/// The shortest spelling spells its number, and no spelling is shorter.
+/// The bytes that `Out` writes encode the number, and no encoding of it is shorter.
 pub fn shortest_encodings()
     ensures unsigned { (n : ℕ) → n < 2 ^ 32 → IsShortest (Unsigned 32) (u32_text n) n }
     ensures s32 { (z : ℤ) → IsWithin 32 z → IsShortest (Signed 32) (s32_text z) z }

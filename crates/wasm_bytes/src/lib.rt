@@ -1,4 +1,4 @@
-//! Bytes of a module file: numbers, names and frames, and the lists that a tree is made of.
+//! The bytes of a module file: numbers, names and section frames, and the lists of the module tree.
 #![tactic(auto)]
 
 mod cursor;

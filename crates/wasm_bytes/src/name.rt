@@ -3,7 +3,7 @@ ghost use Rattle.std.specs.Prelude.{◌≡◌, IfOk, IsUtf8};
 use std::alloc::{AllocError, AllocFailed, Global};
 use std::marker::Model;
 
-/// There was no memory.
+/// Memory ran out.
 #[derive(Clone, Copy, Debug, PartialEq, Eq)]
 pub struct NoMemory;
 
@@ -19,7 +19,8 @@ impl<T: Drop> From<AllocFailed<T>> for NoMemory {
     }
 }
 
-/// UTF-8 text: the names of imports and exports (WebAssembly Core 2.0, section 5.2.4). Contracts see its bytes.
+/// UTF-8 text, as in the names of imports and exports (WebAssembly Core 2.0, section 5.2.4).
+/// Contracts see its bytes.
 #[derive(Drop)]
 pub struct Name {
     text: String,
@@ -34,7 +35,7 @@ impl Model for Name {
 }
 
 impl Name {
-    /// A name with this text.
+    /// Returns a name with this text, or `NoMemory`.
     pub fn from_text(alloc: Global, text: &str) -> Result<Name, NoMemory>
         ensures { IfOk result (λ n. n ≡ text.now) }
     {
@@ -44,7 +45,7 @@ impl Name {
         }
     }
 
-    /// Its text.
+    /// Returns the text of the name.
     pub fn as_str(&self) -> &str
         ensures text { result.now ≡ self.now }
         ensures utf8 { IsUtf8 self.now }
@@ -52,7 +53,7 @@ impl Name {
         self.text.as_str()
     }
 
-    /// An equal name.
+    /// Returns an equal name, or `NoMemory`.
     pub fn copy(&self, alloc: Global) -> Result<Name, NoMemory>
         ensures { IfOk result (λ n. n ≡ self.now) }
     {

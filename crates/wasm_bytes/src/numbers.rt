@@ -4,7 +4,7 @@ ghost use Rattle.wasm_bytes.specs.Reading.{unsigned_at, signed_at, seen, IsBytes
 
 use crate::cursor::Wrong;
 
-/// Whether a last byte below 128 has no bit from `bits` on.
+/// Returns whether a last byte below 128 has no bit set from bit number `bits` on.
 #[tactic(auto, using(crate::proofs::Sizes::small_fits))]
 fn ends(last: u64, bits: u32) -> bool
     requires { last < 128 }
@@ -13,7 +13,8 @@ fn ends(last: u64, bits: u32) -> bool
     if bits >= 7 { true } else { last < 1 << bits }
 }
 
-/// The number of so many bits that the bytes begin with, and the bytes after it (WebAssembly Core 2.0, section 5.2.2).
+/// Returns the unsigned number of `bits` bits that the bytes begin with, and the bytes after it
+/// (WebAssembly Core 2.0, section 5.2.2).
 #[tactic(auto, using(crate::proofs::Sizes::joined, crate::proofs::Sizes::joined_fits), unfolding(crate::specs::Reading::unsigned_at))]
 pub(crate) fn unsigned(bytes: &[u8], bits: u32) -> Result<(u64, &[u8]), Wrong>
     requires { bits ≤ 64 }
@@ -39,7 +40,7 @@ pub(crate) fn unsigned(bytes: &[u8], bits: u32) -> Result<(u64, &[u8]), Wrong>
     Ok((first - 128 + 128 * high, rest))
 }
 
-/// What a last byte denotes where so many bits are left, if its unused bits copy the sign.
+/// Returns the value of a last byte when `bits` bits are left, if its unused bits copy the sign.
 fn signed_end(last: u8, bits: u32) -> Option<i64>
     requires last { last < 128 }
     requires bits { 0 < bits }
@@ -60,7 +61,7 @@ fn signed_end(last: u8, bits: u32) -> Option<i64>
     }
 }
 
-/// The number of a byte from 128 on before those of `high`.
+/// Returns the value of a byte of at least 128 that is followed by bytes of value `high`.
 fn signed_joined(first: u8, high: i64, bits: u32) -> i64
     requires first { 128 ≤ first }
     requires bits { 7 < bits }
@@ -72,7 +73,7 @@ fn signed_joined(first: u8, high: i64, bits: u32) -> i64
     i64::from(first - 128) + 128 * high
 }
 
-/// The number with a sign, of so many bits, that the bytes begin with, and the bytes after it.
+/// Returns the signed number of `bits` bits that the bytes begin with, and the bytes after it.
 #[tactic(auto, unfolding(crate::specs::Reading::signed_at))]
 pub(crate) fn signed(bytes: &[u8], bits: u32) -> Result<(i64, &[u8]), Wrong>
     requires some { 0 < bits }

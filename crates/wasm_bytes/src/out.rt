@@ -7,8 +7,8 @@ use crate::spelled::{push_signed, push_unsigned};
 use std::alloc::{AllocError, Global};
 use std::marker::Model;
 
-/// Bytes that are written at the end. Contracts see the bytes so far.
-/// A call that refuses leaves them as they were.
+/// Bytes to which calls append. Contracts see the bytes so far. If memory runs out, they are
+/// unchanged.
 #[derive(Drop)]
 pub struct Out {
     bytes: Vec<u8>,
@@ -22,7 +22,7 @@ impl Model for Out {
     ghost view = { λ o. o.bytes.items };
 }
 
-/// Takes back what was appended behind the first `before` bytes, where not all could be.
+/// Cuts the bytes back to the first `before` if appending failed.
 fn settled(
     bytes: &mut Vec<u8>,
     before: usize,
@@ -41,7 +41,7 @@ fn settled(
     }
 }
 
-/// Appends the number, or changes nothing.
+/// Appends the unsigned number, or changes nothing.
 fn put_unsigned(bytes: &mut Vec<u8>, value: u32) -> Result<(), NoMemory>
     ensures ok { OnOk result (bytes.new.items ≡ bytes.old.items ++ u32_text value) }
     ensures err { OnErr result (bytes.new.items ≡ bytes.old.items) }
@@ -51,7 +51,7 @@ fn put_unsigned(bytes: &mut Vec<u8>, value: u32) -> Result<(), NoMemory>
     settled(bytes, before, pushed)
 }
 
-/// Appends the number with its sign, or changes nothing.
+/// Appends the signed number, or changes nothing.
 fn put_signed(bytes: &mut Vec<u8>, value: i64) -> Result<(), NoMemory>
     ensures ok { OnOk result ((most : ℕ) → 0 < most → IsWithin (7 * most) value → bytes.new.items ≡ bytes.old.items ++ signed_text most value) }
     ensures err { OnErr result (bytes.new.items ≡ bytes.old.items) }
@@ -61,7 +61,7 @@ fn put_signed(bytes: &mut Vec<u8>, value: i64) -> Result<(), NoMemory>
     settled(bytes, before, pushed)
 }
 
-/// Appends a length and as many bytes, or some of these.
+/// Appends a length and as many bytes; on error, only a part.
 fn push_sized(bytes: &mut Vec<u8>, content: &[u8]) -> Result<(), AllocError>
     requires { length content.now < 2 ^ 32 }
     ensures ok { OnOk result (bytes.new.items ≡ bytes.old.items ++ sized_text content.now) }
@@ -72,7 +72,7 @@ fn push_sized(bytes: &mut Vec<u8>, content: &[u8]) -> Result<(), AllocError>
     Ok(())
 }
 
-/// Appends an id and a sized content, or some of these.
+/// Appends an id, a size and a content; on error, only a part.
 fn push_framed(bytes: &mut Vec<u8>, id: u8, content: &[u8]) -> Result<(), AllocError>
     requires { length content.now < 2 ^ 32 }
     ensures ok { OnOk result (bytes.new.items ≡ bytes.old.items ++ id ∷ sized_text content.now) }
@@ -83,7 +83,7 @@ fn push_framed(bytes: &mut Vec<u8>, id: u8, content: &[u8]) -> Result<(), AllocE
 }
 
 impl Out {
-    /// No bytes. It takes no memory.
+    /// Returns an `Out` without bytes. The call allocates nothing.
     pub fn new(alloc: Global) -> Out
         ensures { result ≡ [] }
     {
@@ -92,21 +92,21 @@ impl Out {
         }
     }
 
-    /// How many bytes there are.
+    /// Returns how many bytes there are.
     pub fn len(&self) -> usize
         ensures { result ≡ length self.now }
     {
         self.bytes.len()
     }
 
-    /// The bytes so far.
+    /// Returns the bytes so far.
     pub fn as_slice(&self) -> &[u8]
         ensures { result.now ≡ self.now }
     {
         self.bytes.as_slice()
     }
 
-    /// The bytes, out of it.
+    /// Returns the bytes as a `Vec`.
     pub fn into_bytes(self) -> Vec<u8>
         ensures { result.items ≡ self }
     {
@@ -114,7 +114,7 @@ impl Out {
         bytes
     }
 
-    /// Lets all bytes go, and keeps their room.
+    /// Removes all bytes, and keeps their memory for later ones.
     pub fn clear(&mut self)
         ensures { self.new ≡ [] }
     {
@@ -143,7 +143,7 @@ impl Out {
         }
     }
 
-    /// Appends the shortest spelling of a u32 (WebAssembly Core 2.0, section 5.2.2).
+    /// Appends the shortest encoding of a u32 (WebAssembly Core 2.0, section 5.2.2).
     pub fn u32(&mut self, value: u32) -> Result<(), NoMemory>
         ensures ok { OnOk result (self.new ≡ self.old ++ u32_text value) }
         ensures shortest { IsShortest (Unsigned 32) (u32_text value) value }
@@ -152,7 +152,7 @@ impl Out {
         put_unsigned(&mut self.bytes, value)
     }
 
-    /// Appends the shortest spelling of an s32.
+    /// Appends the shortest encoding of an s32.
     pub fn s32(&mut self, value: i32) -> Result<(), NoMemory>
         ensures ok { OnOk result (self.new ≡ self.old ++ s32_text value) }
         ensures shortest { IsShortest (Signed 32) (s32_text value) value }
@@ -161,7 +161,7 @@ impl Out {
         put_signed(&mut self.bytes, i64::from(value))
     }
 
-    /// Appends the shortest spelling of an s33.
+    /// Appends the shortest encoding of an s33.
     pub fn s33(&mut self, value: i64) -> Result<(), NoMemory>
         requires { IsWithin 33 value }
         ensures ok { OnOk result (self.new ≡ self.old ++ s33_text value) }
@@ -171,7 +171,7 @@ impl Out {
         put_signed(&mut self.bytes, value)
     }
 
-    /// Appends the shortest spelling of an s64.
+    /// Appends the shortest encoding of an s64.
     pub fn s64(&mut self, value: i64) -> Result<(), NoMemory>
         ensures ok { OnOk result (self.new ≡ self.old ++ s64_text value) }
         ensures shortest { IsShortest (Signed 64) (s64_text value) value }
@@ -180,7 +180,7 @@ impl Out {
         put_signed(&mut self.bytes, value)
     }
 
-    /// Appends a name: its length, and its bytes (WebAssembly Core 2.0, section 5.2.4).
+    /// Appends a name: its length in bytes, and its bytes (WebAssembly Core 2.0, section 5.2.4).
     pub fn name(&mut self, value: &Name) -> Result<(), NoMemory>
         requires { length value.now < 2 ^ 32 }
         ensures ok { OnOk result (self.new ≡ self.old ++ sized_text value.now) }
@@ -191,7 +191,8 @@ impl Out {
         settled(&mut self.bytes, before, pushed)
     }
 
-    /// Appends a section: the id, the shortest length, and the content (WebAssembly Core 2.0, section 5.5.2).
+    /// Appends a section: its id, its size in the shortest encoding, and its content (WebAssembly
+    /// Core 2.0, section 5.5.2).
     pub fn framed(&mut self, id: u8, content: &Out) -> Result<(), NoMemory>
         requires { length content.now < 2 ^ 32 }
         ensures ok { OnOk result (self.new ≡ self.old ++ id ∷ sized_text content.now) }

@@ -4,7 +4,7 @@ ghost use Rattle.wasm_bytes.specs.Writing.{low, high, is_small, unsigned_text, s
 
 use std::alloc::AllocError;
 
-/// Appends the shortest spelling of the number, or some bytes.
+/// Appends the shortest encoding of the unsigned number; on error, only a part.
 #[tactic(auto, using(crate::proofs::Shortest::text_small, crate::proofs::Shortest::text_large))]
 pub(crate) fn push_unsigned(bytes: &mut Vec<u8>, value: u32) -> Result<(), AllocError>
     ensures ok { OnOk result ((most : ℕ) → 0 < most → value < 2 ^ (7 * most) → bytes.new.items ≡ bytes.old.items ++ unsigned_text most value) }
@@ -18,7 +18,7 @@ pub(crate) fn push_unsigned(bytes: &mut Vec<u8>, value: u32) -> Result<(), Alloc
     push_unsigned(bytes, value / 128)
 }
 
-/// Whether one byte spells the number.
+/// Returns whether one byte encodes the number.
 fn is_small(value: i64) -> bool
     ensures { result ≡ is_small value }
 {
@@ -29,7 +29,7 @@ fn is_small(value: i64) -> bool
     }
 }
 
-/// How far the number is below -1.
+/// Returns how far the number is below -1.
 fn below(value: i64) -> u64
     requires { value <ℤ pos 0 }
     ensures value { value ≡ negsuc result }
@@ -68,7 +68,7 @@ fn high(value: i64) -> i64
     }
 }
 
-/// Appends the shortest spelling of the number with its sign, or some bytes.
+/// Appends the shortest encoding of the signed number; on error, only a part.
 pub(crate) fn push_signed(bytes: &mut Vec<u8>, value: i64) -> Result<(), AllocError>
     ensures ok { OnOk result ((most : ℕ) → 0 < most → IsWithin (7 * most) value → bytes.new.items ≡ bytes.old.items ++ signed_text most value) }
     ensures err { OnErr result ((more : List ℕ) × (bytes.new.items ≡ bytes.old.items ++ more)) }

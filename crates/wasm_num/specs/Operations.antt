@@ -1,5 +1,6 @@
--- The integer operations, as formulas over whole numbers (WebAssembly Core 2.0, section 4.3.2, and for wrap and extend_i32 section 4.3.4).
--- An operand of w bits is its number below 2 ^ w; where its sign counts, the signed reading of that number.
+-- The integer operations, as formulas over whole numbers (WebAssembly Core 2.0, section 4.3.2; wrap
+-- and extend_i32 are in section 4.3.4). An operand of w bits is a number below 2 ^ w, which is read
+-- with its sign if the operation is signed.
 use Rattle.std.specs.Prelude.{ℕ, zero, suc, ◌+◌, ◌-◌, ◌*◌, ◌/◌, ◌%◌, ◌^◌, Option, Some, None, Result, Ok, Err, Bool, if◌then◌else◌, nat_eq, nat_lt, nat_le, not, ℤ, pos, negsuc, ◌-ℤ◌, int_lt, int_le, int_div, int_rem, bit_and, bit_or, bit_xor}
 use Rattle.wasm_num.specs.declared.Num.{Num}
 use Rattle.wasm_num.specs.declared.Num.TheVariants as num
@@ -9,7 +10,7 @@ use Rattle.wasm_num.specs.declared.UnOp.TheVariants as un
 use Rattle.wasm_num.specs.declared.BinOp.{BinOp}
 use Rattle.wasm_num.specs.declared.BinOp.TheVariants as bin
 
--- the two integer types
+-- The two integer types.
 pub data Width : Type 0 where
   W32 : Width
   W64 : Width
@@ -18,7 +19,7 @@ abbrev pub bits_of : Width → ℕ
 bits_of W32 = 32
 bits_of W64 = 64
 
--- a number as the program has it: its type and its value
+-- A number of the program: its type and its value.
 abbrev pub type_of : Num → Width
 type_of (num.I32 n) = W32
 type_of (num.I64 n) = W64
@@ -31,48 +32,49 @@ abbrev pub number : Width → ℕ → Num
 number W32 n = num.I32 n
 number W64 n = num.I64 n
 
+-- The number with this value, or a trap if there is no value.
 abbrev pub or_trap : Width → Option ℕ → Result Num Trap
 or_trap w (Some n) = Ok (number w n)
 or_trap w None = Err (record {})
 
--- ---- readings ----
+-- ---- readings of numbers ----
 
--- the signed reading of a number of so many bits
+-- The number read with its sign.
 unfoldable pub signed : ℕ → ℕ → ℤ
 signed bits n = if nat_lt n (2 ^ (bits - 1)) then pos n else pos n -ℤ pos (2 ^ bits)
 
--- the number below 2 ^ bits that differs from a whole number by a multiple of 2 ^ bits
+-- The number below 2 ^ bits that differs from the given one by a multiple of 2 ^ bits.
 unfoldable pub wrapped : ℕ → ℤ → ℕ
 wrapped bits (pos n) = n % 2 ^ bits
 wrapped bits (negsuc n) = 2 ^ bits - 1 - n % 2 ^ bits
 
--- a test's answer
+-- The result of a test.
 unfoldable pub truth : Bool → ℕ
 truth holds = if holds then 1 else 0
 
--- a signed number over 2 ^ k, rounded down
+-- A signed number divided by 2 ^ k, rounded down.
 unfoldable pub halved : ℕ → ℤ → ℤ
 halved k (pos n) = pos (n / 2 ^ k)
 halved k (negsuc n) = negsuc (n / 2 ^ k)
 
 -- ---- counts of bits ----
 
--- how many of the highest bits are 0
+-- How many of the highest bits are 0.
 unfoldable pub leading : ℕ → ℕ → ℕ
 leading zero n = 0
 leading (suc bits) n = if nat_lt n (2 ^ bits) then suc (leading bits n) else 0
 
--- how many of the lowest bits are 0
+-- How many of the lowest bits are 0.
 unfoldable pub trailing : ℕ → ℕ → ℕ
 trailing zero n = 0
 trailing (suc bits) n = if nat_eq (n % 2) 0 then suc (trailing bits (n / 2)) else 0
 
--- how many bits are 1
+-- How many bits are 1.
 unfoldable pub ones : ℕ → ℕ → ℕ
 ones zero n = 0
 ones (suc bits) n = n % 2 + ones bits (n / 2)
 
--- the lowest bits of a number, read with their sign
+-- The lowest bits of a number, extended with their sign.
 unfoldable pub extended : (from bits : ℕ) → ℕ → ℕ
 unfolding signed wrapped
 extended from bits n = wrapped bits (signed from (n % 2 ^ from))
@@ -89,7 +91,7 @@ subtract bits a b = wrapped bits (pos a -ℤ pos b)
 unfoldable pub multiply : ℕ → ℕ → ℕ → ℕ
 multiply bits a b = (a * b) % 2 ^ bits
 
--- towards zero; none by zero, and none where the type can't hold the quotient
+-- Rounded towards zero. `None` if the divisor is 0 or the type cannot hold the quotient.
 unfoldable pub divide_signed : ℕ → ℕ → ℕ → Option ℕ
 unfolding signed wrapped
 divide_signed bits a b =
@@ -99,7 +101,7 @@ divide_signed bits a b =
 unfoldable pub divide_unsigned : ℕ → ℕ → Option ℕ
 divide_unsigned a b = if nat_eq b 0 then None else Some (a / b)
 
--- with the dividend's sign; none by zero
+-- The sign is that of the dividend. `None` if the divisor is 0.
 unfoldable pub remainder_signed : ℕ → ℕ → ℕ → Option ℕ
 unfolding signed wrapped
 remainder_signed bits a b = if nat_eq b 0 then None else Some (wrapped bits (int_rem (signed bits a) (signed bits b)))
@@ -107,7 +109,7 @@ remainder_signed bits a b = if nat_eq b 0 then None else Some (wrapped bits (int
 unfoldable pub remainder_unsigned : ℕ → ℕ → Option ℕ
 remainder_unsigned a b = if nat_eq b 0 then None else Some (a % b)
 
--- shifts and rotations go by the count modulo the width
+-- Shifts and rotations use the count modulo the width.
 unfoldable pub shift_left : ℕ → ℕ → ℕ → ℕ
 shift_left bits a count = (a * 2 ^ (count % bits)) % 2 ^ bits
 
@@ -126,7 +128,7 @@ rotate_right bits a count = a / 2 ^ (count % bits) + (a * 2 ^ (bits - count % bi
 
 -- ---- by operation ----
 
--- the type of the operand
+-- The type of the operand.
 unfoldable pub un_from : UnOp → Width
 un_from un.I32Eqz = W32
 un_from un.I64Eqz = W64
@@ -145,7 +147,7 @@ un_from un.I32WrapI64 = W64
 un_from un.I64ExtendI32S = W32
 un_from un.I64ExtendI32U = W32
 
--- the type of the result
+-- The type of the result.
 unfoldable pub un_to : UnOp → Width
 un_to un.I32Eqz = W32
 un_to un.I64Eqz = W32
@@ -164,6 +166,7 @@ un_to un.I32WrapI64 = W32
 un_to un.I64ExtendI32S = W64
 un_to un.I64ExtendI32U = W64
 
+-- The value of the result.
 unfoldable pub un_value : UnOp → ℕ → ℕ
 unfolding truth leading trailing ones extended
 un_value un.I32Eqz n = truth (nat_eq n 0)
@@ -183,7 +186,7 @@ un_value un.I32WrapI64 n = n % 2 ^ 32
 un_value un.I64ExtendI32S n = extended 32 64 n
 un_value un.I64ExtendI32U n = n
 
--- the type of both operands
+-- The type of both operands.
 unfoldable pub bin_from : BinOp → Width
 bin_from bin.I32Eq = W32
 bin_from bin.I32Ne = W32
@@ -236,7 +239,7 @@ bin_from bin.I64ShrU = W64
 bin_from bin.I64Rotl = W64
 bin_from bin.I64Rotr = W64
 
--- the type of the result: a test answers an i32
+-- The type of the result. That of a test is i32.
 unfoldable pub bin_to : BinOp → Width
 bin_to bin.I32Eq = W32
 bin_to bin.I32Ne = W32
@@ -289,7 +292,7 @@ bin_to bin.I64ShrU = W64
 bin_to bin.I64Rotl = W64
 bin_to bin.I64Rotr = W64
 
--- none is a trap
+-- The value of the result; `None` is a trap.
 unfoldable pub bin_value : BinOp → ℕ → ℕ → Option ℕ
 unfolding truth signed add subtract multiply divide_signed divide_unsigned remainder_signed remainder_unsigned shift_left shift_right_signed shift_right_unsigned rotate_left rotate_right
 bin_value bin.I32Eq a b = Some (truth (nat_eq a b))

@@ -1,4 +1,4 @@
-//! The numbers of WebAssembly's integer instructions and the names of its integer operations.
+//! Numbers of the integer types, the names of the integer operations, and the operations.
 #![tactic(auto)]
 
 mod narrow;
@@ -14,13 +14,13 @@ pub enum Num {
     I64(u64),
 }
 
-/// What an operation answers where it has no result (WebAssembly Core 2.0, section 4.3.2: division by
-/// zero, and a signed quotient that the type can't hold).
+/// The error of an operation that has no result (WebAssembly Core 2.0, section 4.3.2): a division
+/// by zero, or a signed quotient that the type cannot hold.
 #[derive(Clone, Copy, Debug, PartialEq, Eq)]
 pub struct Trap;
 
-/// The operations of one operand, tests and conversions among them, one for each opcode (WebAssembly Core 2.0,
-/// sections 2.4.1 and 5.4.7).
+/// The operations on one operand, with tests and conversions, one for each opcode (WebAssembly Core
+/// 2.0, sections 2.4.1 and 5.4.7).
 #[derive(Clone, Copy, Debug, PartialEq, Eq)]
 pub enum UnOp {
     I32Eqz,
@@ -41,8 +41,8 @@ pub enum UnOp {
     I64ExtendI32U,
 }
 
-/// The operations of two operands, comparisons among them, one for each opcode (WebAssembly Core 2.0, sections 2.4.1
-/// and 5.4.7).
+/// The operations on two operands, with comparisons, one for each opcode (WebAssembly Core 2.0,
+/// sections 2.4.1 and 5.4.7).
 #[derive(Clone, Copy, Debug, PartialEq, Eq)]
 pub enum BinOp {
     I32Eq,

@@ -1,11 +1,11 @@
-//! The operations by their names.
+//! The operations, applied by their names.
 
 ghost use Rattle.std.specs.Prelude.{◌≡◌};
 ghost use Rattle.wasm_num.specs.Operations.{W32, W64, type_of, value_of, number, un_from, un_to, un_value, bin_from, bin_to, bin_value, or_trap};
 
 use crate::{BinOp, Num, Trap, UnOp, narrow, wide};
 
-/// An operation of one i32.
+/// Applies an operation to one i32.
 #[tactic(auto, unfolding(crate::specs::Operations::un_from, crate::specs::Operations::un_to, crate::specs::Operations::un_value, crate::specs::Operations::truth))]
 fn apply1_32(op: UnOp, x: u32) -> Num
     requires { un_from op ≡ W32 }
@@ -31,7 +31,7 @@ fn apply1_32(op: UnOp, x: u32) -> Num
     }
 }
 
-/// An operation of one i64.
+/// Applies an operation to one i64.
 #[tactic(auto, unfolding(crate::specs::Operations::un_from, crate::specs::Operations::un_to, crate::specs::Operations::un_value, crate::specs::Operations::truth))]
 fn apply1_64(op: UnOp, x: u64) -> Num
     requires { un_from op ≡ W64 }
@@ -57,7 +57,7 @@ fn apply1_64(op: UnOp, x: u64) -> Num
     }
 }
 
-/// None is a trap.
+/// Turns `None` into a trap.
 fn or_trap_32(value: Option<u32>) -> Result<Num, Trap>
     ensures { result ≡ or_trap W32 value }
 {
@@ -67,7 +67,7 @@ fn or_trap_32(value: Option<u32>) -> Result<Num, Trap>
     }
 }
 
-/// An operation of two i32s.
+/// Applies an operation to two i32s.
 #[tactic(auto, unfolding(crate::specs::Operations::bin_from, crate::specs::Operations::bin_to, crate::specs::Operations::bin_value, crate::specs::Operations::truth))]
 fn apply2_32(op: BinOp, x: u32, y: u32) -> Result<Num, Trap>
     requires { bin_from op ≡ W32 }
@@ -127,7 +127,7 @@ fn apply2_32(op: BinOp, x: u32, y: u32) -> Result<Num, Trap>
     }
 }
 
-/// None is a trap.
+/// Turns `None` into a trap.
 fn or_trap_64(value: Option<u64>) -> Result<Num, Trap>
     ensures { result ≡ or_trap W64 value }
 {
@@ -137,7 +137,7 @@ fn or_trap_64(value: Option<u64>) -> Result<Num, Trap>
     }
 }
 
-/// An operation of two i64s.
+/// Applies an operation to two i64s.
 #[tactic(auto, unfolding(crate::specs::Operations::bin_from, crate::specs::Operations::bin_to, crate::specs::Operations::bin_value, crate::specs::Operations::truth))]
 fn apply2_64(op: BinOp, x: u64, y: u64) -> Result<Num, Trap>
     requires { bin_from op ≡ W64 }
@@ -197,8 +197,8 @@ fn apply2_64(op: BinOp, x: u64, y: u64) -> Result<Num, Trap>
     }
 }
 
-/// What an operation of one number gives: a test, a count of bits, an extension or a conversion (WebAssembly Core 2.0,
-/// sections 4.3.2 and 4.3.4). It takes no memory.
+/// Returns the result of an operation on one number: a test, a count of bits, an extension or a
+/// conversion (WebAssembly Core 2.0, sections 4.3.2 and 4.3.4). The call allocates nothing.
 pub fn apply1(op: UnOp, x: Num) -> Num
     requires operand { type_of x ≡ un_from op }
     ensures value { result ≡ number (un_to op) (un_value op (value_of x)) }
@@ -209,8 +209,9 @@ pub fn apply1(op: UnOp, x: Num) -> Num
     }
 }
 
-/// What an operation of two numbers gives (WebAssembly Core 2.0, section 4.3.2). Trap comes exactly for a quotient or a remainder by 0,
-/// and for a signed quotient that the type can't hold, which is that of the least number by -1. It takes no memory.
+/// Returns the result of an operation on two numbers (WebAssembly Core 2.0, section 4.3.2). The
+/// error is `Trap` exactly for a quotient or a remainder by 0, and for a signed quotient that the
+/// type cannot hold, which is that of the least number by -1. The call allocates nothing.
 pub fn apply2(op: BinOp, x: Num, y: Num) -> Result<Num, Trap>
     requires first { type_of x ≡ bin_from op }
     requires second { type_of y ≡ bin_from op }

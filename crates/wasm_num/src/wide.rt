@@ -3,7 +3,7 @@
 ghost use Rattle.std.specs.Prelude.{◌≡◌, ◌^◌, ◌<◌};
 ghost use Rattle.wasm_num.specs.Operations as op;
 
-/// The signed reading.
+/// Returns the number read with its sign.
 #[tactic(auto, unfolding(crate::specs::Operations::signed))]
 pub fn signed(x: u64) -> i64
     ensures value { result ≡ op.signed 64 x }
@@ -11,7 +11,7 @@ pub fn signed(x: u64) -> i64
     x.cast_signed()
 }
 
-/// The number of a signed reading.
+/// Returns the number whose signed reading is `z`.
 #[tactic(auto, unfolding(crate::specs::Operations::wrapped))]
 pub fn wrapped(z: i64) -> u64
     ensures value { result ≡ op.wrapped 64 z }
@@ -140,7 +140,7 @@ pub fn rotate_right(x: u64, y: u64) -> u64
     }
 }
 
-/// The lowest 8 bits, read with their sign.
+/// Returns the lowest 8 bits, extended with their sign.
 #[tactic(auto, unfolding(crate::specs::Operations::extended, crate::specs::Operations::signed, crate::specs::Operations::wrapped))]
 pub fn extended_8(x: u64) -> u64
     ensures value { result ≡ op.extended 8 64 x }
@@ -149,7 +149,7 @@ pub fn extended_8(x: u64) -> u64
     if low < 128 { low } else { u64::MAX - 255 + low }
 }
 
-/// The lowest 16 bits, read with their sign.
+/// Returns the lowest 16 bits, extended with their sign.
 #[tactic(auto, unfolding(crate::specs::Operations::extended, crate::specs::Operations::signed, crate::specs::Operations::wrapped))]
 pub fn extended_16(x: u64) -> u64
     ensures value { result ≡ op.extended 16 64 x }
@@ -162,7 +162,7 @@ pub fn extended_16(x: u64) -> u64
     }
 }
 
-/// The lowest 32 bits, read with their sign.
+/// Returns the lowest 32 bits, extended with their sign.
 #[tactic(auto, unfolding(crate::specs::Operations::extended, crate::specs::Operations::signed, crate::specs::Operations::wrapped))]
 pub fn extended_32(x: u64) -> u64
     ensures value { result ≡ op.extended 32 64 x }

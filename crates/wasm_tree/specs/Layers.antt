@@ -1,10 +1,10 @@
--- What is so of each layer of an instruction: of the instruction itself, and of each inside it.
+-- What holds of each layer of an instruction: of the instruction itself, and of each one inside it.
 use Rattle.std.specs.Prelude.{List, [], ◌∷◌}
 use Rattle.wasm_tree.specs.declared.instr.Instr.{Instr, out-Instr, Row_of-Instr, end_of-Instr, more_of-Instr, Block', Loop', If'}
 use Rattle.wasm_tree.specs.declared.instr.Instr.TheOpen.{Instr-F}
 use Rattle.wasm_tree.specs.declared.instr.Instr.TheVariants.{Unreachable, Nop, Br, BrIf, BrTable, Return, Call, CallIndirect, Drop, Select, SelectTyped, LocalGet, LocalSet, LocalTee, GlobalGet, GlobalSet, TableGet, TableSet, Load, Store, MemorySize, MemoryGrow, I32Const, I64Const, Un, Bin, RefNull, RefIsNull, RefFunc, MemoryInit, DataDrop, MemoryCopy, MemoryFill, TableInit, ElemDrop, TableCopy, TableGrow, TableSize, TableFill}
 
--- each layer of an instruction has Q
+-- `Q` holds of each layer of the instruction.
 abbrev mutual
   pub Layers : (Instr-F Instr → Type 0) → Instr → Type 0
   Layers Q (Block' b s c) = Q (out-Instr (Block' b s c)) × RowLayers Q c
@@ -54,6 +54,7 @@ abbrev mutual
   RowLayers Q end_of-Instr = Unit {0}
   RowLayers Q (more_of-Instr o r) = Layers Q o × RowLayers Q r
 
+-- `Q` holds of each layer of each instruction.
 abbrev pub ListLayers : (Instr-F Instr → Type 0) → List Instr → Type 0
 ListLayers Q [] = Unit {0}
 ListLayers Q (o ∷ os) = Layers Q o × ListLayers Q os

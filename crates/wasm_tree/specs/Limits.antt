@@ -1,4 +1,5 @@
--- The most that there may be of each limited quantity: one table, of the program's own constants. proofs/LimitRows has them as numbers.
+-- The limit of each quantity: one table, with the program's own constants. proofs/LimitRows has
+-- them as numbers.
 use Rattle.std.specs.Prelude.{ℕ}
 use Rattle.wasm_tree.specs.declared.which.Which.{Which}
 use Rattle.wasm_tree.specs.declared.which.Which.TheVariants.{InputBytes, Parts, Types, Imports, Functions, Tables, Memories, Globals, Exports, ElementSegments, DataSegments, Nesting, Locals, Parameters, Results, Trampolines, OutputBytes}

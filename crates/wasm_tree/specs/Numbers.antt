@@ -1,4 +1,4 @@
--- The value type of the numbers of each width (WebAssembly Core 2.0, section 2.3.1).
+-- The value type of numbers of a width (WebAssembly Core 2.0, section 2.3.1).
 use Rattle.wasm_num.specs.Operations.{Width, W32, W64}
 use Rattle.wasm_tree.specs.declared.types.ValType.{ValType}
 use Rattle.wasm_tree.specs.declared.types.ValType.TheVariants.{I32, I64}

@@ -1,5 +1,6 @@
--- The indices that an instruction itself names, each with its index space (WebAssembly Core 2.0, sections 2.4 and 2.5.1). Labels and locals are of no
--- index space of the module, and what the instructions inside a block name is not the block's.
+-- The indices that an instruction itself names, each with its index space (WebAssembly Core 2.0,
+-- sections 2.4 and 2.5.1). Labels and locals are in no index space of the module, so they do not
+-- count; nor does what instructions inside a block name.
 use Rattle.std.specs.Prelude.{ℕ, Bool, true, false, ◌&&◌, List, [], ◌∷◌, ◌++◌, map, ◌||◌}
 use Rattle.std.specs.List.{list_all, list_any, cons_option}
 use Rattle.wasm_tree.specs.declared.space.Space.{Space}
@@ -25,13 +26,13 @@ same_space ElementSegments ElementSegments = true
 same_space DataSegments DataSegments = true
 same_space _ _ = false
 
--- ---- what an instruction names ----
+-- ---- operands ----
 
--- an index of a space, named by anything but a `call`
+-- The operand with this index, for an instruction other than `call`.
 abbrev pub named : Space → ℕ → Operand
 named space index = record { space = space; index = index; called = false }
 
--- the function of a `call`
+-- The operand of a `call`.
 abbrev pub called : ℕ → Operand
 called func = record { space = Functions; index = func; called = true }
 
@@ -40,6 +41,7 @@ block_operands block.Empty = []
 block_operands (block.Value t) = []
 block_operands (block.Index ty) = named Types ty ∷ []
 
+-- The operands of a layer.
 abbrev pub operands : {X : Type 0} → Instr-F X → List Operand
 operands Instr-F.Unreachable = []
 operands Instr-F.Nop = []
@@ -87,11 +89,11 @@ operands (Instr-F.TableFill table) = named Tables table ∷ []
 abbrev pub operands_of : Instr → List Operand
 operands_of i = operands (out-Instr i)
 
--- the same, as the program has them
+-- The operands that the program returns, as a list.
 abbrev pub listed : Operands → List Operand
 listed all = cons_option all.first (cons_option all.second [])
 
--- ---- the instruction with other indices ----
+-- ---- instructions with new indices ----
 
 abbrev pub map_block : (Space → ℕ → ℕ) → BlockType → BlockType
 map_block f block.Empty = block.Empty
@@ -101,7 +103,7 @@ map_block f (block.Index ty) = block.Index (f Types ty)
 abbrev pub map_arg : (Space → ℕ → ℕ) → MemArg → MemArg
 map_arg f arg = record arg { memory = f Memories arg.memory }
 
--- one layer, each index that it names replaced; what it holds is as it is given
+-- The layer with the indices that `f` gives. The instructions inside it stay as they are.
 abbrev pub map_operands : (Space → ℕ → ℕ) → Instr-F Instr → Instr
 map_operands f Instr-F.Unreachable = instr.Unreachable
 map_operands f Instr-F.Nop = instr.Nop
@@ -146,16 +148,16 @@ map_operands f (Instr-F.TableGrow table) = instr.TableGrow (f Tables table)
 map_operands f (Instr-F.TableSize table) = instr.TableSize (f Tables table)
 map_operands f (Instr-F.TableFill table) = instr.TableFill (f Tables table)
 
--- an instruction with other indices, and the instructions inside it too
+-- The instruction with the indices that `f` gives, also in the instructions inside it.
 abbrev pub mapped : (Space → ℕ → ℕ) → Instr → Instr
 mapped f = fold-Instr Instr (map_operands f)
 
 abbrev pub mapped_all : (Space → ℕ → ℕ) → List Instr → List Instr
 mapped_all f = map (mapped f)
 
--- ---- what is so of all that code names ----
+-- ---- tests of operands ----
 
--- what replaces the instructions that a layer holds
+-- The list of what a layer has in the places of the instructions inside it.
 abbrev pub held : {X : Type 0} → Instr-F X → List X
 held Instr-F.Unreachable = []
 held Instr-F.Nop = []
@@ -200,21 +202,22 @@ held (Instr-F.TableGrow table) = []
 held (Instr-F.TableSize table) = []
 held (Instr-F.TableFill table) = []
 
--- each operand of the layer passes, and so did each of what it holds
+-- Whether each operand of the layer passes, and each instruction inside it did.
 abbrev pub all_pass_step : (Operand → Bool) → Instr-F Bool → Bool
 all_pass_step test layer = list_all test (operands layer) && list_all (λ passed. passed) (held layer)
 
--- each operand of the instruction passes, and of those inside it
+-- Whether each operand of the instruction, and of those inside it, passes.
 abbrev pub operands_pass : (Operand → Bool) → Instr → Bool
 operands_pass test = fold-Instr Bool (all_pass_step test)
 
 abbrev pub all_operands_pass : (Operand → Bool) → List Instr → Bool
 all_operands_pass test = list_all (operands_pass test)
 
--- some operand of the instruction passes, or of those inside it
+-- Whether some operand of the layer passes, or some instruction inside it did.
 abbrev pub any_pass_step : (Operand → Bool) → Instr-F Bool → Bool
 any_pass_step test layer = list_any test (operands layer) || list_any (λ passed. passed) (held layer)
 
+-- Whether some operand of the instruction, or of one inside it, passes.
 abbrev pub operand_passes : (Operand → Bool) → Instr → Bool
 operand_passes test = fold-Instr Bool (any_pass_step test)
 

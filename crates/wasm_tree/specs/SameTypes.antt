@@ -1,4 +1,4 @@
--- When two types are the same, as a test (WebAssembly Core 2.0, section 2.3).
+-- Tests whether two types are equal (WebAssembly Core 2.0, section 2.3).
 use Rattle.std.specs.Prelude.{Bool, true, false, ◌&&◌, List}
 use Rattle.base_lists.specs.Same.{each_same}
 use Rattle.wasm_tree.specs.declared.types.RefType.{RefType}

@@ -1,4 +1,5 @@
--- The index spaces of a module: what is imported, in order, and then what is defined (WebAssembly Core 2.0, section 2.5.1).
+-- The index spaces of a module: first the imports, in order, and then the definitions (WebAssembly
+-- Core 2.0, section 2.5.1).
 use Rattle.std.specs.Prelude.{ℕ, List, ◌++◌, map, Option, Some, None, slice_get, option_and_then}
 use Rattle.std.specs.List.{filter_map}
 use Rattle.wasm_tree.specs.declared.types.FuncType.{FuncType}
@@ -14,7 +15,7 @@ use Rattle.wasm_tree.specs.declared.space.Space.TheVariants.{Functions, Tables, 
 use Rattle.wasm_tree.specs.declared.module.Import.{Import}
 use Rattle.wasm_tree.specs.declared.module.Module.{Module}
 
--- the index space to which an import adds, and the one of which an export names an entry
+-- The index space to which an import adds, and the index space of what an export names.
 abbrev pub space_of_import : ImportDesc → Space
 space_of_import (Func ty) = Functions
 space_of_import (Table ty) = Tables
@@ -27,14 +28,15 @@ space_of_export (export.Table i) = Tables
 space_of_export (export.Memory i) = Memories
 space_of_export (export.Global i) = Globals
 
--- the entry that an export names
+-- The index of what an export names.
 abbrev pub index_of_export : ExportDesc → ℕ
 index_of_export (export.Func i) = i
 index_of_export (export.Table i) = i
 index_of_export (export.Memory i) = i
 index_of_export (export.Global i) = i
 
--- what an import adds to each of the four spaces: a function its place in the types, the others their type
+-- What an import adds to each of the four index spaces: the type index of a function, or the type
+-- of a table, memory or global.
 abbrev pub func_of : ImportDesc → Option ℕ
 func_of (Func ty) = Some ty
 func_of (Table ty) = None
@@ -59,7 +61,7 @@ global_of (Table ty) = None
 global_of (Memory limits) = None
 global_of (Global ty) = Some ty
 
--- what the imports add, in order
+-- What the imports add to each index space, in order.
 abbrev pub imported_funcs : List Import → List ℕ
 imported_funcs = filter_map (λ i. func_of i.desc)
 
@@ -72,7 +74,8 @@ imported_memories = filter_map (λ i. memory_of i.desc)
 abbrev pub imported_globals : List Import → List GlobalType
 imported_globals = filter_map (λ i. global_of i.desc)
 
--- the function space: for each function its place in the types
+-- The index spaces. That of functions has their type indices, and those of tables, memories and
+-- globals have their types.
 abbrev pub funcs_of : Module → List ℕ
 funcs_of m = imported_funcs m.imports ++ map (λ f. f.ty) m.funcs
 
@@ -85,6 +88,6 @@ memories_of m = imported_memories m.imports ++ m.mems
 abbrev pub globals_of : Module → List GlobalType
 globals_of m = imported_globals m.imports ++ map (λ g. g.ty) m.globals
 
--- the type of a function, where the function and its type are there
+-- The type of a function, if the function and its type exist.
 abbrev pub type_of_func : Module → ℕ → Option FuncType
 type_of_func m func = option_and_then (slice_get m.types) (slice_get (funcs_of m) func)

@@ -1,4 +1,4 @@
-// Copies of instructions.
+// Copies of code.
 
 ghost use Rattle.std.specs.Prelude.{◌≡◌, IfOk};
 
@@ -6,7 +6,7 @@ use crate::instr::Instr;
 use std::alloc::Global;
 use wasm_bytes::{Items, NoMemory};
 
-// An equal instruction.
+// Returns an equal instruction.
 #[cycle(copy)]
 fn copy_instr(alloc: Global, instr: &Instr) -> Result<Instr, NoMemory>
     ensures { IfOk result (λ new. new ≡ instr.now) }
@@ -82,6 +82,7 @@ fn copy_instr(alloc: Global, instr: &Instr) -> Result<Instr, NoMemory>
     }
 }
 
+/// Returns equal code, or `NoMemory`. The recursion is as deep as the blocks are nested.
 #[cycle(copy)]
 pub fn copy_body(alloc: Global, body: &[Instr]) -> Result<Items<Instr>, NoMemory>
     ensures { IfOk result (λ new. new ≡ body.now) }

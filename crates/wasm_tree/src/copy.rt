@@ -9,7 +9,7 @@ use std::alloc::Global;
 use wasm_bytes::{Items, NoMemory};
 
 impl FuncType {
-    /// An equal type.
+    /// Returns an equal type, or `NoMemory`.
     pub fn copy(&self, alloc: Global) -> Result<FuncType, NoMemory>
         ensures { IfOk result (λ new. new ≡ self.now) }
     {
@@ -21,7 +21,7 @@ impl FuncType {
 }
 
 impl Import {
-    /// An equal import.
+    /// Returns an equal import, or `NoMemory`.
     pub fn copy(&self, alloc: Global) -> Result<Import, NoMemory>
         ensures { IfOk result (λ new. new ≡ self.now) }
     {
@@ -34,7 +34,7 @@ impl Import {
 }
 
 impl Func {
-    /// An equal function. Its body is copied by a recursion as deep as its blocks are nested.
+    /// Returns an equal function, or `NoMemory`. The recursion is as deep as the blocks are nested.
     pub fn copy(&self, alloc: Global) -> Result<Func, NoMemory>
         ensures { IfOk result (λ new. new ≡ self.now) }
     {
@@ -47,7 +47,7 @@ impl Func {
 }
 
 impl Export {
-    /// An equal export.
+    /// Returns an equal export, or `NoMemory`.
     pub fn copy(&self, alloc: Global) -> Result<Export, NoMemory>
         ensures { IfOk result (λ new. new ≡ self.now) }
     {
@@ -59,7 +59,7 @@ impl Export {
 }
 
 impl ElemSeg {
-    /// An equal segment.
+    /// Returns an equal segment, or `NoMemory`.
     pub fn copy(&self, alloc: Global) -> Result<ElemSeg, NoMemory>
         ensures { IfOk result (λ new. new ≡ self.now) }
     {
@@ -72,7 +72,7 @@ impl ElemSeg {
 }
 
 impl DataSeg {
-    /// An equal segment.
+    /// Returns an equal segment, or `NoMemory`.
     pub fn copy(&self, alloc: Global) -> Result<DataSeg, NoMemory>
         ensures { IfOk result (λ new. new ≡ self.now) }
     {
@@ -84,7 +84,7 @@ impl DataSeg {
 }
 
 impl Module {
-    /// An equal tree, or `NoMemory` for want of memory.
+    /// Returns an equal tree, or `NoMemory`.
     pub fn copy(&self, alloc: Global) -> Result<Module, NoMemory>
         ensures { IfOk result (λ new. new ≡ self.now) }
     {

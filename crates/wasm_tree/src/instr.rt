@@ -4,7 +4,8 @@ use crate::types::{BlockType, RefType, ValType};
 use wasm_bytes::Items;
 use wasm_num::{BinOp, UnOp};
 
-/// Where a load or a store goes: the alignment is an exponent of 2 (WebAssembly Core 2.0, section 2.4.7).
+/// The memory argument of a load or a store: the alignment as an exponent of 2, the offset, and the
+/// index of the memory (WebAssembly Core 2.0, section 2.4.7).
 #[derive(Clone, Copy, Debug, PartialEq, Eq)]
 pub struct MemArg {
     pub align: u32,
@@ -41,8 +42,8 @@ pub enum StoreOp {
     I64Store32,
 }
 
-/// An instruction. Blocks, loops and ifs own their bodies; an `if` without `else` has an empty second list
-/// (WebAssembly Core 2.0, section 2.4).
+/// An instruction (WebAssembly Core 2.0, section 2.4). Blocks, loops and ifs own the instructions
+/// inside them; an `if` without `else` has an empty second list.
 #[derive(Drop)]
 pub enum Instr {
     Unreachable,
@@ -52,7 +53,7 @@ pub enum Instr {
     If(BlockType, Items<Instr>, Items<Instr>),
     Br(u32),
     BrIf(u32),
-    /// The labels of a `br_table`, and the one for any further number.
+    /// The labels of a `br_table`, and its default label.
     BrTable(Items<u32>, u32),
     Return,
     Call(u32),

@@ -1,4 +1,4 @@
-// Laws of what an instruction names. They have no code.
+// Laws of the operands of instructions. They have no code.
 
 ghost use Rattle.wasm_tree.specs.OperandLaws.{
   AnyInside,
@@ -13,8 +13,9 @@ ghost use Rattle.wasm_tree.specs.OperandLaws.{
   PassesLayerByLayer,
 };
 
-/// With other indices a layer names those, in the same order (`layers`), and so does an instruction (`instructions`), which holds what it held
-/// with other indices (`held`). So code with other indices passes a test of operands where the code passes it at the other indices (`code`).
+/// A layer (`layers`) and an instruction (`instructions`) with new indices name those, in the same
+/// order, and the instructions inside get new indices too (`held`). Code with new indices passes a
+/// test of operands exactly if the old code passes the test at the new indices (`code`).
 pub fn operands_are_mapped()
     ensures layers { LayersAreMapped }
     ensures instructions { InstructionsAreMapped }
@@ -22,8 +23,10 @@ pub fn operands_are_mapped()
     ensures code { MappedCodePasses }
 {}
 
-/// An instruction passes a test of operands with its own and with what it holds (`inside`), as a block, a loop or an if (`blocks`, `loops`, `ifs`).
-/// Code passes exactly where each layer does (`layers`). Some operand passes where one of the instruction's own does, or of what it holds (`any`).
+/// An instruction passes a test of operands exactly if its own operands and the instructions inside
+/// it pass (`inside`; `blocks`, `loops`, `ifs`). Code passes exactly if the operands of each layer
+/// pass (`layers`). Some operand passes exactly if one of the instruction's own does, or one of an
+/// instruction inside it (`any`).
 pub fn operands_pass_layer_by_layer()
     ensures inside { PassesInside }
     ensures blocks { BlockPasses }

@@ -1,7 +1,9 @@
-//! A WebAssembly module as a tree, with the calls that read its index spaces, the indices that an instruction names, and the limits.
+//! A WebAssembly module as a tree, its index spaces, the indices that instructions name, and the
+//! limits.
 //!
-//! The types mirror the structure of WebAssembly Core 2.0, chapter 2, for the integer profile: the value types are i32, i64,
-//! funcref and externref. Contracts see a tree as plain data, so two trees with equal parts are equal.
+//! The types follow the structure of WebAssembly Core 2.0, chapter 2, for the integer profile: the
+//! value types are i32, i64, funcref and externref. Contracts see a tree as plain data, so two
+//! trees with equal parts are equal.
 #![tactic(auto)]
 
 mod body;

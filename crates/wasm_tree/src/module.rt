@@ -7,7 +7,8 @@ use crate::types::{FuncType, GlobalType, Limits, RefType, TableType, ValType};
 use std::alloc::Global;
 use wasm_bytes::{Items, Name};
 
-/// What an import denotes; a function's is a place in the module's types (WebAssembly Core 2.0, section 2.5.11).
+/// What an import is: a function with its type index, or a table, memory or global with its type
+/// (WebAssembly Core 2.0, section 2.5.11).
 #[derive(Clone, Copy, Debug, PartialEq, Eq)]
 pub enum ImportDesc {
     Func(u32),
@@ -24,14 +25,15 @@ pub struct Import {
     pub desc: ImportDesc,
 }
 
-/// Declared locals of one type, as a code entry groups them (WebAssembly Core 2.0, section 5.5.13).
+/// Declared locals of one type, grouped as in an entry of the code section (WebAssembly Core 2.0,
+/// section 5.5.13).
 #[derive(Clone, Copy, Debug, PartialEq, Eq)]
 pub struct LocalGroup {
     pub count: u32,
     pub ty: ValType,
 }
 
-/// A defined function; its type is a place in the module's types (WebAssembly Core 2.0, section 2.5.3).
+/// A defined function; `ty` is its type index (WebAssembly Core 2.0, section 2.5.3).
 #[derive(Drop)]
 pub struct Func {
     pub ty: u32,
@@ -39,7 +41,8 @@ pub struct Func {
     pub body: Items<Instr>,
 }
 
-/// A constant expression: the one instruction before its end (WebAssembly Core 2.0, section 3.3.10).
+/// A constant expression, as its one instruction before the `end` (WebAssembly Core 2.0, section
+/// 3.3.10).
 #[derive(Clone, Copy, Debug, PartialEq, Eq)]
 pub enum ConstExpr {
     I32(i32),
@@ -56,7 +59,7 @@ pub struct GlobalDef {
     pub init: ConstExpr,
 }
 
-/// What an export denotes, as a place in its index space (WebAssembly Core 2.0, section 2.5.10).
+/// What an export names, as an index in its index space (WebAssembly Core 2.0, section 2.5.10).
 #[derive(Clone, Copy, Debug, PartialEq, Eq)]
 pub enum ExportDesc {
     Func(u32),
@@ -72,7 +75,7 @@ pub struct Export {
     pub desc: ExportDesc,
 }
 
-/// When an element segment is copied (WebAssembly Core 2.0, section 2.5.7).
+/// The mode of an element segment (WebAssembly Core 2.0, section 2.5.7).
 #[derive(Clone, Copy, Debug, PartialEq, Eq)]
 pub enum ElemMode {
     Active { table: u32, offset: ConstExpr },
@@ -88,7 +91,7 @@ pub struct ElemSeg {
     pub items: Items<ConstExpr>,
 }
 
-/// When a data segment is copied (WebAssembly Core 2.0, section 2.5.8).
+/// The mode of a data segment (WebAssembly Core 2.0, section 2.5.8).
 #[derive(Clone, Copy, Debug, PartialEq, Eq)]
 pub enum DataMode {
     Active { memory: u32, offset: ConstExpr },
@@ -107,7 +110,8 @@ pub struct DataSeg {
 pub struct Module {
     pub types: Items<FuncType>,
     pub imports: Items<Import>,
-    /// The defined functions, without the imported ones; so are `tables`, `mems` and `globals`.
+    /// The defined functions, without the imported ones. `tables`, `mems` and `globals` have only
+    /// defined ones too.
     pub funcs: Items<Func>,
     pub tables: Items<TableType>,
     pub mems: Items<Limits>,
@@ -119,7 +123,8 @@ pub struct Module {
 }
 
 impl Module {
-    /// The module without any part. It takes no memory.
+    /// Returns the module in which every list is empty and there is no start function. The call
+    /// allocates nothing.
     pub fn empty(alloc: Global) -> Module
         ensures { result ≡ record { types = []; imports = []; funcs = []; tables = []; mems = []; globals = []; exports = []; start = None; elems = []; datas = [] } }
     {

@@ -18,7 +18,8 @@ pub enum Space {
     DataSegments,
 }
 
-/// An index that an instruction names, with its index space. `called` tells the function of a `call` from that of a `ref.func`.
+/// An index that an instruction names, with its index space. `called` is true only for the function
+/// of a `call`; it distinguishes a `call` from a `ref.func`.
 #[derive(Clone, Copy, Debug, PartialEq, Eq)]
 pub struct Operand {
     pub space: Space,
@@ -26,7 +27,7 @@ pub struct Operand {
     pub called: bool,
 }
 
-/// The indices that an instruction names: two at most.
+/// The indices that an instruction names, at most two.
 #[derive(Clone, Copy, Debug, PartialEq, Eq)]
 pub struct Operands {
     pub first: Option<Operand>,
@@ -80,8 +81,9 @@ fn of_block(ty: BlockType) -> Operands
 }
 
 impl Instr {
-    /// The indices that the instruction itself names, in the order of its fields (WebAssembly Core 2.0, section 2.4). Labels and
-    /// locals are of no index space of the module, and what the instructions inside a block name is not the block's.
+    /// Returns the indices that the instruction itself names, in the order of its fields
+    /// (WebAssembly Core 2.0, section 2.4). Labels and locals are in no index space of the
+    /// module, so they do not count; nor does what instructions inside a block name.
     pub fn operands(&self) -> Operands
         ensures { listed result ≡ operands_of self.now }
     {

@@ -1,4 +1,5 @@
-// The index spaces of a module: what is imported, in order, and then what is defined (WebAssembly Core 2.0, section 2.5.1).
+// The index spaces of a module: first the imports, in order, and then the definitions (WebAssembly
+// Core 2.0, section 2.5.1).
 
 ghost use Rattle.std.specs.Prelude.{◌≡◌, ◌<◌, ◌≤◌, ◌^◌, ◌↔◌, ◌⊎◌, ℕ, Some, length, IsNone, option_copied, slice_get};
 ghost use Rattle.wasm_tree.specs.Operands.{same_space};
@@ -26,7 +27,7 @@ use crate::space::Space;
 use crate::types::{FuncType, GlobalType, Limits, TableType};
 
 impl ImportDesc {
-    /// The index space to which the import adds.
+    /// Returns the index space to which the import adds.
     pub fn space(&self) -> Space
         ensures { result ≡ space_of_import self.now }
     {
@@ -38,7 +39,7 @@ impl ImportDesc {
         }
     }
 
-    /// Whether the import adds to this index space.
+    /// Returns whether the import adds to `space`.
     pub fn is_in(&self, space: Space) -> bool
         ensures { result ≡ same_space space (space_of_import self.now) }
     {
@@ -50,7 +51,7 @@ impl ImportDesc {
         }
     }
 
-    /// A function's place in the types; None for another kind.
+    /// Returns the type index of an imported function, and `None` for another kind of import.
     pub fn func(&self) -> Option<u32>
         ensures { result ≡ func_of self.now }
     {
@@ -60,7 +61,7 @@ impl ImportDesc {
         }
     }
 
-    /// A table's type; None for another kind.
+    /// Returns the type of an imported table, and `None` for another kind of import.
     pub fn table(&self) -> Option<TableType>
         ensures { result ≡ table_of self.now }
     {
@@ -70,7 +71,7 @@ impl ImportDesc {
         }
     }
 
-    /// A memory's limits; None for another kind.
+    /// Returns the limits of an imported memory, and `None` for another kind of import.
     pub fn memory(&self) -> Option<Limits>
         ensures { result ≡ memory_of self.now }
     {
@@ -80,7 +81,7 @@ impl ImportDesc {
         }
     }
 
-    /// A global's type; None for another kind.
+    /// Returns the type of an imported global, and `None` for another kind of import.
     pub fn global(&self) -> Option<GlobalType>
         ensures { result ≡ global_of self.now }
     {
@@ -92,7 +93,7 @@ impl ImportDesc {
 }
 
 impl ExportDesc {
-    /// The index space of what is exported.
+    /// Returns the index space of what is exported.
     pub fn space(&self) -> Space
         ensures { result ≡ space_of_export self.now }
     {
@@ -104,7 +105,7 @@ impl ExportDesc {
         }
     }
 
-    /// The index of what is exported in its index space.
+    /// Returns the index of what is exported, in its index space.
     pub fn index(&self) -> u32
         ensures { result ≡ index_of_export self.now }
     {
@@ -118,79 +119,77 @@ impl ExportDesc {
 }
 
 impl Module {
-    /// How many functions the module imports.
+    /// Returns how many functions the module imports.
     #[tactic(auto, using(base_lists::proofs::Filtered::filter_map_most))]
     pub fn imported_funcs(&self) -> usize
         ensures value { result ≡ length (imported_funcs self.now.imports) }
-        // so that it can be added to the number of those defined
+        // so that the number of defined functions can be added
         ensures few { result < 2 ^ 63 }
     {
         let imports = self.imports.as_slice().iter();
         imports.filter_map(|import| import.desc.func()).count()
     }
 
-    /// How many tables the module imports.
+    /// Returns how many tables the module imports.
     #[tactic(auto, using(base_lists::proofs::Filtered::filter_map_most))]
     pub fn imported_tables(&self) -> usize
         ensures value { result ≡ length (imported_tables self.now.imports) }
-        // so that it can be added to the number of those defined
         ensures few { result < 2 ^ 63 }
     {
         let imports = self.imports.as_slice().iter();
         imports.filter_map(|import| import.desc.table()).count()
     }
 
-    /// How many memories the module imports.
+    /// Returns how many memories the module imports.
     #[tactic(auto, using(base_lists::proofs::Filtered::filter_map_most))]
     pub fn imported_memories(&self) -> usize
         ensures value { result ≡ length (imported_memories self.now.imports) }
-        // so that it can be added to the number of those defined
         ensures few { result < 2 ^ 63 }
     {
         let imports = self.imports.as_slice().iter();
         imports.filter_map(|import| import.desc.memory()).count()
     }
 
-    /// How many globals the module imports.
+    /// Returns how many globals the module imports.
     #[tactic(auto, using(base_lists::proofs::Filtered::filter_map_most))]
     pub fn imported_globals(&self) -> usize
         ensures value { result ≡ length (imported_globals self.now.imports) }
-        // so that it can be added to the number of those defined
         ensures few { result < 2 ^ 63 }
     {
         let imports = self.imports.as_slice().iter();
         imports.filter_map(|import| import.desc.global()).count()
     }
 
-    /// How many functions there are, imported and defined (WebAssembly Core 2.0, section 2.5.1).
+    /// Returns how many functions there are, imported and defined (WebAssembly Core 2.0, section
+    /// 2.5.1).
     pub fn func_space(&self) -> usize
         ensures { result ≡ length (funcs_of self.now) }
     {
         self.imported_funcs() + self.funcs.as_slice().len()
     }
 
-    /// How many tables there are, imported and defined.
+    /// Returns how many tables there are, imported and defined.
     pub fn table_space(&self) -> usize
         ensures { result ≡ length (tables_of self.now) }
     {
         self.imported_tables() + self.tables.as_slice().len()
     }
 
-    /// How many memories there are, imported and defined.
+    /// Returns how many memories there are, imported and defined.
     pub fn memory_space(&self) -> usize
         ensures { result ≡ length (memories_of self.now) }
     {
         self.imported_memories() + self.mems.as_slice().len()
     }
 
-    /// How many globals there are, imported and defined.
+    /// Returns how many globals there are, imported and defined.
     pub fn global_space(&self) -> usize
         ensures { result ≡ length (globals_of self.now) }
     {
         self.imported_globals() + self.globals.as_slice().len()
     }
 
-    /// A function's place in the types. None exactly where the function is past its space.
+    /// Returns the type index of function `func`, and `None` exactly if there is no such function.
     pub fn type_index(&self, func: u32) -> Option<u32>
         ensures value { result ≡ slice_get (funcs_of self.now) func }
     {
@@ -209,7 +208,8 @@ impl Module {
         }
     }
 
-    /// The type of a function. None exactly where the function is past its space, or its type is past the types.
+    /// Returns the type of function `func`. The result is `None` exactly if there is no such
+    /// function, or if its type index is out of range.
     pub fn type_of_func(&self, func: u32) -> Option<&FuncType>
         ensures value { option_copied result ≡ type_of_func self.now func }
         ensures none { IsNone result ↔ ((length (funcs_of self.now) ≤ func) ⊎ (ty : ℕ) × (slice_get (funcs_of self.now) func ≡ Some ty) × (length self.now.types ≤ ty)) }
@@ -220,7 +220,7 @@ impl Module {
         }
     }
 
-    /// The type of a table. None exactly where it is past its space.
+    /// Returns the type of table `table`, and `None` exactly if there is no such table.
     pub fn table_type(&self, table: u32) -> Option<&TableType>
         ensures value { option_copied result ≡ slice_get (tables_of self.now) table }
         ensures none { IsNone result ↔ (length (tables_of self.now) ≤ table) }
@@ -237,7 +237,7 @@ impl Module {
         self.tables.get(left)
     }
 
-    /// The limits of a memory. None exactly where it is past its space.
+    /// Returns the limits of memory `memory`, and `None` exactly if there is no such memory.
     pub fn memory_limits(&self, memory: u32) -> Option<&Limits>
         ensures value { option_copied result ≡ slice_get (memories_of self.now) memory }
         ensures none { IsNone result ↔ (length (memories_of self.now) ≤ memory) }
@@ -254,7 +254,7 @@ impl Module {
         self.mems.get(left)
     }
 
-    /// The type of a global. None exactly where it is past its space.
+    /// Returns the type of global `global`, and `None` exactly if there is no such global.
     pub fn global_type(&self, global: u32) -> Option<&GlobalType>
         ensures value { option_copied result ≡ slice_get (globals_of self.now) global }
         ensures none { IsNone result ↔ (length (globals_of self.now) ≤ global) }

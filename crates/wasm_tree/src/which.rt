@@ -1,44 +1,46 @@
-// The limited quantities, and the most that there may be of each.
+// The quantities that have a limit, and their limits.
 
 ghost use Rattle.std.specs.Prelude.{◌≡◌};
 ghost use Rattle.wasm_tree.specs.Limits.{limit};
 
-/// The most bytes of all input files of one command together.
+/// The limit on the bytes of all input files of one command together.
 pub const MOST_INPUT_BYTES: u32 = 16_777_216;
-/// The most parts of one merge.
+/// The limit on the parts of one merge.
 pub const MOST_PARTS: u32 = 1_000;
-/// The most types of a module, in an input file and in an output; so for the quantities of a module that follow.
+/// The limit on the types of a module. This and the following limits of a module hold for input
+/// files and for outputs.
 pub const MOST_TYPES: u32 = 1_000_000;
-/// The most imports of a module.
+/// The limit on the imports of a module.
 pub const MOST_IMPORTS: u32 = 1_000_000;
-/// The most functions that a module defines.
+/// The limit on the functions that a module defines.
 pub const MOST_FUNCTIONS: u32 = 1_000_000;
-/// The most tables that a module defines.
+/// The limit on the tables that a module defines.
 pub const MOST_TABLES: u32 = 10_000;
-/// The most memories that a module defines.
+/// The limit on the memories that a module defines.
 pub const MOST_MEMORIES: u32 = 10_000;
-/// The most globals that a module defines.
+/// The limit on the globals that a module defines.
 pub const MOST_GLOBALS: u32 = 1_000_000;
-/// The most exports of a module.
+/// The limit on the exports of a module.
 pub const MOST_EXPORTS: u32 = 1_000_000;
-/// The most element segments of a module.
+/// The limit on the element segments of a module.
 pub const MOST_ELEMENT_SEGMENTS: u32 = 300_000;
-/// The most data segments of a module.
+/// The limit on the data segments of a module.
 pub const MOST_DATA_SEGMENTS: u32 = 300_000;
-/// The most blocks, loops and ifs that are open at once in a body.
+/// The limit on the blocks, loops and ifs that are open at once in a body.
 pub const MOST_NESTING: u32 = 1_000;
-/// The most locals that one function declares, its parameters not counted.
+/// The limit on the locals that one function declares, without its parameters.
 pub const MOST_LOCALS: u32 = 50_000;
-/// The most parameters of one type.
+/// The limit on the parameters of one function type.
 pub const MOST_PARAMETERS: u32 = 1_000;
-/// The most results of one type.
+/// The limit on the results of one function type.
 pub const MOST_RESULTS: u32 = 1_000;
-/// The most parameters of all functions that one split moves, added up.
+/// The limit on the sum of the numbers of parameters of all functions that one split moves.
 pub const MOST_TRAMPOLINES: u32 = 4_000_000;
-/// The most bytes of one output, a name section not counted.
+/// The limit on the bytes of one output, without a name section.
 pub const MOST_OUTPUT_BYTES: u32 = 268_435_456;
 
-/// A quantity that has a limit. What a module may have, it may have in an input file and in an output.
+/// A quantity that has a limit. The limit of a quantity of a module holds for input files and for
+/// outputs.
 #[derive(Clone, Copy, Debug, PartialEq, Eq)]
 pub enum Which {
     InputBytes,
@@ -61,7 +63,7 @@ pub enum Which {
 }
 
 impl Which {
-    /// The most that there may be of the quantity.
+    /// Returns the limit of the quantity.
     pub fn limit(self) -> u32
         ensures { result ≡ limit self }
     {

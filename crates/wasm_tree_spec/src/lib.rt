@@ -1,2 +1,3 @@
-//! The names of the module tree for definitions and proofs, passed on from one place: no program.
+//! Passes on the names of the module tree, for definitions and proofs, from one place. The crate
+//! has no program.
 #![tactic(auto)]

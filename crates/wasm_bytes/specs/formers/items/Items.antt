@@ -1,4 +1,4 @@
--- How a list holds its items, so that a type may hold lists of itself.
+-- How a list holds its items, so that a type can contain lists of itself.
 use mathlib.Core.Path.{◌≡◌, refl, sym}
 use mathlib.Core.List.{List, []}
 use mathlib.Core.Former.{Former, this, list, via, children}
@@ -19,7 +19,7 @@ use Rattle.wasm_bytes.specs.declared.items.Items.TheView.{view, invariant}
 use Rattle.wasm_bytes.specs.contracts.items.Items as seen
 use Rattle.wasm_bytes.specs.contracts.items.Items.TheInside as inside
 
--- contracts see the list of the items
+-- Contracts see the list of the items.
 abbrev pub the_former : Former {0} → Former {0}
 the_former item = list item
 
@@ -35,7 +35,7 @@ the_items X items = items
 pub the_items_listed : (X : Type 0) (items : List X) → listed _ (children (the_former this) X items) ≡ the_items X items
 the_items_listed X items = list-listed X items
 
--- the one field, a `Vec`
+-- The one field is a `Vec`.
 abbrev stored : Former {0}
 stored = via (storage.the_former this Global) Inside (λ X it. it.items) (λ X v. record { items = v }) (λ X it. refl) (λ X v. refl)
 
