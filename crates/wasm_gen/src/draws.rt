@@ -1,9 +1,9 @@
-// Numbers that are drawn one after the other.
+// A linear congruential generator.
 
 ghost use Rattle.std.specs.Prelude.{◌≡◌, ◌<◌, ◌^◌};
 ghost use Rattle.wasm_gen.specs.Draws.{next};
 
-// The number that is drawn after this one.
+// Draws the next number.
 pub(crate) fn draw(state: &mut u32) -> u32
     ensures drawn { result ≡ next state.old }
     ensures state { state.new ≡ next state.old }

@@ -1,4 +1,4 @@
-// The first module: functions on numbers, which it exports.
+// The first module: it exports functions that compute with drawn numbers.
 
 ghost use Rattle.std.specs.Prelude.{◌≡◌, ◌*◌, ◌≤◌, map, IfOk, OnOk};
 ghost use Rattle.base_lists.specs.Places.{numbers};
@@ -22,7 +22,7 @@ fn operation(number: u32) -> BinOp
     }
 }
 
-// It takes two draws.
+// Makes a function, for which it draws the number and then the operation.
 fn first_func(alloc: Global, state: &mut u32) -> Result<Func, NoMemory>
     ensures func { IfOk result (λ f. f ≡ spec.joined (next state.old) (next (next state.old))) }
     ensures state { OnOk result (state.new ≡ next (next state.old)) }
@@ -36,7 +36,7 @@ fn first_func(alloc: Global, state: &mut u32) -> Result<Func, NoMemory>
     Ok(func(alloc, body))
 }
 
-// They take two draws each.
+// Makes the functions, with two draws for each.
 #[tactic(auto, using(crate::proofs::Drawing::first_more, crate::proofs::Drawing::drawn_twice))]
 fn first_funcs(alloc: Global, state: &mut u32, count: u32) -> Result<Items<Func>, NoMemory>
     ensures funcs { IfOk result (λ all. all ≡ map (spec.first_func state.old) (numbers 0 count)) }
@@ -49,7 +49,7 @@ fn first_funcs(alloc: Global, state: &mut u32, count: u32) -> Result<Items<Func>
     Ok(all)
 }
 
-/// The first module. It takes two draws a function.
+/// Makes the first module, with two draws for each function.
 pub(crate) fn first_module(alloc: Global, state: &mut u32, count: u32) -> Result<Module, NoMemory>
     ensures value { IfOk result (λ it. it ≡ spec.first_module state.old count) }
     ensures state { OnOk result (state.new ≡ draws state.old (count * 2)) }

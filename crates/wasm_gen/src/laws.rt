@@ -1,10 +1,11 @@
-// What the definitions of both modules mean, as the contract of a call that does nothing.
+// The law that both modules are valid.
 
 ghost use Rattle.wasm_gen.specs.Laws.{SampleModulesAreValid};
 
 use wasm_valid::valid_where_items_hold;
 
-/// Both modules of a sample are valid, and a u32 names what they have.
+/// Proves that both modules of a sample are valid and bounded, for each seed and for 1 to 100,000
+/// functions.
 pub fn sample_modules_are_valid()
     ensures { SampleModulesAreValid }
 {

@@ -1,4 +1,4 @@
-//! Two modules made from a seed: the first exports functions, the second imports and calls them.
+//! Makes two modules from a seed: the first exports functions, the second imports and calls them.
 #![tactic(auto)]
 
 mod draws;

@@ -1,8 +1,8 @@
-// The two modules of a sample.
+// The result of `sample`.
 
 use wasm_valid::Valid;
 
-/// Two modules, of which the second imports all functions of the first, as those of module `a`.
+/// The two modules of a sample. The second imports all functions of the first, from module `a`.
 #[derive(Drop)]
 pub struct Sample {
     pub first: Valid,

@@ -1,4 +1,4 @@
-// The sample.
+// The public call `sample`.
 
 ghost use Rattle.std.specs.Prelude.{◌≡◌, ◌<◌, ◌≤◌, ◌^◌, IfOk};
 ghost use Rattle.wasm_gen.specs.Modules as spec;
@@ -10,11 +10,14 @@ use std::alloc::Global;
 use wasm_bytes::NoMemory;
 use wasm_valid::{Valid, valid_where_items_hold};
 
-/// Makes two valid modules from numbers that a linear congruential generator draws from the seed. All functions take and give an i32.
+/// Makes two valid modules from numbers that a linear congruential generator draws from `seed`.
 ///
-/// The first module exports `count` functions as `f0`, `f1` and so on, which join their parameter and a drawn number by `i32.add`, `i32.xor` or `i32.mul`: for each
-/// the number is drawn, and then the operation. With the draws that follow, the second imports all of them from `a`, and exports `count` functions as `g0`, `g1` and
-/// so on, each of which gives its parameter to a drawn one of them. The error is want of memory.
+/// All functions take and return an i32. The first module exports `count` functions as `f0`, `f1`
+/// and so on. Each combines its parameter and a drawn number by `i32.add`, `i32.xor` or `i32.mul`;
+/// the number is drawn first, and then the operation. The second module takes the draws that
+/// follow. It imports all functions of the first from module `a`, and exports `count` functions as
+/// `g0`, `g1` and so on, each of which passes its parameter to a drawn one of the imported
+/// functions. The only error is `NoMemory`.
 pub fn sample(alloc: Global, seed: u32, count: u32) -> Result<Sample, NoMemory>
     requires seed { seed < 2 ^ 31 }
     requires some { 1 ≤ count }

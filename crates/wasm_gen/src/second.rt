@@ -10,7 +10,7 @@ use std::alloc::Global;
 use wasm_bytes::{Items, Name, NoMemory};
 use wasm_tree::{Func, Import, ImportDesc, Instr, Module};
 
-// All functions of the first module, in order.
+// Returns imports of all functions of the first module, in order.
 #[tactic(auto, using(crate::proofs::Drawing::import_more))]
 fn imports_of(alloc: Global, count: u32) -> Result<Items<Import>, NoMemory>
     ensures { IfOk result (λ all. all ≡ spec.second_imports count) }
@@ -35,7 +35,7 @@ fn passed(alloc: Global, callee: u32) -> Result<Func, NoMemory>
     Ok(func(alloc, body))
 }
 
-// They take a draw each.
+// Makes the functions, with a draw for each.
 #[tactic(auto, using(crate::proofs::Drawing::second_more, crate::proofs::Drawing::drawn_once))]
 fn second_funcs(alloc: Global, state: &mut u32, count: u32) -> Result<Items<Func>, NoMemory>
     requires { 1 ≤ count }
@@ -48,7 +48,7 @@ fn second_funcs(alloc: Global, state: &mut u32, count: u32) -> Result<Items<Func
     Ok(all)
 }
 
-/// The second module, drawn from a state on.
+/// Makes the second module, with the draws that follow `state`.
 pub(crate) fn second_module(alloc: Global, state: &mut u32, count: u32) -> Result<Module, NoMemory>
     requires some { 1 ≤ count }
     requires few { count < 2 ^ 31 }

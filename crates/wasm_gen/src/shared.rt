@@ -1,4 +1,4 @@
-// What both modules have.
+// What both modules share.
 
 ghost use Rattle.std.specs.Prelude.{◌≡◌, ◌+◌, ◌<◌, ◌^◌, string_bytes, IfOk};
 ghost use Rattle.wasm_gen.specs.Modules.{exports_of, func_of, module_of, numbered, unary};
@@ -8,7 +8,7 @@ use std::alloc::{AllocError, Global};
 use wasm_bytes::{Items, Name, NoMemory};
 use wasm_tree::{Export, ExportDesc, Func, FuncType, Import, Instr, Module, ValType};
 
-// [i32] to [i32].
+// The type from [i32] to [i32].
 fn unary_type(alloc: Global) -> Result<FuncType, NoMemory>
     ensures { IfOk result (λ ty. ty ≡ unary) }
 {
@@ -18,7 +18,7 @@ fn unary_type(alloc: Global) -> Result<FuncType, NoMemory>
     })
 }
 
-/// A function of the one type.
+/// Returns a function of the one type.
 pub(crate) fn func(alloc: Global, body: Items<Instr>) -> Func
     ensures { result ≡ func_of body }
 {
@@ -29,7 +29,7 @@ pub(crate) fn func(alloc: Global, body: Items<Instr>) -> Func
     }
 }
 
-// A letter and a number.
+// Returns a letter and a number in decimal.
 fn numbered_text(alloc: Global, letter: &str, number: u32) -> Result<String, AllocError>
     ensures { IfOk result (λ text. string_bytes text ≡ numbered letter.now number) }
 {
@@ -38,7 +38,7 @@ fn numbered_text(alloc: Global, letter: &str, number: u32) -> Result<String, All
     Ok(text)
 }
 
-/// A letter and a number, as a name.
+/// Returns a letter and a number in decimal, as a name.
 pub(crate) fn numbered_name(alloc: Global, letter: &str, number: u32) -> Result<Name, NoMemory>
     ensures { IfOk result (λ name. name ≡ numbered letter.now number) }
 {
@@ -46,7 +46,8 @@ pub(crate) fn numbered_name(alloc: Global, letter: &str, number: u32) -> Result<
     Name::from_text(alloc, text.as_str())
 }
 
-/// Exports of so many functions from an index on, with a letter and their number as name.
+/// Returns exports of `count` functions from `index` on, the first under the letter and 0, the next
+/// under the letter and 1, and so on.
 #[tactic(auto, using(crate::proofs::Drawing::export_more))]
 pub(crate) fn exports_from(
     alloc: Global,
@@ -67,7 +68,7 @@ pub(crate) fn exports_from(
     Ok(all)
 }
 
-/// The module with these imports, functions and exports.
+/// Makes the module with the one type, and with these imports, functions and exports.
 pub(crate) fn module(
     alloc: Global,
     imports: Items<Import>,

@@ -12,7 +12,7 @@ use std::alloc::Global;
 use wasm_bytes::{Frame, FrameFault, Items, NoMemory, frames};
 use wasm_read_spec::Fault;
 
-/// What stands behind the name of the section, if it is a custom one that is called `name`.
+/// Returns what follows the name of the section, if it is a custom section named `name`.
 fn names_content(bytes: &[u8], frame: Frame) -> Option<&[u8]>
     requires { frame.start + frame.len ≤ length bytes.now }
     ensures { lent_option result ≡ content_of_names (framed bytes.now frame) }
@@ -23,7 +23,7 @@ fn names_content(bytes: &[u8], frame: Frame) -> Option<&[u8]>
     behind_name_of(&bytes[frame.start..frame.start + frame.len])
 }
 
-/// What stands behind the name of the first custom section that is called `name`.
+/// Returns what follows the name of the first custom section named `name`.
 fn first_names_content<'a>(bytes: &'a [u8], all: &[Frame]) -> Option<&'a [u8]>
     requires { Inside bytes.now all.now }
     ensures { lent_option result ≡ first_content (framed_all bytes.now all.now) }
@@ -37,7 +37,7 @@ fn first_names_content<'a>(bytes: &'a [u8], all: &[Frame]) -> Option<&'a [u8]>
     None
 }
 
-/// The names in what stands behind the name of the name section, and none where there is no such section or it is malformed.
+/// Reads the names, and returns none if there is no name section or it is malformed.
 fn names_or_none(alloc: Global, content: Option<&[u8]>) -> Result<Items<FuncName>, NoMemory>
     ensures { IfOk result (λ ns. ns ≡ unwrap_or (option_and_then names_in (lent_option content.entry)) []) }
 {
@@ -65,13 +65,15 @@ fn read_name_list(alloc: Global, bytes: &[u8]) -> Result<Items<FuncName>, NoMemo
     }
 }
 
-/// The names that a module file gives its functions, as they stand there (WebAssembly Core 2.0, section 7.4.1).
+/// Reads the names that a module file gives its functions (WebAssembly Core 2.0, section 7.4.1).
 ///
-/// The first custom section that is called `name` decides. It is malformed where a subsection's frame is broken, where the subsection of
-/// function names stands twice, or where its content isn't exactly a vector of indices and names with ascending indices; other subsections
-/// are skipped by their size. Where it is malformed, where there is no such section and where the bytes have no frames the list is empty.
-/// Names of imported functions and of functions that aren't there stay in the list. The only error is `NoMemory`, which says nothing of the
-/// bytes.
+/// Returns the entries as they are in the file, including those of imported functions and of
+/// functions that do not exist. Only the first custom section named `name` is read. The list is
+/// empty if there is no such section, if it is malformed, or if the file cannot be divided into
+/// sections. The section is malformed if the frame of a subsection is broken, if more than one
+/// subsection has function names, or if the content of that subsection is not exactly a vector of
+/// indices and names with strictly ascending indices; other subsections are skipped by their size.
+/// The only error is `NoMemory`, which says nothing of the bytes.
 pub fn function_names(alloc: Global, bytes: &[u8]) -> Result<Items<FuncName>, NoMemory>
     requires { length bytes.now < 2 ^ 32 }
     ensures list { IfOk result (λ ns. ns ≡ name_list bytes.now) }

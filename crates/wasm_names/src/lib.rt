@@ -1,4 +1,5 @@
-//! The names that a module file gives its functions: the name section (WebAssembly Core 2.0, section 7.4.1).
+//! Reads the names that a module file gives its functions: the name section (WebAssembly Core 2.0,
+//! section 7.4.1).
 #![tactic(auto)]
 
 mod file;

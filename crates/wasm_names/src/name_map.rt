@@ -8,7 +8,7 @@ use wasm_bytes::{Cursor, Items};
 use wasm_read_items::read_name;
 use wasm_read_spec::Fault;
 
-/// A function's index, which is no less than this, and its name.
+/// Reads the index of a function, which has to be at least `least`, and its name.
 #[tactic(auto, unfolding(crate::specs::Reading::func_name_at))]
 fn read_func_name(alloc: Global, cursor: &mut Cursor<'_>, least: u64) -> Result<FuncName, Fault>
     ensures gives { Gives result cursor.new (func_name_at least cursor.old) }
@@ -22,7 +22,7 @@ fn read_func_name(alloc: Global, cursor: &mut Cursor<'_>, least: u64) -> Result<
     Ok(FuncName { index, name })
 }
 
-/// So many names, each index above the one before.
+/// Reads `count` entries, each with an index greater than the one before.
 #[tactic(auto, unfolding(wasm_read_spec::specs::Reading::each_from))]
 fn read_each_func_name(
     alloc: Global,
@@ -41,7 +41,8 @@ fn read_each_func_name(
     Ok(names)
 }
 
-/// A name map (WebAssembly Core 2.0, section 7.4.1): a vector of indices and names, the indices ascending.
+/// Reads a name map (WebAssembly Core 2.0, section 7.4.1): a vector of indices and names, with
+/// strictly ascending indices.
 #[tactic(auto, unfolding(crate::specs::Reading::func_names_at))]
 fn read_func_names(alloc: Global, cursor: &mut Cursor<'_>) -> Result<Items<FuncName>, Fault>
     ensures gives { Gives result cursor.new (func_names_at cursor.old) }
@@ -50,7 +51,7 @@ fn read_func_names(alloc: Global, cursor: &mut Cursor<'_>) -> Result<Items<FuncN
     read_each_func_name(alloc, cursor, count)
 }
 
-/// A name map that is all of the bytes.
+/// Reads a name map that takes up all of the bytes.
 #[tactic(auto, unfolding(wasm_read_spec::specs::Reading::whole_at))]
 pub fn read_name_map(alloc: Global, bytes: &[u8]) -> Result<Items<FuncName>, Fault>
     ensures gives { GivesAll result (whole_at func_names_at bytes.now) }

@@ -13,7 +13,7 @@ use wasm_read_spec::Fault;
 /// The id of the subsection that names functions.
 const FUNCTION_NAMES: u8 = 1;
 
-/// What stands behind the name of a custom section, if it is called `name`.
+/// Returns what follows the name of a custom section, if the name is `name`.
 pub fn behind_name_of(content: &[u8]) -> Option<&[u8]>
     ensures { lent_option result ≡ behind_name (name_at content.now) }
 {
@@ -24,7 +24,8 @@ pub fn behind_name_of(content: &[u8]) -> Option<&[u8]>
     }
 }
 
-/// The content of the one subsection that names functions, if there is one. The others are skipped by their size.
+/// Returns the content of the one subsection that names functions, or `None` if there is none; a
+/// second one is a fault. The others are skipped by their size.
 fn name_map_of(content: &[u8]) -> Result<Option<&[u8]>, Fault>
     ensures gives { GivesMap result (name_map_at (length content.now) None content.now) }
 {
@@ -42,7 +43,7 @@ fn name_map_of(content: &[u8]) -> Result<Option<&[u8]>, Fault>
     Ok(found)
 }
 
-/// The functions' names in what stands behind the name of a name section.
+/// Reads the function names from what follows the name of a name section.
 #[tactic(auto, unfolding(crate::specs::Reading::names_at))]
 pub fn read_names(alloc: Global, content: &[u8]) -> Result<Items<FuncName>, Fault>
     ensures gives { GivesAll result (names_at content.now) }

@@ -1,4 +1,4 @@
--- What the frames of a file and their contents are to the reader.
+-- The frames of a file and their contents, as results of the reader.
 use Rattle.std.specs.Prelude.{◌≡◌, ℕ, List, Result, Ok, Err}
 use Rattle.wasm_bytes.specs.declared.framing.Frame.{Frame as Place}
 use Rattle.wasm_bytes.specs.FrameViews.{framed_all}

@@ -11,7 +11,7 @@ use wasm_read_items::{Pile, read_code, read_sized};
 use wasm_read_spec::{Fault, ReadFault};
 use wasm_tree::{Func, MOST_FUNCTIONS, Which};
 
-/// The fault of a section, or of a function's entry in it.
+/// Turns a fault in a section, or in the entry of a function in it, into a fault of the file.
 pub fn placed_fault(section: u32, func: Option<u32>, fault: Fault) -> ReadFault
     ensures { result ≡ placed section func fault }
 {
@@ -26,7 +26,7 @@ pub fn placed_fault(section: u32, func: Option<u32>, fault: Fault) -> ReadFault
     }
 }
 
-/// A code entry, with its size (WebAssembly Core 2.0, section 5.5.13).
+/// Reads a code entry with its size (WebAssembly Core 2.0, section 5.5.13).
 #[tactic(auto, unfolding(wasm_read_spec::specs::Contents::entry_at))]
 fn read_entry(
     alloc: Global,
@@ -49,7 +49,7 @@ fn read_entry(
     }
 }
 
-/// So many code entries, the first of which is that function.
+/// Reads `count` code entries, the first of which is that of function `first`.
 #[tactic(auto, unfolding(wasm_read_spec::specs::Reading::each_from))]
 fn read_entries(
     alloc: Global,
@@ -74,7 +74,8 @@ fn read_entries(
     Ok(codes)
 }
 
-/// The code section (WebAssembly Core 2.0, section 5.5.13), whose first entry is that function.
+/// Reads the code section (WebAssembly Core 2.0, section 5.5.13), whose first entry is that of
+/// function `first`.
 #[tactic(auto, unfolding(wasm_read_spec::specs::Contents::codes_at))]
 pub fn read_codes(
     alloc: Global,

@@ -27,7 +27,7 @@ use wasm_read_spec::{
 };
 use wasm_tree::Module;
 
-/// The frames of the file, or the fault where they have one.
+/// Returns the frames of the file, or the fault of its frames.
 fn frame_list(alloc: Global, bytes: &[u8]) -> Result<Items<Frame>, ReadFault>
     requires { length bytes.now < 2 ^ 32 }
     ensures gives { GivesFramed bytes.now result }
@@ -68,7 +68,7 @@ fn no_parts(alloc: Global) -> Parts
     }
 }
 
-/// What the frames hold, or the first fault inside one.
+/// Returns what the sections contain, or the first fault in one.
 fn read_contents(alloc: Global, bytes: &[u8], many: bool, all: &[Frame]) -> Result<Found, ReadFault>
     requires inside { Inside bytes.now all.now }
     requires small { length bytes.now < 2 ^ 32 }
@@ -88,7 +88,7 @@ fn read_contents(alloc: Global, bytes: &[u8], many: bool, all: &[Frame]) -> Resu
     Ok(found)
 }
 
-/// The tree of parts that agree.
+/// Returns the tree of parts that obey the rules on the whole file.
 fn tree(parts: Parts) -> Module
     requires { length parts.func_types ≡ length parts.codes }
     ensures { result ≡ tree_of parts }
@@ -109,7 +109,8 @@ fn tree(parts: Parts) -> Module
     }
 }
 
-/// The tree of the file, or its first fault. `many` says that memories have indices in bodies.
+/// Returns the tree of the file, or its first fault. If `many` is true, memories have indices in
+/// bodies.
 #[tactic(auto, unfolding(wasm_read_spec::specs::Contents::parts_at, wasm_read_spec::specs::Contents::read_at))]
 fn read_file(alloc: Global, bytes: &[u8], many: bool) -> Result<Module, ReadFault>
     requires { length bytes.now < 2 ^ 32 }
@@ -125,26 +126,30 @@ fn read_file(alloc: Global, bytes: &[u8], many: bool) -> Result<Module, ReadFaul
     Ok(tree(found.parts))
 }
 
-/// The tree that a module file spells (WebAssembly Core 2.0, chapter 5), within the limits on counts, nesting and locals.
+/// Reads the tree that a module file encodes (WebAssembly Core 2.0, chapter 5), within the limits
+/// on counts, nesting and locals.
 ///
-/// Unless memory runs out it is answered exactly where the bytes spell a tree within the limits, and otherwise the first fault
-/// of the file: `NotModule`, then the first bad frame, then the first fault in the sections' contents, in the order of the
-/// file, and last the rules on the whole file. A tree that is answered is bounded, so that a u32 names each thing in it, and
-/// its bodies name no memory but memory 0.
+/// Unless memory runs out, the result is the tree exactly if the bytes encode one within the
+/// limits. Otherwise the error is the first fault of the file: `NotModule`, then the first bad
+/// frame, then the first fault in the contents of the sections, in the order of the file, and last
+/// a broken rule on the whole file. The tree is bounded, so that a u32 names each of its entries,
+/// and its bodies name no memory except memory 0.
 pub fn read(alloc: Global, bytes: &[u8]) -> Result<Module, ReadFault>
     requires { length bytes.now < 2 ^ 32 }
     ensures found { IfOk result (λ m. Spells bytes.now m false × Within bytes.now false) }
     ensures only { (m : ModuleTree) → Spells bytes.now m false → Within bytes.now false → (result ≡ Ok m) ⊎ (result ≡ Err ReadFault.NoMemory) }
     ensures fault { IfErr result (λ e. (e ≡ ReadFault.NoMemory) ⊎ (read_fault bytes.now false ≡ Some e)) }
     ensures first { (e : SomeFault) → read_fault bytes.now false ≡ Some e → (result ≡ Err e) ⊎ (result ≡ Err ReadFault.NoMemory) }
-    // What each fault means, with its place: it is answered exactly where this is so, unless memory runs out.
+    // What each fault says about the bytes, with its place. Unless memory runs out, it is the error
+    // exactly if that is so.
     ensures not_module { Told result fault.NotModule (HasHeader bytes.now → ⊥) }
     ensures malformed { (n : ℕ) → Told result (fault.Malformed n) (FirstBad bytes.now n ⊎ (MalformedSection bytes.now false n ⊎ FaultyWhole bytes.now false n)) }
     ensures malformed_body { (f : ℕ) → Told result (fault.MalformedBody f) ((n : ℕ) × MalformedEntry bytes.now false n f) }
     ensures unsupported { (n : ℕ) → Told result (fault.Unsupported n None) (SectionStops bytes.now false n NotSupported) }
     ensures unsupported_body { (n f : ℕ) → Told result (fault.Unsupported n (Some f)) (EntryStops bytes.now false n f NotSupported) }
     ensures limit { (which : SomeWhich) → Told result (fault.Limit which) ((n : ℕ) × (SectionStops bytes.now false n (Over which) ⊎ ((f : ℕ) × EntryStops bytes.now false n f (Over which)))) }
-    // A file that spells a tree is within the limits exactly where no count, no nesting and no sum of locals in it is over its limit.
+    // A file that encodes a tree is within the limits exactly if no count, no nesting and no sum of
+    // locals in it is over its limit.
     ensures within { (m : ModuleTree) → Spells bytes.now m false → Within bytes.now false ↔ ((which : SomeWhich) → Cause bytes.now false (fault.Limit which) → ⊥) }
     ensures bounded { IfOk result (λ m. IsBounded m) }
     ensures memory { IfOk result (λ m. IsTrue (memory_zero_funcs m.funcs)) }

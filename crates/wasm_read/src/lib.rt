@@ -1,4 +1,5 @@
-//! The binary reader: a module file to its tree, or the first fault of the file.
+//! The binary reader: it returns the tree that a module file encodes, or the first fault of the
+//! file.
 #![tactic(auto)]
 
 mod codes;

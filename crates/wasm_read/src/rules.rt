@@ -7,7 +7,8 @@ use wasm_bytes::Items;
 use wasm_read_spec::Parts;
 use wasm_tree::Func;
 
-/// Whether the sections agree with one another (WebAssembly Core 2.0, section 5.5.16). It is told whether a body names a data segment.
+/// Returns whether the sections obey the rules on the whole file (WebAssembly Core 2.0, section
+/// 5.5.16). `uses_data` is whether a body names a data segment.
 #[tactic(auto, unfolding(wasm_read_spec::specs::Contents::agrees))]
 pub fn agree(parts: &Parts, uses_data: bool) -> bool
     requires { uses_data ≡ any_uses_data parts.now.codes }
@@ -23,7 +24,7 @@ pub fn agree(parts: &Parts, uses_data: bool) -> bool
     }
 }
 
-/// Gives each function its type.
+/// Sets the type index of each function.
 pub fn set_types(funcs: &mut Items<Func>, types: &[u32])
     requires { length types.now ≡ length funcs.old }
     ensures { funcs.new ≡ typed types.now funcs.old }

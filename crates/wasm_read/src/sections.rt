@@ -13,7 +13,7 @@ use wasm_read_items::{Pile, read_name, read_whole};
 use wasm_read_spec::{Fault, Parts, ReadFault};
 use wasm_tree::{Import, Which};
 
-/// What the sections hold that were read so far.
+/// What the sections read so far contain.
 #[derive(Drop)]
 pub struct Found {
     pub parts: Parts,
@@ -21,7 +21,7 @@ pub struct Found {
     pub uses_data: bool,
 }
 
-/// A custom section begins with a name (WebAssembly Core 2.0, section 5.5.3).
+/// Reads a custom section, which begins with a name (WebAssembly Core 2.0, section 5.5.3).
 fn read_custom(content: &[u8]) -> Result<(), Fault>
     ensures { GivesWhole result (custom_at content.now) }
 {
@@ -32,7 +32,7 @@ fn read_custom(content: &[u8]) -> Result<(), Fault>
     }
 }
 
-/// A number that is all of the content.
+/// Reads a number that is all of the content.
 #[tactic(auto, unfolding(wasm_read_spec::specs::Reading::whole_at))]
 fn read_number(content: &[u8]) -> Result<u32, Fault>
     ensures { GivesWhole result (whole_at u32_at content.now) }
@@ -45,7 +45,7 @@ fn read_number(content: &[u8]) -> Result<u32, Fault>
     Ok(number)
 }
 
-/// How many functions are imported.
+/// Returns how many functions are imported.
 #[tactic(auto, using(base_lists::proofs::Filtered::filter_map_most))]
 fn imported_funcs(imports: &[Import]) -> u32
     requires { length imports.now ≤ limit Imports }
@@ -59,7 +59,7 @@ fn imported_funcs(imports: &[Import]) -> u32
     count as u32
 }
 
-/// Puts what the section holds in its place among the parts.
+/// Reads a section and puts what it contains into its place among the parts.
 #[tactic(auto, unfolding(wasm_read_spec::specs::Contents::section_at))]
 pub fn read_section(
     alloc: Global,

@@ -11,7 +11,8 @@ use wasm_bytes::{Cursor, Items};
 use wasm_read_spec::{Fault, Opener, Sequence};
 use wasm_tree::{BlockType, Instr, MOST_NESTING, Which};
 
-/// Reads up to the `end` or `else` that ends the sequence. So many more blocks may be opened in it. Its instructions lie on the pile until it ends.
+/// Reads a sequence up to the `end` or `else` that ends it; at most `deeper` blocks can be open at
+/// once in it. Its instructions are on the pile until it ends.
 #[cycle(read)]
 fn read_sequence(
     alloc: Global,
@@ -50,7 +51,7 @@ fn read_sequence(
     }
 }
 
-/// Reads the rest of a block of which the opening token was read.
+/// Reads the rest of a block whose opening token was read.
 #[cycle(read)]
 fn read_block(
     alloc: Global,
@@ -98,7 +99,8 @@ fn read_block(
     }
 }
 
-/// The instructions of a body, which the last `end` ends; nothing may follow it (WebAssembly Core 2.0, section 5.4.9).
+/// Reads a body up to its last `end`, which nothing may follow (WebAssembly Core 2.0, section
+/// 5.4.9).
 #[tactic(auto, unfolding(wasm_read_spec::specs::BodyReading::body_at))]
 pub fn read_body(
     alloc: Global,

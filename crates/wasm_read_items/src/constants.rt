@@ -8,7 +8,7 @@ use wasm_bytes::Cursor;
 use wasm_read_spec::Fault;
 use wasm_tree::{ConstExpr, GlobalDef, GlobalType, RefType};
 
-/// The one instruction of a constant expression (WebAssembly Core 2.0, section 5.4.9).
+/// Reads the one instruction of a constant expression (WebAssembly Core 2.0, section 5.4.9).
 fn read_constant(alloc: Global, cursor: &mut Cursor<'_>) -> Result<ConstExpr, Fault>
     ensures gives { Gives result cursor.new (chosen_at byte_at const_from cursor.old) }
     ensures shorter { OnOk result (length cursor.new < length cursor.old) }

@@ -13,7 +13,7 @@ use wasm_bytes::{Cursor, Items};
 use wasm_read_spec::Fault;
 use wasm_tree::{Func, LocalGroup, MOST_LOCALS, ValType, Which};
 
-/// A group of locals where so many came before.
+/// Reads a group of locals that follows `sum` locals.
 #[tactic(auto, unfolding(wasm_read_spec::specs::Reading::local_at))]
 fn read_group(alloc: Global, cursor: &mut Cursor<'_>, sum: u32) -> Result<LocalGroup, Fault>
     requires { sum ≤ limit Locals }
@@ -31,7 +31,7 @@ fn read_group(alloc: Global, cursor: &mut Cursor<'_>, sum: u32) -> Result<LocalG
     Ok(LocalGroup { count, ty })
 }
 
-/// So many groups; the locals together are compared with their limit at each group.
+/// Reads `count` groups. At each group the sum of the locals is compared with its limit.
 #[tactic(auto, unfolding(wasm_read_spec::specs::Reading::each_from))]
 fn read_groups(
     alloc: Global,
@@ -51,7 +51,7 @@ fn read_groups(
     Ok(groups)
 }
 
-/// The declared locals of a function (WebAssembly Core 2.0, section 5.5.13).
+/// Reads the declared locals of a function (WebAssembly Core 2.0, section 5.5.13).
 #[tactic(auto, unfolding(wasm_read_spec::specs::Reading::locals_at))]
 fn read_locals(alloc: Global, cursor: &mut Cursor<'_>) -> Result<Items<LocalGroup>, Fault>
     ensures gives { Gives result cursor.new (locals_at cursor.old) }
@@ -61,8 +61,9 @@ fn read_locals(alloc: Global, cursor: &mut Cursor<'_>) -> Result<Items<LocalGrou
     read_groups(alloc, cursor, count)
 }
 
-/// What is inside a code entry: the locals and the body (WebAssembly Core 2.0, section 5.5.13). A function's type stands
-/// elsewhere, and is 0 here. `many` says that memories have indices. It answers the first fault, or want of memory.
+/// Reads the content of a code entry: the locals and the body (WebAssembly Core 2.0, section
+/// 5.5.13). The type index of the function is set to 0, because it is elsewhere in the file. If
+/// `many` is true, memories have indices. The error is the first fault, or `NoMemory`.
 #[tactic(auto, unfolding(wasm_read_spec::specs::BodyReading::code_at))]
 pub fn read_code(alloc: Global, bytes: &[u8], many: bool, pile: &mut Pile) -> Result<Func, Fault>
     ensures gives { GivesAll result (code_at many bytes.now) }

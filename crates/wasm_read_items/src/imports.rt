@@ -7,7 +7,7 @@ use wasm_bytes::{Cursor, Name};
 use wasm_read_spec::Fault;
 use wasm_tree::{Export, ExportDesc, GlobalType, Import, ImportDesc, Limits, TableType};
 
-/// A name (WebAssembly Core 2.0, section 5.2.4).
+/// Reads a name (WebAssembly Core 2.0, section 5.2.4). The error is `Malformed` or `NoMemory`.
 pub fn read_name(alloc: Global, cursor: &mut Cursor<'_>) -> Result<Name, Fault>
     ensures gives { Gives result cursor.new (name_at cursor.old) }
     ensures shorter { OnOk result (length cursor.new < length cursor.old) }
@@ -18,7 +18,7 @@ pub fn read_name(alloc: Global, cursor: &mut Cursor<'_>) -> Result<Name, Fault>
     }
 }
 
-/// A kind byte, and what it is followed by in an import (WebAssembly Core 2.0, section 5.5.5).
+/// Reads the kind byte of an import and what follows it (WebAssembly Core 2.0, section 5.5.5).
 #[tactic(auto, unfolding(wasm_read_spec::specs::Reading::import_desc_at))]
 fn read_import_desc(alloc: Global, cursor: &mut Cursor<'_>) -> Result<ImportDesc, Fault>
     ensures gives { Gives result cursor.new (import_desc_at cursor.old) }
@@ -49,7 +49,7 @@ impl Spelled for Import {
     }
 }
 
-/// A kind byte and an index (WebAssembly Core 2.0, section 5.5.10).
+/// Reads the kind byte and the index of an export (WebAssembly Core 2.0, section 5.5.10).
 #[tactic(auto, unfolding(wasm_read_spec::specs::Reading::export_desc_at))]
 fn read_export_desc(cursor: &mut Cursor<'_>) -> Result<ExportDesc, Fault>
     ensures gives { Gives result cursor.new (export_desc_at cursor.old) }

@@ -1,4 +1,5 @@
-//! Readers of what the sections of a module file hold, from types to code entries. None knows its place in the file.
+//! Readers of the contents of the sections of a module file, from types to code entries. None knows
+//! its place in the file.
 #![tactic(auto)]
 
 mod body;

@@ -4,7 +4,7 @@ ghost use Rattle.wasm_read_spec.specs.Operations.{un_of, bin_of, load_of, store_
 use wasm_num::{BinOp, UnOp};
 use wasm_tree::{LoadOp, StoreOp};
 
-/// The unary operation with this opcode (WebAssembly Core 2.0, section 5.4.7).
+/// Returns the unary operation with this opcode (WebAssembly Core 2.0, section 5.4.7).
 #[tactic(auto, unfolding(wasm_read_spec::specs::Operations::un_of))]
 pub fn un_of(opcode: u8) -> Option<UnOp>
     ensures { result ≡ un_of opcode }
@@ -30,7 +30,7 @@ pub fn un_of(opcode: u8) -> Option<UnOp>
     }
 }
 
-/// The binary operation with this opcode (WebAssembly Core 2.0, section 5.4.7).
+/// Returns the binary operation with this opcode (WebAssembly Core 2.0, section 5.4.7).
 #[tactic(auto, unfolding(wasm_read_spec::specs::Operations::bin_of))]
 pub fn bin_of(opcode: u8) -> Option<BinOp>
     ensures { result ≡ bin_of opcode }
@@ -90,7 +90,7 @@ pub fn bin_of(opcode: u8) -> Option<BinOp>
     }
 }
 
-/// The load with this opcode (WebAssembly Core 2.0, section 5.4.6).
+/// Returns the load with this opcode (WebAssembly Core 2.0, section 5.4.6).
 #[tactic(auto, unfolding(wasm_read_spec::specs::Operations::load_of))]
 pub fn load_of(opcode: u8) -> Option<LoadOp>
     ensures { result ≡ load_of opcode }
@@ -112,7 +112,7 @@ pub fn load_of(opcode: u8) -> Option<LoadOp>
     }
 }
 
-/// The store with this opcode (WebAssembly Core 2.0, section 5.4.6).
+/// Returns the store with this opcode (WebAssembly Core 2.0, section 5.4.6).
 #[tactic(auto, unfolding(wasm_read_spec::specs::Operations::store_of))]
 pub fn store_of(opcode: u8) -> Option<StoreOp>
     ensures { result ≡ store_of opcode }

@@ -8,7 +8,8 @@ use wasm_bytes::Items;
 use wasm_read_spec::{Fault, Opener};
 use wasm_tree::Instr;
 
-/// What kind of token was read (WebAssembly Core 2.0, section 5.4). A plain instruction lies on the pile; where a block is opened its type is left.
+/// The kind of a token that was read (WebAssembly Core 2.0, section 5.4). A plain instruction was
+/// put on the pile; the type of an opened block is still to be read.
 #[derive(Clone, Copy)]
 pub enum Kind {
     Open(Opener),
@@ -17,8 +18,8 @@ pub enum Kind {
     Plain,
 }
 
-/// The instructions that were read and whose sequence has not ended yet, and whether one that was read names a data segment
-/// (WebAssembly Core 2.0, section 2.4.7).
+/// The instructions that were read and whose sequence has not ended, and whether an instruction
+/// that was read names a data segment (WebAssembly Core 2.0, section 2.4.7).
 #[derive(Drop)]
 pub struct Pile {
     pub instrs: Items<Instr>,
@@ -26,7 +27,7 @@ pub struct Pile {
 }
 
 impl Pile {
-    /// An empty pile, before anything was read.
+    /// Returns an empty pile.
     pub fn new(alloc: Global) -> Pile
         ensures instrs { result.instrs ≡ [] }
         ensures uses_data { result.uses_data ≡ false }
@@ -37,7 +38,7 @@ impl Pile {
         }
     }
 
-    /// Puts a plain instruction on it that names no data segment.
+    /// Puts a plain instruction that names no data segment on the pile.
     pub fn plain(&mut self, instr: Instr) -> Result<Kind, Fault>
         requires { uses_data_in instr ≡ false }
         ensures { (rest : List ℕ) → Tells result rest self.old self.new (Ok (Plain instr, rest)) }
@@ -46,7 +47,7 @@ impl Pile {
         Ok(Kind::Plain)
     }
 
-    /// Puts a plain instruction on it that names a data segment.
+    /// Puts a plain instruction that names a data segment on the pile.
     pub fn plain_with_data(&mut self, instr: Instr) -> Result<Kind, Fault>
         requires { uses_data_in instr ≡ true }
         ensures { (rest : List ℕ) → Tells result rest self.old self.new (Ok (Plain instr, rest)) }

@@ -10,7 +10,8 @@ use wasm_bytes::{Cursor, Items};
 use wasm_read_spec::Fault;
 use wasm_tree::{ConstExpr, DataMode, DataSeg, ElemMode, ElemSeg, RefType};
 
-/// A length and so many bytes, which stay where they are.
+/// Reads a length and as many bytes, and returns these without copying them. The error is
+/// `Malformed`.
 pub fn read_sized<'a>(cursor: &mut Cursor<'a>) -> Result<&'a [u8], Fault>
     ensures gives { GivesSlice result cursor.new (sized_at cursor.old) }
     ensures shorter { OnOk result (length cursor.new < length cursor.old) }
@@ -22,7 +23,7 @@ pub fn read_sized<'a>(cursor: &mut Cursor<'a>) -> Result<&'a [u8], Fault>
     }
 }
 
-/// A vector of bytes.
+/// Reads a vector of bytes.
 fn read_bytes(alloc: Global, cursor: &mut Cursor<'_>) -> Result<Items<u8>, Fault>
     ensures gives { Gives result cursor.new (sized_at cursor.old) }
     ensures shorter { OnOk result (length cursor.new < length cursor.old) }
@@ -33,7 +34,7 @@ fn read_bytes(alloc: Global, cursor: &mut Cursor<'_>) -> Result<Items<u8>, Fault
     }
 }
 
-/// A function index, which is the item `ref.func`.
+/// Reads a function index as the item `ref.func`.
 fn read_func_item(cursor: &mut Cursor<'_>) -> Result<ConstExpr, Fault>
     ensures gives { Gives result cursor.new (func_item_at cursor.old) }
     ensures shorter { OnOk result (length cursor.new < length cursor.old) }
@@ -41,7 +42,7 @@ fn read_func_item(cursor: &mut Cursor<'_>) -> Result<ConstExpr, Fault>
     Ok(ConstExpr::Func(cursor.u32()?))
 }
 
-/// So many function indices.
+/// Reads `count` function indices.
 #[tactic(auto, unfolding(wasm_read_spec::specs::Reading::each_from))]
 fn read_each_func(
     alloc: Global,
@@ -58,7 +59,7 @@ fn read_each_func(
     Ok(items)
 }
 
-/// A vector of function indices.
+/// Reads a vector of function indices.
 #[tactic(auto, unfolding(wasm_read_spec::specs::Reading::func_items_at, wasm_read_spec::specs::Reading::list_at))]
 fn read_funcs(alloc: Global, cursor: &mut Cursor<'_>) -> Result<Items<ConstExpr>, Fault>
     ensures gives { Gives result cursor.new (func_items_at cursor.old) }
@@ -68,7 +69,7 @@ fn read_funcs(alloc: Global, cursor: &mut Cursor<'_>) -> Result<Items<ConstExpr>
     read_each_func(alloc, cursor, count)
 }
 
-/// The element kind, which is 0, and function indices.
+/// Reads the element kind, which is 0, and a vector of function indices.
 fn read_kind_funcs(alloc: Global, cursor: &mut Cursor<'_>) -> Result<Items<ConstExpr>, Fault>
     ensures gives { Gives result cursor.new (tagged_at 0x00 func_items_at cursor.old) }
     ensures shorter { OnOk result (length cursor.new < length cursor.old) }
@@ -77,7 +78,8 @@ fn read_kind_funcs(alloc: Global, cursor: &mut Cursor<'_>) -> Result<Items<Const
     read_funcs(alloc, cursor)
 }
 
-/// The rest of an element segment of function indices, after its flags (WebAssembly Core 2.0, section 5.5.12).
+/// Reads the rest of an element segment of function indices, after its flags (WebAssembly Core 2.0,
+/// section 5.5.12).
 fn read_elem_funcs(alloc: Global, cursor: &mut Cursor<'_>, flags: u32) -> Result<ElemSeg, Fault>
     requires most { flags ≤ 3 }
     ensures gives { Gives result cursor.new (elem_from flags cursor.old) }
@@ -112,7 +114,8 @@ fn read_elem_funcs(alloc: Global, cursor: &mut Cursor<'_>, flags: u32) -> Result
     }
 }
 
-/// The rest of an element segment of constant expressions, after its flags (WebAssembly Core 2.0, section 5.5.12).
+/// Reads the rest of an element segment of constant expressions, after its flags (WebAssembly Core
+/// 2.0, section 5.5.12).
 fn read_elem_constants(alloc: Global, cursor: &mut Cursor<'_>, flags: u32) -> Result<ElemSeg, Fault>
     requires least { 4 ≤ flags }
     requires most { flags ≤ 7 }

@@ -13,7 +13,7 @@ use wasm_bytes::Cursor;
 use wasm_read_spec::{Fault, Opener};
 use wasm_tree::{Instr, MemArg, RefType};
 
-/// A memory argument (WebAssembly Core 2.0, section 5.4.6).
+/// Reads a memory argument (WebAssembly Core 2.0, section 5.4.6).
 #[tactic(auto, unfolding(wasm_read_spec::specs::BodyReading::arg_at))]
 fn read_arg(cursor: &mut Cursor<'_>, many: bool) -> Result<MemArg, Fault>
     ensures gives { Gives result cursor.new (arg_at many cursor.old) }
@@ -48,7 +48,7 @@ fn read_arg(cursor: &mut Cursor<'_>, many: bool) -> Result<MemArg, Fault>
     Err(Fault::Malformed)
 }
 
-/// A memory: the byte 0, or with several memories an index.
+/// Reads a memory: the byte 0, or an index if `many` is true.
 #[tactic(auto, unfolding(wasm_read_spec::specs::BodyReading::memory_at))]
 fn read_memory(cursor: &mut Cursor<'_>, many: bool) -> Result<u32, Fault>
     ensures gives { Gives result cursor.new (memory_at many cursor.old) }
@@ -62,7 +62,7 @@ fn read_memory(cursor: &mut Cursor<'_>, many: bool) -> Result<u32, Fault>
     }
 }
 
-/// The rest of a token that begins with `FC`, and has a number of an instruction that there is.
+/// Reads the rest of a token that begins with `FC` and the number of a supported instruction.
 #[tactic(auto, unfolding(wasm_read_spec::specs::BodyReading::simple_of, wasm_read_spec::specs::Tokens::sub_form))]
 fn read_bulk(cursor: &mut Cursor<'_>, many: bool, code: u32, pile: &mut Pile) -> Result<Kind, Fault>
     requires least { 8 ≤ code }
@@ -101,7 +101,8 @@ fn read_bulk(cursor: &mut Cursor<'_>, many: bool, code: u32, pile: &mut Pile) ->
     }
 }
 
-/// The rest of a token that begins with `FC` (WebAssembly Core 2.0, sections 5.4.5 and 5.4.6).
+/// Reads the rest of a token that begins with `FC` (WebAssembly Core 2.0, sections 5.4.5 and
+/// 5.4.6).
 #[tactic(auto, unfolding(wasm_read_spec::specs::BodyReading::prefixed_at, wasm_read_spec::specs::BodyReading::simple_of, wasm_read_spec::specs::Tokens::sub_form))]
 fn read_prefixed(cursor: &mut Cursor<'_>, many: bool, pile: &mut Pile) -> Result<Kind, Fault>
     ensures gives { Tells result cursor.new pile.old pile.new (prefixed_at many cursor.old) }
@@ -115,7 +116,7 @@ fn read_prefixed(cursor: &mut Cursor<'_>, many: bool, pile: &mut Pile) -> Result
     }
 }
 
-/// The rest of an instruction that branches or calls (WebAssembly Core 2.0, section 5.4.1).
+/// Reads the rest of a branch, a return or a call (WebAssembly Core 2.0, section 5.4.1).
 #[tactic(auto, unfolding(wasm_read_spec::specs::BodyReading::simple_of, wasm_read_spec::specs::Tokens::rest_form))]
 fn read_branch(
     alloc: Global,
@@ -146,7 +147,7 @@ fn read_branch(
     }
 }
 
-/// The rest of a parametric instruction (WebAssembly Core 2.0, section 5.4.3).
+/// Reads the rest of a parametric instruction (WebAssembly Core 2.0, section 5.4.3).
 #[tactic(auto, unfolding(wasm_read_spec::specs::BodyReading::simple_of, wasm_read_spec::specs::Tokens::rest_form))]
 fn read_parametric(
     alloc: Global,
@@ -167,7 +168,8 @@ fn read_parametric(
     }
 }
 
-/// The rest of an instruction on a variable or an item of a table (WebAssembly Core 2.0, sections 5.4.4 and 5.4.5).
+/// Reads the rest of an instruction on a variable or an item of a table (WebAssembly Core 2.0,
+/// sections 5.4.4 and 5.4.5).
 #[tactic(auto, unfolding(wasm_read_spec::specs::BodyReading::simple_of, wasm_read_spec::specs::Tokens::rest_form))]
 fn read_variable(cursor: &mut Cursor<'_>, opcode: u8, pile: &mut Pile) -> Result<Kind, Fault>
     requires least { 0x20 ≤ opcode }
@@ -188,7 +190,8 @@ fn read_variable(cursor: &mut Cursor<'_>, opcode: u8, pile: &mut Pile) -> Result
     }
 }
 
-/// The rest of an instruction on a memory's size, or of a constant (WebAssembly Core 2.0, sections 5.4.6 and 5.4.7).
+/// Reads the rest of an instruction on the size of a memory, or of a constant (WebAssembly Core
+/// 2.0, sections 5.4.6 and 5.4.7).
 #[tactic(auto, unfolding(wasm_read_spec::specs::BodyReading::simple_of, wasm_read_spec::specs::Tokens::rest_form))]
 fn read_size(
     cursor: &mut Cursor<'_>,
@@ -210,7 +213,7 @@ fn read_size(
     }
 }
 
-/// The rest of an instruction on references (WebAssembly Core 2.0, section 5.4.2).
+/// Reads the rest of an instruction on references (WebAssembly Core 2.0, section 5.4.2).
 #[tactic(auto, unfolding(wasm_read_spec::specs::BodyReading::simple_of, wasm_read_spec::specs::Tokens::rest_form))]
 fn read_reference(
     alloc: Global,
@@ -231,7 +234,8 @@ fn read_reference(
     }
 }
 
-/// The rest of a token that opens or ends a block, branches, calls, is unreachable or nop, or is parametric (WebAssembly Core 2.0, sections 5.4.1 and 5.4.3).
+/// Reads the rest of a control or parametric token, except a block type (WebAssembly Core 2.0,
+/// sections 5.4.1 and 5.4.3).
 #[tactic(auto, unfolding(wasm_read_spec::specs::BodyReading::simple_of, wasm_read_spec::specs::Tokens::rest_form))]
 fn read_control(
     alloc: Global,
@@ -257,7 +261,8 @@ fn read_control(
     }
 }
 
-/// The rest of a token whose opcode is no operation, load or store (WebAssembly Core 2.0, section 5.4).
+/// Reads the rest of a token whose opcode is no operation, load or store (WebAssembly Core 2.0,
+/// section 5.4).
 #[tactic(auto, unfolding(wasm_read_spec::specs::BodyReading::simple_of, wasm_read_spec::specs::Tokens::rest_form))]
 fn read_rest(
     alloc: Global,
@@ -287,7 +292,8 @@ fn read_rest(
     }
 }
 
-/// An opcode with its immediates (WebAssembly Core 2.0, section 5.4). `many` says that memories have indices.
+/// Reads an opcode with its immediates, except a block type (WebAssembly Core 2.0, section 5.4). If
+/// `many` is true, memories have indices.
 #[tactic(auto, unfolding(wasm_read_spec::specs::BodyReading::simple_of, wasm_read_spec::specs::BodyReading::token_at, wasm_read_spec::specs::Tokens::the_form))]
 pub fn read_token(
     alloc: Global,
@@ -299,7 +305,7 @@ pub fn read_token(
     ensures shorter { OnOk result (length cursor.new < length cursor.old) }
 {
     let opcode = cursor.byte()?;
-    // most are instructions on variables
+    // Most tokens are instructions on variables.
     if let 0x20..=0x26 = opcode {
         return read_variable(cursor, opcode, pile);
     }

@@ -7,7 +7,8 @@ use wasm_bytes::Cursor;
 use wasm_read_spec::Fault;
 use wasm_tree::{BlockType, FuncType, GlobalType, Limits, RefType, TableType, ValType, Which};
 
-/// A u32 (WebAssembly Core 2.0, section 5.2.2). Most are indices below 128, which one byte spells.
+/// Reads a u32 (WebAssembly Core 2.0, section 5.2.2). Most are indices below 128, encoded in one
+/// byte.
 #[tactic(auto, unfolding(wasm_bytes::specs::Reading::unsigned_at))]
 pub fn read_u32(cursor: &mut Cursor<'_>) -> Result<u32, Fault>
     ensures gives { Gives result cursor.new (u32_at cursor.old) }
@@ -19,7 +20,8 @@ pub fn read_u32(cursor: &mut Cursor<'_>) -> Result<u32, Fault>
     }
 }
 
-/// An s32 (WebAssembly Core 2.0, section 5.2.2). Many are at least 0 and below 64, which one byte spells.
+/// Reads an s32 (WebAssembly Core 2.0, section 5.2.2). Many are at least 0 and below 64, encoded in
+/// one byte.
 #[tactic(auto, unfolding(wasm_bytes::specs::Reading::signed_at))]
 pub fn read_s32(cursor: &mut Cursor<'_>) -> Result<i32, Fault>
     ensures gives { Gives result cursor.new (s32_at cursor.old) }
@@ -31,7 +33,7 @@ pub fn read_s32(cursor: &mut Cursor<'_>) -> Result<i32, Fault>
     }
 }
 
-/// An s64 (WebAssembly Core 2.0, section 5.2.2).
+/// Reads an s64 (WebAssembly Core 2.0, section 5.2.2).
 pub fn read_s64(cursor: &mut Cursor<'_>) -> Result<i64, Fault>
     ensures gives { Gives result cursor.new (s64_at cursor.old) }
     ensures shorter { OnOk result (length cursor.new < length cursor.old) }
@@ -47,7 +49,7 @@ impl Spelled for u32 {
     }
 }
 
-/// The byte must be this one.
+/// Reads a byte that must be `tag`.
 #[tactic(auto, unfolding(wasm_read_spec::specs::Reading::tag_at))]
 pub fn read_tag(cursor: &mut Cursor<'_>, tag: u8) -> Result<(), Fault>
     ensures gives { Gives result cursor.new (tag_at tag cursor.old) }
@@ -89,7 +91,7 @@ impl Spelled for RefType {
     }
 }
 
-/// A block type (WebAssembly Core 2.0, section 5.4.1).
+/// Reads a block type (WebAssembly Core 2.0, section 5.4.1).
 #[tactic(auto, unfolding(wasm_read_spec::specs::Reading::block_type_at))]
 pub fn read_block_type(alloc: Global, cursor: &mut Cursor<'_>) -> Result<BlockType, Fault>
     ensures gives { Gives result cursor.new (block_type_at cursor.old) }
@@ -158,7 +160,7 @@ impl Spelled for TableType {
     }
 }
 
-/// A global's mutability (WebAssembly Core 2.0, section 5.3.10).
+/// Reads the mutability of a global (WebAssembly Core 2.0, section 5.3.10).
 #[tactic(auto, unfolding(wasm_read_spec::specs::Reading::mut_at, wasm_read_spec::specs::Values::mut_of_code))]
 fn read_mutable(cursor: &mut Cursor<'_>) -> Result<bool, Fault>
     ensures gives { Gives result cursor.new (mut_at cursor.old) }

@@ -8,17 +8,17 @@ use wasm_bytes::{Cursor, Items};
 use wasm_read_spec::Fault;
 use wasm_tree::Which;
 
-/// What stands in a vector.
+/// A value that bytes encode, so that it can be an item of a vector.
 pub trait Spelled: Drop {
     ghost reading: { List ℕ → Result (Self × List ℕ) AFault };
 
-    /// Reads one from the left. It answers the first fault that is met there, or want of memory.
+    /// Reads a value from the left. The error is the first fault, or `NoMemory`.
     fn read(alloc: Global, cursor: &mut Cursor<'_>) -> Result<Self, Fault>
         ensures gives { Gives result cursor.new (reading cursor.old) }
         ensures shorter { OnOk result (length cursor.new < length cursor.old) };
 }
 
-/// So many items, one after another. Only items that are read take memory.
+/// Reads `count` items, one after another. Memory is allocated only for items that are read.
 #[tactic(auto, unfolding(wasm_read_spec::specs::Reading::each_from))]
 fn read_each<T: Spelled>(
     alloc: Global,
@@ -36,7 +36,7 @@ fn read_each<T: Spelled>(
     Ok(items)
 }
 
-/// A vector (WebAssembly Core 2.0, section 5.1.3).
+/// Reads a vector (WebAssembly Core 2.0, section 5.1.3).
 #[tactic(auto, unfolding(wasm_read_spec::specs::Reading::list_at))]
 pub fn read_list<T: Spelled>(alloc: Global, cursor: &mut Cursor<'_>) -> Result<Items<T>, Fault>
     ensures gives { Gives result cursor.new (list_at T.reading cursor.old) }
@@ -46,7 +46,8 @@ pub fn read_list<T: Spelled>(alloc: Global, cursor: &mut Cursor<'_>) -> Result<I
     read_each(alloc, cursor, count)
 }
 
-/// A vector with at most as many items as there may be of that quantity; the count is compared before any item.
+/// Reads a vector of a limited quantity. The count is compared with the limit before any item is
+/// read.
 #[tactic(auto, unfolding(wasm_read_spec::specs::Reading::vector_at))]
 pub fn read_vector<T: Spelled>(
     alloc: Global,
@@ -64,7 +65,7 @@ pub fn read_vector<T: Spelled>(
     read_each(alloc, cursor, count)
 }
 
-/// A vector that is all of the bytes.
+/// Reads a vector that is all of the bytes. The error is the first fault, or `NoMemory`.
 #[tactic(auto, unfolding(wasm_read_spec::specs::Reading::whole_at))]
 pub fn read_whole<T: Spelled>(alloc: Global, bytes: &[u8], which: Which) -> Result<Items<T>, Fault>
     ensures gives { GivesAll result (whole_at (vector_at which T.reading) bytes.now) }

@@ -1,4 +1,4 @@
--- Tokens and trees, and code entries (Core 2.0, 5.4.1, 5.4.9 and 5.5.13).
+-- The instructions that tokens encode, and code entries (Core 2.0, 5.4.1, 5.4.9 and 5.5.13).
 use Rattle.std.specs.Prelude.{◌≡◌, ℕ, suc, ◌≤◌, max, List, [], ◌∷◌, ◌++◌, map, Bool}
 use Rattle.wasm_bytes.specs.Prelude.{U32, Each, Vector, Sized}
 use Rattle.wasm_tree_spec.specs.Prelude.{BlockType, Instr, fold-Instr, Block, Loop, If, LocalGroup, Func, limit, Locals, Nesting, declared_count}
@@ -10,7 +10,8 @@ use Rattle.wasm_read_spec.specs.SpellingForms.{Both}
 use Rattle.wasm_read_spec.specs.Values.{SpellsVal}
 use Rattle.wasm_read_spec.specs.Tokens.{SpellsToken}
 
--- each block, loop and if encloses the tokens up to its end, and an else splits those of an if
+-- The tokens encode the instructions: each block, loop and if encloses the tokens up to its end,
+-- and an else splits those of an if.
 pub data Nests : List Token → List Instr → Type 0 where
   no_more : Nests [] []
   one_plain : {ts : List Token} {is : List Instr} → (i : Instr) → Nests ts is → Nests (Plain i ∷ ts) (i ∷ is)
@@ -20,25 +21,25 @@ pub data Nests : List Token → List Instr → Type 0 where
   one_if_else : {inner other ts : List Token} {body otherwise is : List Instr} → (ty : BlockType) → Nests inner body → Nests other otherwise → Nests ts is →
       Nests (Open opener.If ty ∷ (inner ++ Else ∷ (other ++ End ∷ ts))) (If ty body otherwise ∷ is)
 
--- a body with its last end
+-- The bytes encode a body, with its last end.
 abbrev pub SpellsBody : Bool → List ℕ → List Instr → Type 0
 SpellsBody many bytes is = (ts : List Token) × Nests ts is × Each (SpellsToken many) bytes (ts ++ End ∷ [])
 
--- groups of locals
+-- A group of locals.
 abbrev pub SpellsGroup : List ℕ → LocalGroup → Type 0
 SpellsGroup bytes g = Both U32 SpellsVal bytes (g.count, g.ty)
 
--- what is inside an entry; a function has its type elsewhere, and type 0 here
+-- The content of a code entry. The type index of the function is 0, because it is elsewhere.
 abbrev pub SpellsCode : Bool → List ℕ → Func → Type 0
 SpellsCode many bytes f = Both (Vector SpellsGroup) (SpellsBody many) bytes (f.locals, f.body) × (f.ty ≡ 0)
 
--- an entry of the code section, with its size
+-- A code entry, with its size.
 abbrev pub SpellsEntry : Bool → List ℕ → Func → Type 0
 SpellsEntry many bytes f = (content : List ℕ) × Sized bytes content × SpellsCode many content f
 
 -- ---- sizes
 
--- how many blocks, loops and ifs are open at once at most
+-- The greatest number of the list, or 0.
 abbrev pub deepest : List ℕ → ℕ
 deepest [] = 0
 deepest (n ∷ ns) = max n (deepest ns)
@@ -87,11 +88,13 @@ depth_step (Instr-F.TableGrow table) = 0
 depth_step (Instr-F.TableSize table) = 0
 depth_step (Instr-F.TableFill table) = 0
 
+-- How many blocks, loops and ifs are open at once at most in an instruction, or in a list of them.
 abbrev pub depth_of : Instr → ℕ
 depth_of = fold-Instr ℕ depth_step
 
 abbrev pub depth : List Instr → ℕ
 depth is = deepest (map depth_of is)
 
+-- The sum of the locals and the nesting are within their limits.
 abbrev pub SmallCode : Func → Type 0
 SmallCode f = (declared_count f.locals ≤ limit Locals) × (depth f.body ≤ limit Nesting)

@@ -1,4 +1,4 @@
--- Reading tokens and nesting them, in the order of the bytes.
+-- Reading functions for tokens and their nesting, in the order of the bytes.
 use Rattle.std.specs.Prelude.{ℕ, zero, suc, length, List, [], ◌∷◌, ◌++◌, Bool, true, false, Result, Ok, Err, nat_lt, ◌==◌, if◌then◌else◌}
 use Rattle.wasm_bytes.specs.Prelude.{◌>>=◌}
 use Rattle.wasm_tree_spec.specs.Prelude.{Nesting, BlockType, MemArg, Instr, Block, Loop, If, BrTable, SelectTyped, I32Const, I64Const, RefNull, LocalGroup, Func, limit}
@@ -63,12 +63,12 @@ token_at many = chosen_at byte_at (λ b. token_of many (the_form b))
 abbrev pub ReadResult : Type 0 → Type 0
 ReadResult A = Result (A × List ℕ) Fault
 
--- with these before it
+-- The sequence with these instructions in front.
 abbrev pub behind : List Instr → ReadResult Sequence → ReadResult Sequence
 behind front (Ok r) = Ok (record { items = front ++ r.0.items; by_else = r.0.by_else }, r.1)
 behind front (Err e) = Err e
 
--- the sequence ended by an `end`
+-- The instruction made of the sequence, if an `end` ended it.
 abbrev pub closed : (List Instr → Instr) → Sequence × List ℕ → ReadResult Instr
 closed make (s, rest) = if s.by_else then Err Malformed else Ok (make s.items, rest)
 
@@ -80,7 +80,7 @@ enclosed opener.Block ty next = closed (Block ty)
 enclosed opener.Loop ty next = closed (Loop ty)
 enclosed opener.If ty next = two_armed ty next
 
--- next deeper reads a sequence inside which so many more blocks may be opened
+-- `next deeper` reads a sequence in which at most `deeper` blocks can be open at once.
 unfoldable pub block_at : (ℕ → List ℕ → ReadResult Sequence) → ℕ → Opener → BlockType → List ℕ → ReadResult Instr
 block_at next zero k ty bs = Err (Limit Nesting)
 block_at next (suc deeper) k ty bs = next deeper bs >>= enclosed k ty (next deeper)
@@ -91,19 +91,19 @@ after_token next deeper Else rest = Ok (record { items = []; by_else = true }, r
 after_token next deeper (Plain i) rest = behind (i ∷ []) (next deeper rest)
 after_token next deeper (Open k ty) rest = block_at next deeper k ty rest >>= (λ b. behind (b.0 ∷ []) (next deeper b.1))
 
--- up to the `end` or `else` that ends it; fuel is at least the number of bytes
+-- The sequence up to the `end` or `else` that ends it. `fuel` is at least the number of bytes.
 unfoldable pub sequence_at : Bool → ℕ → ℕ → List ℕ → ReadResult Sequence
 sequence_at many zero deeper bs = Err Malformed
 sequence_at many (suc fuel) deeper bs = token_at many bs >>= (λ t. after_token (sequence_at many fuel) deeper t.0 t.1)
 
--- all of the bytes, ended by an `end`
+-- The instructions of the sequence, if it is all of the bytes and an `end` ended it.
 abbrev pub whole : Sequence × List ℕ → Result (List Instr) Fault
 whole (s, rest) = if s.by_else then Err Malformed else (if length rest == 0 then Ok s.items else Err Malformed)
 
 unfoldable pub body_at : Bool → List ℕ → Result (List Instr) Fault
 body_at many bs = sequence_at many (length bs) (limit Nesting) bs >>= whole
 
--- ---- what is inside an entry
+-- ---- the content of an entry
 
 abbrev pub code_of : List LocalGroup → List Instr → Func
 code_of ls is = record { ty = 0; locals = ls; body = is }

@@ -1,6 +1,7 @@
--- What the first fault of a file means. First comes the header, then the frames of all sections, whatever they hold, then what they hold, then the rules on the whole file. Where what a section holds is
--- at fault, everything before the place is spelled and within the limits. There stand the first bytes of a form that is not supported, or a quantity over its limit; or the place is malformed: it is neither
--- spelled, nor does it come to such a stop.
+-- What each fault says about the bytes. First comes the header, then the frames of all sections,
+-- whatever they contain, then the contents, and then the rules on the whole file. If a content is
+-- at fault, everything before the place is encoded and within the limits. At the place there is a
+-- stop, or it is malformed: it encodes nothing that is allowed and has no stop.
 use Rattle.std.specs.Prelude.{◌≡◌, ℕ, ◌+◌, ◌<◌, ◌≤◌, ◌⊎◌, List, ◌∷◌, ◌++◌, length, Bool, Option, Some, None}
 use Rattle.wasm_bytes.specs.Prelude.{U32, Each, Sized, Section, HasHeader, Framed, FirstBad}
 use Rattle.wasm_tree.specs.declared.which.Which.TheVariants.{Functions}
@@ -15,7 +16,8 @@ use Rattle.wasm_read_spec.specs.Stops.{Stop, NotSupported, Over, CodeStops, sect
 
 -- ---- places
 
--- the frames of the whole file are right, and the sections before section n, which is s, are spelled, lead to the parts p and are within the limits
+-- The frames of the whole file are right, section `n` is `s`, and the sections before it are
+-- encoded, lead to the parts `p` and are within the limits.
 pub record UpTo (bytes : List ℕ) (many : Bool) (n : ℕ) (s : Section) (p : Parts) : Type 0 where
   pub front : List Section
   pub back : List Section
@@ -24,8 +26,9 @@ pub record UpTo (bytes : List ℕ) (many : Bool) (n : ℕ) (s : Section) (p : Pa
   pub spelled : Contents many nothing front p
   pub within : Every (SectionIsSmall many) front
 
--- In a code section's content, where the first entry is of function func: the count is spelled and within its limit, and so are the entries before that of function f; the size of this one is
--- spelled, and this is its content.
+-- In the content of a code section whose first entry is of function `func`, the count and the
+-- entries before that of function `f` are encoded and within the limits, and the entry of `f` has
+-- an encoded size and this content.
 pub record EntryOf (many : Bool) (func : ℕ) (section : List ℕ) (f : ℕ) (content : List ℕ) : Type 0 where
   pub count : List ℕ
   pub front : List ℕ
@@ -42,7 +45,7 @@ pub record EntryOf (many : Bool) (func : ℕ) (section : List ℕ) (f : ℕ) (co
   pub sized : Sized entry content
   pub number : f ≡ func + length codes
 
--- in section n, which is the code section, this is the content of function f's entry
+-- Section `n` is the code section, and the entry of function `f` has this content.
 pub record InEntry (bytes : List ℕ) (many : Bool) (n : ℕ) (f : ℕ) (content : List ℕ) : Type 0 where
   pub here : Section
   pub parts : Parts
@@ -50,38 +53,40 @@ pub record InEntry (bytes : List ℕ) (many : Bool) (n : ℕ) (f : ℕ) (content
   pub code : here.0 ≡ 10
   pub entry : EntryOf many (length (imported_funcs parts.imports)) here.1 f content
 
--- ---- what stands there
+-- ---- what is at a place
 
--- section n comes to this stop
+-- Section `n` has this stop.
 pub record SectionStops (bytes : List ℕ) (many : Bool) (n : ℕ) (stop : Stop) : Type 0 where
   pub here : Section
   pub parts : Parts
   pub before : UpTo bytes many n here parts
   pub stops : section_stops many here.0 stop here.1
 
--- the entry of function f does
+-- The entry of function `f` has this stop.
 abbrev pub EntryStops : List ℕ → Bool → ℕ → ℕ → Stop → Type 0
 EntryStops bytes many n f stop = (content : List ℕ) × InEntry bytes many n f content × CodeStops many stop content
 
--- section n does, or in section n the entry of a function
+-- Section `n` has this stop, or the entry of a function in it has.
 abbrev pub StopsAt : List ℕ → Bool → ℕ → Option ℕ → Stop → Type 0
 StopsAt bytes many n None stop = SectionStops bytes many n stop
 StopsAt bytes many n (Some f) stop = EntryStops bytes many n f stop
 
--- an entry's content is spelled and within the limits
+-- The content of an entry is encoded and within the limits.
 abbrev pub IsCode : Bool → List ℕ → Type 0
 IsCode many content = (g : Func) × SpellsCode many content g × SmallCode g
 
--- it is not spelled and comes to no stop: bytes that are left over are a case of it
+-- The content of an entry is no encoding and has no stop. Left-over bytes are one case.
 pub record MalformedContent (many : Bool) (content : List ℕ) : Type 0 where
   pub unspelled : (g : Func) → SpellsCode many content g → ⊥
   pub no_stop : (stop : Stop) → CodeStops many stop content → ⊥
 
+-- In section `n` the entry of function `f` is malformed.
 abbrev pub MalformedEntry : List ℕ → Bool → ℕ → ℕ → Type 0
 MalformedEntry bytes many n f = (content : List ℕ) × InEntry bytes many n f content × MalformedContent many content
 
--- Section n is not spelled and comes to no stop; and where it is the code section, each entry whose content is reached is spelled and within the limits, so that a count or a size is misspelled or too great,
--- or bytes are left over.
+-- The content of section `n` is no encoding and has no stop. If it is the code section, each entry
+-- whose content is reached is encoded and within the limits, so a count or a size is malformed or
+-- too great, or bytes are left over.
 pub record MalformedSection (bytes : List ℕ) (many : Bool) (n : ℕ) : Type 0 where
   pub here : Section
   pub parts : Parts
@@ -90,7 +95,7 @@ pub record MalformedSection (bytes : List ℕ) (many : Bool) (n : ℕ) : Type 0 
   pub no_stop : (stop : Stop) → section_stops many here.0 stop here.1 → ⊥
   pub entries : here.0 ≡ 10 → (f : ℕ) (content : List ℕ) → EntryOf many (length (imported_funcs parts.imports)) here.1 f content → IsCode many content
 
--- all sections are spelled and within the limits, and the rules on the whole file do not hold
+-- All sections are encoded and within the limits, and a rule on the whole file is broken.
 pub record FaultyWhole (bytes : List ℕ) (many : Bool) (n : ℕ) : Type 0 where
   pub sections : List Section
   pub parts : Parts
@@ -102,7 +107,7 @@ pub record FaultyWhole (bytes : List ℕ) (many : Bool) (n : ℕ) : Type 0 where
 
 -- ---- faults
 
--- want of memory is none
+-- The cause of a fault: what it says about the bytes. `NoMemory` says nothing about them.
 abbrev pub Cause : List ℕ → Bool → ReadFault → Type 0
 Cause bytes many NoMemory = ⊥
 Cause bytes many NotModule = HasHeader bytes → ⊥

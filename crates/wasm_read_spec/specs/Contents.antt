@@ -1,4 +1,5 @@
--- The contents of the sections, in the order of the file, and the first fault of the file.
+-- Reading functions for the contents of the sections, in the order of the file, and the first fault
+-- of the file.
 use Rattle.std.specs.Prelude.{◌≡◌, ℕ, ◌+◌, List, [], ◌∷◌, length, take, drop, Bool, true, false, Result, Ok, Err, Option, Some, None, nat_lt, ◌==◌, ◌&&◌, if◌then◌else◌}
 use Rattle.wasm_bytes.specs.Prelude.{◌>>=◌, Section, frames_at, header}
 use Rattle.wasm_tree_spec.specs.Prelude.{Imports, Exports, Func, Module, imported_funcs, limit, any_uses_data}
@@ -12,7 +13,7 @@ use Rattle.wasm_read_spec.specs.Files.{nothing, with_types, with_imports, with_f
 use Rattle.wasm_read_spec.specs.Reading.{u32_at, name_at, sized_at, each_from, vector_at, whole_at, func_type_at, import_at, table_at, limits_at, global_def_at, export_at, elem_at, data_at}
 use Rattle.wasm_read_spec.specs.BodyReading.{code_at}
 
--- the fault of a section, or of a function's entry in it
+-- A fault in a section, or in the entry of a function in it, as a fault of the file.
 abbrev pub placed : ℕ → Option ℕ → Fault → ReadFault
 placed section func fault.NoMemory = NoMemory
 placed section None fault.Malformed = Malformed section
@@ -24,7 +25,7 @@ abbrev pub in_place : {A : Type 0} → ℕ → Option ℕ → Result A Fault →
 in_place section func (Ok x) = Ok x
 in_place section func (Err e) = Err (placed section func e)
 
--- ---- what a function gave is what reading gives, unless memory ran out
+-- ---- the result of a call is that of the reading function, unless memory ran out
 
 abbrev pub Fails : {Y : Type 0} → ReadFault → Result Y ReadFault → Type 0
 Fails NoMemory read = Unit {0}
@@ -46,7 +47,7 @@ abbrev pub GivesAfter : {A : Type 0} → Result (Unit {0}) ReadFault → A → R
 GivesAfter (Ok x) new read = read ≡ Ok new
 GivesAfter (Err e) new read = Fails e read
 
--- ---- the code section: each entry has a size, and what is inside it is a fault of the function
+-- ---- the code section: each entry has a size; faults inside an entry are the function's
 
 unfoldable pub entry_at : Bool → ℕ → ℕ → List ℕ → Result (Func × List ℕ) ReadFault
 entry_at many section func bs = in_place section None (sized_at bs) >>= (λ s. in_place section (Some func) (code_at many s.0) >>= (λ c. Ok (c, s.1)))
@@ -61,7 +62,7 @@ codes_at many section func bs = in_place section None (u32_at bs) >>= (λ n.
 
 -- ---- a section
 
--- a custom section begins with a name
+-- A custom section begins with a name.
 abbrev pub custom_at : List ℕ → Result (Unit {0}) Fault
 custom_at bs = name_at bs >>= (λ n. Ok tt)
 
@@ -85,7 +86,7 @@ section_at many n p s =
     else (if s.0 == 12 then put_at n (with_count p) (whole_at u32_at s.1)
     else Err (Malformed n)))))))))))))
 
--- the sections in order, the first of which has that number
+-- The parts that the sections make of `p`; the first section has number `n`.
 unfoldable pub contents_at : Bool → ℕ → Parts → List Section → Result Parts ReadFault
 contents_at many n p [] = Ok p
 contents_at many n p (s ∷ ss) = section_at many n p s >>= (λ q. contents_at many (n + 1) q ss)
@@ -96,6 +97,7 @@ abbrev pub counted : Parts → Option ℕ → Bool
 counted p None = if any_uses_data p.codes then false else true
 counted p (Some n) = n == length p.datas
 
+-- Whether the parts obey the rules on the whole file.
 unfoldable pub agrees : Parts → Bool
 agrees p = (length p.func_types == length p.codes) && counted p p.data_count
 
@@ -103,7 +105,7 @@ abbrev pub numbered : {A : Type 0} → Result A ℕ → Result A ReadFault
 numbered (Ok x) = Ok x
 numbered (Err n) = Err (Malformed n)
 
--- whether two lists of numbers are one
+-- Whether two lists of numbers are equal.
 abbrev pub same_list : List ℕ → List ℕ → Bool
 same_list [] [] = true
 same_list [] (y ∷ ys) = false
@@ -113,7 +115,7 @@ same_list (x ∷ xs) (y ∷ ys) = (x == y) && same_list xs ys
 unfoldable pub framed_at : List ℕ → Result (List Section) ReadFault
 framed_at bs = if same_list (take 8 bs) header then numbered (frames_at (length bs) 0 0 (drop 8 bs)) else Err NotModule
 
--- the parts of the file, or its first fault
+-- The parts of the file, or its first fault.
 unfoldable pub parts_at : Bool → List ℕ → Result Parts ReadFault
 parts_at many bs = framed_at bs >>= (λ ss. contents_at many 0 nothing ss >>= (λ p. if agrees p then Ok p else Err (Malformed (length ss))))
 
@@ -124,6 +126,6 @@ abbrev pub fault_of : {A : Type 0} → Result A ReadFault → Option ReadFault
 fault_of (Ok x) = None
 fault_of (Err e) = Some e
 
--- the first fault of the file, or none
+-- The first fault of the file, or `None`.
 abbrev pub read_fault : List ℕ → Bool → Option ReadFault
 read_fault bytes many = fault_of (read_at many bytes)

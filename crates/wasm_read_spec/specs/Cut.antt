@@ -4,10 +4,11 @@ use Rattle.wasm_bytes.specs.Prelude.{Section, header, Framed}
 use Rattle.wasm_tree_spec.specs.Prelude.{Module}
 use Rattle.wasm_read_spec.specs.Files.{Spells}
 
--- the first bytes of a file end where one of its frames ends
+-- `prefix` ends where a frame of the file `bytes` ends.
 abbrev pub EndsWithAFrame : (prefix bytes : List ℕ) → Type 0
 EndsWithAFrame prefix bytes = (front : List Section) × (last : Section) × (back : List Section) × Framed bytes (front ++ last ∷ back) × Framed prefix (front ++ last ∷ [])
 
--- Where a file spells a tree, and so does a proper prefix of it, the prefix is the header alone or ends where a frame ends.
+-- If a file encodes a tree and so does a proper prefix of it, the prefix is the header alone or
+-- ends where a frame ends.
 abbrev pub CutFiles : Type 0
 CutFiles = (many : Bool) (prefix rest : List ℕ) (whole part : Module) → rest ≢ [] → Spells (prefix ++ rest) whole many → Spells prefix part many → (prefix ≡ header) ⊎ EndsWithAFrame prefix (prefix ++ rest)

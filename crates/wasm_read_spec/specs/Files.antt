@@ -12,10 +12,11 @@ use Rattle.wasm_read_spec.specs.Bodies.{SpellsEntry, SmallCode}
 
 -- ---- sections
 
+-- The parts before any section.
 abbrev pub nothing : Parts
 nothing = record { types = []; imports = []; func_types = []; tables = []; mems = []; globals = []; exports = []; start = None; elems = []; codes = []; datas = []; data_count = None }
 
--- the parts p with what a section holds
+-- The parts `p` with the contents of a section.
 abbrev pub with_types : Parts → List FuncType → Parts
 with_types p xs = record p { types = xs }
 
@@ -52,11 +53,11 @@ with_datas p xs = record p { datas = xs }
 abbrev pub with_count : Parts → ℕ → Parts
 with_count p n = record p { data_count = Some n }
 
--- a custom section: a name, and then any bytes. It leaves the parts
+-- A custom section: a name, and then any bytes. It does not change the parts.
 abbrev pub SpellsCustom : Parts → List ℕ → Parts → Type 0
 SpellsCustom p bytes q = ((name : List ℕ) × Then (λ b. Named b name) Any bytes) × (q ≡ p)
 
--- what the content of a section with this id makes of the parts p
+-- The parts that the content of a section with this id makes of `p`.
 unfoldable pub section_form : Bool → Parts → ℕ → List ℕ → Parts → Type 0
 section_form many p id =
     When (id == 0) (SpellsCustom p)
@@ -77,39 +78,42 @@ section_form many p id =
 abbrev pub SpellsSection : Bool → Parts → Section → Parts → Type 0
 SpellsSection many p s q = section_form many p s.0 s.1 q
 
--- the contents of the sections, in order, make q of p
+-- The contents of the sections, in order, make the parts `q` of `p`.
 abbrev pub Contents : Bool → Parts → List Section → Parts → Type 0
 Contents many p [] q = p ≡ q
 Contents many p (s ∷ ss) q = (m : Parts) × SpellsSection many p s m × Contents many m ss q
 
 -- ---- the whole file
 
--- where there is no data count section, no body uses memory.init or data.drop; where there is one, it says how many data segments there are
+-- Without a data count section, no body uses memory.init or data.drop. With one, it is the number
+-- of data segments.
 abbrev pub Counted : Parts → Option ℕ → Type 0
 Counted p None = any_uses_data p.codes ≡ false
 Counted p (Some n) = n ≡ length p.datas
 
+-- The rules on the whole file (5.5.16).
 pub record Rules (p : Parts) : Type 0 where
   pub functions : length p.func_types ≡ length p.codes
   pub counted : Counted p p.data_count
 
--- the functions with their types
+-- The functions with their type indices.
 abbrev pub typed : List ℕ → List Func → List Func
 typed [] fs = []
 typed (t ∷ ts) [] = []
 typed (t ∷ ts) (f ∷ fs) = record f { ty = t } ∷ typed ts fs
 
+-- The tree that the parts make.
 abbrev pub tree_of : Parts → Module
 tree_of p = record { types = p.types; imports = p.imports; funcs = typed p.func_types p.codes; tables = p.tables; mems = p.mems; globals = p.globals; exports = p.exports; start = p.start; elems = p.elems; datas = p.datas }
 
--- the file's bytes spell the tree; memories have indices in its bodies where many is true
+-- The bytes of the file encode the tree. If `many` is true, memories have indices in bodies.
 abbrev pub Spells : List ℕ → Module → Bool → Type 0
 Spells bytes tree many = (ss : List Section) × (p : Parts) × Framed bytes ss × Contents many nothing ss p × Rules p × (tree ≡ tree_of p)
 
--- ---- what is within the limits
+-- ---- files within the limits
 
--- where the content of a section with this id is spelled, each count in it, the nesting and the sum of the locals are within their limits; of content that is not spelled it says nothing, and the
--- other ids have no limit
+-- If the bytes encode the content of a section with this id, each count in it, the nesting and the
+-- sum of the locals are within their limits. Other bytes and other ids have no limit.
 unfoldable pub small_form : Bool → ℕ → List ℕ → Type 0
 small_form many id =
     WhenSmall (id == 0) Any
@@ -127,8 +131,10 @@ small_form many id =
     (WhenSmall (id == 12) Any
     Any))))))))))))
 
+-- The section is within the limits.
 abbrev pub SectionIsSmall : Bool → Section → Type 0
 SectionIsSmall many s = small_form many s.0 s.1
 
+-- Each section of the file is within the limits.
 abbrev pub Within : List ℕ → Bool → Type 0
 Within bytes many = (ss : List Section) → Framed bytes ss → Every (SectionIsSmall many) ss

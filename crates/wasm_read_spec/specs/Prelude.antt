@@ -1,4 +1,4 @@
--- Names of what files mean, passed on from one place. Declares nothing.
+-- The names of reading, passed on from one place. This file declares nothing.
 pub use Rattle.wasm_read_spec.specs.Bodies.{Nests, SmallCode, SpellsBody, SpellsCode, SpellsEntry, SpellsGroup, depth_of, no_more, one_block, one_if, one_if_else, one_loop, one_plain}
 pub use Rattle.wasm_read_spec.specs.BodyReading.{ReadResult, after_token, arg_at, behind, block_at, body_at, code_at, code_of, enclosed, memory_at, prefixed_at, sequence_at, simple_of, token_at, token_of, whole}
 pub use Rattle.wasm_read_spec.specs.Causes.{Cause, EntryOf}

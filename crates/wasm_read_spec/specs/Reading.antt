@@ -1,4 +1,5 @@
--- Reading from the left, with the first fault that is met: functions on lists of bytes, by which the first fault of a file is told.
+-- Reading functions on lists of bytes, with the first fault that they meet. They define the first
+-- fault of a file.
 use Rattle.std.specs.Prelude.{◌≡◌, ℕ, zero, suc, ◌+◌, ◌-◌, List, [], ◌∷◌, ◌++◌, length, Bool, Result, Ok, Err, nat_lt, nat_le, ◌==◌, ◌&&◌, if◌then◌else◌, ℤ, pos, negsuc}
 use Rattle.std.specs.Borrow.{Bor}
 use Rattle.wasm_bytes.specs.declared.cursor.Wrong.{Wrong}
@@ -14,11 +15,11 @@ use Rattle.wasm_read_spec.specs.declared.fault.Fault.TheVariants.{NoMemory, Malf
 use Rattle.wasm_read_spec.specs.Values.{val_of_code, ref_of_code, mut_of_code, at_least, between}
 use Rattle.wasm_read_spec.specs.Sections.{elem0, elem1, elem2, elem3, elem5, elem6, elem7, data0, data1, data2}
 
--- a reader of the front of some bytes: what it finds with the bytes after it, or the fault
+-- A reader of the front of some bytes: it gives the value with the bytes after it, or the fault.
 abbrev pub Reader : Type 0 → Type 0
 Reader A = List ℕ → Result (A × List ℕ) Fault
 
--- ---- what a function gave is what reading gives, unless memory ran out
+-- ---- the result of a call is that of the reading function, unless memory ran out
 
 abbrev pub Fails : {Y : Type 0} → Fault → Result Y Fault → Type 0
 Fails NoMemory read = Unit {0}
@@ -26,22 +27,22 @@ Fails Malformed read = read ≡ Err Malformed
 Fails Unsupported read = read ≡ Err Unsupported
 Fails (Limit which) read = read ≡ Err (Limit which)
 
--- with what it left
+-- The same, with the bytes left.
 abbrev pub Gives : {A : Type 0} → Result A Fault → List ℕ → Result (A × List ℕ) Fault → Type 0
 Gives (Ok x) rest read = read ≡ Ok (x, rest)
 Gives (Err e) rest read = Fails e read
 
--- the same of a slice
+-- The same for a slice.
 abbrev pub GivesSlice : Result (Bor (List ℕ)) Fault → List ℕ → Result (List ℕ × List ℕ) Fault → Type 0
 GivesSlice (Ok s) rest read = read ≡ Ok (s.now, rest)
 GivesSlice (Err e) rest read = Fails e read
 
--- where all of the bytes are read
+-- The same when all of the bytes are read.
 abbrev pub GivesAll : {A : Type 0} → Result A Fault → Result A Fault → Type 0
 GivesAll (Ok x) read = read ≡ Ok x
 GivesAll (Err e) read = Fails e read
 
--- ---- readers, and readers put together
+-- ---- readers, and combinations of them
 
 abbrev pub or_malformed : {A : Type 0} → Result A Wrong → Result A Fault
 or_malformed (Ok x) = Ok x
@@ -62,7 +63,7 @@ s64_at bs = or_malformed (signed_at 64 bs)
 abbrev pub name_at : Reader (List ℕ)
 name_at bs = or_malformed (text_at bs)
 
--- a length and so many bytes
+-- A length and as many bytes.
 abbrev pub sized_at : Reader (List ℕ)
 sized_at bs = or_malformed (content_at bs)
 
@@ -84,11 +85,11 @@ chosen_at first next bs = first bs >>= (λ k. next k.0 k.1)
 abbrev pub when_at : {A : Type 0} → Bool → Reader A → Reader A → Reader A
 when_at test one other bs = if test then one bs else other bs
 
--- one byte by its code
+-- The value that one byte encodes.
 abbrev pub coded_at : {A : Type 0} → (ℕ → Result A Fault) → Reader A
 coded_at code bs = byte_at bs >>= (λ b. code b.0 >>= (λ x. Ok (x, b.1)))
 
--- this byte
+-- This byte.
 unfoldable pub tag_at : ℕ → Reader (Unit {0})
 tag_at tag bs = byte_at bs >>= (λ b. if b.0 == tag then Ok (tt, b.1) else Err Malformed)
 
@@ -98,28 +99,28 @@ tagged_at tag reader bs = tag_at tag bs >>= (λ u. reader u.1)
 abbrev pub closed_at : {A : Type 0} → ℕ → Reader A → Reader A
 closed_at tag reader bs = reader bs >>= (λ x. tag_at tag x.1 >>= (λ u. Ok (x.0, u.1)))
 
--- so many items; each is read in a state, and leads to the next state
+-- The given number of items. Each is read in a state and leads to the next state.
 unfoldable pub each_from : {A E : Type 0} → (ℕ → List ℕ → Result (A × List ℕ) E) → (ℕ → A → ℕ) → ℕ → ℕ → List ℕ → Result (List A × List ℕ) E
 each_from item next zero state bs = Ok ([], bs)
 each_from item next (suc n) state bs = item state bs >>= (λ x. each_from item next n (next state x.0) x.1 >>= (λ xs. Ok (x.0 ∷ xs.0, xs.1)))
 
--- so many items, without a state
+-- The given number of items, without a state.
 abbrev pub each_at : {A : Type 0} → Reader A → ℕ → Reader (List A)
 each_at {A} item n bs = each_from {A = A} (λ s. item) (λ s x. 0) n 0 bs
 
--- a count and the items
+-- A count, and the items.
 unfoldable pub list_at : {A : Type 0} → Reader A → Reader (List A)
 list_at item bs = u32_at bs >>= (λ n. each_at item n.0 n.1)
 
--- a count, which is compared with its limit before any item, and the items
+-- A count, which is compared with its limit before any item, and the items.
 unfoldable pub vector_at : {A : Type 0} → Which → Reader A → Reader (List A)
 vector_at which item bs = u32_at bs >>= (λ n. if nat_lt (limit which) n.0 then Err (Limit which) else each_at item n.0 n.1)
 
--- nothing may follow
+-- Nothing may follow.
 unfoldable pub whole_at : {A : Type 0} → Reader A → List ℕ → Result A Fault
 whole_at reader bs = reader bs >>= (λ r. if length r.1 == 0 then Ok r.0 else Err Malformed)
 
--- with these before it
+-- The list with these items in front.
 abbrev pub with_front : {A E : Type 0} → List A → Result (List A × List ℕ) E → Result (List A × List ℕ) E
 with_front front (Ok r) = Ok (front ++ r.0, r.1)
 with_front front (Err e) = Err e
@@ -171,7 +172,8 @@ block_type_at (b ∷ bs) =
     else (if nat_le 0x6F b && nat_le b 0x70 then mapped_at bt.Value val_at (b ∷ bs)
     else (or_malformed (signed_at 33 (b ∷ bs)) >>= index_of)))
 
--- whether a constant expression that begins so is known but unsupported
+-- The fault of a constant expression that begins with this byte: `Unsupported` if it is the opcode
+-- of f32.const or f64.const, or FD.
 abbrev pub const_fault : ℕ → Fault
 const_fault b = if b == 0x43 then Unsupported else (if b == 0x44 then Unsupported else (if b == 0xFD then Unsupported else Malformed))
 
@@ -187,7 +189,7 @@ const_from b =
 unfoldable pub const_at : Reader ConstExpr
 const_at = closed_at 0x0B (chosen_at byte_at const_from)
 
--- ---- what the sections hold
+-- ---- the contents of sections
 
 abbrev pub import_from : ℕ → Reader ImportDesc
 import_from k =
@@ -265,7 +267,7 @@ data_at = chosen_at u32_at data_from
 
 -- ---- locals
 
--- a group of locals where so many came before
+-- A group of locals, with `sum` locals before it.
 unfoldable pub local_at : ℕ → Reader LocalGroup
 local_at sum bs = u32_at bs >>= (λ n. if nat_lt (limit Locals - sum) n.0 then Err (Limit Locals) else (val_at n.1 >>= (λ t. Ok (record { count = n.0; ty = t.0 }, t.1))))
 

@@ -1,4 +1,4 @@
--- What the sections hold, but for the code section (Core 2.0, 5.5).
+-- The contents of the sections, except the code section (Core 2.0, 5.5).
 use Rattle.std.specs.Prelude.{ℕ, List, ◌==◌}
 use Rattle.wasm_bytes.specs.Prelude.{U32, Vector, Sized, Named}
 use Rattle.wasm_tree_spec.specs.Prelude.{RefType, ImportDesc, Import, ExportDesc, Export, GlobalDef, ConstExpr, ElemMode, ElemSeg, DataSeg}
@@ -11,7 +11,7 @@ use Rattle.wasm_tree.specs.declared.module.DataMode.TheVariants as data'
 use Rattle.wasm_read_spec.specs.SpellingForms.{Byte, Never, Both, Made, Chosen, When, After}
 use Rattle.wasm_read_spec.specs.Values.{SpellsRef, SpellsLimits, SpellsTable, SpellsGlobal, SpellsConst}
 
--- an import (5.5.5): a kind byte chooses what follows it
+-- An import (5.5.5): the kind byte decides what follows it.
 unfoldable pub import_form : ℕ → List ℕ → ImportDesc → Type 0
 import_form k =
     When (k == 0x00) (Made import.Func U32)
@@ -23,11 +23,11 @@ import_form k =
 abbrev pub SpellsImport : List ℕ → Import → Type 0
 SpellsImport bytes i = Both Named (Both Named (Chosen Byte import_form)) bytes (i.«module», (i.field, i.desc))
 
--- a defined global (5.5.9)
+-- A defined global (5.5.9).
 abbrev pub SpellsGlobalDef : List ℕ → GlobalDef → Type 0
 SpellsGlobalDef bytes g = Both SpellsGlobal SpellsConst bytes (g.ty, g.init)
 
--- an export (5.5.10)
+-- An export (5.5.10).
 unfoldable pub export_form : ℕ → List ℕ → ExportDesc → Type 0
 export_form k =
     When (k == 0x00) (Made export.Func U32)
@@ -39,7 +39,8 @@ export_form k =
 abbrev pub SpellsExport : List ℕ → Export → Type 0
 SpellsExport bytes e = Both Named (Chosen Byte export_form) bytes (e.name, e.desc)
 
--- an element segment (5.5.12): a number chooses one of eight forms. A function index among the items is the item `ref.func`
+-- An element segment (5.5.12): a number decides between eight forms. A function index as an item is
+-- the item `ref.func`.
 abbrev pub FuncItems : List ℕ → List ConstExpr → Type 0
 FuncItems = Vector (Made const.Func U32)
 
@@ -85,7 +86,8 @@ elem_form n =
 abbrev pub SpellsElem : List ℕ → ElemSeg → Type 0
 SpellsElem = Chosen U32 elem_form
 
--- a data segment (5.5.14): a number chooses one of three forms, and a vector of bytes ends it
+-- A data segment (5.5.14): a number decides between three forms, each of which ends with a vector
+-- of bytes.
 abbrev pub data0 : ConstExpr × List ℕ → DataSeg
 data0 p = record { mode = data'.Active 0 p.0; bytes = p.1 }
 

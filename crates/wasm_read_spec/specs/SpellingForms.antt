@@ -1,4 +1,5 @@
--- Words for spellings that are made of others, besides those of wasm_bytes: relations between a whole list of bytes and a value.
+-- Encodings made of others, besides those of wasm_bytes: relations between a whole list of bytes
+-- and a value.
 use Rattle.std.specs.Prelude.{◌≡◌, ℕ, ◌≤◌, List, [], ◌∷◌, length, Bool, true, false, Result, Ok, ℤ}
 use Rattle.base_lists.specs.Every.{Every}
 use Rattle.wasm_bytes.specs.Prelude.{Signed, Then}
@@ -10,43 +11,43 @@ S32 = Signed 32
 abbrev pub S64 : List ℕ → ℤ → Type 0
 S64 = Signed 64
 
--- one byte
+-- One byte.
 abbrev pub Byte : List ℕ → ℕ → Type 0
 Byte bytes b = bytes ≡ b ∷ []
 
--- one byte, whose code denotes the value
+-- One byte, whose code stands for the value.
 abbrev pub Coded : {A : Type 0} → (ℕ → Result A Fault) → List ℕ → A → Type 0
 Coded code bytes x = (b : ℕ) × (code b ≡ Ok x) × (bytes ≡ b ∷ [])
 
--- the value, for which no byte stands
+-- The value, encoded by no bytes.
 abbrev pub Just : {A : Type 0} → A → List ℕ → A → Type 0
 Just x bytes y = (bytes ≡ []) × (y ≡ x)
 
 abbrev pub Never : {A : Type 0} → List ℕ → A → Type 0
 Never bytes x = ⊥
 
--- a value and then another
+-- One value, and then another.
 abbrev pub Both : {A B : Type 0} → (List ℕ → A → Type 0) → (List ℕ → B → Type 0) → List ℕ → A × B → Type 0
 Both P Q bytes p = Then (λ b. P b p.0) (λ b. Q b p.1) bytes
 
--- what is made of a value that is spelled
+-- What `make` makes of a value that the bytes encode.
 abbrev pub Made : {A B : Type 0} → (A → B) → (List ℕ → A → Type 0) → List ℕ → B → Type 0
 Made {A} make P bytes y = (x : A) × P bytes x × (y ≡ make x)
 
--- a first value, and then what belongs to it
+-- A first value, and then what depends on it.
 abbrev pub Chosen : {K A : Type 0} → (List ℕ → K → Type 0) → (K → List ℕ → A → Type 0) → List ℕ → A → Type 0
 Chosen {K} P Q bytes x = (k : K) × Then (λ b. P b k) (λ b. Q k b x) bytes
 
--- one spelling where the test holds, else another
+-- One encoding if the test is true, and otherwise another.
 abbrev pub When : {A : Type 0} → Bool → (List ℕ → A → Type 0) → (List ℕ → A → Type 0) → List ℕ → A → Type 0
 When true P Q bytes x = P bytes x
 When false P Q bytes x = Q bytes x
 
--- this byte first
+-- This byte first.
 abbrev pub After : {A : Type 0} → ℕ → (List ℕ → A → Type 0) → List ℕ → A → Type 0
 After tag P bytes x = (text : List ℕ) × P text x × (bytes ≡ tag ∷ text)
 
--- this byte last
+-- This byte last.
 abbrev pub Closed : {A : Type 0} → ℕ → (List ℕ → A → Type 0) → List ℕ → A → Type 0
 Closed tag P bytes x = Then (λ b. P b x) (λ b. b ≡ tag ∷ []) bytes
 
@@ -55,11 +56,11 @@ Closed tag P bytes x = Then (λ b. P b x) (λ b. b ≡ tag ∷ []) bytes
 abbrev pub Any : {A : Type 0} → A → Type 0
 Any x = Unit {0}
 
--- at most so many, each of them small
+-- The list has at most `most` items, and each is small.
 abbrev pub Few : {A : Type 0} → ℕ → (A → Type 0) → List A → Type 0
 Few most small xs = (length xs ≤ most) × Every small xs
 
--- whatever the bytes spell is small
+-- Each value that the bytes encode is small.
 abbrev pub Limited : {A : Type 0} → (List ℕ → A → Type 0) → (A → Type 0) → List ℕ → Type 0
 Limited {A} spells small bytes = (x : A) → spells bytes x → small x
 

@@ -1,5 +1,6 @@
--- What bytes come to that are neither spelled within the limits nor malformed: the first bytes of a form that is known but not supported, or a quantity over its limit. All that stands
--- before is spelled and within the limits, and leaves the item open; what follows is not looked at.
+-- Stops: the first bytes of a form that is not supported, or a quantity over its limit. Everything
+-- before a stop is encoded and within the limits, and leaves the item incomplete. What follows a
+-- stop is not examined.
 use Rattle.std.specs.Prelude.{◌≡◌, ℕ, suc, ◌+◌, ◌<◌, ◌≤◌, ◌⊎◌, List, ◌∷◌, ◌++◌, length, Bool, true, false, IsTrue, nat_le, ◌==◌, ◌&&◌, ◌||◌}
 use Rattle.base_lists.specs.Every.{Every}
 use Rattle.wasm_bytes.specs.Prelude.{Then, U32, Each, Vector, Named}
@@ -19,27 +20,27 @@ pub data Stop : Type 0 where
   NotSupported : Stop
   Over : Which → Stop
 
--- ---- words for parts that are made of others
+-- ---- stops of parts that are made of others
 
 abbrev pub NoStop : Stop → List ℕ → Type 0
 NoStop stop bytes = ⊥
 
--- a first byte that is not supported
+-- The first byte is not supported.
 abbrev pub ByteStops : (ℕ → Bool) → Stop → List ℕ → Type 0
 ByteStops test stop bytes = (b : ℕ) × (rest : List ℕ) × (bytes ≡ b ∷ rest) × IsTrue (test b) × (stop ≡ NotSupported)
 
--- behind this byte
+-- A stop behind this byte.
 abbrev pub AfterStops : ℕ → (Stop → List ℕ → Type 0) → Stop → List ℕ → Type 0
 AfterStops tag next stop bytes = (rest : List ℕ) × (bytes ≡ tag ∷ rest) × next stop rest
 
--- behind a first value, by what it is
+-- A stop behind a first value, on which it depends.
 abbrev pub ChosenStops : {K : Type 0} → (List ℕ → K → Type 0) → (K → Stop → List ℕ → Type 0) → Stop → List ℕ → Type 0
 ChosenStops {K} P next stop bytes = (k : K) × Then (λ b. P b k) (next k stop) bytes
 
 abbrev pub BehindStops : {K : Type 0} → (List ℕ → K → Type 0) → (Stop → List ℕ → Type 0) → Stop → List ℕ → Type 0
 BehindStops P next = ChosenStops P (λ k. next)
 
--- in the first of two values, or in the second behind a first that is within the limits
+-- A stop in the first of two values, or in the second, behind a first that is within the limits.
 abbrev pub BothStops : {A : Type 0} → (List ℕ → A → Type 0) → (A → Type 0) → (first second : Stop → List ℕ → Type 0) → Stop → List ℕ → Type 0
 BothStops {A} P small first second stop bytes = first stop bytes ⊎ ((x : A) × small x × Then (λ b. P b x) (second stop) bytes)
 
@@ -47,15 +48,16 @@ abbrev pub WhenStops : Bool → (Stop → List ℕ → Type 0) → (Stop → Lis
 WhenStops true P Q = P
 WhenStops false P Q = Q
 
--- in an item of so many, behind those before it
+-- A stop in one of `n` items, behind items within the limits.
 abbrev pub EachStops : {A : Type 0} → (List ℕ → A → Type 0) → (A → Type 0) → (Stop → List ℕ → Type 0) → ℕ → Stop → List ℕ → Type 0
 EachStops {A} P small next n stop bytes = (xs : List A) × (length xs < n) × Every small xs × Then (λ b. Each P b xs) (next stop) bytes
 
--- in an item of a vector
+-- A stop in an item of a vector.
 abbrev pub ListStops : {A : Type 0} → (List ℕ → A → Type 0) → (A → Type 0) → (Stop → List ℕ → Type 0) → Stop → List ℕ → Type 0
 ListStops P small next = ChosenStops U32 (EachStops P small next)
 
--- at the count of a vector that has a limit, whether or not so many items follow; or in an item
+-- The count of a vector is over its limit, whether or not so many items follow; or there is a stop
+-- in an item.
 abbrev pub CountedStops : Which → ℕ → (Stop → List ℕ → Type 0) → Stop → List ℕ → Type 0
 CountedStops which n items stop bytes = ((limit which < n) × (stop ≡ Over which)) ⊎ ((n ≤ limit which) × items stop bytes)
 
@@ -64,7 +66,7 @@ VectorStops which P small next = ChosenStops U32 (λ n. CountedStops which n (Ea
 
 -- ---- types and constant expressions
 
--- f32, f64 and v128
+-- The codes of f32, f64 and v128.
 unfoldable pub is_unsupported_val : ℕ → Bool
 is_unsupported_val b = nat_le 0x7B b && nat_le b 0x7D
 
@@ -74,16 +76,16 @@ ValStops = ByteStops is_unsupported_val
 abbrev pub FuncTypeStops : Stop → List ℕ → Type 0
 FuncTypeStops = AfterStops 0x60 (BothStops (Vector SpellsVal) (Few (limit Parameters) Any) (VectorStops Parameters SpellsVal Any ValStops) (VectorStops Results SpellsVal Any ValStops))
 
--- f32.const, f64.const and what begins with FD
+-- The opcodes of f32.const and f64.const, and FD.
 unfoldable pub is_unsupported_const : ℕ → Bool
 is_unsupported_const b = (b == 0x43) || ((b == 0x44) || (b == 0xFD))
 
 abbrev pub ConstStops : Stop → List ℕ → Type 0
 ConstStops = ByteStops is_unsupported_const
 
--- ---- what the sections hold
+-- ---- the contents of sections
 
--- behind the byte that tells what is imported: the value type of a global, which stands first there
+-- A stop behind the kind byte of an import: at the value type of a global.
 unfoldable pub import_stops : ℕ → Stop → List ℕ → Type 0
 import_stops k = WhenStops (k == 0x00) NoStop (WhenStops (k == 0x01) NoStop (WhenStops (k == 0x02) NoStop (WhenStops (k == 0x03) ValStops NoStop)))
 
@@ -96,7 +98,7 @@ GlobalDefStops = BothStops SpellsGlobal Any ValStops ConstStops
 abbrev pub ItemsStop : Stop → List ℕ → Type 0
 ItemsStop = ListStops SpellsConst Any ConstStops
 
--- an offset, or an item that is a constant expression
+-- A stop in an offset, or in an item that is a constant expression.
 unfoldable pub elem_stops : ℕ → Stop → List ℕ → Type 0
 elem_stops n =
     WhenStops (n == 0) ConstStops
@@ -120,7 +122,8 @@ DataStops = ChosenStops U32 data_stops
 
 -- ---- code
 
--- a group of locals behind so many: their sum is over the limit, or the value type is not supported
+-- A stop in a group of locals, with `sum` locals before it: the sum is over the limit, or the value
+-- type is not supported.
 abbrev pub GroupStops : ℕ → Stop → List ℕ → Type 0
 GroupStops sum = ChosenStops U32 (λ n stop bytes. ((limit Locals < sum + n) × (stop ≡ Over Locals)) ⊎ ((sum + n ≤ limit Locals) × ValStops stop bytes))
 
@@ -130,7 +133,7 @@ GroupsStop n stop bytes = (gs : List LocalGroup) × (length gs < n) × (declared
 abbrev pub LocalsStop : Stop → List ℕ → Type 0
 LocalsStop = ChosenStops U32 GroupsStop
 
--- what follows an opcode of this form
+-- A stop behind an opcode of this form.
 abbrev pub SimpleStops : Form → Stop → List ℕ → Type 0
 SimpleStops (plain i) = NoStop
 SimpleStops (number f) = NoStop
@@ -155,36 +158,39 @@ abbrev pub FollowsStop : Form → Stop → List ℕ → Type 0
 FollowsStop prefixed = ChosenStops U32 (λ n. SimpleStops (sub_form n))
 FollowsStop f = SimpleStops f
 
--- a token whose first bytes are those of an unsupported one
+-- The first bytes of a token that is not supported.
 abbrev pub TokenStops : Stop → List ℕ → Type 0
 TokenStops = ChosenStops Byte (λ b. FollowsStop (the_form b))
 
--- Tokens that leave a sequence open, in which `d` blocks may be open at once, and in whose innermost open block `e` more: they nest; or behind such as nest stand a
--- block, loop or if that they leave open, or an if whose else they leave open.
+-- Tokens that leave a sequence open. `d` blocks can be open at once in it, and `e` more in its
+-- innermost open block. Either all blocks in the tokens are closed, or such tokens are followed by
+-- a block, loop or if that is left open, or by an if whose else is left open.
 pub data LeaveOpen : (d : ℕ) → List Token → (e : ℕ) → Type 0 where
   nested : {d : ℕ} {ts : List Token} {is : List Instr} → Nests ts is → depth is ≤ d → LeaveOpen d ts d
   in_block : {d e : ℕ} {ts us : List Token} {is : List Instr} (k : Opener) (ty : BlockType) → Nests ts is → depth is ≤ suc d → LeaveOpen d us e → LeaveOpen (suc d) (ts ++ Open k ty ∷ us) e
   in_else : {d e : ℕ} {ts arm us : List Token} {is js : List Instr} (ty : BlockType) → Nests ts is → depth is ≤ suc d → Nests arm js → depth js ≤ d → LeaveOpen d us e →
       LeaveOpen (suc d) (ts ++ Open opener.If ty ∷ (arm ++ Else ∷ us)) e
 
--- a block, loop or if that would be one too many
+-- A block, loop or if that is one too many.
 abbrev pub NestingStops : Bool → ℕ → Stop → List ℕ → Type 0
 NestingStops many e stop bytes = (k : Opener) × (ty : BlockType) × Then (λ b. SpellsToken many b (Open k ty)) Any bytes × (e ≡ 0) × (stop ≡ Over Nesting)
 
--- tokens that leave the body open, and then one that is not supported or nests too deep
+-- Tokens that leave the body open, and then one that is not supported or nested too deep.
 abbrev pub BodyStops : Bool → ℕ → Stop → List ℕ → Type 0
 BodyStops many d stop bytes = (ts : List Token) × (e : ℕ) × LeaveOpen d ts e × Then (λ b. Each (SpellsToken many) b ts) (λ b. TokenStops stop b ⊎ NestingStops many e stop b) bytes
 
--- what is inside an entry
+-- The sum of the locals is within its limit.
 abbrev pub SmallLocals : List LocalGroup → Type 0
 SmallLocals gs = declared_count gs ≤ limit Locals
 
+-- A stop in the content of a code entry.
 abbrev pub CodeStops : Bool → Stop → List ℕ → Type 0
 CodeStops many = BothStops (Vector SpellsGroup) SmallLocals LocalsStop (BodyStops many (limit Nesting))
 
 -- ---- sections
 
--- the content of a section with this id; in the code section the count of the entries
+-- A stop in the content of a section with this id. In the code section it is at the count of
+-- entries.
 unfoldable pub section_stops : Bool → ℕ → Stop → List ℕ → Type 0
 section_stops many id =
     WhenStops (id == 0) NoStop

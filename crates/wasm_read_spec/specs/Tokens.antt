@@ -1,4 +1,5 @@
--- Bytes and tokens: an opcode with its immediates (Core 2.0, 5.4). The opcode table is data.
+-- Which bytes encode a token: an opcode with its immediates (Core 2.0, 5.4). The table of opcodes
+-- is data.
 use Rattle.std.specs.Prelude.{ℕ, ◌-◌, List, Option, Some, None, Bool, true, false, nat_le, nat_lt, ◌==◌, ◌&&◌, ◌||◌, if◌then◌else◌}
 use Rattle.wasm_bytes.specs.Prelude.{U32, Vector}
 use Rattle.wasm_tree_spec.specs.Prelude.{MemArg, Instr, Unreachable, Nop, Br, BrIf, BrTable, Return, Call, CallIndirect, Drop, Select, SelectTyped, LocalGet, LocalSet, LocalTee, GlobalGet, GlobalSet, TableGet, TableSet, Load, Store, MemorySize, MemoryGrow, I32Const, I64Const, Un, Bin, RefNull, RefIsNull, RefFunc, MemoryInit, DataDrop, MemoryCopy, MemoryFill, TableInit, ElemDrop, TableCopy, TableGrow, TableSize, TableFill}
@@ -12,7 +13,7 @@ use Rattle.wasm_read_spec.specs.Operations.{un_of, bin_of, load_of, store_of}
 
 -- ---- the table
 
--- what follows an opcode
+-- What follows an opcode.
 pub data Form : Type 0 where
   plain : Instr → Form
   number : (ℕ → Instr) → Form
@@ -37,7 +38,7 @@ abbrev pub or_else : {A : Type 0} → Option A → (A → Form) → Form → For
 or_else (Some x) f other = f x
 or_else None f other = other
 
--- the number after FC (5.4.3 to 5.4.7)
+-- The form of the number after FC (5.4.5 to 5.4.7).
 unfoldable pub sub_form : ℕ → Form
 sub_form n =
     if n == 8 then with_memory MemoryInit
@@ -53,7 +54,7 @@ sub_form n =
     else (if nat_le n 7 then unsupported
     else unknown))))))))))
 
--- the opcodes that are no operation, load or store
+-- The form of an opcode that is no operation, load or store.
 unfoldable pub rest_form : ℕ → Form
 rest_form b =
     (if b == 0x00 then plain Unreachable else
@@ -93,9 +94,10 @@ rest_form b =
 unfoldable pub the_form : ℕ → Form
 the_form b = or_else (un_of b) (λ op. plain (Un op)) (or_else (bin_of b) (λ op. plain (Bin op)) (or_else (load_of b) (λ op. access (Load op)) (or_else (store_of b) (λ op. access (Store op)) (rest_form b))))
 
--- ---- what follows an opcode of this form, and the token
+-- ---- the immediates of an opcode, and its token
 
--- an alignment and an offset; where many is true, an alignment from 64 on is 64 more than it says, and a memory index follows it
+-- An alignment and an offset. If `many` is true, an alignment of at least 64 is 64 more than what
+-- it stands for, and a memory index follows it.
 abbrev pub arg_of : ℕ → ℕ → MemArg
 arg_of a o = record { align = a; offset = o; memory = 0 }
 
@@ -109,7 +111,7 @@ arg_form true a = When (nat_lt a 64) (Made (arg_of a) U32) (When (nat_lt a 128) 
 abbrev pub SpellsMemArg : Bool → List ℕ → MemArg → Type 0
 SpellsMemArg many = Chosen U32 (arg_form many)
 
--- a memory: the byte 00, or where many is true its index
+-- A memory: the byte 00, or its index if `many` is true.
 abbrev pub SpellsMemory : Bool → List ℕ → ℕ → Type 0
 SpellsMemory false = After 0x00 (Just 0)
 SpellsMemory true = U32

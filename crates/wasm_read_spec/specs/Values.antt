@@ -9,7 +9,7 @@ use Rattle.wasm_read_spec.specs.declared.fault.Fault.{Fault}
 use Rattle.wasm_read_spec.specs.declared.fault.Fault.TheVariants.{Malformed, Unsupported}
 use Rattle.wasm_read_spec.specs.SpellingForms.{S32, S64, Byte, Coded, Never, Both, Made, Chosen, When, After, Closed, Few, Any}
 
--- a value type (5.3.4), where f32, f64 and v128 are known but unsupported
+-- A value type (5.3.4); f32, f64 and v128 are known but not supported.
 unfoldable pub val_of_code : ℕ → Result ValType Fault
 val_of_code b =
     if b == 0x7F then Ok I32
@@ -22,21 +22,21 @@ val_of_code b =
 abbrev pub SpellsVal : List ℕ → ValType → Type 0
 SpellsVal = Coded val_of_code
 
--- a reference type (5.3.3)
+-- A reference type (5.3.3).
 unfoldable pub ref_of_code : ℕ → Result RefType Fault
 ref_of_code b = if b == 0x70 then Ok ref.Func else (if b == 0x6F then Ok ref.Extern else Err Malformed)
 
 abbrev pub SpellsRef : List ℕ → RefType → Type 0
 SpellsRef = Coded ref_of_code
 
--- a function type (5.3.6)
+-- A function type (5.3.6).
 abbrev pub SpellsFuncType : List ℕ → FuncType → Type 0
 SpellsFuncType bytes t = After 0x60 (Both (Vector SpellsVal) (Vector SpellsVal)) bytes (t.params, t.results)
 
 abbrev pub SmallFuncType : FuncType → Type 0
 SmallFuncType t = Few (limit Parameters) Any t.params × Few (limit Results) Any t.results
 
--- limits (5.3.7)
+-- Limits (5.3.7).
 abbrev pub at_least : ℕ → Limits
 at_least n = record { min = n; max = None }
 
@@ -49,24 +49,24 @@ limits_form b = When (b == 0x00) (Made at_least U32) (When (b == 0x01) (Made bet
 abbrev pub SpellsLimits : List ℕ → Limits → Type 0
 SpellsLimits = Chosen Byte limits_form
 
--- a table type (5.3.9)
+-- A table type (5.3.9).
 abbrev pub SpellsTable : List ℕ → TableType → Type 0
 SpellsTable bytes t = Both SpellsRef SpellsLimits bytes (t.ty, t.limits)
 
--- mutability and a global type (5.3.10)
+-- The mutability of a global, and a global type (5.3.10).
 unfoldable pub mut_of_code : ℕ → Result Bool Fault
 mut_of_code b = if b == 0x00 then Ok false else (if b == 0x01 then Ok true else Err Malformed)
 
 abbrev pub SpellsGlobal : List ℕ → GlobalType → Type 0
 SpellsGlobal bytes g = Both SpellsVal (Coded mut_of_code) bytes (g.ty, g.mutable)
 
--- a block type (5.4.1)
+-- A block type (5.4.1).
 abbrev pub SpellsBlockType : List ℕ → BlockType → Type 0
 SpellsBlockType bytes bt.Empty = bytes ≡ 0x40 ∷ []
 SpellsBlockType bytes (bt.Value t) = SpellsVal bytes t
 SpellsBlockType bytes (bt.Index n) = Signed 33 bytes (pos n)
 
--- a constant expression: one of these instructions, and `end`
+-- A constant expression: one of these instructions, and `end`.
 unfoldable pub const_form : ℕ → List ℕ → ConstExpr → Type 0
 const_form b =
     When (b == 0x41) (Made const.I32 S32)

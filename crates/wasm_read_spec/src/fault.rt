@@ -5,16 +5,17 @@ ghost use Rattle.wasm_read_spec.specs.declared.fault.ReadFault.TheVariants.{NoMe
 use wasm_bytes::{NoMemory, Wrong};
 use wasm_tree::Which;
 
-/// What is wrong where something is read, wherever in the file that is: the reader of an item knows no place.
+/// Why an item could not be read. It does not say where in the file, because the reader of an item
+/// does not know its place.
 #[derive(Clone, Copy, Debug, PartialEq, Eq)]
 pub enum Fault {
-    /// Want of memory, which says nothing of the bytes.
+    /// Memory ran out. This says nothing about the bytes.
     NoMemory,
-    /// The bytes spell nothing that may stand there.
+    /// The bytes encode nothing that is allowed there.
     Malformed,
-    /// They begin with something of WebAssembly that is outside the integer profile.
+    /// The bytes begin with a form of WebAssembly that is outside the integer profile.
     Unsupported,
-    /// A written count, the nesting or the sum of the locals is above its limit.
+    /// A written count, the nesting or the sum of the locals is over its limit.
     Limit { which: Which },
 }
 
@@ -23,16 +24,16 @@ pub enum Fault {
 pub enum ReadFault {
     /// The first eight bytes are not the header (WebAssembly Core 2.0, section 5.5.16).
     NotModule,
-    /// A section is misspelled, or its frame is; sections count from 0, custom ones too. The number of all frames denotes a
-    /// rule on the whole file.
+    /// A section or its frame is malformed. Sections are counted from 0, with the custom ones. If
+    /// `section` is the number of all frames, a rule on the whole file is broken.
     Malformed { section: u32 },
-    /// A code entry is misspelled; functions count from 0, imported ones too.
+    /// A code entry is malformed. Functions are counted from 0, with the imported ones.
     MalformedBody { func: u32 },
-    /// Something outside the integer profile; `func` says in which code entry, if it is in one.
+    /// A form outside the integer profile; `func` is the function if it is in a code entry.
     Unsupported { section: u32, func: Option<u32> },
-    /// A written count, the nesting or the sum of the locals is above its limit.
+    /// A written count, the nesting or the sum of the locals is over its limit.
     Limit { which: Which },
-    /// Want of memory, which says nothing of the bytes.
+    /// Memory ran out. This says nothing about the bytes.
     NoMemory,
 }
 

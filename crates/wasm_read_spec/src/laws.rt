@@ -1,4 +1,4 @@
-//! What the definitions mean, as contracts of calls that do nothing.
+//! Laws about the definitions, as contracts of calls that do nothing.
 
 ghost use Rattle.std.specs.Prelude.{◌≡◌, ◌↔◌, ◌++◌, ℕ, List, [], Bool, true, false, Option, None, Some};
 ghost use Rattle.wasm_bytes.specs.Reading.{IsBytes};
@@ -18,50 +18,55 @@ ghost use Rattle.wasm_read_spec.specs.Cut.{CutFiles};
 
 use wasm_tree::operands_pass_layer_by_layer;
 
-/// Some bytes spell at most one tree.
+/// The same bytes encode at most one tree.
 pub fn decoding_is_unique()
     ensures { (many : Bool) (bytes : List ℕ) (m n : ModuleTree) → Spells bytes m many → Spells bytes n many → m ≡ n }
 {}
 
-/// No spelling of a body is a proper prefix of another, and some bytes spell at most one body. (For numbers see
-/// `wasm_bytes::integer_encodings_are_prefix_free`; of files it is false, since the header alone spells the empty module.)
+/// No encoding of a body is a proper prefix of another, and the same bytes encode at most one body.
+/// (For numbers see `wasm_bytes::integer_encodings_are_prefix_free`. For files this is false,
+/// because the header alone encodes the empty module.)
 pub fn body_encodings_are_prefix_free()
     ensures { (many : Bool) (text more : List ℕ) (is js : List Tree) → SpellsBody many text is → SpellsBody many (text ++ more) js → (more ≡ []) × (is ≡ js) }
 {}
 
-/// A file has no fault exactly where it spells a tree and is within the limits.
+/// A file has no fault exactly if it encodes a tree and is within the limits.
 pub fn no_fault_where_encoded()
     ensures { (many : Bool) (bytes : List ℕ) → IsBytes bytes → (read_fault bytes many ≡ None) ↔ ((m : ModuleTree) × Spells bytes m many × Within bytes many) }
 {}
 
-/// The first fault of a file is the one that has its cause, and the other way round: so at most one fault has its cause, with its place.
-/// A header that is missing is told first, and then a bad frame, whatever the sections hold. Where all frames are right, everything before the
-/// place that a fault names is spelled and within the limits. `Limit` and `Unsupported` tell what stands there, whatever the rest of the
-/// contents is; `Malformed` and `MalformedBody` that neither stands there, and that the place is not spelled, or that all contents are and a
-/// rule on the whole file is broken. The place of a stop is one (`places`): a section and, in the code section, the entry of a function.
+/// The first fault of a file is the fault whose cause holds (`causes`), and there is at most one
+/// (`one`). A missing header comes first, and then a bad frame, whatever the sections contain. If
+/// all frames are right, everything before the place of the fault is encoded and within the limits.
+/// `Limit` and `Unsupported` say that a stop of that kind is at the place, whatever follows it.
+/// `Malformed` and `MalformedBody` say that there is no stop, and that the place is malformed, or
+/// that all contents are encoded and a rule on the whole file is broken. The place of a stop is
+/// unique (`places`): a section and, in the code section, the entry of a function.
 pub fn faults_have_causes()
     ensures causes { (bytes : List ℕ) (many : Bool) (e : SomeFault) → IsBytes bytes → (read_fault bytes many ≡ Some e) ↔ Cause bytes many e }
     ensures one { (bytes : List ℕ) (many : Bool) (e f : SomeFault) → IsBytes bytes → Cause bytes many e → Cause bytes many f → e ≡ f }
     ensures places { (bytes : List ℕ) (many : Bool) (n m : ℕ) (f g : Option ℕ) (s t : SomeStop) → IsBytes bytes → StopsAt bytes many n f s → StopsAt bytes many m g t → (n ≡ m) × (f ≡ g) }
 {}
 
-/// A file that spells a tree is within the limits exactly where no count that is written in it, no nesting and no sum of locals is over its
-/// limit. (`Within` is said of what is spelled; `Limit`, of what is written, also where the items do not follow.)
+/// A file that encodes a tree is within the limits exactly if no count that is written in it, no
+/// nesting and no sum of locals is over its limit. (`Within` is about what is encoded. `Limit` is
+/// about what is written, even if the items do not follow.)
 pub fn encoded_files_are_within_limits_where_none_is_exceeded()
     ensures { (bytes : List ℕ) (many : Bool) (m : ModuleTree) → IsBytes bytes → Spells bytes m many → Within bytes many ↔ ((which : SomeWhich) → Cause bytes many (fault.Limit which) → ⊥) }
 {}
 
-/// Where a file spells a tree, and so does a proper prefix of it, the prefix is the header alone or ends where a frame of the file ends.
+/// If a file encodes a tree and so does a proper prefix of it, the prefix is the header alone or
+/// ends where a frame of the file ends.
 pub fn cut_files_end_with_a_frame()
     ensures { CutFiles }
 {}
 
-/// A tree that is spelled within the limits has so few things of each kind that a u32 names each.
+/// A tree that is encoded within the limits is bounded: a u32 names each of its entries.
 pub fn encoded_trees_are_bounded()
     ensures { (many : Bool) (bytes : List ℕ) (m : ModuleTree) → Spells bytes m many → Within bytes many → IsBounded m }
 {}
 
-/// Where memories have no indices, a body names no memory but memory 0.
+/// If memories have no indices, a body names no memory except memory 0.
 pub fn encoded_bodies_name_memory_zero()
     ensures { (bytes : List ℕ) (m : ModuleTree) → Spells bytes m false → memory_zero_funcs m.funcs ≡ true }
 {

@@ -1,4 +1,5 @@
-//! What spells a module file, what is within the limits, and the first fault of a file: definitions, and laws above them.
+//! Which bytes encode a module, what is within the limits, and the first fault of a file:
+//! definitions, and laws about them.
 #![tactic(auto)]
 
 mod fault;

@@ -1,12 +1,12 @@
 use wasm_bytes::Items;
 use wasm_tree::{DataSeg, ElemSeg, Export, Func, FuncType, GlobalDef, Import, Limits, TableType};
 
-/// What the sections hold, as they hold it (WebAssembly Core 2.0, section 5.5).
+/// What each section contains (WebAssembly Core 2.0, section 5.5).
 #[derive(Drop)]
 pub struct Parts {
     pub types: Items<FuncType>,
     pub imports: Items<Import>,
-    /// The function section: the types of the functions.
+    /// The function section: the type indices of the functions.
     pub func_types: Items<u32>,
     pub tables: Items<TableType>,
     pub mems: Items<Limits>,
@@ -14,7 +14,8 @@ pub struct Parts {
     pub exports: Items<Export>,
     pub start: Option<u32>,
     pub elems: Items<ElemSeg>,
-    /// The code section: the functions, which have no type there and so have type 0 here.
+    /// The code section. Its functions have type index 0, because the section does not have their
+    /// types.
     pub codes: Items<Func>,
     pub datas: Items<DataSeg>,
     /// The data count section.

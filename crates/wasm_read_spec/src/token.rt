@@ -1,7 +1,7 @@
 use wasm_bytes::Items;
 use wasm_tree::{BlockType, Instr};
 
-/// What opens a list of instructions (WebAssembly Core 2.0, section 5.4.1).
+/// What opens a sequence of instructions (WebAssembly Core 2.0, section 5.4.1).
 #[derive(Clone, Copy, Debug, PartialEq, Eq)]
 pub enum Opener {
     Block,
@@ -9,7 +9,8 @@ pub enum Opener {
     If,
 }
 
-/// An opcode with its immediates (WebAssembly Core 2.0, section 5.4). `Plain` is an instruction that encloses no others.
+/// An opcode with its immediates (WebAssembly Core 2.0, section 5.4). `Plain` is an instruction
+/// without instructions inside it.
 #[derive(Drop)]
 pub enum Token {
     Open(Opener, BlockType),
@@ -18,10 +19,10 @@ pub enum Token {
     Plain(Instr),
 }
 
-/// Instructions up to the `end` or `else` that ends them.
+/// A sequence of instructions up to the `end` or `else` that ends it.
 #[derive(Drop)]
 pub struct Sequence {
     pub items: Items<Instr>,
-    /// Whether an `else` ended them.
+    /// Whether an `else` ended it.
     pub by_else: bool,
 }

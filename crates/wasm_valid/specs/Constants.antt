@@ -6,7 +6,8 @@ use Rattle.wasm_tree_spec.specs.Prelude.{ValType, I32, I64, Ref, ConstExpr, Modu
 use Rattle.wasm_tree.specs.declared.module.ConstExpr.TheVariants as expr
 use Rattle.wasm_valid_bodies.specs.Typing.{only}
 
--- the type of a constant expression: `ref.func` needs the function, `global.get` an imported immutable global
+-- The type of a constant expression: `ref.func` needs an existing function, and `global.get` an
+-- imported immutable global.
 abbrev pub const_type : Module → ConstExpr → Option ValType
 const_type m (expr.I32 value) = Some I32
 const_type m (expr.I64 value) = Some I64

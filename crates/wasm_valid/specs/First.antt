@@ -6,7 +6,8 @@ use Rattle.wasm_valid.specs.declared.kinds.ItemKind.TheVariants as kind
 use Rattle.wasm_valid.specs.declared.kinds.Invalid.{Invalid}
 use Rattle.wasm_valid.specs.Validity.{Item, HoldsAt, EachHolds, items}
 
--- the number of an item: in its index space, where its kind has one, else its place; for the number of memories, this number
+-- The index with which an item is reported: the one in its index space, if its kind has one; the
+-- number of memories for that item; else its position in the section.
 abbrev pub index_of : Module → ItemKind → ℕ → ℕ
 index_of m kind.Import place = place
 index_of m kind.Memories place = length (memories_of m)
@@ -20,16 +21,16 @@ index_of m kind.Elem place = place
 index_of m kind.Segment place = place
 index_of m kind.Body place = length (imported_funcs m.imports) + place
 
--- the items before it hold, and it does not
+-- `e` is the first item of the list that is not valid.
 abbrev pub IsFirstOf : Module → List Item → Invalid → Type 0
 IsFirstOf m xs e =
     (x : Item) × (before after : List Item) × (xs ≡ before ++ x ∷ after) × EachHolds m before × (HoldsAt m x.kind x.place → ⊥) × (e.kind ≡ x.kind) × (e.index ≡ index_of m x.kind x.place)
 
--- the first invalid item, where it is tested that there is at most one memory exactly where many is false
+-- `e` is the first invalid item. The number of memories is tested exactly if `many` is false.
 abbrev pub IsFirstInvalid : Module → Bool → Invalid → Type 0
 IsFirstInvalid m many e = IsFirstOf m (items m many) e
 
--- which of these items is the first that does not hold, if one does not
+-- Which of these items is the first invalid one, if any.
 abbrev pub IsAnswer : Module → List Item → Option Invalid → Type 0
 IsAnswer m xs None = EachHolds m xs
 IsAnswer m xs (Some e) = IsFirstOf m xs e

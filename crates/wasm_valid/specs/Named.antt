@@ -1,5 +1,5 @@
--- The functions that `ref.func` may name in a body: those that the module names outside its bodies and its start
--- (WebAssembly Core 2.0, section 3.4.10, the context's refs).
+-- The functions that `ref.func` may name in a body: those that the module names outside its bodies
+-- and its start (WebAssembly Core 2.0, section 3.4.10, the refs of the context).
 use Rattle.std.specs.Prelude.{ℕ, zero, suc, Bool, true, slice_set, List, [], ◌∷◌, ◌++◌, length, nat_eq, Option, Some, None}
 use Rattle.std.specs.List.{filter_map, flat_map, list_any}
 use Rattle.wasm_tree_spec.specs.Prelude.{ConstExpr, ExportDesc, ElemSeg, GlobalDef, Export, Module, funcs_of}
@@ -23,25 +23,25 @@ global_refs = filter_map (λ g. const_func g.init)
 abbrev pub export_refs : List Export → List ℕ
 export_refs = filter_map (λ e. export_func e.desc)
 
--- the functions that element segments, initialisers of globals and exports name
+-- The functions that element segments, initialisers of globals and exports name.
 abbrev pub refs_of : Module → List ℕ
 refs_of m = elem_refs m.elems ++ (global_refs m.globals ++ export_refs m.exports)
 
--- for each of n functions from one on, whether it is among these
+-- For each of `n` functions from `first` on, whether it is in `refs`.
 abbrev pub named_from : List ℕ → ℕ → ℕ → List Bool
 named_from refs first zero = []
 named_from refs first (suc n) = list_any (nat_eq first) refs ∷ named_from refs (suc first) n
 
--- for each function of the module, whether `ref.func` may name it in a body
+-- For each function of the module, whether `ref.func` may name it in a body.
 abbrev pub named_of : Module → List Bool
 named_of m = named_from (refs_of m) 0 (length (funcs_of m))
 
--- the marks with one more at this place, if there is one
+-- The marks with one set at this position, if there is one.
 abbrev pub marked_at : List Bool → Option ℕ → List Bool
 marked_at marks None = marks
 marked_at marks (Some r) = slice_set marks r true
 
--- the marks with one more at each of these places
+-- The marks with those at these positions set.
 abbrev pub marked_all : List Bool → List ℕ → List Bool
 marked_all marks [] = marks
 marked_all marks (r ∷ rs) = marked_all (slice_set marks r true) rs

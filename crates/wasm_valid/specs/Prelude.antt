@@ -1,4 +1,4 @@
--- Names of validity, passed on from one place. Declares nothing.
+-- The names of validity, passed on from one place. This file declares nothing.
 pub use Rattle.wasm_valid.specs.Constants.{const_type}
 pub use Rattle.wasm_valid.specs.First.{IsFirstInvalid, index_of}
 pub use Rattle.wasm_valid.specs.Named.{const_func, elem_refs, export_func, export_refs, global_refs, marked_all, named_from, named_of, refs_of}

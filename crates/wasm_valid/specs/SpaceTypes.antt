@@ -2,7 +2,6 @@
 use Rattle.std.specs.Prelude.{List, map}
 use Rattle.wasm_tree_spec.specs.Prelude.{RefType, ElemSeg, Module, tables_of}
 
--- the reference type of each table, and of each element segment
 abbrev pub table_types : Module → List RefType
 table_types m = map (λ t. t.ty) (tables_of m)
 

@@ -1,4 +1,4 @@
--- When a module is valid (WebAssembly Core 2.0, section 3.4): each of its items holds.
+-- When a module is valid (WebAssembly Core 2.0, section 3.4): each of its items is.
 use Rattle.std.specs.Prelude.{◌≡◌, ℕ, zero, suc, ◌<◌, ◌≤◌, Bool, true, false, List, [], ◌∷◌, length, map, take, Contains, Option, Some, None, slice_get}
 use Rattle.std.specs.List.{flat_map}
 use Rattle.wasm_tree_spec.specs.Prelude.{RefType, I32, Ref, FuncType, Limits, TableType, ImportDesc, ExportDesc, ElemMode, DataMode, ConstExpr, Import, Func, GlobalDef, Export, ElemSeg, DataSeg, Module, funcs_of, tables_of, memories_of, globals_of, type_of_func}
@@ -22,41 +22,41 @@ abbrev pub MostIsAtMost : Option ℕ → ℕ → Type 0
 MostIsAtMost None bound = Unit {0}
 MostIsAtMost (Some max) bound = max ≤ bound
 
--- the limits of a table (section 3.2.1)
+-- The limits of a table are valid (section 3.2.1).
 abbrev pub LimitsHold : Limits → Type 0
 LimitsHold l = MostIsAtLeast l.max l.min
 
--- the limits of a memory, which has at most 65,536 pages (section 3.2.5)
+-- The limits of a memory are valid; it has at most 65,536 pages (section 3.2.5).
 abbrev pub PagesHold : Limits → Type 0
 PagesHold l = MostIsAtLeast l.max l.min × (l.min ≤ 65536) × MostIsAtMost l.max 65536
 
--- section 3.4.9
+-- The import is valid (section 3.4.9).
 abbrev pub ImportHolds : Module → ImportDesc → Type 0
 ImportHolds m (imported.Func ty) = ty < length m.types
 ImportHolds m (imported.Table ty) = LimitsHold ty.limits
 ImportHolds m (imported.Memory limits) = PagesHold limits
 ImportHolds m (imported.Global ty) = Unit {0}
 
--- the exported thing is in its space (section 3.4.8)
+-- What is exported is in its index space (section 3.4.8).
 abbrev pub InSpace : Module → ExportDesc → Type 0
 InSpace m (exported.Func func) = func < length (funcs_of m)
 InSpace m (exported.Table table) = table < length (tables_of m)
 InSpace m (exported.Memory memory) = memory < length (memories_of m)
 InSpace m (exported.Global global) = global < length (globals_of m)
 
--- section 3.4.5
+-- The mode of the element segment is valid (section 3.4.5).
 abbrev pub ElemModeHolds : Module → RefType → ElemMode → Type 0
 ElemModeHolds m ty (elem.Active table offset) =
     (slice_get (table_types m) table ≡ Some ty) × (const_type m offset ≡ Some I32)
 ElemModeHolds m ty elem.Passive = Unit {0}
 ElemModeHolds m ty elem.Declarative = Unit {0}
 
--- section 3.4.6
+-- The mode of the data segment is valid (section 3.4.6).
 abbrev pub DataModeHolds : Module → DataMode → Type 0
 DataModeHolds m («data».Active memory offset) = (memory < length (memories_of m)) × (const_type m offset ≡ Some I32)
 DataModeHolds m «data».Passive = Unit {0}
 
--- what the body of a function of type t can name (section 3.4.1)
+-- The context of the body of a function of type `t` (section 3.4.1).
 abbrev pub body_context : Module → Func → FuncType → Context
 body_context m f t = record {
   types = m.types;
@@ -72,11 +72,11 @@ body_context m f t = record {
   labels = t.results ∷ [];
 }
 
--- the memory space has at most one entry (section 3.4.10)
+-- The module has at most one memory (section 3.4.10).
 abbrev pub IsSingle : Module → Type 0
 IsSingle m = length (memories_of m) ≤ 1
 
--- what the item of a kind at a place of its section needs
+-- The item of this kind at this position of its section is valid.
 abbrev pub HoldsAt : Module → ItemKind → ℕ → Type 0
 HoldsAt m kind.Import i = (x : Import) × (slice_get m.imports i ≡ Some x) × ImportHolds m x.desc
 HoldsAt m kind.Memories i = IsSingle m
@@ -94,12 +94,12 @@ HoldsAt m kind.Segment i = (s : DataSeg) × (slice_get m.datas i ≡ Some s) × 
 HoldsAt m kind.Body i =
     (f : Func) × (t : FuncType) × (slice_get m.funcs i ≡ Some f) × (slice_get m.types f.ty ≡ Some t) × WellTyped (body_context m f t) f.body [] t.results
 
--- an item: a kind and a place in its section
+-- An item: a kind and a position in its section.
 pub record Item : Type 0 where
   pub kind : ItemKind
   pub place : ℕ
 
--- the kinds in the order in which they are tested
+-- The kinds, in the order in which they are tested.
 abbrev pub order : List ItemKind
 order = kind.Import ∷ kind.Memories ∷ kind.Func ∷ kind.Table ∷ kind.Memory ∷ kind.Global ∷ kind.Export ∷ kind.Start ∷ kind.Elem ∷ kind.Segment ∷ kind.Body ∷ []
 
@@ -107,12 +107,12 @@ abbrev pub start_count : Option ℕ → ℕ
 start_count None = 0
 start_count (Some x) = 1
 
--- whether the one item on the number of memories is tested
+-- The number of items about the number of memories.
 abbrev pub memories_count : Bool → ℕ
 memories_count true = 0
 memories_count false = 1
 
--- how many items of a kind there are; where many memories are allowed their number is no item
+-- The number of items of a kind. If `many` is true, the number of memories is not an item.
 abbrev pub count_of : Module → Bool → ItemKind → ℕ
 count_of m many kind.Import = length m.imports
 count_of m many kind.Memories = memories_count many
@@ -129,19 +129,20 @@ count_of m many kind.Body = length m.funcs
 abbrev pub item : ItemKind → ℕ → Item
 item k i = record { kind = k; place = i }
 
--- n items of a kind, from a place on
+-- `n` items of a kind, from a position on.
 abbrev pub span : ItemKind → ℕ → ℕ → List Item
 span k i zero = []
 span k i (suc n) = item k i ∷ span k (suc i) n
 
--- the items of a module in the order in which they are tested
+-- The items of a module, in the order in which they are tested.
 abbrev pub items : Module → Bool → List Item
 items m many = flat_map (λ k. span k 0 (count_of m many k)) order
 
+-- Each of these items is valid.
 abbrev pub EachHolds : Module → List Item → Type 0
 EachHolds m [] = Unit {0}
 EachHolds m (x ∷ xs) = HoldsAt m x.kind x.place × EachHolds m xs
 
--- each item holds, the number of memories left aside
+-- The module is valid: each item is, except that the number of memories is not tested.
 abbrev pub IsValid : Module → Type 0
 IsValid m = EachHolds m (items m true)

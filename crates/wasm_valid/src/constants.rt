@@ -6,7 +6,7 @@ ghost use Rattle.wasm_valid.specs.Constants.{const_type};
 use crate::spaces::Spaces;
 use wasm_tree::{ConstExpr, RefType, ValType};
 
-// The type of a constant expression, if what it names may stand there.
+// Returns the type of a constant expression, if the index that it names is allowed.
 fn const_type(spaces: &Spaces<'_>, expr: &ConstExpr) -> Option<ValType>
     ensures { result ≡ const_type spaces.now.module.now expr.now }
 {
@@ -34,7 +34,7 @@ fn const_type(spaces: &Spaces<'_>, expr: &ConstExpr) -> Option<ValType>
     }
 }
 
-/// Whether it is a constant expression of this type.
+/// Returns whether `expr` is a constant expression of type `ty`.
 pub fn has_type(spaces: &Spaces<'_>, expr: &ConstExpr, ty: ValType) -> bool
     ensures { IsTrue result ↔ (const_type spaces.now.module.now expr.now ≡ Some ty) }
 {

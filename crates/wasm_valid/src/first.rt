@@ -26,7 +26,7 @@ const ORDER: [ItemKind; 11] = [
     ItemKind::Body,
 ];
 
-// The first item of one kind that does not hold, if one does not.
+// Returns the first invalid item of one kind, if there is one.
 fn first_of_kind<'a>(
     alloc: Global,
     spaces: &'a Spaces<'a>,
@@ -46,8 +46,8 @@ fn first_of_kind<'a>(
     Ok(None)
 }
 
-/// The first invalid item, if there is one. Where `many` memories are allowed their number is not tested. Its only error is want
-/// of memory.
+/// Returns the first invalid item of the module, if there is one. If `many` is true, any number of
+/// memories is allowed. The only error is that memory runs out.
 pub fn first_invalid(
     alloc: Global,
     module: &Module,

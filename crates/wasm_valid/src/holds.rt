@@ -1,4 +1,4 @@
-// Items by their kind.
+// The validity of items by their kind.
 
 ghost use Rattle.std.specs.Prelude.{◌≡◌, ◌↔◌, ◌<◌, IfOk, IsTrue};
 ghost use Rattle.wasm_tree.specs.Bounds.{IsBounded};
@@ -15,7 +15,8 @@ use std::alloc::{AllocError, Global};
 use wasm_tree::Module;
 use wasm_valid_bodies::Stacks;
 
-/// Whether an item holds. The stacks are for bodies, and what they hold before has no meaning.
+/// Returns whether an item is valid. `stacks` are for bodies; what they contain before does not
+/// matter.
 pub fn holds_at<'a>(
     alloc: Global,
     spaces: &'a Spaces<'a>,
@@ -41,7 +42,8 @@ pub fn holds_at<'a>(
     }
 }
 
-/// How many items of a kind there are. The number of memories is an item where only one is allowed.
+/// Returns how many items of a kind there are. If `many` is false, the number of memories is an
+/// item.
 pub fn count_of(module: &Module, many: bool, kind: ItemKind) -> usize
     ensures { result ≡ count_of «module».now many kind }
 {
@@ -60,7 +62,7 @@ pub fn count_of(module: &Module, many: bool, kind: ItemKind) -> usize
     }
 }
 
-/// The number by which an item is named.
+/// Returns the index with which an item is reported if it is invalid.
 pub fn index_of(module: &Module, many: bool, kind: ItemKind, place: usize) -> u32
     requires bounded { IsBounded «module».now }
     requires there { place < count_of «module».now many kind }

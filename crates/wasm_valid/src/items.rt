@@ -1,4 +1,4 @@
-// What each item needs (WebAssembly Core 2.0, sections 3.2 and 3.4).
+// When each item is valid (WebAssembly Core 2.0, sections 3.2 and 3.4).
 
 ghost use Rattle.std.specs.Prelude.{◌≡◌, ◌↔◌, Some, IfOk, IsTrue, ℕ, false, unwrap_or, slice_get};
 ghost use Rattle.wasm_tree.specs.Bounds.{IsBounded};
@@ -48,7 +48,7 @@ fn import_desc_holds(module: &Module, desc: &ImportDesc) -> bool
     }
 }
 
-/// Whether the import is right.
+/// Returns whether the import is valid.
 pub fn import_holds(module: &Module, place: usize) -> bool
     ensures { IsTrue result ↔ HoldsAt «module».now ItemKind.Import place }
 {
@@ -58,7 +58,7 @@ pub fn import_holds(module: &Module, place: usize) -> bool
     }
 }
 
-/// Whether the defined function's type is there.
+/// Returns whether the type index of the defined function is in range.
 pub fn func_holds(module: &Module, place: usize) -> bool
     ensures { IsTrue result ↔ HoldsAt «module».now ItemKind.Func place }
 {
@@ -68,7 +68,7 @@ pub fn func_holds(module: &Module, place: usize) -> bool
     }
 }
 
-/// Whether the defined table's limits are right.
+/// Returns whether the limits of the defined table are valid.
 pub fn table_holds(module: &Module, place: usize) -> bool
     ensures { IsTrue result ↔ HoldsAt «module».now ItemKind.Table place }
 {
@@ -78,7 +78,7 @@ pub fn table_holds(module: &Module, place: usize) -> bool
     }
 }
 
-/// Whether the defined memory's limits are right.
+/// Returns whether the limits of the defined memory are valid.
 pub fn memory_holds(module: &Module, place: usize) -> bool
     ensures { IsTrue result ↔ HoldsAt «module».now ItemKind.Memory place }
 {
@@ -88,7 +88,7 @@ pub fn memory_holds(module: &Module, place: usize) -> bool
     }
 }
 
-/// Whether the defined global's initialiser has its type.
+/// Returns whether the initialiser of the defined global has its type.
 pub fn global_holds(spaces: &Spaces<'_>, place: usize) -> bool
     ensures { IsTrue result ↔ HoldsAt spaces.now.module.now ItemKind.Global place }
 {
@@ -118,7 +118,7 @@ fn came_before(spaces: &Spaces<'_>, place: usize) -> bool
     }
 }
 
-/// Whether the exported thing is there, and no export before it has its name.
+/// Returns whether what is exported exists, and no earlier export has the same name.
 pub fn export_holds(spaces: &Spaces<'_>, place: usize) -> bool
     ensures { IsTrue result ↔ HoldsAt spaces.now.module.now ItemKind.Export place }
 {
@@ -131,7 +131,7 @@ pub fn export_holds(spaces: &Spaces<'_>, place: usize) -> bool
     is_in_space(spaces, &export.desc)
 }
 
-/// Whether the start is a function of type [] to [].
+/// Returns whether the start is a function of type [] to [].
 pub fn start_holds(module: &Module) -> bool
     ensures { IsTrue result ↔ HoldsAt «module».now ItemKind.Start 0 }
 {
@@ -168,7 +168,7 @@ fn elem_mode_holds(spaces: &Spaces<'_>, ty: RefType, mode: &ElemMode) -> bool
     }
 }
 
-/// Whether the element segment's items, its table and its offset are right.
+/// Returns whether the items, the table and the offset of the element segment are valid.
 pub fn elem_holds(spaces: &Spaces<'_>, place: usize) -> bool
     ensures { IsTrue result ↔ HoldsAt spaces.now.module.now ItemKind.Elem place }
 {
@@ -179,7 +179,7 @@ pub fn elem_holds(spaces: &Spaces<'_>, place: usize) -> bool
     }
 }
 
-/// Whether the data segment's memory and its offset are right.
+/// Returns whether the memory and the offset of the data segment are valid.
 pub fn segment_holds(spaces: &Spaces<'_>, place: usize) -> bool
     ensures { IsTrue result ↔ HoldsAt spaces.now.module.now ItemKind.Segment place }
 {
@@ -193,7 +193,7 @@ pub fn segment_holds(spaces: &Spaces<'_>, place: usize) -> bool
     }
 }
 
-/// Whether the body is well typed.
+/// Returns whether the body is well typed.
 pub fn body_holds<'a>(
     alloc: Global,
     spaces: &'a Spaces<'a>,

@@ -1,4 +1,4 @@
-// What can be invalid.
+// Items that can be invalid.
 
 /// The kinds of items, in the order in which they are tested.
 #[derive(Clone, Copy, Debug, PartialEq, Eq)]
@@ -18,8 +18,9 @@ pub enum ItemKind {
     Body,
 }
 
-/// An invalid item. For Func, Table, Memory, Global and Body the index is that in the index space, for Memories it is the number
-/// of memories, for the start it is 0, for the others it is the place in the section.
+/// An invalid item. `index` is the index in the index space for `Func`, `Table`, `Memory`, `Global`
+/// and `Body`, the number of memories for `Memories`, 0 for `Start`, and the position in the
+/// section for the other kinds.
 #[derive(Clone, Copy, Debug, PartialEq, Eq)]
 pub struct Invalid {
     pub kind: ItemKind,

@@ -1,4 +1,4 @@
-// What follows of valid modules.
+// Laws of valid modules.
 
 ghost use Rattle.std.specs.Prelude.{◌↔◌, ◌<◌, ℕ, true, IsTrue};
 ghost use Rattle.wasm_tree.specs.declared.module.Module.{Module};
@@ -8,7 +8,7 @@ ghost use Rattle.wasm_valid.specs.Validity.{IsValid, IsSingle, HoldsAt, count_of
 
 use wasm_tree::operands_pass_layer_by_layer;
 
-/// A module is valid exactly where each of its items holds.
+/// A module is valid exactly if each of its items is. The number of memories does not count here.
 pub fn valid_where_items_hold()
     ensures { (m : Module) → IsValid m ↔ ((k : ItemKind) (i : ℕ) → i < count_of m true k → HoldsAt m k i) }
 {}

@@ -1,5 +1,5 @@
-//! Validation of modules (WebAssembly Core 2.0, chapter 3, for the integer profile): a module is valid, or its first item that does not
-//! hold is named.
+//! Validation of modules (WebAssembly Core 2.0, chapter 3, for the integer profile): it accepts a
+//! module, or reports its first invalid item.
 #![tactic(auto)]
 
 mod constants;

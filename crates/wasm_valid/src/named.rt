@@ -8,7 +8,7 @@ ghost use Rattle.wasm_valid.specs.Named.{const_func, export_func, elem_refs, glo
 use std::alloc::{AllocError, Global};
 use wasm_tree::{ConstExpr, ElemSeg, Export, ExportDesc, GlobalDef, Module};
 
-/// Marks the function, if it is one of those that have a mark.
+/// Marks the function, if there is a mark for it.
 pub fn mark(marks: &mut Vec<bool>, func: u32)
     ensures { marks.new.items ≡ slice_set marks.old.items func true }
 {
@@ -72,7 +72,8 @@ fn no_marks(alloc: Global, count: usize) -> Result<Vec<bool>, AllocError>
     vec![in alloc; false; count]
 }
 
-/// For each of the functions, of which there are `count`, whether an element segment, a global's initialiser or an export names it.
+/// Returns for each of the `count` functions whether an element segment, an initialiser of a global
+/// or an export names it.
 pub fn named_funcs(alloc: Global, module: &Module, count: usize) -> Result<Vec<bool>, AllocError>
     requires { count ≡ length (funcs_of «module».now) }
     ensures { IfOk result (λ marks. marks.items ≡ named_of «module».now) }

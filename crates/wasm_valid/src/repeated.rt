@@ -1,4 +1,4 @@
-// Export names that came before (WebAssembly Core 2.0, section 3.4.10).
+// Export names that occurred before (WebAssembly Core 2.0, section 3.4.10).
 
 ghost use Rattle.std.specs.Prelude.{◌≡◌, [], map, IfOk};
 ghost use Rattle.wasm_valid.specs.Names.{repeats_after};
@@ -7,7 +7,7 @@ use std::alloc::{AllocError, Global};
 use std::collections::BTreeMap;
 use wasm_tree::Export;
 
-/// For each export whether one before it has its name.
+/// Returns for each export whether an earlier one has its name.
 pub fn repeated_names(alloc: Global, exports: &[Export]) -> Result<Vec<bool>, AllocError>
     ensures { IfOk result (λ all. all.items ≡ repeats_after [] (map (λ e. e.name) exports.now)) }
 {

@@ -1,4 +1,4 @@
-// The index spaces of a module, each written out once.
+// The index spaces of a module, each computed once.
 
 ghost use Rattle.std.specs.Prelude.{◌≡◌, [], length, map, IfOk};
 ghost use Rattle.wasm_tree.specs.Spaces.{funcs_of, tables_of, memories_of, globals_of, imported_funcs, imported_tables, imported_globals};
@@ -11,24 +11,24 @@ use crate::repeated::repeated_names;
 use std::alloc::{AllocError, Global};
 use wasm_tree::{GlobalType, Import, Module, RefType, TableType};
 
-/// A module with what its items are tested against.
+/// A module with what its items are validated against.
 #[derive(Drop)]
 pub struct Spaces<'a> {
     pub module: &'a Module,
-    /// For each function its place in the types.
+    /// The type index of each function.
     pub funcs: Vec<u32>,
     /// The reference type of each table.
     pub tables: Vec<RefType>,
-    /// How many memories there are.
+    /// The number of memories.
     pub memories: usize,
     pub globals: Vec<GlobalType>,
-    /// How many of the globals are imported.
+    /// The number of imported globals.
     pub global_imports: usize,
     /// The reference type of each element segment.
     pub elems: Vec<RefType>,
-    /// For each function whether `ref.func` may name it in a body.
+    /// For each function, whether `ref.func` may name it in a body.
     pub named: Vec<bool>,
-    /// For each export whether its name came before.
+    /// For each export, whether an earlier one has its name.
     pub repeated: Vec<bool>,
     ghost funcs_are: { funcs.items ≡ funcs_of module.now },
     ghost tables_are: { tables.items ≡ table_types module.now },
@@ -41,7 +41,7 @@ pub struct Spaces<'a> {
 }
 
 impl<'a> Spaces<'a> {
-    /// The spaces of a module, in the time of its size.
+    /// Computes the index spaces and marks of a module.
     pub fn new(alloc: Global, module: &'a Module) -> Result<Spaces<'a>, AllocError>
         ensures { IfOk result (λ spaces. spaces.module.now ≡ «module».now) }
     {

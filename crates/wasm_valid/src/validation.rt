@@ -11,7 +11,8 @@ use std::alloc::Global;
 use std::marker::Model;
 use wasm_tree::Module;
 
-/// A valid module whose lists, index spaces and locals a u32 can count. Contracts see the module.
+/// A module that is valid and bounded (a u32 can count each list, each index space and the locals).
+/// Contracts see the module.
 #[derive(Drop)]
 pub struct Valid {
     module: Module,
@@ -33,15 +34,17 @@ impl Model for Valid {
     ghost invariant = { λ v. IsValid v.module × IsBounded v.module };
 }
 
-/// Why a module was handed back: its first invalid item, or want of memory. Both hand the same module back.
+/// Why `validate` rejected a module: its first invalid item, or memory ran out. Both variants hand
+/// the same module back.
 #[derive(Drop)]
 pub enum Rejected {
     Invalid(Module, Invalid),
     NoMemory(Module),
 }
 
-/// Validates a module (WebAssembly Core 2.0, section 3.4). It is accepted exactly where it is valid and has at most one memory; otherwise the
-/// first invalid item is named, and the same module handed back.
+/// Validates a module (WebAssembly Core 2.0, section 3.4). It is accepted exactly if it is valid
+/// and has at most one memory, unless memory runs out. Otherwise the error has the first invalid
+/// item. Each error hands the module back unchanged.
 pub fn validate(alloc: Global, module: Module) -> Result<Valid, Rejected>
     requires { IsBounded «module» }
     ensures same { IfOk result (λ valid. valid ≡ «module») }
@@ -58,7 +61,7 @@ pub fn validate(alloc: Global, module: Module) -> Result<Valid, Rejected>
 }
 
 impl Valid {
-    /// Keeps a module that is valid already. It tests nothing.
+    /// Wraps a module that is already valid, without testing it.
     pub fn known(module: Module) -> Valid
         requires valid { IsValid «module» }
         requires bounded { IsBounded «module» }
@@ -67,7 +70,7 @@ impl Valid {
         Valid { module }
     }
 
-    /// The module.
+    /// Returns the module.
     pub fn module(&self) -> &Module
         ensures value { result.now ≡ self.now }
         ensures valid { IsValid result.now }
@@ -76,7 +79,7 @@ impl Valid {
         &self.module
     }
 
-    /// The module, which is no longer known to be valid by its type.
+    /// Returns the module, without the type that shows it to be valid.
     pub fn into_module(self) -> Module
         ensures value { result ≡ self }
         ensures valid { IsValid result }

@@ -1,4 +1,4 @@
-// What the binary format asks of a module besides its sizes.
+// What the binary format requires of a module, except sizes.
 
 ghost use Rattle.std.specs.Prelude.{◌≡◌, ℕ, Some, slice_get, IsUtf8, IsTrue};
 ghost use Rattle.wasm_tree.specs.MemoryZero.{memory_zero_funcs};
@@ -28,9 +28,10 @@ fn exports_are_text(exports: &[Export])
 }
 
 impl Valid {
-    /// What the binary format asks of a module, its sizes aside, holds of a valid one: the names of its imports and exports are UTF-8, and where it
-    /// has at most one memory each memory index in its bodies is 0 (WebAssembly Core 2.0, sections 5.2.4 and 5.4.6). It walks the names and changes
-    /// nothing; no command needs to call it.
+    /// Promises that a valid module has what the binary format requires, except sizes: the names of
+    /// its imports and exports are UTF-8, and if it has at most one memory, each memory index in
+    /// its bodies is 0 (WebAssembly Core 2.0, sections 5.2.4 and 5.4.6). The call walks the names
+    /// and changes nothing; no command needs it.
     pub fn can_be_written(&self)
         ensures imports { (i : ℕ) (x : Imported) → slice_get self.now.imports i ≡ Some x → IsUtf8 x.«module» × IsUtf8 x.field }
         ensures exports { (i : ℕ) (x : Exported) → slice_get self.now.exports i ≡ Some x → IsUtf8 x.name }

@@ -1,4 +1,4 @@
--- What the checker's stack in memory denotes.
+-- What the stack that the checker keeps in memory denotes.
 use Rattle.std.specs.Prelude.{◌≡◌, Bool, true, false, List, [], ◌∷◌, ◌++◌, take, drop, Option, Some, None}
 use Rattle.wasm_tree_spec.specs.Prelude.{ValType}
 use Rattle.wasm_valid_bodies.specs.declared.kept.Kept.{Kept}
@@ -6,16 +6,16 @@ use Rattle.wasm_valid_bodies.specs.declared.kept.Outer.{Outer}
 use Rattle.wasm_valid_bodies.specs.Typing.{Stack, Effect, operands}
 use Rattle.wasm_valid_bodies.specs.Tracking.{answer_of}
 
--- the bottom, where there is one
+-- The bottom, if there is one.
 abbrev pub lowest : Bool → Stack
 lowest false = []
 lowest true = None ∷ []
 
--- the operands of the innermost block
+-- The operands of the innermost block.
 abbrev pub stack_of : Kept → Stack
 stack_of k = operands (drop k.base k.types.items) ++ lowest k.bottom
 
--- the known operands of the blocks around it
+-- The known operands of the blocks around it.
 abbrev pub beneath : Kept → List ValType
 beneath k = take k.base k.types.items
 
@@ -23,16 +23,18 @@ abbrev pub when : {A : Type 0} → Bool → A → Option A
 when false x = None
 when true x = Some x
 
--- what the checker keeps after an instruction of this type, or that it refuses it; the blocks around are left as they are
+-- The checker returns whether an instruction of this type can follow, and if so keeps what
+-- `answer_of` gives. The operands of the blocks around the innermost one are unchanged.
 abbrev pub Answers : Option Effect → Kept → Kept → Bool → Type 0
 Answers e old new ok =
     (answer_of e (stack_of old) old.any_below ≡ when ok (stack_of new, new.any_below)) × (beneath new ≡ beneath old)
 
--- a block inside the old one, on operands of these types
+-- A new innermost block with operands of these types; `outer` is what is saved of the block around
+-- it.
 abbrev pub IsInside : List ValType → Kept → Outer → Kept → Type 0
 IsInside ps old outer new =
     (stack_of new ≡ operands ps) × (new.any_below ≡ false) × (beneath new ≡ old.types.items) × (outer.base ≡ old.base) × (outer.bottom ≡ old.bottom) × (outer.any_below ≡ old.any_below)
 
--- the operands are those that were there before
+-- The operands are those from before.
 abbrev pub IsBack : Kept → Kept → Type 0
 IsBack old new = (stack_of new ≡ stack_of old) × (new.any_below ≡ old.any_below) × (beneath new ≡ beneath old)

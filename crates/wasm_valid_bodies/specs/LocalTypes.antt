@@ -1,4 +1,4 @@
--- What the locals in memory denote.
+-- The types that the locals in memory denote.
 use Rattle.std.specs.Prelude.{List}
 use Rattle.wasm_tree_spec.specs.Prelude.{ValType}
 use Rattle.wasm_valid_bodies.specs.declared.locals.Locals.{Locals}

@@ -1,4 +1,4 @@
--- The types of the operators (WebAssembly Core 2.0, sections 3.3.1 and 3.3.7).
+-- The types of the operations, loads and stores (WebAssembly Core 2.0, sections 3.3.1 and 3.3.7).
 use Rattle.std.specs.Prelude.{ℕ}
 use Rattle.wasm_tree_spec.specs.Prelude.{ValType, I32, I64, LoadOp, I32Load, StoreOp, I32Store, I32Store8}
 use Rattle.wasm_num.specs.declared.UnOp.{UnOp}

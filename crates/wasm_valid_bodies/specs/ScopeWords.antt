@@ -1,4 +1,4 @@
--- What a body can name, where these labels are open.
+-- The context of a body that has this scope and these open labels.
 use Rattle.std.specs.Prelude.{List}
 use Rattle.wasm_tree_spec.specs.Prelude.{ValType}
 use Rattle.wasm_valid_bodies.specs.declared.scope.Scope.{Scope}

@@ -1,15 +1,18 @@
--- The stack that the checker keeps: a list of operands, and whether any operands may lie below it.
+-- The stacks that the checker keeps: a list of operands, and whether any operands can be below
+-- them.
 use Rattle.std.specs.Prelude.{◌≡◌, ℕ, Bool, true, false, cond, ◌&&◌, nat_eq, is_some, List, [], ◌∷◌, ◌++◌, reverse, length, Option, Some, None, slice_get, option_map}
 use Rattle.base_lists.specs.Options.{◌>>=◌}
 use Rattle.wasm_tree.specs.declared.types.RefType.TheVariants.{Func, Extern}
 use Rattle.wasm_tree_spec.specs.Prelude.{ValType, I32, I64, Ref, same_type}
 use Rattle.wasm_valid_bodies.specs.Typing.{Operand, Stack, operands, Effect, Gives, Leaves, Drops, Selects, TestsNull, Branches}
 
--- s is one of the stacks that are kept as xs: a type denotes itself, a bottom for any operand
+-- A type stands for itself, and a bottom for any operand.
 abbrev pub IsInstance : Operand → Operand → Type 0
 IsInstance None y = Unit {0}
 IsInstance (Some t) y = y ≡ Some t
 
+-- The last stack is one of those that a kept stack stands for: with any operands below it if the
+-- flag is true.
 abbrev pub Instance : Stack → Bool → Stack → Type 0
 Instance [] false [] = Unit {0}
 Instance [] false (y ∷ ys) = ⊥
@@ -17,7 +20,7 @@ Instance [] true s = Unit {0}
 Instance (x ∷ xs) o [] = ⊥
 Instance (x ∷ xs) o (y ∷ ys) = IsInstance x y × Instance xs o ys
 
--- s is xs itself, with any operands below it where it is open
+-- The last stack is the kept stack itself, with any operands below it if the flag is true.
 abbrev pub Concrete : Stack → Bool → Stack → Type 0
 Concrete [] false [] = Unit {0}
 Concrete [] false (y ∷ ys) = ⊥
@@ -25,21 +28,22 @@ Concrete [] true s = Unit {0}
 Concrete (x ∷ xs) o [] = ⊥
 Concrete (x ∷ xs) o (y ∷ ys) = (y ≡ x) × Concrete xs o ys
 
--- what F leads to from the stacks kept as xs are those kept as ys
+-- From the stacks of `xs`, `F` leads only to stacks of `ys` (`on`). It leads to each stack that is
+-- `ys` itself from one that is `xs` itself (`back`).
 pub record StepsTo (F : Stack → Stack → Type 0) (xs : Stack) (o : Bool) (ys : Stack) (p : Bool) : Type 0 where
-  -- each stack that is ys itself comes from one that is xs itself
   pub back : (t : Stack) → Concrete ys p t → (s : Stack) × Concrete xs o s × F s t
   pub on : (s t : Stack) → Instance xs o s → F s t → Instance ys p t
 
--- F leads nowhere from the stacks kept as xs
+-- `F` leads nowhere from the stacks of `xs`.
 abbrev pub Fails : (Stack → Stack → Type 0) → Stack → Bool → Type 0
 Fails F xs o = (s t : Stack) → Instance xs o s → F s t → ⊥
 
+-- If the last flag is true, `F` leads from `xs` to `ys`, and otherwise nowhere.
 abbrev pub TracksStep : (Stack → Stack → Type 0) → Stack → Bool → Stack → Bool → Bool → Type 0
 TracksStep F xs o ys p false = Fails F xs o
 TracksStep F xs o ys p true = StepsTo F xs o ys p
 
--- one number for each value type
+-- A number for each value type.
 abbrev pub letter : ValType → ℕ
 letter I32 = 0
 letter I64 = 1
@@ -50,7 +54,7 @@ abbrev pub fits_type : Operand → ValType → Bool
 fits_type None t = true
 fits_type (Some u) t = same_type u t
 
--- the topmost operand and what is below it
+-- The topmost operand and what is below it; a bottom if only unknown operands are left.
 abbrev pub pop_one : Stack → Bool → Option (Operand × Stack)
 pop_one [] false = None
 pop_one [] true = Some (None, [])
@@ -79,7 +83,7 @@ is_reference (Some I32) = false
 is_reference (Some I64) = false
 is_reference (Some (Ref r)) = true
 
--- what matches both, where something does
+-- The operand that matches both, if there is one.
 abbrev pub join : Operand → Operand → Option Operand
 join None b = Some b
 join (Some t) None = Some (Some t)
@@ -91,7 +95,7 @@ number_of u = cond (is_number u) (Some u) None
 abbrev pub chosen : Operand → Operand → Option Operand
 chosen b a = join b a >>= number_of
 
--- the operands can be taken for each of these labels, all of one length
+-- The operands can be popped for each of these labels, and each label has `n` types.
 abbrev pub all_pop : Stack → Bool → ℕ → List (List ValType) → Bool
 all_pop xs o n [] = true
 all_pop xs o n (l ∷ ls) = nat_eq (length l) n && is_some (pop_all xs o (reverse l)) && all_pop xs o n ls
@@ -112,7 +116,7 @@ abbrev pub test_top : Bool → Option (Operand × Stack) → Option (Stack × Bo
 test_top o None = None
 test_top o (Some p) = cond (is_reference p.0) (Some (Some I32 ∷ p.1, o)) None
 
--- what the checker keeps after an instruction, or none where it refuses it
+-- What the checker keeps after an instruction, or `None` if the instruction cannot follow.
 abbrev pub act : Effect → Stack → Bool → Option (Stack × Bool)
 act (Gives ps rs) xs o = option_map (λ ys. (operands rs ++ ys, o)) (pop_all xs o (reverse ps))
 act (Leaves ps) xs o = option_map (λ ys. ([], true)) (pop_all xs o (reverse ps))
@@ -125,7 +129,7 @@ abbrev pub answer_of : Option Effect → Stack → Bool → Option (Stack × Boo
 answer_of None xs o = None
 answer_of (Some e) xs o = act e xs o
 
--- the operands can be taken for this label, of n types
+-- The operands can be popped for this label, which has `n` types.
 abbrev pub allows_types : Stack → Bool → ℕ → Option (List ValType) → Bool
 allows_types xs o n None = false
 allows_types xs o n (Some t) = nat_eq (length t) n && is_some (pop_all xs o (reverse t))

@@ -1,5 +1,5 @@
--- When a body is well typed: there is a list of stacks, one before, between and after its instructions (WebAssembly Core 2.0,
--- sections 3.3.8 and 3.3.9).
+-- When a body is well typed: there is a list of stacks, one before, between and after its
+-- instructions (WebAssembly Core 2.0, sections 3.3.8 and 3.3.9).
 use Rattle.std.specs.Prelude.{◌≡◌, ℕ, ◌^◌, Bool, true, false, cond, ◌&&◌, nat_lt, nat_le, List, [], ◌∷◌, ◌++◌, map, reverse, Option, Some, None, slice_get, option_map}
 use Rattle.base_lists.specs.Options.{◌>>=◌}
 use Rattle.wasm_tree_spec.specs.Prelude.{RefType, ValType, I32, I64, Ref, FuncType, BlockType, Value, GlobalType, MemArg, Instr, Row_of-Instr, end_of-Instr, more_of-Instr, Unreachable, Nop, Block', Loop', If', Br, BrIf, BrTable, Return, Call, CallIndirect, Drop, Select, SelectTyped, LocalGet, LocalSet, LocalTee, GlobalGet, GlobalSet, TableGet, TableSet, Load, Store, MemorySize, MemoryGrow, I32Const, I64Const, Un, Bin, RefNull, RefIsNull, RefFunc, MemoryInit, DataDrop, MemoryCopy, MemoryFill, TableInit, ElemDrop, TableCopy, TableGrow, TableSize, TableFill, same_ref}
@@ -7,20 +7,21 @@ use Rattle.wasm_tree.specs.declared.types.RefType.TheVariants.{Func, Extern}
 use Rattle.wasm_tree.specs.declared.types.BlockType.TheVariants.{Empty, Index}
 use Rattle.wasm_valid_bodies.specs.Ops.{un_operand, un_result, bin_operand, bin_result, load_type, load_width, store_type, store_width}
 
--- the type of an operand; None is the bottom (section 3.3, the operand types of instruction types)
+-- The type of an operand; `None` is the bottom (section 3.3, the operand types of instruction
+-- types).
 abbrev pub Operand : Type 0
 Operand = Option ValType
 
--- the types of the operands, the topmost first
+-- The types of the operands, the topmost first.
 abbrev pub Stack : Type 0
 Stack = List Operand
 
--- the bottom matches every type
+-- The bottom matches every type.
 abbrev pub Matches : Operand → Operand → Type 0
 Matches None t = Unit {0}
 Matches (Some a) t = Some a ≡ t
 
--- one by one, and as many
+-- The lists have equal length and match position by position.
 abbrev pub AllMatch : Stack → List ValType → Type 0
 AllMatch [] [] = Unit {0}
 AllMatch [] (t ∷ ts) = ⊥
@@ -31,7 +32,7 @@ abbrev pub EachMatches : Stack → List (List ValType) → Type 0
 EachMatches xs [] = Unit {0}
 EachMatches xs (l ∷ ls) = AllMatch xs (reverse l) × EachMatches xs ls
 
--- a type is written with its topmost operand last
+-- The operands of these types. In a list of types the topmost is the last.
 abbrev pub operands : List ValType → Stack
 operands ts = map Some (reverse ts)
 
@@ -47,21 +48,22 @@ IsReference (Some I32) = ⊥
 IsReference (Some I64) = ⊥
 IsReference (Some (Ref r)) = Unit {0}
 
--- what an instruction does to the stack: its type (section 3.3)
+-- The type of an instruction: what it does to the stack (section 3.3).
 pub data Effect : Type 0 where
   -- [ps] to [rs]
   Gives : (ps rs : List ValType) → Effect
-  -- [ps] to any
+  -- [ps] to anything
   Leaves : (ps : List ValType) → Effect
   -- [t] to []
   Drops : Effect
-  -- [t t i32] to [t], t a number type
+  -- [t t i32] to [t], for a number type t
   Selects : Effect
-  -- [t] to [i32], t a reference type
+  -- [t] to [i32], for a reference type t
   TestsNull : Effect
-  -- [ps i32] to any, the operands matching each of these lists
+  -- [ps i32] to anything, for operands ps that match each of these lists
   Branches : (ls : List (List ValType)) → Effect
 
+-- An instruction of this type leads from the stack `s` to the stack `t`.
 abbrev pub Acts : Effect → Stack → Stack → Type 0
 Acts (Gives ps rs) s t =
     (args rest : Stack) × (s ≡ args ++ rest) × AllMatch args (reverse ps) × (t ≡ operands rs ++ rest)
@@ -77,10 +79,10 @@ pub record Signature : Type 0 where
   pub params : List ValType
   pub results : List ValType
 
--- what an instruction can name; the innermost label is the first (section 3.1.1)
+-- The context: what an instruction can name; the innermost label is the first (section 3.1.1).
 pub record Context : Type 0 where
   pub types : List FuncType
-  -- the type of each function, by its index
+  -- the type index of each function
   pub funcs : List ℕ
   pub tables : List RefType
   pub memories : ℕ
@@ -88,12 +90,13 @@ pub record Context : Type 0 where
   -- the types of the element segments
   pub elems : List RefType
   pub datas : ℕ
-  -- whether each function may be named by `ref.func`
+  -- for each function, whether `ref.func` may name it
   pub named : List Bool
   pub locals : List ValType
   pub results : List ValType
   pub labels : List (List ValType)
 
+-- The context with one more label.
 abbrev pub under : Context → List ValType → Context
 under c ts = record {
   types = c.types;
@@ -113,13 +116,13 @@ abbrev pub signature_in : Option FuncType → Option Signature
 signature_in None = None
 signature_in (Some f) = Some (record { params = f.params; results = f.results })
 
--- the type of a block, where the type that it names is there (section 3.2.2)
+-- The type of a block, if the type that it names exists (section 3.2.2).
 abbrev pub signature_of : List FuncType → BlockType → Option Signature
 signature_of types Empty = Some (record { params = []; results = [] })
 signature_of types (Value t) = Some (record { params = []; results = t ∷ [] })
 signature_of types (Index i) = signature_in (slice_get types i)
 
--- the types of these labels, where all are there
+-- The types of these labels, if all exist.
 abbrev pub labels_at : List (List ValType) → List ℕ → Option (List (List ValType))
 labels_at labels [] = Some []
 labels_at labels (l ∷ ls) =
@@ -128,7 +131,7 @@ labels_at labels (l ∷ ls) =
 abbrev pub gives_of : Option Signature → Option Effect
 gives_of = option_map (λ f. Gives f.params f.results)
 
--- two operands of the one type
+-- A typed `select` has exactly one type, that of both operands.
 abbrev pub select_of : List ValType → Option Effect
 select_of [] = None
 select_of (t ∷ []) = Some (Gives (t ∷ t ∷ I32 ∷ []) (t ∷ []))
@@ -138,7 +141,7 @@ abbrev pub is_func : RefType → Bool
 is_func Func = true
 is_func Extern = false
 
--- only where the test holds
+-- The value, if the test is true.
 abbrev pub only : {A : Type 0} → Bool → Option A → Option A
 only b m = cond b m None
 
@@ -147,14 +150,15 @@ both None b = false
 both (Some a) None = false
 both (Some a) (Some b) = same_ref a b
 
--- the memory is there, and the alignment is at most the width in bytes (section 3.3.7)
+-- The memory exists, and the alignment is at most the width in bytes (section 3.3.7).
 abbrev pub fits_memory : Context → ℕ → MemArg → Bool
 fits_memory c width m = nat_lt m.memory c.memories && nat_le (2 ^ m.align) width
 
 abbrev pub three : Effect
 three = Gives (I32 ∷ I32 ∷ I32 ∷ []) []
 
--- the type of each instruction that has no body, where what it names is there (sections 3.3.1, 3.3.2 and 3.3.4 to 3.3.8)
+-- The type of an instruction without a body, if what it names exists (sections 3.3.1, 3.3.2 and
+-- 3.3.4 to 3.3.8).
 abbrev pub effect_of : Context → Instr → Option Effect
 effect_of c Unreachable = Some (Leaves [])
 effect_of c Nop = Some (Gives [] [])
@@ -200,16 +204,17 @@ effect_of c (Block' bt n body) = None
 effect_of c (Loop' bt n body) = None
 effect_of c (If' bt n body m other) = None
 
--- a body leads from the operands ps to some that match rs
+-- A body leads from operands `ps` to operands that match `rs`.
 abbrev pub Ends : (Stack → Stack → Type 0) → List ValType → List ValType → Type 0
 Ends leads ps rs = (last : Stack) × leads (operands ps) last × AllMatch last (reverse rs)
 
--- what an instruction of this type does, if it has one
+-- The instruction type exists and leads from `s` to `t`.
 abbrev pub ActsAs : Option Effect → Stack → Stack → Type 0
 ActsAs m s t = (e : Effect) × (m ≡ Some e) × Acts e s t
 
 abbrev mutual
-  -- an instruction fits the stack before it and the stack after it; a block's body has one more label (section 3.3.8)
+  -- An instruction leads from the stack `s` to the stack `t`; the body of a block has one more
+  -- label (section 3.3.8).
   pub Fits : Context → Instr → Stack → Stack → Type 0
   Fits c (Block' bt n body) s t =
       (f : Signature) × (signature_of c.types bt ≡ Some f) × Ends (Leads (under c f.results) body) f.params f.results × Acts (Gives f.params f.results) s t
@@ -257,16 +262,16 @@ abbrev mutual
   Fits c (TableSize x) s t = ActsAs (effect_of c (TableSize x)) s t
   Fits c (TableFill x) s t = ActsAs (effect_of c (TableFill x)) s t
 
-  -- the same for the instructions of a block
+  -- The same for the instructions of a block.
   pub Leads : {n : _} → Context → Row_of-Instr n → Stack → Stack → Type 0
   Leads c end_of-Instr s t = s ≡ t
   Leads c (more_of-Instr i is) s t = (u : Stack) × Fits c i s u × Leads c is u t
 
--- there is a list of stacks from s to t, one between each two instructions
+-- There is a list of stacks from `s` to `t`, one between every two instructions.
 abbrev pub LeadsAll : Context → List Instr → Stack → Stack → Type 0
 LeadsAll c [] s t = s ≡ t
 LeadsAll c (i ∷ is) s t = (u : Stack) × Fits c i s u × LeadsAll c is u t
 
--- a body that takes the operands ps leaves operands that match rs (section 3.3.9)
+-- The body takes operands `ps` and leaves operands that match `rs` (section 3.3.9).
 abbrev pub WellTyped : Context → List Instr → List ValType → List ValType → Type 0
 WellTyped c is ps rs = Ends (LeadsAll c is) ps rs

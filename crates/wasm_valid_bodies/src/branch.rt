@@ -1,4 +1,4 @@
-// A branch to one of several labels (WebAssembly Core 2.0, section 3.3.8.8).
+// A branch to one of several labels (WebAssembly Core 2.0, section 3.3.8.8); see `plain`.
 
 ghost use Rattle.std.specs.Prelude.{◌≡◌, ◌∷◌, slice_get, slice_set, Some, true, IfOk, IsTrue, option_map};
 ghost use Rattle.wasm_valid_bodies.specs.Typing.{Branches, labels_at};
@@ -29,7 +29,7 @@ fn mark(seen: &mut Vec<bool>, place: u32)
 }
 
 impl Kept {
-    // Whether the operands fit a label of n types.
+    // Returns whether the operands match a label of `n` types.
     fn allows(&self, labels: &Labels<'_>, n: usize, label: u32) -> bool
         ensures { result ≡ allows_types (stack_of self.now) self.now.any_below n (slice_get (label_list labels.now) label) }
     {
@@ -39,7 +39,8 @@ impl Kept {
         }
     }
 
-    // Whether the operands fit each of these labels of n types. A label that stood before is not compared again.
+    // Returns whether the operands match each of these labels of `n` types. A label that occurred
+    // before is not compared again.
     fn allows_each(
         &self,
         alloc: Global,

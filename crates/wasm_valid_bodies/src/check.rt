@@ -15,7 +15,7 @@ use crate::scope::{Scope, Shape, shape_of};
 use std::alloc::{AllocError, Global};
 use wasm_tree::{Instr, ValType};
 
-// Whether an instruction can follow. Where it can, the operands become those after it.
+// Returns whether the instruction can follow. If it can, the operands become those after it.
 #[cycle(body)]
 fn step<'a>(
     alloc: Global,
@@ -67,8 +67,8 @@ fn step<'a>(
     }
 }
 
-// Whether a body under one more label takes the parameters of the shape and leaves its results. Where it does, the operands and the labels are
-// those that were there before.
+// Returns whether a body with one more label takes the parameters of the shape and leaves its
+// results. If so, the operands and labels are those from before the call.
 #[cycle(body)]
 fn is_well_typed<'a>(
     alloc: Global,
@@ -96,7 +96,7 @@ fn is_well_typed<'a>(
     Ok(ends)
 }
 
-/// The stacks of the checker: made once, and used again from body to body.
+/// The stacks of the checker. They are made once and reused from body to body.
 #[derive(Drop)]
 pub struct Stacks<'a> {
     labels: Labels<'a>,
@@ -104,7 +104,7 @@ pub struct Stacks<'a> {
 }
 
 impl<'a> Stacks<'a> {
-    /// Stacks with no label and no operand. Memory is taken only when bodies are checked.
+    /// Returns stacks without labels and operands. Only checking a body allocates.
     pub fn new(alloc: Global) -> Stacks<'a>
         ensures labels { label_list result.labels ≡ [] }
         ensures operands { stack_of result.kept ≡ [] }
@@ -116,8 +116,9 @@ impl<'a> Stacks<'a> {
     }
 }
 
-/// Whether the body of a function leaves exactly the function's results (WebAssembly Core 2.0, sections 3.3.9 and 3.4.1). The recursion is as
-/// deep as the blocks are nested. What the stacks hold before has no meaning. Its only error is want of memory.
+/// Returns whether the body of a function leaves exactly the results of the function (WebAssembly
+/// Core 2.0, sections 3.3.9 and 3.4.1). What the stacks contain before does not matter. The
+/// recursion is as deep as the blocks are nested. The only error is that memory runs out.
 pub fn is_well_typed_body<'a>(
     alloc: Global,
     scope: &Scope<'a>,

@@ -1,4 +1,4 @@
-// Branches and calls (WebAssembly Core 2.0, section 3.3.8).
+// Branches and calls (WebAssembly Core 2.0, section 3.3.8); see `plain`.
 
 ghost use Rattle.std.specs.Prelude.{[], IfOk};
 ghost use Rattle.wasm_tree.specs.declared.instr.Instr.TheVariants.{Br, BrIf, Call, CallIndirect};

@@ -6,14 +6,15 @@ ghost use Rattle.wasm_valid_bodies.specs.Labels.{label_list};
 use std::alloc::{AllocError, Global};
 use wasm_tree::ValType;
 
-/// The types that a branch to each open label takes, the innermost label last (WebAssembly Core 2.0, section 3.1.1).
+/// The types that a branch to each open label takes, the innermost label last (WebAssembly Core
+/// 2.0, section 3.1.1).
 #[derive(Drop)]
 pub struct Labels<'a> {
     open: Vec<&'a [ValType]>,
 }
 
 impl<'a> Labels<'a> {
-    /// No label is open. It takes no memory.
+    /// Returns `Labels` without an open label. The call allocates nothing.
     pub fn new(alloc: Global) -> Labels<'a>
         ensures { label_list result ≡ [] }
     {
@@ -22,7 +23,7 @@ impl<'a> Labels<'a> {
         }
     }
 
-    /// How many labels are open.
+    /// Returns the number of open labels.
     pub fn len(&self) -> usize
         ensures { result ≡ length (label_list self.now) }
     {
@@ -51,7 +52,7 @@ impl<'a> Labels<'a> {
         self.open.pop();
     }
 
-    /// The types of a label, counted from the innermost one on, if it is open.
+    /// Returns the types of a label, counted from the innermost, if it is open.
     pub fn types_at(&self, label: u32) -> Option<&'a [ValType]>
         ensures { option_map (λ ts. ts.now) result ≡ slice_get (label_list self.now) label }
     {

@@ -1,5 +1,5 @@
-//! When a function's body is well typed (WebAssembly Core 2.0, sections 3.3 and 3.4), as definitions apart from any algorithm, and a
-//! checker that is exact for them.
+//! When the body of a function is well typed (WebAssembly Core 2.0, sections 3.3 and 3.4), defined
+//! without an algorithm, and a checker that decides it.
 #![tactic(auto)]
 
 mod branch;

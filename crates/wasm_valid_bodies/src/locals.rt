@@ -1,4 +1,4 @@
-// The locals of a function, without writing each declared one out.
+// The locals of a function, without an entry in memory for each declared local.
 
 ghost use Rattle.std.specs.Prelude.{◌≡◌, ◌+◌, ◌<◌, ◌≤◌, ◌^◌, length, IfOk, slice_get};
 ghost use Rattle.wasm_tree.specs.Bounds.{declared_count};
@@ -7,18 +7,19 @@ ghost use Rattle.wasm_valid_bodies.specs.Groups.{locals_of, ends_of, IsAscending
 use std::alloc::{AllocError, Global};
 use wasm_tree::{LocalGroup, ValType};
 
-/// The parameters of a function and the groups of its declared locals (WebAssembly Core 2.0, section 3.4.1).
+/// The parameters of a function and the groups of its declared locals (WebAssembly Core 2.0,
+/// section 3.4.1).
 #[derive(Drop)]
 pub struct Locals<'a> {
     params: &'a [ValType],
     groups: &'a [LocalGroup],
-    /// For each group the number of locals up to its end, parameters counted.
+    /// For each group, the number of parameters and declared locals up to its end.
     ends: Vec<u32>,
     ghost ends_are: { ends.items ≡ ends_of (length params.now) groups.now },
 }
 
 impl<'a> Locals<'a> {
-    /// The locals of a function with these parameters and declared groups.
+    /// Returns the locals of a function with these parameters and declared groups, or `AllocError`.
     pub fn new(
         alloc: Global,
         params: &'a [ValType],
@@ -35,7 +36,7 @@ impl<'a> Locals<'a> {
         })
     }
 
-    // The type of a declared local, if it is there.
+    // Returns the type of a declared local, if it exists.
     fn declared_at(&self, local: u32) -> Option<ValType>
         requires { length self.now.params.now ≤ local }
         ensures { result ≡ slice_get (locals_of self.now.params.now self.now.groups.now) local }
@@ -48,7 +49,7 @@ impl<'a> Locals<'a> {
         }
     }
 
-    /// The type of a local, if it is there.
+    /// Returns the type of a local, if it exists.
     pub fn type_at(&self, local: u32) -> Option<ValType>
         ensures { result ≡ slice_get (locals_of self.now.params.now self.now.groups.now) local }
     {
@@ -59,7 +60,7 @@ impl<'a> Locals<'a> {
     }
 }
 
-// For each group the number of locals up to its end, where so many stand before the first.
+// Returns for each group the number of locals up to its end, with `before` locals before the first.
 fn group_ends(alloc: Global, before: usize, groups: &[LocalGroup]) -> Result<Vec<u32>, AllocError>
     requires { before + declared_count groups.now < 2 ^ 32 }
     ensures { IfOk result (λ ends. ends.items ≡ ends_of before groups.now) }
@@ -73,7 +74,7 @@ fn group_ends(alloc: Global, before: usize, groups: &[LocalGroup]) -> Result<Vec
     Ok(ends)
 }
 
-// The first place at which a number above the bound stands in an ascending list.
+// Returns the first position of a number above `bound` in an ascending list.
 fn first_above(ends: &[u32], bound: u32) -> usize
     requires { IsAscending ends.now }
     ensures { IsFirstAbove ends.now bound result }

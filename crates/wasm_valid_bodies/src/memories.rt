@@ -1,4 +1,4 @@
-// Memories and data segments (WebAssembly Core 2.0, section 3.3.7).
+// Memories and data segments (WebAssembly Core 2.0, section 3.3.7); see `plain`.
 
 ghost use Rattle.std.specs.Prelude.{◌≡◌, ◌≤◌, ◌^◌, nat_le, [], IfOk};
 ghost use Rattle.wasm_tree.specs.declared.instr.Instr.TheVariants.{Load, Store, MemorySize, MemoryGrow, MemoryFill, MemoryCopy, MemoryInit};
@@ -12,7 +12,7 @@ use crate::types::{load_type, load_width, store_type, store_width};
 use std::alloc::AllocError;
 use wasm_tree::{LoadOp, MemArg, StoreOp, ValType};
 
-// Whether 2 to the alignment is at most the width, which is at most 8.
+// Returns whether 2 to the power of the alignment is at most the width.
 fn is_aligned(align: u32, width: u32) -> bool
     requires { width ≤ 8 }
     ensures { result ≡ nat_le (2 ^ align) width }
@@ -26,7 +26,7 @@ fn is_aligned(align: u32, width: u32) -> bool
     }
 }
 
-// Whether the memory is there and the alignment is right for the width, which is at most 8.
+// Returns whether the memory exists and the alignment is allowed for the width.
 fn fits_memory(scope: &Scope<'_>, width: u32, arg: &MemArg) -> bool
     requires { width ≤ 8 }
     ensures { result ≡ fits_memory (context_of scope.now []) width arg.now }

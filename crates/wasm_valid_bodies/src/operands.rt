@@ -1,4 +1,4 @@
-// What is done with the operands that the checker keeps.
+// Changes of the operands that the checker keeps.
 
 ghost use Rattle.std.specs.Prelude.{◌≡◌, false, min, ◌↔◌, ◌≤◌, ◌++◌, ◌∷◌, [], ◌||◌, nat_le, length, drop, reverse, is_some, IfOk, OnOk, IsTrue, Some, None, option_map};
 ghost use Rattle.wasm_tree.specs.SameTypes.{same_ref, same_type, same_types};
@@ -19,7 +19,7 @@ fn is_same_ref(a: RefType, b: RefType) -> bool
     }
 }
 
-// The letter of a number type; one letter for all reference types.
+// Returns a code for each number type, and one code for all reference types.
 fn kind(ty: ValType) -> u8
     ensures { result ≡ min (letter ty) 2 }
 {
@@ -30,7 +30,7 @@ fn kind(ty: ValType) -> u8
     }
 }
 
-// The kinds are compared first, since that takes one step for all of them.
+// Compares the kinds first, because that takes one step for all of them.
 #[tactic(auto, using(crate::proofs::TypeKinds::other_kinds, crate::proofs::TypeKinds::same_kinds))]
 fn is_same(a: ValType, b: ValType) -> bool
     ensures { result ≡ same_type a b }
@@ -44,7 +44,7 @@ fn is_same(a: ValType, b: ValType) -> bool
     }
 }
 
-// Whether two lists of types, of one length, are the same.
+// Returns whether two lists of types of equal length are equal.
 fn are_same(left: &[ValType], right: &[ValType]) -> bool
     requires { length left.now ≡ length right.now }
     ensures { result ≡ same_types left.now right.now }
@@ -58,7 +58,7 @@ fn are_same(left: &[ValType], right: &[ValType]) -> bool
 }
 
 impl Kept {
-    /// No operands, in no block. Memory is taken only when operands are put on.
+    /// Returns a stack without operands and blocks. Only pushing operands allocates.
     pub fn new(alloc: Global) -> Kept
         ensures operands { stack_of result ≡ [] }
         ensures any_below { result.any_below ≡ false }
@@ -72,7 +72,7 @@ impl Kept {
         }
     }
 
-    /// Begins a block inside the others, on operands of these types.
+    /// Enters a block inside the others, with operands of these types.
     pub fn enter(&mut self, params: &[ValType]) -> Result<Outer, AllocError>
         ensures { IfOk result (λ outer. IsInside params.now self.old outer self.new) }
     {
@@ -88,7 +88,7 @@ impl Kept {
         Ok(outer)
     }
 
-    /// Ends the innermost block. What stood there before it stands there again.
+    /// Leaves the innermost block, and restores the operands from before it.
     pub fn leave(&mut self, outer: Outer)
         requires { outer.base ≤ length (beneath self.old) }
         ensures items { self.new.types.items ≡ beneath self.old }
@@ -102,7 +102,7 @@ impl Kept {
         self.any_below = outer.any_below;
     }
 
-    /// Takes off all operands of all open blocks, and what any of them had below.
+    /// Removes all operands of all open blocks, and what can be below them.
     pub fn clear(&mut self)
         ensures operands { stack_of self.new ≡ [] }
         ensures any_below { self.new.any_below ≡ false }
@@ -114,14 +114,14 @@ impl Kept {
         self.types.clear();
     }
 
-    // Whether so many operands of any types can be taken off below the known ones.
+    // Returns whether `count` operands of any types can be popped below the known ones.
     fn has_below(&self, count: usize) -> bool
         ensures { result ≡ (self.now.any_below || nat_le count (length (lowest self.now.bottom))) }
     {
         self.any_below || count == 0 || (self.bottom && count == 1)
     }
 
-    // Whether operands of these types can be taken off.
+    // Returns whether operands of these types can be popped.
     pub fn can_pop(&self, ts: &[ValType]) -> bool
         ensures { result ≡ is_some (pop_all (stack_of self.now) self.now.any_below (reverse ts.now)) }
     {
@@ -133,7 +133,7 @@ impl Kept {
         self.has_below(missing) && are_same(&self.types[self.base..], &ts[missing..])
     }
 
-    // Takes the topmost operands off.
+    // Pops the topmost `count` operands.
     fn take_off(&mut self, count: usize)
         ensures value { stack_of self.new ≡ drop count (stack_of self.old) }
         ensures any_below { self.new.any_below ≡ self.old.any_below }
@@ -159,7 +159,7 @@ impl Kept {
         true
     }
 
-    /// Whether exactly operands of these types stand there. It takes them off.
+    /// Pops operands of these types, and returns whether there were exactly these.
     pub fn ends(&mut self, ts: &[ValType]) -> bool
         ensures value { IsTrue result ↔ (pop_all (stack_of self.old) self.old.any_below (reverse ts.now) ≡ Some []) }
         ensures beneath { beneath self.new ≡ beneath self.old }
@@ -170,6 +170,7 @@ impl Kept {
         self.types.len() == self.base && !self.bottom
     }
 
+    // Pops an operand. `Some(None)` is a bottom, and `None` says that there is no operand.
     pub fn pop_one(&mut self) -> Option<Option<ValType>>
         ensures value { pop_one (stack_of self.old) self.old.any_below ≡ option_map (λ x. (x, stack_of self.new)) result }
         ensures bottom { result ≡ Some None → stack_of self.new ≡ [] }
@@ -207,7 +208,7 @@ impl Kept {
         Ok(())
     }
 
-    // Puts a bottom on where no operand stands.
+    // Pushes a bottom when there is no operand.
     fn push_bottom(&mut self)
         requires { stack_of self.old ≡ [] }
         ensures value { stack_of self.new ≡ None ∷ stack_of self.old }
@@ -226,7 +227,7 @@ impl Kept {
         Ok(())
     }
 
-    /// Puts one operand of this type on.
+    /// Pushes an operand of this type.
     pub fn puts(&mut self, ty: ValType) -> Result<bool, AllocError>
         ensures { IfOk result (λ ok. Answers (Some (Gives [] (ty ∷ []))) self.old self.new ok) }
     {
@@ -234,7 +235,7 @@ impl Kept {
         Ok(true)
     }
 
-    /// Takes one operand of this type off.
+    /// Pops an operand of this type.
     pub fn consumes(&mut self, ty: ValType) -> bool
         ensures { Answers (Some (Gives (ty ∷ []) [])) self.old self.new result }
     {
@@ -244,7 +245,7 @@ impl Kept {
         true
     }
 
-    /// Takes one operand of the type `from` off, and puts one of the type `to` on.
+    /// Pops an operand of type `from`, and pushes one of type `to`.
     pub fn turns(&mut self, from: ValType, to: ValType) -> Result<bool, AllocError>
         ensures { IfOk result (λ ok. Answers (Some (Gives (from ∷ []) (to ∷ []))) self.old self.new ok) }
     {
@@ -255,7 +256,7 @@ impl Kept {
         Ok(true)
     }
 
-    /// Takes two operands of the type `from` off, and puts one of the type `to` on.
+    /// Pops two operands of type `from`, and pushes one of type `to`.
     pub fn joins(&mut self, from: ValType, to: ValType) -> Result<bool, AllocError>
         ensures { IfOk result (λ ok. Answers (Some (Gives (from ∷ from ∷ []) (to ∷ []))) self.old self.new ok) }
     {
@@ -269,7 +270,7 @@ impl Kept {
         Ok(true)
     }
 
-    /// Takes operands of the types `params` off, and puts operands of the types `results` on.
+    /// Pops operands of types `params`, and pushes operands of types `results`.
     pub fn gives(&mut self, params: &[ValType], results: &[ValType]) -> Result<bool, AllocError>
         ensures { IfOk result (λ ok. Answers (Some (Gives params.now results.now)) self.old self.new ok) }
     {
@@ -280,7 +281,8 @@ impl Kept {
         Ok(true)
     }
 
-    /// Takes an operand of the type `top` off, then operands of the types `under`, and puts operands of the types `results` on.
+    /// Pops an operand of type `top` and then operands of types `under`, and pushes operands of
+    /// types `results`.
     pub fn gives_over(
         &mut self,
         under: &[ValType],
@@ -299,7 +301,7 @@ impl Kept {
         Ok(true)
     }
 
-    /// Where `holds`, takes operands of these types off and puts others on.
+    /// Does as `gives` if `holds`, and returns false otherwise.
     pub fn gives_where(
         &mut self,
         holds: bool,
@@ -315,7 +317,8 @@ impl Kept {
         }
     }
 
-    // Takes the operands of the innermost block off, as before code that is not reached: from here on operands of any types can be taken off.
+    // Pops all operands of the innermost block. The code that follows is unreachable and can pop
+    // operands of any types.
     pub fn forgets(&mut self)
         ensures value { stack_of self.new ≡ [] }
         ensures any_below { IsTrue self.new.any_below }
@@ -326,7 +329,8 @@ impl Kept {
         self.any_below = true;
     }
 
-    /// Takes operands of these types off, and then all others of the innermost block: the code that follows is not reached, and can take operands of any types off.
+    /// Pops operands of these types and then all others of the innermost block. The code that
+    /// follows is unreachable and can pop operands of any types.
     pub fn leaves(&mut self, ts: &[ValType]) -> bool
         ensures { Answers (Some (Leaves ts.now)) self.old self.new result }
     {
@@ -390,7 +394,7 @@ impl Kept {
     }
 }
 
-// What both operands of an untyped select can be.
+// Returns the operand that an untyped `select` leaves of these two, if it is allowed for them.
 fn choose(b: Option<ValType>, a: Option<ValType>) -> Option<Option<ValType>>
     ensures value { result ≡ chosen b a }
     ensures bottom { result ≡ Some None → a ≡ None }

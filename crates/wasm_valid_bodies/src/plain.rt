@@ -1,4 +1,4 @@
-// Instructions that have no body (WebAssembly Core 2.0, section 3.3).
+// Instructions without a body (WebAssembly Core 2.0, section 3.3).
 
 ghost use Rattle.std.specs.Prelude.{IfOk};
 ghost use Rattle.wasm_valid_bodies.specs.Typing.{effect_of};
@@ -23,7 +23,8 @@ use crate::variables::{
 use std::alloc::{AllocError, Global};
 use wasm_tree::{Instr, ValType};
 
-/// Whether an instruction that has no body can follow. Where it can, the operands become those after it.
+/// Returns whether an instruction without a body can follow. If it can, the operands become those
+/// after it. The functions that it calls for single instructions do the same.
 pub fn plain(
     alloc: Global,
     scope: &Scope<'_>,

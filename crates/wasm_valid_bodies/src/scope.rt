@@ -8,20 +8,20 @@ use crate::locals::Locals;
 use std::slice;
 use wasm_tree::{BlockType, FuncType, GlobalType, RefType, ValType};
 
-/// What a body can name, but its labels (WebAssembly Core 2.0, section 3.1.1).
+/// What a body can name, except its labels (WebAssembly Core 2.0, section 3.1.1).
 #[derive(Drop)]
 pub struct Scope<'a> {
     pub types: &'a [FuncType],
-    /// For each function, imported ones first, its place in the types.
+    /// The type index of each function, imported ones first.
     pub funcs: &'a [u32],
     /// The reference type of each table.
     pub tables: &'a [RefType],
-    /// How many memories there are.
+    /// The number of memories.
     pub memories: usize,
     pub globals: &'a [GlobalType],
     /// The reference type of each element segment.
     pub elems: &'a [RefType],
-    /// How many data segments there are.
+    /// The number of data segments.
     pub datas: usize,
     /// For each function, whether `ref.func` may name it in a body.
     pub named: &'a [bool],
@@ -30,14 +30,15 @@ pub struct Scope<'a> {
     pub results: &'a [ValType],
 }
 
-/// The operands that a block takes and leaves.
+/// The types of the operands that a block takes and leaves.
 #[derive(Clone, Copy)]
 pub struct Shape<'a> {
     pub params: &'a [ValType],
     pub results: &'a [ValType],
 }
 
-/// The shape of a block type, if the type that it names is there (WebAssembly Core 2.0, section 3.2.2).
+/// Returns the shape of a block type, if the type that it names exists (WebAssembly Core 2.0,
+/// section 3.2.2).
 pub fn shape_of<'a>(types: &'a [FuncType], block: &'a BlockType) -> Option<Shape<'a>>
     ensures { option_map signature result ≡ signature_of types.now block.now }
 {
@@ -61,7 +62,7 @@ pub fn shape_of<'a>(types: &'a [FuncType], block: &'a BlockType) -> Option<Shape
 }
 
 impl<'a> Scope<'a> {
-    /// The type of a function, if both are there.
+    /// Returns the type of a function, if both exist.
     pub fn type_of_func(&self, func: u32) -> Option<&'a FuncType>
         ensures { option_map (λ t. t.now) result ≡ option_and_then (λ i. slice_get self.now.types.now i) (slice_get self.now.funcs.now func) }
     {
@@ -69,14 +70,14 @@ impl<'a> Scope<'a> {
         self.types.get(ty as usize)
     }
 
-    /// Whether the memory is there.
+    /// Returns whether the memory exists.
     pub fn has_memory(&self, memory: u32) -> bool
         ensures { result ≡ nat_lt memory self.now.memories }
     {
         (memory as usize) < self.memories
     }
 
-    /// Whether the data segment is there.
+    /// Returns whether the data segment exists.
     pub fn has_data(&self, segment: u32) -> bool
         ensures { result ≡ nat_lt segment self.now.datas }
     {

@@ -1,4 +1,4 @@
-// Tables and element segments (WebAssembly Core 2.0, section 3.3.6).
+// Tables and element segments (WebAssembly Core 2.0, section 3.3.6); see `plain`.
 
 ghost use Rattle.std.specs.Prelude.{◌≡◌, [], option_copied, IfOk};
 ghost use Rattle.wasm_tree.specs.declared.instr.Instr.TheVariants.{TableGet, TableSet, TableSize, TableGrow, TableFill, TableCopy, TableInit, ElemDrop};
@@ -11,7 +11,7 @@ use crate::scope::Scope;
 use std::alloc::AllocError;
 use wasm_tree::{RefType, ValType};
 
-// Whether both are there and the same.
+// Returns whether both types exist and are equal.
 fn both(left: Option<&RefType>, right: Option<&RefType>) -> bool
     ensures { result ≡ both (option_copied left.entry) (option_copied right.entry) }
 {

@@ -1,4 +1,4 @@
-// The types of operators.
+// The types of the operations, loads and stores.
 
 ghost use Rattle.std.specs.Prelude.{◌≡◌};
 ghost use Rattle.wasm_valid_bodies.specs.Ops.{un_operand, un_result, bin_operand, bin_result, load_type, load_width, store_type, store_width};

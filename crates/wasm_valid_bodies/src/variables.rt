@@ -1,4 +1,5 @@
-// Locals, globals, references to functions and the typed `select` (WebAssembly Core 2.0, sections 3.3.2, 3.3.4 and 3.3.5).
+// Locals, globals, references to functions and the typed `select` (WebAssembly Core 2.0, sections
+// 3.3.2, 3.3.4 and 3.3.5); see `plain`.
 
 ghost use Rattle.std.specs.Prelude.{[], IfOk};
 ghost use Rattle.wasm_tree.specs.declared.instr.Instr.TheVariants.{SelectTyped, LocalGet, LocalSet, LocalTee, GlobalGet, GlobalSet, RefFunc};
@@ -66,7 +67,7 @@ pub fn global_get(scope: &Scope<'_>, kept: &mut Kept, global: u32) -> Result<boo
     }
 }
 
-/// `global.set`, of a mutable global alone.
+/// `global.set`, which needs a mutable global.
 pub fn global_set(scope: &Scope<'_>, kept: &mut Kept, global: u32) -> Result<bool, AllocError>
     ensures { IfOk result (λ ok. Answers (effect_of (context_of scope.now []) (GlobalSet global)) kept.old kept.new ok) }
 {
@@ -76,7 +77,7 @@ pub fn global_set(scope: &Scope<'_>, kept: &mut Kept, global: u32) -> Result<boo
     }
 }
 
-/// `ref.func`, of a function that the module names outside its bodies.
+/// `ref.func`, which needs a function that the module names outside its bodies.
 pub fn ref_func(scope: &Scope<'_>, kept: &mut Kept, func: u32) -> Result<bool, AllocError>
     ensures { IfOk result (λ ok. Answers (effect_of (context_of scope.now []) (RefFunc func)) kept.old kept.new ok) }
 {

@@ -1,4 +1,5 @@
--- What holds of a text with others before it (a buffer) and of a count that stops at the greatest u64 (a size).
+-- Laws of a text that is written in front of others (in a buffer), and of a count that stops at the
+-- greatest u64 (a size).
 use Rattle.std.proofs.Common.{◌≡◌, ap, ◌⊎◌, inl, inr, ℕ, ◌+◌, ◌-◌, ◌^◌, ◌<◌, ◌≤◌, List, ◌++◌, length, length-append, arith}
 use Rattle.std.proofs.lemmas.Bool.{cases_lt}
 use Rattle.wasm_write.specs.Sizes.{counted}
@@ -18,7 +19,7 @@ added s a b = omega (arith, length-append a b)
 pub not_less : (s : ℕ) (a : List ℕ) → s ≤ counted s (length a)
 not_less s a = omega arith
 
--- where it counts no further, all sizes are the same
+-- When the count has stopped, all sizes give the same count.
 pub told : (s : ℕ) (a : List ℕ) (f : ℕ → List ℕ) → counted (counted s (length a)) (length (f (counted s (length a) - s))) ≡ counted (counted s (length a)) (length (f (length a)))
 told s a f = by_room (cases_lt (s + length a) (2 ^ 64))
   where

@@ -7,7 +7,7 @@ use Rattle.wasm_write_proof.specs.Ranges.{MaxInRange, LimitsInRange, ConstInRang
 use Rattle.wasm_write_spec.specs.PlainValues.{func_type_text, import_text, table_text, limits_text, global_text, export_text, elem_text}
 use Rattle.wasm_write_spec.specs.Plain.{list_section, start_section}
 
--- the header, and the sections up to that of globals
+-- The header, and the sections up to that of globals.
 unfoldable pub text_up_to_globals : Module → List ℕ
 text_up_to_globals m = header
     ++ list_section 1 func_type_text m.types
@@ -17,14 +17,14 @@ text_up_to_globals m = header
     ++ list_section 5 limits_text m.mems
     ++ list_section 6 global_text m.globals
 
--- what stands before the data count and the code
+-- Everything before the data count section.
 unfoldable pub text_before_code : Module → List ℕ
 text_before_code m = text_up_to_globals m
     ++ list_section 7 export_text m.exports
     ++ start_section m.start
     ++ list_section 9 elem_text m.elems
 
--- what those hold is in range
+-- The numbers and names in these parts are in range.
 pub record UpToGlobalsInRange (m : Module) : Type 0 where
   pub imports : Every ImportInRange m.imports
   pub funcs : Every TypeInRange m.funcs

@@ -7,7 +7,8 @@ use std::alloc::Global;
 use std::marker::Model;
 use wasm_bytes::NoMemory;
 
-/// A file that is written, from its last byte to its first. Contracts see the bytes so far, in the file's order.
+/// A file that is written from its last byte to its first. Contracts see the bytes so far, in the
+/// order of the file.
 #[derive(Drop)]
 pub(crate) struct Buffer {
     backwards: Vec<u8>,
@@ -22,7 +23,7 @@ impl Model for Buffer {
 }
 
 impl Buffer {
-    /// No bytes. It takes no memory.
+    /// Returns a buffer without bytes. The call allocates nothing.
     pub(crate) fn new(alloc: Global) -> Buffer
         ensures { result ≡ [] }
     {
@@ -31,7 +32,7 @@ impl Buffer {
         }
     }
 
-    /// The bytes, out of it: each is moved once.
+    /// Returns the bytes in the order of the file. Each is moved once.
     pub(crate) fn into_bytes(self) -> Vec<u8>
         ensures { result.items ≡ self }
     {
@@ -41,7 +42,7 @@ impl Buffer {
     }
 }
 
-/// Puts the bytes from `from` on in the opposite order.
+/// Reverses the bytes from position `from` on.
 #[tactic(auto, using(crate::proofs::Backwards::turned))]
 fn turn_from(bytes: &mut [u8], from: usize)
     requires { from ≤ length bytes.old }

@@ -15,7 +15,8 @@ use crate::target::Target;
 use crate::types::ref_code;
 use wasm_tree::{BlockType, Instr, MemArg, ValType};
 
-/// Spells where a load or a store goes (WebAssembly Core 2.0, section 5.4.6). A memory other than memory 0 is named.
+/// Writes a memory argument (WebAssembly Core 2.0, section 5.4.6). The index of memory 0 is
+/// omitted.
 fn spell_mem_arg<T: Target>(target: &mut T, arg: &MemArg) -> Result<(), T::Refusal>
     ensures text { OnOk result (target.new ≡ T.preceded target.old (mem_arg_text arg.now)) }
     ensures align { IsU32 arg.now.align }
@@ -32,7 +33,7 @@ fn spell_mem_arg<T: Target>(target: &mut T, arg: &MemArg) -> Result<(), T::Refus
     }
 }
 
-/// Spells an opcode and an index.
+/// Writes an opcode and an index.
 #[inline]
 fn spell_index<T: Target>(target: &mut T, opcode: u8, index: u32) -> Result<(), T::Refusal>
     ensures text { OnOk result (target.new ≡ T.preceded target.old (opcode ∷ u32_text index)) }
@@ -42,7 +43,7 @@ fn spell_index<T: Target>(target: &mut T, opcode: u8, index: u32) -> Result<(), 
     target.byte(opcode)
 }
 
-/// Spells an opcode that `FC` begins, and an index.
+/// Writes `FC`, an opcode and an index.
 fn spell_prefixed<T: Target>(target: &mut T, opcode: u8, index: u32) -> Result<(), T::Refusal>
     ensures text { OnOk result (target.new ≡ T.preceded target.old (0xFC ∷ opcode ∷ u32_text index)) }
     ensures range { IsU32 index }
@@ -51,7 +52,7 @@ fn spell_prefixed<T: Target>(target: &mut T, opcode: u8, index: u32) -> Result<(
     target.byte(0xFC)
 }
 
-/// Spells an opcode that `FC` begins, and two indices.
+/// Writes `FC`, an opcode and two indices.
 fn spell_prefixed_pair<T: Target>(
     target: &mut T,
     opcode: u8,
@@ -66,7 +67,7 @@ fn spell_prefixed_pair<T: Target>(
     spell_prefixed(target, opcode, first)
 }
 
-/// Spells the opcode of a load or a store, and where it goes.
+/// Writes the opcode and the memory argument of a load or a store.
 fn spell_access<T: Target>(target: &mut T, opcode: u8, arg: &MemArg) -> Result<(), T::Refusal>
     ensures text { OnOk result (target.new ≡ T.preceded target.old (opcode ∷ mem_arg_text arg.now)) }
     ensures align { IsU32 arg.now.align }
@@ -77,7 +78,7 @@ fn spell_access<T: Target>(target: &mut T, opcode: u8, arg: &MemArg) -> Result<(
     target.byte(opcode)
 }
 
-/// Spells the opcode of a block, and its type.
+/// Writes the opcode and the type of a block.
 fn spell_opener<T: Target>(target: &mut T, opcode: u8, ty: &BlockType) -> Result<(), T::Refusal>
     ensures text { OnOk result (target.new ≡ T.preceded target.old (opcode ∷ block_type_text ty.now)) }
     ensures range { OnOk result (IsTrue (list_all small_operand (block_operands ty.now))) }
@@ -86,7 +87,7 @@ fn spell_opener<T: Target>(target: &mut T, opcode: u8, ty: &BlockType) -> Result
     target.byte(opcode)
 }
 
-/// Spells a branch to one of several labels.
+/// Writes a `br_table`.
 fn spell_branches<T: Target>(target: &mut T, labels: &[u32], other: u32) -> Result<(), T::Refusal>
     ensures text { OnOk result (target.new ≡ T.preceded target.old ((0x0E ∷ vector_text u32_text labels.now) ++ u32_text other)) }
     ensures labels { OnOk result (Every IsU32 labels.now) }
@@ -97,7 +98,7 @@ fn spell_branches<T: Target>(target: &mut T, labels: &[u32], other: u32) -> Resu
     target.byte(0x0E)
 }
 
-/// Spells a selection with its type.
+/// Writes a typed `select`.
 fn spell_typed<T: Target>(target: &mut T, types: &[ValType]) -> Result<(), T::Refusal>
     ensures { OnOk result (target.new ≡ T.preceded target.old (0x1C ∷ vector_text val_text types.now)) }
 {
@@ -105,7 +106,7 @@ fn spell_typed<T: Target>(target: &mut T, types: &[ValType]) -> Result<(), T::Re
     target.byte(0x1C)
 }
 
-/// Spells an instruction. Where it names a data segment, `uses` becomes true.
+/// Writes an instruction. `uses` becomes true if it names a data segment.
 #[tactic(auto, using(wasm_tree::proofs::DataUse::uses_block, wasm_tree::proofs::DataUse::uses_loop, wasm_tree::proofs::DataUse::uses_if))]
 #[cycle(spell)]
 fn spell_instr<T: Target>(target: &mut T, instr: &Instr, uses: &mut bool) -> Result<(), T::Refusal>
@@ -190,7 +191,7 @@ fn spell_instr<T: Target>(target: &mut T, instr: &Instr, uses: &mut bool) -> Res
     }
 }
 
-/// Spells instructions, one after another. Where one names a data segment, `uses` becomes true.
+/// Writes instructions, one after another. `uses` becomes true if one names a data segment.
 #[cycle(spell)]
 pub(crate) fn spell_instrs<T: Target>(
     target: &mut T,
@@ -207,7 +208,7 @@ pub(crate) fn spell_instrs<T: Target>(
     Ok(())
 }
 
-/// Spells what an `if` has besides its first list, if there is any.
+/// Writes the `else` of an `if` and its instructions, if there are any.
 #[cycle(spell)]
 fn spell_else<T: Target>(target: &mut T, other: &[Instr], uses: &mut bool) -> Result<(), T::Refusal>
     ensures text { OnOk result (target.new ≡ T.preceded target.old (else_text (map instr_text other.now))) }

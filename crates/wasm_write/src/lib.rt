@@ -1,4 +1,4 @@
-//! The writer: the canonical encoding of a module, and whether it fits a number of bytes.
+//! The writer: the canonical encoding of a module, and whether it fits into a number of bytes.
 #![tactic(auto)]
 
 ghost use Rattle.std.specs.Prelude.{◌≡◌, ◌≤◌, length, false, IfOk, IsTrue, ◌↔◌};
@@ -27,12 +27,14 @@ use wasm_bytes::NoMemory;
 use wasm_tree::Module;
 use wasm_write_proof::canonical_encoding_encodes;
 
-/// The canonical encoding of the module (WebAssembly Core 2.0, section 5.5.16): no empty and no custom section, each number in
-/// its shortest spelling, and a data count exactly where a body has `memory.init` or `data.drop`.
+/// Returns the canonical encoding of the module (WebAssembly Core 2.0, section 5.5.16), or
+/// `NoMemory`. It has no empty and no custom section, each number has its shortest encoding, and
+/// there is a data count exactly if a body has `memory.init` or `data.drop`.
 ///
-/// Where each vector and each encoded size is below 2^32, and no body names a memory but memory 0, it spells the module. Where besides the
-/// module's counts, its nesting and its locals are within the limits, so are the bytes: `read` gives the module back, where they are fewer
-/// than 2^32.
+/// If each vector and each encoded size is below 2^32, and no body names a memory except memory 0,
+/// the bytes encode the module. If also the counts, the nesting and the locals of the module are
+/// within the limits, so are the bytes. Then, if there are fewer than 2^32 bytes, `read` returns
+/// the module unless memory runs out.
 pub fn write(alloc: Global, module: &Module) -> Result<Vec<u8>, NoMemory>
     ensures plain { IfOk result (λ bytes. bytes.items ≡ plain «module».now) }
     ensures spells { IfOk result (λ bytes. IsTrue (memory_zero_funcs «module».now.funcs) → SmallSizes «module».now → Spells bytes.items «module».now false) }
@@ -44,7 +46,8 @@ pub fn write(alloc: Global, module: &Module) -> Result<Vec<u8>, NoMemory>
     Ok(file.into_bytes())
 }
 
-/// Whether the canonical encoding of the module has at most `most` bytes. It takes no memory.
+/// Returns whether the canonical encoding of the module has at most `most` bytes. The call
+/// allocates nothing.
 pub fn fits(module: &Module, most: u32) -> bool
     ensures { IsTrue result ↔ (length (plain «module».now) ≤ most) }
 {

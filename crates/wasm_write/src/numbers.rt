@@ -6,7 +6,8 @@ ghost use Rattle.wasm_write.specs.Sizes.{with_sign, is_negative};
 
 use crate::target::Target;
 
-/// Spells a number as short as can be, cut to so many bytes (WebAssembly Core 2.0, section 5.2.2).
+/// Writes the shortest encoding of an unsigned number, cut to `most` bytes (WebAssembly Core 2.0,
+/// section 5.2.2).
 #[tactic(auto, unfolding(wasm_bytes::specs::Writing::unsigned_text))]
 fn spell_unsigned<T: Target>(target: &mut T, most: u32, value: u64) -> Result<(), T::Refusal>
     ensures { OnOk result (target.new ≡ T.preceded target.old (unsigned_text most value)) }
@@ -21,7 +22,7 @@ fn spell_unsigned<T: Target>(target: &mut T, most: u32, value: u64) -> Result<()
     }
 }
 
-/// Spells a length, which may be as great as memory.
+/// Writes an unsigned number that can be above the greatest u32, as a length can.
 pub(crate) fn spell_number<T: Target>(target: &mut T, value: u64) -> Result<(), T::Refusal>
     ensures { OnOk result (target.new ≡ T.preceded target.old (u32_text value)) }
 {
@@ -35,7 +36,7 @@ pub(crate) fn spell_u32<T: Target>(target: &mut T, value: u32) -> Result<(), T::
     spell_unsigned(target, 5, u64::from(value))
 }
 
-/// The low seven bits of a number with a sign.
+/// Returns the low seven bits of a signed number.
 fn low_bits(negative: bool, magnitude: u64) -> u8
     ensures value { result ≡ low (with_sign negative magnitude) }
     ensures small { result < 128 }
@@ -44,7 +45,7 @@ fn low_bits(negative: bool, magnitude: u64) -> u8
     if negative { 127 - bits } else { bits }
 }
 
-/// Spells a number with a sign as short as can be, cut to so many bytes.
+/// Writes the shortest encoding of a signed number, cut to `most` bytes.
 #[tactic(auto, unfolding(wasm_bytes::specs::Writing::signed_text))]
 fn spell_signed<T: Target>(
     target: &mut T,
@@ -70,7 +71,7 @@ fn is_negative(value: i64) -> bool
     value < 0
 }
 
-/// How far a number is from 0, or below -1.
+/// Returns how far a number is from 0 or, if it is negative, below -1.
 fn magnitude_of(value: i64) -> u64
     ensures { value ≡ with_sign (is_negative value) result }
 {

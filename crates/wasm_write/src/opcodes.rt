@@ -4,7 +4,7 @@ ghost use Rattle.wasm_write_spec.specs.PlainCode.{un_code, bin_code, load_code, 
 use wasm_num::{BinOp, UnOp};
 use wasm_tree::{LoadOp, StoreOp};
 
-/// The opcode of an operation on one number (WebAssembly Core 2.0, section 5.4.7).
+/// Returns the opcode of a unary operation (WebAssembly Core 2.0, section 5.4.7).
 #[tactic(auto, unfolding(wasm_write_spec::specs::PlainCode::un_code))]
 pub(crate) fn un_code(op: UnOp) -> u8
     ensures { result ≡ un_code op }
@@ -29,7 +29,7 @@ pub(crate) fn un_code(op: UnOp) -> u8
     }
 }
 
-/// The opcode of an operation on two numbers (WebAssembly Core 2.0, section 5.4.7).
+/// Returns the opcode of a binary operation (WebAssembly Core 2.0, section 5.4.7).
 #[tactic(auto, unfolding(wasm_write_spec::specs::PlainCode::bin_code))]
 pub(crate) fn bin_code(op: BinOp) -> u8
     ensures { result ≡ bin_code op }
@@ -88,7 +88,7 @@ pub(crate) fn bin_code(op: BinOp) -> u8
     }
 }
 
-/// The opcode of a load (WebAssembly Core 2.0, section 5.4.6).
+/// Returns the opcode of a load (WebAssembly Core 2.0, section 5.4.6).
 #[tactic(auto, unfolding(wasm_write_spec::specs::PlainCode::load_code))]
 pub(crate) fn load_code(op: LoadOp) -> u8
     ensures { result ≡ load_code op }
@@ -109,7 +109,7 @@ pub(crate) fn load_code(op: LoadOp) -> u8
     }
 }
 
-/// The opcode of a store (WebAssembly Core 2.0, section 5.4.6).
+/// Returns the opcode of a store (WebAssembly Core 2.0, section 5.4.6).
 #[tactic(auto, unfolding(wasm_write_spec::specs::PlainCode::store_code))]
 pub(crate) fn store_code(op: StoreOp) -> u8
     ensures { result ≡ store_code op }

@@ -6,20 +6,21 @@ ghost use Rattle.wasm_write_spec.specs.PlainValues.{each_text, vector_text};
 use crate::numbers::spell_number;
 use crate::target::Target;
 
-/// A value with a canonical encoding. Whoever spells it has each of its numbers and names in hand, and so knows that they are in range.
+/// A value with a canonical encoding. The function that writes it has each number and name as a
+/// value of the program, whose type shows that it is in range.
 pub(crate) trait Plain {
     ghost text: { Self → List ℕ };
 
     // each number in it is in the range of its type, and each name in it is UTF-8
     ghost is_in_range: { Self → Type 0 };
 
-    /// Spells it.
+    /// Writes its canonical encoding.
     fn spell<T: Target>(&self, target: &mut T) -> Result<(), T::Refusal>
         ensures text { OnOk result (target.new ≡ T.preceded target.old (Self.text self.now)) }
         ensures range { OnOk result (Self.is_in_range self.now) };
 }
 
-/// Spells a length and as many bytes.
+/// Writes a length and as many bytes.
 pub(crate) fn spell_sized<T: Target>(target: &mut T, content: &[u8]) -> Result<(), T::Refusal>
     ensures { OnOk result (target.new ≡ T.preceded target.old (sized_text content.now)) }
 {
@@ -27,7 +28,7 @@ pub(crate) fn spell_sized<T: Target>(target: &mut T, content: &[u8]) -> Result<(
     spell_number(target, content.len() as u64)
 }
 
-/// Spells items, one after another.
+/// Writes items, one after another.
 fn spell_each<T: Target, P: Plain>(target: &mut T, items: &[P]) -> Result<(), T::Refusal>
     ensures text { OnOk result (target.new ≡ T.preceded target.old (each_text P.text items.now)) }
     ensures range { OnOk result (Every P.is_in_range items.now) }
@@ -38,7 +39,7 @@ fn spell_each<T: Target, P: Plain>(target: &mut T, items: &[P]) -> Result<(), T:
     Ok(())
 }
 
-/// Spells how many items there are, and the items.
+/// Writes how many items there are, and the items.
 pub(crate) fn spell_vector<T: Target, P: Plain>(
     target: &mut T,
     items: &[P],
@@ -50,7 +51,7 @@ pub(crate) fn spell_vector<T: Target, P: Plain>(
     spell_number(target, items.len() as u64)
 }
 
-/// Spells the size of what was spelled after the first `from` bytes.
+/// Writes the size of what was written after the first `from` bytes.
 pub(crate) fn spell_size<T: Target>(target: &mut T, from: u64) -> Result<(), T::Refusal>
     requires { from ≤ T.place target.old }
     ensures { OnOk result ((before : T) (content : List ℕ) → from ≡ T.place before → target.old ≡ T.preceded before content → target.new ≡ T.preceded before (sized_text content)) }

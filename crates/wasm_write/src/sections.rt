@@ -29,7 +29,8 @@ impl Plain for LocalGroup {
     }
 }
 
-/// Spells what is inside a code entry (WebAssembly Core 2.0, section 5.5.13). Where the body names a data segment, `uses` becomes true.
+/// Writes the content of a code entry (WebAssembly Core 2.0, section 5.5.13). `uses` becomes true
+/// if the body names a data segment.
 fn spell_code<T: Target>(target: &mut T, func: &Func, uses: &mut bool) -> Result<(), T::Refusal>
     ensures text { OnOk result (target.new ≡ T.preceded target.old (code_text func.now)) }
     ensures uses { OnOk result (uses.new ≡ (uses_data func.now.body || uses.old)) }
@@ -40,7 +41,7 @@ fn spell_code<T: Target>(target: &mut T, func: &Func, uses: &mut bool) -> Result
     spell_vector(target, func.locals.as_slice())
 }
 
-/// Spells a code entry. Where the body names a data segment, `uses` becomes true.
+/// Writes a code entry. `uses` becomes true if the body names a data segment.
 #[tactic(auto, unfolding(wasm_write_spec::specs::PlainCode::entry_text))]
 fn spell_entry<T: Target>(target: &mut T, func: &Func, uses: &mut bool) -> Result<(), T::Refusal>
     ensures text { OnOk result (target.new ≡ T.preceded target.old (entry_text func.now)) }
@@ -52,7 +53,7 @@ fn spell_entry<T: Target>(target: &mut T, func: &Func, uses: &mut bool) -> Resul
     spell_size(target, from)
 }
 
-/// Spells code entries, one after another. Where a body names a data segment, `uses` becomes true.
+/// Writes code entries, one after another. `uses` becomes true if a body names a data segment.
 fn spell_entries<T: Target>(
     target: &mut T,
     funcs: &[Func],
@@ -68,7 +69,7 @@ fn spell_entries<T: Target>(
     Ok(())
 }
 
-/// Spells the types of functions, one after another.
+/// Writes the type indices of functions, one after another.
 fn spell_func_types<T: Target>(target: &mut T, funcs: &[Func]) -> Result<(), T::Refusal>
     ensures text { OnOk result (target.new ≡ T.preceded target.old (each_text (λ f. u32_text f.ty) funcs.now)) }
     ensures range { OnOk result (Every TypeInRange funcs.now) }
@@ -79,7 +80,8 @@ fn spell_func_types<T: Target>(target: &mut T, funcs: &[Func]) -> Result<(), T::
     Ok(())
 }
 
-/// Spells the size of a section's content, which was spelled after the first `from` bytes, and the section's id.
+/// Writes the size of the content of a section, which was written after the first `from` bytes, and
+/// the id of the section.
 fn spell_section<T: Target>(target: &mut T, id: u8, from: u64) -> Result<(), T::Refusal>
     requires { from ≤ T.place target.old }
     ensures { OnOk result ((before : T) (content : List ℕ) → from ≡ T.place before → target.old ≡ T.preceded before content → target.new ≡ T.preceded before (section_text id content)) }
@@ -88,7 +90,7 @@ fn spell_section<T: Target>(target: &mut T, id: u8, from: u64) -> Result<(), T::
     target.byte(id)
 }
 
-/// Spells a section of items, if there are any.
+/// Writes a section of items, if there are any.
 fn spell_list<T: Target, P: Plain>(target: &mut T, id: u8, items: &[P]) -> Result<(), T::Refusal>
     ensures text { OnOk result (target.new ≡ T.preceded target.old (list_section id P.text items.now)) }
     ensures range { OnOk result (Every P.is_in_range items.now) }
@@ -101,7 +103,7 @@ fn spell_list<T: Target, P: Plain>(target: &mut T, id: u8, items: &[P]) -> Resul
     spell_section(target, id, from)
 }
 
-/// Spells the function section, if there are functions.
+/// Writes the function section, if there are functions.
 fn spell_func_section<T: Target>(target: &mut T, funcs: &[Func]) -> Result<(), T::Refusal>
     ensures text { OnOk result (target.new ≡ T.preceded target.old (list_section 3 (λ f. u32_text f.ty) funcs.now)) }
     ensures range { OnOk result (Every TypeInRange funcs.now) }
@@ -115,7 +117,8 @@ fn spell_func_section<T: Target>(target: &mut T, funcs: &[Func]) -> Result<(), T
     spell_section(target, 3, from)
 }
 
-/// Spells the code section, if there are functions. Where a body names a data segment, `uses` becomes true.
+/// Writes the code section, if there are functions. `uses` becomes true if a body names a data
+/// segment.
 fn spell_code_section<T: Target>(
     target: &mut T,
     funcs: &[Func],
@@ -134,7 +137,7 @@ fn spell_code_section<T: Target>(
     spell_section(target, 10, from)
 }
 
-/// Spells a section of one number.
+/// Writes a section that is one number.
 fn spell_one<T: Target>(target: &mut T, id: u8, value: u64) -> Result<(), T::Refusal>
     ensures { OnOk result (target.new ≡ T.preceded target.old (section_text id (u32_text value))) }
 {
@@ -143,7 +146,7 @@ fn spell_one<T: Target>(target: &mut T, id: u8, value: u64) -> Result<(), T::Ref
     spell_section(target, id, from)
 }
 
-/// Spells the start section, if there is a start.
+/// Writes the start section, if there is a start.
 fn spell_start<T: Target>(target: &mut T, start: Option<u32>) -> Result<(), T::Refusal>
     ensures text { OnOk result (target.new ≡ T.preceded target.old (start_section start)) }
     ensures range { OnOk result (MaxInRange start) }
@@ -154,7 +157,7 @@ fn spell_start<T: Target>(target: &mut T, start: Option<u32>) -> Result<(), T::R
     }
 }
 
-/// Spells the data count section, if bodies name data segments.
+/// Writes the data count section, if bodies name data segments.
 fn spell_count<T: Target>(target: &mut T, count: usize, uses: bool) -> Result<(), T::Refusal>
     ensures { OnOk result (target.new ≡ T.preceded target.old (if uses then section_text 12 (u32_text count) else [])) }
 {
@@ -165,7 +168,7 @@ fn spell_count<T: Target>(target: &mut T, count: usize, uses: bool) -> Result<()
     }
 }
 
-/// Spells the data count section and the code section.
+/// Writes the data count section and the code section.
 fn spell_count_and_code<T: Target>(target: &mut T, module: &Module) -> Result<(), T::Refusal>
     ensures text { OnOk result (target.new ≡ T.preceded target.old (count_section «module».now ++ list_section 10 entry_text «module».now.funcs)) }
     ensures range { OnOk result (Every CodeInRange «module».now.funcs) }
@@ -175,7 +178,7 @@ fn spell_count_and_code<T: Target>(target: &mut T, module: &Module) -> Result<()
     spell_count(target, module.datas.len(), uses)
 }
 
-/// Spells the header, and the sections up to that of globals.
+/// Writes the header and the sections up to that of globals.
 #[tactic(auto, unfolding(crate::specs::Parts::text_up_to_globals))]
 fn spell_up_to_globals<T: Target>(target: &mut T, module: &Module) -> Result<(), T::Refusal>
     ensures text { OnOk result (target.new ≡ T.preceded target.old (text_up_to_globals «module».now)) }
@@ -190,7 +193,7 @@ fn spell_up_to_globals<T: Target>(target: &mut T, module: &Module) -> Result<(),
     target.bytes(&HEADER)
 }
 
-/// Spells what stands before the data count and the code.
+/// Writes everything before the data count section.
 #[tactic(auto, unfolding(crate::specs::Parts::text_before_code))]
 fn spell_before_code<T: Target>(target: &mut T, module: &Module) -> Result<(), T::Refusal>
     ensures text { OnOk result (target.new ≡ T.preceded target.old (text_before_code «module».now)) }
@@ -202,7 +205,7 @@ fn spell_before_code<T: Target>(target: &mut T, module: &Module) -> Result<(), T
     spell_up_to_globals(target, module)
 }
 
-/// Spells a module.
+/// Writes a module.
 #[tactic(auto, using(crate::proofs::Parts::plain_parts))]
 pub(crate) fn spell_module<T: Target>(target: &mut T, module: &Module) -> Result<(), T::Refusal>
     ensures text { OnOk result (target.new ≡ T.preceded target.old (plain «module».now)) }

@@ -10,7 +10,7 @@ use crate::target::Target;
 use crate::types::ref_code;
 use wasm_tree::{ConstExpr, DataMode, DataSeg, ElemMode, ElemSeg, RefType};
 
-/// Whether an item is `ref.func`.
+/// Returns whether the item is `ref.func`.
 #[tactic(auto, unfolding(wasm_write_spec::specs::PlainValues::is_func))]
 fn is_func(item: ConstExpr) -> bool
     ensures { result ≡ is_func item }
@@ -24,7 +24,7 @@ fn is_func(item: ConstExpr) -> bool
     }
 }
 
-/// The function of an item that is `ref.func`.
+/// Returns the function of an item that is `ref.func`, and 0 for other items.
 #[tactic(auto, unfolding(wasm_write_spec::specs::PlainValues::func_of))]
 fn func_of(item: ConstExpr) -> u32
     ensures func { result ≡ func_of item }
@@ -49,7 +49,7 @@ fn is_funcref(ty: RefType) -> bool
     }
 }
 
-/// Whether each item is `ref.func`.
+/// Returns whether each item is `ref.func`.
 fn all_funcs(items: &[ConstExpr]) -> bool
     ensures { result ≡ all_funcs items.now }
 {
@@ -61,14 +61,14 @@ fn all_funcs(items: &[ConstExpr]) -> bool
     true
 }
 
-/// Whether the items are written as function indices.
+/// Returns whether the items are written as function indices.
 fn by_index(segment: &ElemSeg) -> bool
     ensures { result ≡ by_index segment.now }
 {
     is_funcref(segment.ty) && all_funcs(segment.items.as_slice())
 }
 
-/// Spells the functions of items that are all `ref.func`.
+/// Writes the functions of items that are all `ref.func`.
 fn spell_funcs<T: Target>(target: &mut T, items: &[ConstExpr]) -> Result<(), T::Refusal>
     ensures text { OnOk result (target.new ≡ T.preceded target.old (each_text (λ c. u32_text (func_of c)) items.now)) }
     ensures range { OnOk result (Every ConstInRange items.now) }
@@ -96,7 +96,7 @@ fn spell_const_items<T: Target>(target: &mut T, items: &[ConstExpr]) -> Result<(
     spell_vector(target, items)
 }
 
-/// Spells a segment whose items are all `ref.func`, as function indices.
+/// Writes a segment whose items are all `ref.func`, as function indices.
 fn spell_by_index<T: Target>(
     target: &mut T,
     mode: ElemMode,
@@ -133,7 +133,7 @@ fn spell_by_index<T: Target>(
     }
 }
 
-/// Spells a segment with its items as constant expressions.
+/// Writes a segment with its items as constant expressions.
 fn spell_by_const<T: Target>(
     target: &mut T,
     mode: ElemMode,

@@ -6,7 +6,7 @@ use crate::target::Target;
 use std::convert::Infallible;
 use std::marker::Model;
 
-/// How many bytes a spelling has. The count stops at the greatest u64.
+/// A count of the bytes of an encoding. It stops at the greatest u64.
 #[derive(Drop)]
 pub(crate) struct Size {
     bytes: u64,
@@ -33,7 +33,7 @@ impl Size {
         self.bytes
     }
 
-    /// Counts so many bytes more.
+    /// Counts `more` bytes more.
     fn count(&mut self, more: u64) -> Result<(), Infallible>
         ensures { OnOk result (self.new ≡ counted self.old more) }
     {

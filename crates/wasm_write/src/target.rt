@@ -1,27 +1,29 @@
 ghost use Rattle.std.specs.Prelude.{◌≡◌, ℕ, List, [], ◌∷◌, ◌++◌, ◌-◌, ◌≤◌, length, OnOk};
 
-/// What a canonical encoding is spelled to: a file, or a count of its bytes. The code that spells is the same for both.
+/// What a canonical encoding is written to: a file, or a count of its bytes. The code that writes
+/// is the same for both.
 ///
-/// It is spelled from its end to its start. So a content is spelled when its size is, which stands before it, and no byte has to make room.
+/// The encoding is written from its end to its start. So a content is written before its size,
+/// which precedes it in the file, and no byte has to be moved to make room for the size.
 pub(crate) trait Target {
-    /// Why it takes no more.
+    /// Why no more can be written.
     type Refusal;
 
-    // what it is once this text too is spelled, before what was spelled
+    // the target after this text is written too, in front of what was written
     ghost preceded: { Self → List ℕ → Self };
 
-    // how many bytes were spelled
+    // how many bytes were written
     ghost place: { Self → ℕ };
 
-    /// Spells a byte.
+    /// Writes a byte.
     fn byte(&mut self, value: u8) -> Result<(), Self::Refusal>
         ensures { OnOk result (self.new ≡ preceded self.old (value ∷ [])) };
 
-    /// Spells bytes.
+    /// Writes bytes.
     fn bytes(&mut self, more: &[u8]) -> Result<(), Self::Refusal>
         ensures { OnOk result (self.new ≡ preceded self.old more.now) };
 
-    /// How many bytes were spelled.
+    /// Returns how many bytes were written.
     fn place(&self) -> u64
         ensures { result ≡ place self.now };
 
@@ -31,6 +33,7 @@ pub(crate) trait Target {
 
     ghost farther: { (t : Self) (a : List ℕ) → place t ≤ place (preceded t a) };
 
-    // it has come farther by the length of what is spelled; a count that stops makes no difference to what is spelled next
+    // the place moves by the length of what is written; when a count has reached its maximum, what
+    // is written next makes no difference
     ghost told: { (t : Self) (a : List ℕ) (f : ℕ → List ℕ) → preceded (preceded t a) (f (place (preceded t a) - place t)) ≡ preceded (preceded t a) (f (length a)) };
 }

@@ -14,7 +14,7 @@ use wasm_tree::{
     Limits, RefType, TableType, ValType,
 };
 
-/// The code of a reference type (WebAssembly Core 2.0, section 5.3.3).
+/// Returns the code of a reference type (WebAssembly Core 2.0, section 5.3.3).
 #[tactic(auto, unfolding(wasm_write_spec::specs::PlainValues::ref_code))]
 pub(crate) fn ref_code(ty: RefType) -> u8
     ensures { result ≡ ref_code ty }
@@ -25,7 +25,7 @@ pub(crate) fn ref_code(ty: RefType) -> u8
     }
 }
 
-/// The code of a value type (WebAssembly Core 2.0, section 5.3.4).
+/// Returns the code of a value type (WebAssembly Core 2.0, section 5.3.4).
 #[tactic(auto, unfolding(wasm_write_spec::specs::PlainValues::val_code))]
 fn val_code(ty: ValType) -> u8
     ensures { result ≡ val_code ty }

@@ -1,5 +1,5 @@
--- What is so of each tree that a program holds, for its numbers have types and its names are text: each number is in the range
--- of its type, and each name is UTF-8.
+-- What holds of each tree that a program has, because its numbers have types and its names are
+-- text: each number is in the range of its type, and each name is UTF-8.
 use Rattle.std.specs.Prelude.{ℕ, ◌^◌, ◌<◌, List, Bool, true, ◌&&◌, if◌then◌else◌, nat_lt, nat_eq, Option, Some, None, ℤ, pos, negsuc, IsTrue, IsUtf8}
 use Rattle.std.specs.List.{list_all}
 use Rattle.wasm_bytes.specs.Prelude.{IsWithin}
@@ -12,7 +12,7 @@ use Rattle.wasm_tree.specs.declared.module.ElemMode.TheVariants as elem
 use Rattle.wasm_tree.specs.declared.module.DataMode.TheVariants as segment
 use Rattle.base_lists.specs.Every.{Every}
 
--- ---- bodies, by tests
+-- ---- bodies, as tests
 
 abbrev pub small : ℕ → Bool
 small n = nat_lt n (2 ^ 32)
@@ -21,10 +21,12 @@ abbrev pub small_signed : ℕ → ℤ → Bool
 small_signed bits (pos n) = nat_lt n (2 ^ bits)
 small_signed bits (negsuc n) = nat_lt n (2 ^ bits)
 
+-- Whether the index of the operand is below 2^32.
 abbrev pub small_operand : Operand → Bool
 small_operand o = small o.index
 
--- the numbers of a layer that are no operands: labels, locals, constants, alignments and offsets
+-- Whether the numbers of a layer that are no operands are in range: labels, locals, constants,
+-- alignments and offsets.
 abbrev pub small_numbers : {X : Type 0} → Instr-F X → Bool
 small_numbers Instr-F.Unreachable = true
 small_numbers Instr-F.Nop = true
@@ -72,6 +74,7 @@ small_numbers (Instr-F.TableFill table) = true
 abbrev pub number_step : Instr-F Bool → Bool
 number_step layer = small_numbers layer && list_all (λ b. b) (held layer)
 
+-- Whether the numbers of the instruction that are no operands are in range.
 abbrev pub numbers_in : Instr → Bool
 numbers_in = fold-Instr Bool number_step
 
@@ -84,7 +87,8 @@ in_range i = operands_pass small_operand i && numbers_in i
 abbrev pub all_in_range : List Instr → Bool
 all_in_range is = all_operands_pass small_operand is && all_numbers_in is
 
--- an operand that is spelled where a module has at most one memory: memory 0, or an index below 2^32 in another space
+-- Whether the operand can be encoded in a module with at most one memory: it is memory 0, or an
+-- index below 2^32 in another index space.
 abbrev pub spelled_operand : Operand → Bool
 spelled_operand o = if same_space o.space Memories then nat_eq o.index 0 else small o.index
 
@@ -94,7 +98,7 @@ spellable i = operands_pass spelled_operand i && numbers_in i
 abbrev pub all_spellable : List Instr → Bool
 all_spellable is = all_operands_pass spelled_operand is && all_numbers_in is
 
--- ---- what the sections hold
+-- ---- the contents of sections
 
 abbrev pub IsU32 : ℕ → Type 0
 IsU32 n = n < 2 ^ 32
@@ -152,6 +156,7 @@ CodeInRange f = Every (λ (g : LocalGroup). IsU32 g.count) f.locals × IsTrue (a
 abbrev pub FuncInRange : Func → Type 0
 FuncInRange f = TypeInRange f × CodeInRange f
 
+-- Each number of the module is in the range of its type, and each name is UTF-8.
 pub record InRange (m : Module) : Type 0 where
   pub imports : Every ImportInRange m.imports
   pub funcs : Every FuncInRange m.funcs

@@ -1,4 +1,5 @@
--- Each vector of a module and each size that its canonical encoding writes is below 2^32 (Core 2.0, 5.1.3 and 5.5.2).
+-- Each vector of a module and each size in its canonical encoding is below 2^32 (Core 2.0, 5.1.3
+-- and 5.5.2).
 use Rattle.std.specs.Prelude.{ℕ, ◌^◌, ◌<◌, List, length, Bool, true, ◌&&◌, IsTrue}
 use Rattle.std.specs.List.{list_all}
 use Rattle.wasm_tree_spec.specs.Prelude.{FuncType, Instr, fold-Instr, Import, Export, ElemSeg, DataSeg, Func, Module}
@@ -12,7 +13,7 @@ use Rattle.wasm_write_proof.specs.Ranges.{small}
 abbrev pub IsShort : {A : Type 0} → List A → Type 0
 IsShort xs = length xs < 2 ^ 32
 
--- the labels of each br_table and the types of each typed select are fewer than 2^32
+-- Each br_table has fewer than 2^32 labels, and each typed select fewer than 2^32 types.
 abbrev pub lists_step : Instr-F Bool → Bool
 lists_step Instr-F.Unreachable = true
 lists_step Instr-F.Nop = true
@@ -63,7 +64,7 @@ has_short_lists = fold-Instr Bool lists_step
 abbrev pub all_have_short_lists : List Instr → Bool
 all_have_short_lists = list_all has_short_lists
 
--- a section of items: how many they are, and the size of its content
+-- A section of items: their number and the size of its content are below 2^32.
 pub record SmallSection {A : Type 0} (text : A → List ℕ) (xs : List A) : Type 0 where
   pub items : IsShort xs
   pub size : IsShort (vector_text text xs)
@@ -74,10 +75,11 @@ FuncTypeIsSmall t = IsShort t.params × IsShort t.results
 abbrev pub ImportIsSmall : Import → Type 0
 ImportIsSmall i = IsShort i.«module» × IsShort i.field
 
--- a function's groups of locals, the lists in its body, and the size of its code entry
+-- The groups of locals, the lists in the body, and the size of the code entry are below 2^32.
 abbrev pub FuncIsSmall : Func → Type 0
 FuncIsSmall f = IsShort f.locals × IsTrue (all_have_short_lists f.body) × IsShort (code_text f)
 
+-- Each vector of the module and each size in its canonical encoding is below 2^32.
 pub record SmallSizes (m : Module) : Type 0 where
   pub types : SmallSection func_type_text m.types
   pub imports : SmallSection import_text m.imports

@@ -1,9 +1,11 @@
--- What a file may have is within its limits in a tree: how many things there are of each kind, the parameters and results of types, and the locals and the nesting of functions.
+-- What is limited in a file is within its limits in the tree: the counts of the module, the
+-- parameters and results of types, and the locals and nesting of functions.
 use Rattle.std.specs.Prelude.{◌≤◌, length}
 use Rattle.wasm_tree_spec.specs.Prelude.{Module, Imports, Exports, limit}
 use Rattle.wasm_tree.specs.declared.which.Which.TheVariants.{Types, Functions, Tables, Memories, Globals, ElementSegments, DataSegments}
 use Rattle.wasm_read_spec.specs.Prelude.{Few, SmallFuncType, SmallCode}
 
+-- The counts, the nesting and the locals of the module are within the limits.
 pub record WithinLimits (m : Module) : Type 0 where
   pub types : Few (limit Types) SmallFuncType m.types
   pub imports : length m.imports ≤ limit Imports

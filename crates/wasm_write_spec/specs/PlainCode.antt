@@ -108,11 +108,12 @@ store_code store.I64Store32 = 0x3E
 
 -- ---- instructions
 
--- an alignment and an offset; for a memory other than memory 0 the alignment is 64 more, and the memory's index follows it
+-- An alignment and an offset. For a memory other than memory 0, 64 is added to the alignment, and
+-- the index of the memory follows it.
 abbrev pub mem_arg_text : MemArg → List ℕ
 mem_arg_text a = if a.memory == 0 then u32_text a.align ++ u32_text a.offset else u32_text (a.align + 64) ++ u32_text a.memory ++ u32_text a.offset
 
--- what an `else` begins, where its list isn't empty
+-- An `else` and its instructions, if there are any.
 abbrev pub else_text : List (List ℕ) → List ℕ
 else_text [] = []
 else_text (t ∷ ts) = 0x05 ∷ joined (t ∷ ts)
@@ -164,11 +165,11 @@ instr_step (Instr-F.TableFill x) = 0xFC ∷ 17 ∷ u32_text x
 abbrev pub instr_text : Instr → List ℕ
 instr_text = fold-Instr (List ℕ) instr_step
 
--- instructions, one after another
+-- Instructions, one after another.
 abbrev pub instrs_text : List Instr → List ℕ
 instrs_text is = joined (map instr_text is)
 
--- a body with its last end
+-- A body with its last end.
 abbrev pub body_text : List Instr → List ℕ
 body_text is = instrs_text is ++ 0x0B ∷ []
 

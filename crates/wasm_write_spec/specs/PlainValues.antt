@@ -1,4 +1,5 @@
--- The canonical encoding of types, constant expressions, and what the sections hold but for code (Core 2.0, 5.3 and 5.5).
+-- The canonical encoding of types, constant expressions, and the contents of sections except code
+-- (Core 2.0, 5.3 and 5.5).
 use Rattle.std.specs.Prelude.{ℕ, List, [], ◌∷◌, ◌++◌, map, length, Bool, true, false, ◌&&◌, ◌==◌, if◌then◌else◌, Option, Some, None, pos}
 use Rattle.wasm_bytes.specs.Prelude.{u32_text, s32_text, s64_text, sized_text}
 use Rattle.wasm_bytes.specs.Writing.{s33_text}
@@ -11,7 +12,7 @@ use Rattle.wasm_tree.specs.declared.module.ConstExpr.TheVariants as const
 use Rattle.wasm_tree.specs.declared.module.ElemMode.TheVariants as elem
 use Rattle.wasm_tree.specs.declared.module.DataMode.TheVariants as segment
 
--- one text after another
+-- One text after another.
 abbrev pub joined : List (List ℕ) → List ℕ
 joined [] = []
 joined (t ∷ ts) = t ++ joined ts
@@ -19,7 +20,7 @@ joined (t ∷ ts) = t ++ joined ts
 abbrev pub each_text : {A : Type 0} → (A → List ℕ) → List A → List ℕ
 each_text text xs = joined (map text xs)
 
--- how many items there are, and the items
+-- How many items there are, and the items.
 abbrev pub vector_text : {A : Type 0} → (A → List ℕ) → List A → List ℕ
 vector_text text xs = u32_text (length xs) ++ each_text text xs
 
@@ -60,7 +61,7 @@ mutable_code true = 0x01
 unfoldable pub global_type_text : GlobalType → List ℕ
 global_type_text g = val_code g.ty ∷ mutable_code g.mutable ∷ []
 
--- a type's index is a number with a sign
+-- A type index is encoded as a signed number.
 unfoldable pub block_type_text : BlockType → List ℕ
 block_type_text block.Empty = 0x40 ∷ []
 block_type_text (block.Value t) = val_text t
@@ -100,12 +101,12 @@ export_text e = sized_text e.name ++ export_desc_text e.desc
 
 -- ---- element segments
 
--- the item is `ref.func`, which a function index says too
+-- Whether the item is `ref.func`, which can be encoded as a function index.
 unfoldable pub is_func : ConstExpr → Bool
 is_func (const.Func x) = true
 is_func _ = false
 
--- the function of `ref.func`
+-- The function of an item that is `ref.func`.
 unfoldable pub func_of : ConstExpr → ℕ
 func_of (const.Func x) = x
 func_of _ = 0
@@ -118,7 +119,7 @@ unfoldable pub is_funcref : RefType → Bool
 is_funcref ref.Func = true
 is_funcref ref.Extern = false
 
--- function indices are written exactly where the type is funcref and each item is `ref.func`
+-- Function indices are written exactly if the type is funcref and each item is `ref.func`.
 abbrev pub by_index : ElemSeg → Bool
 by_index s = is_funcref s.ty && all_funcs s.items
 
@@ -128,7 +129,7 @@ index_items cs = vector_text (λ c. u32_text (func_of c)) cs
 unfoldable pub const_items : List ConstExpr → List ℕ
 const_items cs = vector_text const_text cs
 
--- a table other than table 0, or another type than funcref, is named
+-- A table other than table 0, or a type other than funcref, is written.
 abbrev pub active_by_index : ℕ → ConstExpr → List ConstExpr → List ℕ
 active_by_index table offset items =
     if table == 0 then (0x00 ∷ const_text offset) ++ index_items items
@@ -154,7 +155,7 @@ elem_text s = if by_index s then mode_by_index s.mode s.items else mode_by_const
 
 -- ---- data segments
 
--- a memory other than memory 0 is named
+-- A memory other than memory 0 is written.
 abbrev pub data_mode_text : DataMode → List ℕ
 data_mode_text (segment.Active memory offset) = if memory == 0 then 0x00 ∷ const_text offset else (0x02 ∷ u32_text memory) ++ const_text offset
 data_mode_text segment.Passive = 0x01 ∷ []

@@ -1,2 +1,2 @@
-//! The canonical encoding of a module: definitions alone, which the writer and those who call it cite.
+//! The canonical encoding of a module: only definitions, which the writer and its callers cite.
 #![tactic(auto)]
