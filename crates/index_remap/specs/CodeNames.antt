@@ -1,4 +1,4 @@
--- What a body names: each index and its entry in the map denote addresses in the code relation, or for equal types, or neither is there.
+-- How the indices that code names are related to their entries in a map.
 use Rattle.std.specs.Prelude.{ℕ}
 use Rattle.base_lists.specs.Every.{Every}
 use Rattle.wasm_tree_spec.specs.Prelude.{Space, Types, Functions, Tables, Memories, Globals, ElementSegments, DataSegments, Instr, operands}
@@ -8,7 +8,8 @@ use Rattle.index_remap.specs.declared.remap.Remap.{Remap}
 use Rattle.index_remap.specs.Renumbered.{entry}
 use Rattle.index_remap.specs.Related.{Pairing, Names, SameType}
 
--- the index and its entry denote addresses in the code relation, or for equal types, or neither is there
+-- The index and its entry denote addresses of the code relation, or equal types, or neither denotes
+-- anything.
 abbrev pub EntryNames : Pairing → Remap → Inst → Inst → Space → ℕ → Type 0
 EntryNames R m i j Types x = SameType i j x (entry m Types x)
 EntryNames R m i j Functions x = Names R.named Functions i.funcs j.funcs x (entry m Functions x)
@@ -18,6 +19,6 @@ EntryNames R m i j Globals x = Names R.named Globals i.globals j.globals x (entr
 EntryNames R m i j ElementSegments x = Names R.named ElementSegments i.elems j.elems x (entry m ElementSegments x)
 EntryNames R m i j DataSegments x = Names R.named DataSegments i.datas j.datas x (entry m DataSegments x)
 
--- so does each index that the layer itself names
+-- `EntryNames` holds for each index that the layer itself names.
 abbrev pub LayerNames : Pairing → Remap → Inst → Inst → Instr-F Instr → Type 0
 LayerNames R m i j layer = Every (λ o. EntryNames R m i j o.space o.index) (operands layer)

@@ -1,4 +1,4 @@
--- Instructions in three groups, and the law of steps of a group.
+-- Instructions in three groups, and the law of steps for a group.
 use Rattle.std.proofs.Common.{◌≡◌, true}
 use Rattle.wasm_tree_spec.specs.Prelude.{Instr}
 use Rattle.wasm_tree.specs.declared.instr.Instr.TheOpen.{Instr-F}
@@ -7,14 +7,15 @@ use Rattle.index_remap.specs.Related.{Pairing, ResRel, OpRel, BodyRel}
 use Rattle.index_remap.specs.Unknown.{Unknowns, StoreRelOff, ActOff, read_by, ReadsKnown}
 
 pub data Group : Type 0 where
-  -- numeric, reference, parametric and variable instructions (WebAssembly Core 2.0, sections 4.4.1 to 4.4.5)
+  -- Numeric, reference, parametric and variable instructions (WebAssembly Core 2.0, sections 4.4.1
+  -- to 4.4.5).
   Values : Group
-  -- instructions on tables, memories and segments (sections 4.4.6 and 4.4.7)
+  -- Instructions on tables, memories and segments (sections 4.4.6 and 4.4.7).
   Memories : Group
-  -- control instructions (section 4.4.8)
+  -- Control instructions (section 4.4.8).
   Control : Group
 
--- where the standard has an instruction
+-- The group in which the standard has an instruction.
 abbrev pub group_of : Instr-F Instr → Group
 group_of Instr-F.Unreachable = Control
 group_of Instr-F.Nop = Control
@@ -59,8 +60,9 @@ group_of (Instr-F.RefNull ty) = Values
 group_of Instr-F.RefIsNull = Values
 group_of (Instr-F.RefFunc func) = Values
 
--- The law of steps of a group: over stores that are related off a set of unknown places and from related bodies, an instruction of the group that reads none of
--- these and a related one come to related acts, or both trap, or both are ill typed.
+-- The law of steps for a group: over stores that are related except at unknown places, and from
+-- related bodies, an instruction of the group that reads no unknown place and a related instruction
+-- give related acts, or both trap, or both are ill typed.
 abbrev pub GroupAgrees : Group → Type 1
 GroupAgrees g =
     (R : Pairing) (u : Unknowns) (ev ew : Env) → StoreRelOff R u ev.store ew.store → (h k : Body) → BodyRel R ev.inst ew.inst h k → (o p : Instr-F Instr) → OpRel R ev.inst ew.inst true o p →

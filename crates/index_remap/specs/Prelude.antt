@@ -1,4 +1,4 @@
--- Names of renumbered and related modules, passed on from one place. Declares nothing.
+-- Re-exports definitions of this crate.
 pub use Rattle.index_remap.specs.Agreement.{Keeps, LayerAgrees, OperandAgrees, SameFrame, func_type, labelled}
 pub use Rattle.index_remap.specs.CodeNames.{EntryNames, LayerNames}
 pub use Rattle.index_remap.specs.Groups.{Control, GroupAgrees, Memories, Values}

@@ -1,5 +1,6 @@
--- A tree whose bodies name no undeclared function by `ref.func`: the functions that are named in no other place are named in one declarative element segment
--- (WebAssembly Core 2.0, sections 2.5.7 and 3.4.10, the context's refs).
+-- A tree in which one more declarative element segment declares the functions that `ref.func` names
+-- in bodies, if any is not declared (WebAssembly Core 2.0, sections 2.5.7 and 3.4.10, the context's
+-- refs).
 use Rattle.std.specs.Prelude.{ℕ, Bool, false, ◌&&◌, not, nat_eq, List, [], ◌∷◌, ◌++◌, map, length, get_or, Option, None}
 use Rattle.std.specs.List.{filter, filter_map, flat_map, list_any, range_with_len}
 use Rattle.wasm_tree.specs.declared.types.RefType.TheVariants.{Func as func_ref}
@@ -9,7 +10,8 @@ use Rattle.wasm_tree.specs.declared.module.ConstExpr.TheVariants as const
 use Rattle.wasm_tree.specs.declared.module.ElemMode.TheVariants as elem
 use Rattle.wasm_valid.specs.Prelude.{const_func, refs_of}
 
--- the functions that `ref.func` names in an instruction, where those are known that it names in each instruction inside it
+-- The functions that `ref.func` names in an instruction, given those that it names in each
+-- instruction inside.
 abbrev pub refs_step : Instr-F (List ℕ) → List ℕ
 refs_step (Instr-F.Block ty body) = flat_map (λ xs. xs) body
 refs_step (Instr-F.Loop ty body) = flat_map (λ xs. xs) body
@@ -57,15 +59,14 @@ refs_step (Instr-F.TableFill table) = []
 abbrev pub refs : Instr → List ℕ
 refs = fold-Instr (List ℕ) refs_step
 
--- the functions that `ref.func` names in these instructions, nested ones included
+-- The functions that `ref.func` names in these instructions and in those nested in them.
 abbrev pub refs_all : List Instr → List ℕ
 refs_all is = flat_map (λ xs. xs) (map refs is)
 
--- the functions that `ref.func` names in the bodies
+-- The functions that `ref.func` names in the bodies.
 abbrev pub body_refs : List Func → List ℕ
 body_refs = flat_map (λ f. refs_all f.body)
 
--- the function that the offset of a segment names
 abbrev pub offset_func : ElemMode → Option ℕ
 offset_func (elem.Active table offset) = const_func offset
 offset_func elem.Passive = None
@@ -74,29 +75,33 @@ offset_func elem.Declarative = None
 abbrev pub offset_refs : List ElemSeg → List ℕ
 offset_refs = filter_map (λ s. offset_func s.mode)
 
--- the functions that element segments, in their items and their offsets, initialisers of globals and exports name
+-- The functions that element segments (in items and offsets), initialisers of globals and exports
+-- name.
 abbrev pub outside_refs : Module → List ℕ
 outside_refs m = refs_of m ++ offset_refs m.elems
 
 abbrev pub is_among : List ℕ → ℕ → Bool
 is_among xs x = list_any (nat_eq x) xs
 
--- the functions of the function space that `ref.func` names in a body, and that no element segment, initialiser of a global or export names, in ascending order
+-- The functions of the index space that `ref.func` names in a body, and that no element segment,
+-- initialiser of a global or export names, in ascending order.
 abbrev pub declared_refs : Module → List ℕ
 declared_refs m = filter (λ f. is_among (body_refs m.funcs) f && not (is_among (outside_refs m) f)) (range_with_len 0 (length (funcs_of m)))
 
--- whether the function is marked in the first and not in the second
+-- The function is marked in the first list and not in the second.
 abbrev pub marked_only : List Bool → List Bool → ℕ → Bool
 marked_only inside outside f = get_or inside f false && not (get_or outside f false)
 
--- a declarative segment of these functions
+-- A declarative element segment of these functions.
 abbrev pub declaring : List ℕ → ElemSeg
 declaring fs = record { mode = elem.Declarative; ty = func_ref; items = map const.Func fs }
 
--- the tree with one more element segment, the last, that declares these functions, if there are any
+-- The tree with one more element segment, the last, which declares these functions, if there are
+-- any.
 abbrev pub with_declared : Module → List ℕ → Module
 with_declared m [] = m
 with_declared m (f ∷ fs) = record m { elems = m.elems ++ declaring (f ∷ fs) ∷ [] }
 
+-- The tree in which the functions of `declared_refs` are declared.
 abbrev pub declared : Module → Module
 declared m = with_declared m (declared_refs m)

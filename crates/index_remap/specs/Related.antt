@@ -1,4 +1,4 @@
--- Stores and configurations that correspond under a relation of addresses.
+-- Stores and configurations that are related by a relation of addresses.
 use Rattle.std.proofs.Common.{◌≡◌, ℕ, List, [], ◌∷◌, ◌++◌, Option, Some, None, Bool, true, false, slice_get}
 use Rattle.wasm_tree_spec.specs.Prelude.{Space, Functions, Tables, Memories, Globals, ElementSegments, DataSegments, RefType, ValType, BlockType, FuncType, LoadOp, StoreOp, MemArg, Instr, out-Instr}
 use Rattle.std.specs.Prelude.{ℤ}
@@ -9,16 +9,18 @@ use Rattle.wasm_tree.specs.declared.instr.Instr.TheOpen.{Instr-F}
 use Rattle.wasm_meaning.specs.Prelude.{Outcome, Gives, Traps, IllTyped, Pair, RefVal, FuncRef, ExternRef, Val, Num, Ref, Inst, Func, Code, Own, Placeholder, Table, Memory, Global, Elem, Store, Level, Frame, Growth, GrowMemory, GrowTable, Entry, Running, Mark, Opening, Waiting, Ended, Growing, Body, Change, Keep, SetGlobal, SetMemory, SetTable, DropElem, DropData, Act, Goes, Calls, AsksGrow, Ends, Next, Ran, CallsOwn, WaitsGrowth, CallsPlaceholder, EndsCall, type_at, own_at, act}
 use Rattle.wasm_num.specs.Operations.{Width}
 
--- related addresses, addresses in the code relation, and the functions of a list, of which only the type is known and whose they are; and the code that may stand
--- in place of a call of one of them, over an instance of the second
+-- The simulation relation of the addresses of two stores (`of`), the code relation (`named`), the
+-- opaque functions of the first store (`listed`), and the code that may stand in place of a call of
+-- one, over an instance of the second store (`stands`).
 pub record Pairing : Type 1 where
   pub of : Space → ℕ → ℕ → Type 0
-  -- addresses in the code relation: of those that are not related nothing is known
+  -- Nothing is known of what is at addresses that are in the code relation and not related.
   pub named : Space → ℕ → ℕ → Type 0
   pub listed : ℕ → Type 0
   pub stands : Inst → (function : ℕ) → List Instr → Type 0
 
--- by which relation an index is read: what comes next by the related addresses, other code by the named ones
+-- The relation for the indices of an instruction: related addresses for the next instruction
+-- (true), the code relation for other code.
 abbrev pub by : Pairing → Bool → Space → ℕ → ℕ → Type 0
 by R true = R.of
 by R false = R.named
@@ -27,32 +29,32 @@ pub record OneToOne (R : Pairing) : Type 0 where
   pub right : {k : Space} (a b c : ℕ) → R.of k a b → R.of k a c → b ≡ c
   pub left : {k : Space} (a b c : ℕ) → R.of k a c → R.of k b c → a ≡ b
 
--- an instruction may write at an address of the kind; functions stay as they are (section 4.2.3)
+-- Instructions may write at addresses of the kind; functions stay as they are (section 4.2.3).
 abbrev pub is_written : Space → Bool
 is_written Functions = false
 is_written _ = true
 
--- one to one, but for functions: two functions of one store may be related to one of the other
+-- One to one except for functions: two functions of one store may be related to one of the other.
 pub record OneToOneWhereWritten (R : Pairing) : Type 0 where
   pub right : {k : Space} → is_written k ≡ true → (a b c : ℕ) → R.of k a b → R.of k a c → b ≡ c
   pub left : {k : Space} → is_written k ≡ true → (a b c : ℕ) → R.of k a c → R.of k b c → a ≡ b
 
--- both are there and related, or none is there
+-- Both are there and related, or neither is there.
 pub data OptRel {A B : Type 0} (P : A → B → Type 0) : Option A → Option B → Type 0 where
   none : OptRel P None None
   some : {a : A} {b : B} → P a b → OptRel P (Some a) (Some b)
 
--- both come to related values, or both trap, or both are ill typed
+-- Both give related values, or both trap, or both are ill typed.
 pub data ResRel {A B : Type 0} (P : A → B → Type 0) : Outcome A → Outcome B → Type 0 where
   done : {a : A} {b : B} → P a b → ResRel P (Gives a) (Gives b)
   trap : ResRel P Traps Traps
   wrong : ResRel P IllTyped IllTyped
 
--- both are there, and related
+-- Both are there, and related.
 pub data BothRel {A B : Type 0} (P : A → B → Type 0) : Option A → Option B → Type 0 where
   both : {a : A} {b : B} → P a b → BothRel P (Some a) (Some b)
 
--- of the same length, and related place by place
+-- The lists have the same length and are related place by place.
 pub data ListRel {A B : Type 0} (P : A → B → Type 0) : List A → List B → Type 0 where
   nil : ListRel P [] []
   cons : {a : A} {b : B} {xs : List A} {ys : List B} → P a b → ListRel P xs ys → ListRel P (a ∷ xs) (b ∷ ys)
@@ -65,7 +67,7 @@ pub data ValRel (R : Pairing) : Val → Val → Type 0 where
   number : {w : Width} {n : ℕ} → ValRel R (Num w n) (Num w n)
   reference : {r s : RefVal} → RefRel R r s → ValRel R (Ref r) (Ref s)
 
--- the two indices name addresses that N relates, or neither names any
+-- The two indices denote addresses that `N` relates, or neither denotes one.
 abbrev pub Names : (Space → ℕ → ℕ → Type 0) → Space → List ℕ → List ℕ → ℕ → ℕ → Type 0
 Names N k xs ys n m = OptRel (N k) (slice_get xs n) (slice_get ys m)
 
@@ -82,8 +84,9 @@ pub record ArgRel (N : Space → ℕ → ℕ → Type 0) (i j : Inst) (a b : Mem
   pub memory : Names N Memories i.mems j.mems a.memory b.memory
 
 mutual
-  -- the second is the first with other indices: what comes next (true) names related addresses, other code such as are in the code relation, and both equal types;
-  -- alignments are left aside
+  -- The second instruction is the first with other indices. The next instruction (true) names
+  -- related addresses, other code names addresses of the code relation, and types are equal.
+  -- Alignments may differ.
   pub data OpRel (R : Pairing) (i j : Inst) : Bool → Instr-F Instr → Instr-F Instr → Type 0 where
     unreachable : {w : Bool} → OpRel R i j w Instr-F.Unreachable Instr-F.Unreachable
     nop : {w : Bool} → OpRel R i j w Instr-F.Nop Instr-F.Nop
@@ -128,10 +131,12 @@ mutual
     table_size : {w : Bool} {n m : ℕ} → Names (by R w) Tables i.tables j.tables n m → OpRel R i j w (Instr-F.TableSize n) (Instr-F.TableSize m)
     table_fill : {w : Bool} {n m : ℕ} → Names (by R w) Tables i.tables j.tables n m → OpRel R i j w (Instr-F.TableFill n) (Instr-F.TableFill m)
 
+  -- The second code is the first with other indices, of the code relation, and with other code in
+  -- place of calls of opaque functions.
   pub data CodeRel (R : Pairing) (i j : Inst) : List Instr → List Instr → Type 0 where
     end : CodeRel R i j [] []
     then : {o p : Instr} {c d : List Instr} → OpRel R i j false (out-Instr o) (out-Instr p) → CodeRel R i j c d → CodeRel R i j (o ∷ c) (p ∷ d)
-    -- in place of a call of a function of the list stands other code, such as may stand there
+    -- Code that may stand there replaces a call of an opaque function.
     instead : {o : Instr} {n a : ℕ} {c d : List Instr} (e : List Instr) → out-Instr o ≡ Instr-F.Call n → slice_get i.funcs n ≡ Some a → R.listed a → R.stands j a e → CodeRel R i j c d → CodeRel R i j (o ∷ c) (e ++ d)
 
 pub data FuncRel (R : Pairing) : Func → Func → Type 0 where
@@ -148,12 +153,12 @@ pub record GlobalRel (R : Pairing) (g h : Global) : Type 0 where
   pub type : g.ty ≡ h.ty
   pub value : ValRel R g.value h.value
 
--- whether they were dropped is no part of it
+-- The segments may differ in whether they were dropped.
 pub record ElemRel (R : Pairing) (e f : Elem) : Type 0 where
   pub items : ListRel (RefRel R) e.items f.items
 
--- related addresses hold entities with the same contents; of a listed function only the type is known, and that neither is the environment's own or both are the
--- same one
+-- Related addresses hold entities with related contents. Of opaque functions it is only known that
+-- the types are equal, and that neither is the environment's own or both are the same one.
 pub record StoreRel (R : Pairing) (s t : Store) : Type 0 where
   pub types : {a b : ℕ} → R.of Functions a b → BothRel (◌≡◌ {A = FuncType}) (type_at s a) (type_at t b)
   pub owns : {a b : ℕ} → R.of Functions a b → own_at s a ≡ own_at t b
@@ -205,7 +210,7 @@ pub data ChangeRel (R : Pairing) : Change → Change → Type 0 where
   drop_elem : {a b : ℕ} → R.of ElementSegments a b → ChangeRel R (DropElem a) (DropElem b)
   drop_data : {a b : ℕ} → R.of DataSegments a b → ChangeRel R (DropData a) (DropData b)
 
--- what the top frames do agrees, where C relates what they write
+-- The acts of the top frames are related, and `C` relates what they write.
 pub data ActRelBy (R : Pairing) (C : Change → Change → Type 0) (i j : Inst) : Act → Act → Type 0 where
   goes : {c d : Change} {h k : Body} → C c d → BodyRel R i j h k → ActRelBy R C i j (Goes c h) (Goes d k)
   calls : {a b : ℕ} {vs ws : List Val} {h k : Body} → R.of Functions a b → ListRel (ValRel R) vs ws → BodyRel R i j h k → ActRelBy R C i j (Calls a vs h) (Calls b ws k)
@@ -215,7 +220,8 @@ pub data ActRelBy (R : Pairing) (C : Change → Change → Type 0) (i j : Inst) 
 abbrev pub ActRel : Pairing → Inst → Inst → Act → Act → Type 0
 ActRel R = ActRelBy R (ChangeRel R)
 
--- both come to the same, with related values, and again to stores and configurations, which S and B relate
+-- Both steps have the same kind of result, with related values, stores that `S` relates and stacks
+-- that `B` relates.
 pub data NextRelBy (R : Pairing) (S : Store → Store → Type 0) (B : Store → Store → List Entry → List Entry → Type 0) : Next → Next → Type 0 where
   ran : {s t : Store} {es fs : List Entry} → S s t → B s t es fs → NextRelBy R S B (Ran s es) (Ran t fs)
   asked : {p : Pair} {u : FuncType} {vs ws : List Val} {s t : Store} {es fs : List Entry} → ListRel (ValRel R) vs ws → S s t → B s t es fs → NextRelBy R S B (CallsOwn p u vs s es) (CallsOwn p u ws t fs)
@@ -223,21 +229,21 @@ pub data NextRelBy (R : Pairing) (S : Store → Store → Type 0) (B : Store →
   loads : {n : ℕ} {vs ws : List Val} {s t : Store} {es fs : List Entry} → ListRel (ValRel R) vs ws → S s t → B s t es fs → NextRelBy R S B (CallsPlaceholder n vs s es) (CallsPlaceholder n ws t fs)
   returned : {vs ws : List Val} {s t : Store} {es fs : List Entry} → ListRel (ValRel R) vs ws → S s t → B s t es fs → NextRelBy R S B (EndsCall vs s es) (EndsCall ws t fs)
 
--- the stores correspond
+-- The stores are related by `StoreRel`.
 abbrev pub NextRel : Pairing → (Store → Store → List Entry → List Entry → Type 0) → Next → Next → Type 0
 NextRel R = NextRelBy R (StoreRel R)
 
--- it begins no call of a function of the list
+-- The act begins no call of an opaque function.
 abbrev pub NotOpaque : Pairing → Act → Type 0
 NotOpaque R (Calls a vs h) = ¬ R.listed a
 NotOpaque R _ = Unit {0}
 
--- the next step begins no call of a function of the list, directly or through a table
+-- The next step begins no call of an opaque function, directly or through a table.
 abbrev pub TopSkips : Pairing → Store → List Entry → Type 0
 TopSkips R s (Running f ∷ es) = (x : Act) → act s f ≡ Gives x → NotOpaque R x
 TopSkips R s _ = Unit {0}
 
--- the instructions that come next, where they are related as other code is, name related addresses
+-- If the next instructions are related as other code is, they name related addresses.
 abbrev pub NextKnown : Pairing → Inst → Inst → List Instr → List Instr → Type 0
 NextKnown R i j (o ∷ c) (p ∷ d) = OpRel R i j false (out-Instr o) (out-Instr p) → OpRel R i j true (out-Instr o) (out-Instr p)
 NextKnown R i j _ _ = Unit {0}

@@ -1,4 +1,5 @@
--- Runs that are related: their states by a relation of addresses, their stacks by relations that are given.
+-- Related runs: a relation of addresses relates their states, and given relations relate their
+-- stacks.
 use Rattle.std.proofs.Common.{◌≡◌, ℕ, List, [], ◌∷◌, Option, slice_get}
 use Rattle.wasm_tree_spec.specs.Prelude.{Space, Functions, Tables, Memories, Globals, ElementSegments, DataSegments}
 use Rattle.wasm_meaning.specs.Prelude.{Text, Store, Entry, Opening, ExternalValue, FuncAt, TableAt, MemoryAt, GlobalAt, Begun, Phase, Fresh, Pending, Opened, Closed, Run, Out}
@@ -14,12 +15,13 @@ pub record KeyRel (R : Pairing) {K : Type 0} (x y : K × ExternalValue) : Type 0
   pub key : x.0 ≡ y.0
   pub thing : ExternalValueRel R x.1 y.1
 
--- the same is shown, and the functions that were shown are related, number by number
+-- The same is shown, and the functions that were shown are related, number by number.
 pub record ShowRel (R : Pairing) {A : Type 0} (x y : A × List ℕ) : Type 0 where
   pub same : x.0 ≡ y.0
   pub shown : ListRel (R.of Functions) x.1 y.1
 
--- part by part; the starts as the entry that holds them, and the stack with nothing on it
+-- The results of two instantiations are related, field by field, the start functions by the entry
+-- `Opening` that holds them. Empty stacks are related, too.
 pub record BegunRel (R : Pairing) (B : Store → Store → List Entry → List Entry → Type 0) (b c : Begun) : Type 0 where
   pub store : StoreRel R b.store c.store
   pub entries : B b.store c.store (Opening b.starts ∷ []) (Opening c.starts ∷ [])
@@ -34,6 +36,8 @@ pub data PhaseRel (R : Pairing) (B : Store → Store → List Entry → List Ent
   opened : PhaseRel R B Opened Opened
   closed : PhaseRel R B Closed Closed
 
+-- The runs are related, field by field, their stacks by `B`. Before the instantiation, its results
+-- are related, too, with the stacks that it leaves related by `F`.
 pub record RunRel (R : Pairing) (B F : Store → Store → List Entry → List Entry → Type 0) (r q : Run) : Type 0 where
   pub store : StoreRel R r.store q.store
   pub entries : B r.store q.store r.entries q.entries
@@ -43,19 +47,21 @@ pub record RunRel (R : Pairing) (B F : Store → Store → List Entry → List E
   pub owned : ListRel (KeyRel R) r.owned q.owned
   pub moves : r.moves ≡ q.moves
 
+-- The steps have the same event and lead to related runs.
 pub record OutRel (R : Pairing) (B F : Store → Store → List Entry → List Entry → Type 0) (o p : Out) : Type 0 where
   pub event : o.1 ≡ p.1
   pub run : RunRel R B F o.0 p.0
 
--- the same addresses, read from the second store to the first
+-- The same addresses, read from the second store to the first, without opaque functions.
 abbrev pub turned : Pairing → Pairing
 turned R = record { of = λ k a b. R.of k b a; named = λ k a b. R.named k b a; listed = λ a. ⊥; stands = λ j a e. ⊥ }
 
--- Nothing is related to this address of the second store. (For one of the first read it `turned`.)
+-- Nothing is related to this address of the second store. (For an address of the first store, use
+-- `turned`.)
 abbrev pub HasNoPartner : Pairing → Space → ℕ → Type 0
 HasNoPartner R k b = (a : ℕ) → R.of k a b → ⊥
 
--- what stands at such addresses is as it was, and no function is another
+-- The functions, and what is at addresses without a partner, are as they were.
 pub record KeepsOthers (R : Pairing) (before after : Store) : Type 0 where
   pub funcs : after.funcs ≡ before.funcs
   pub tables : (b : ℕ) → HasNoPartner R Tables b → slice_get after.tables b ≡ slice_get before.tables b
@@ -64,7 +70,7 @@ pub record KeepsOthers (R : Pairing) (before after : Store) : Type 0 where
   pub elems : (b : ℕ) → HasNoPartner R ElementSegments b → slice_get after.elems b ≡ slice_get before.elems b
   pub datas : (b : ℕ) → HasNoPartner R DataSegments b → slice_get after.datas b ≡ slice_get before.datas b
 
--- its instantiation is past
+-- The instantiation is done.
 abbrev pub IsBegun : Phase → Type 0
 IsBegun (Fresh b) = ⊥
 IsBegun _ = Unit {0}

@@ -1,5 +1,6 @@
--- A tree in which each index is replaced by its entry in the map of its index space (WebAssembly Core 2.0, section 2.5.1). Labels and locals are no such
--- indices and stay, as do the order and the length of every list.
+-- A tree in which each index is replaced by its entry in the map of its index space (WebAssembly
+-- Core 2.0, section 2.5.1). Labels and locals stay as they are, and so do the order and the length
+-- of every list.
 use Rattle.std.specs.Prelude.{ℕ, List, map, length, slice_index, Option, Some, None, Bool, true, ◌&&◌, nat_lt}
 use Rattle.std.specs.List.{list_all}
 use Rattle.wasm_tree_spec.specs.Prelude.{Space, Types, Functions, Tables, Memories, Globals, ElementSegments, DataSegments, Operand, block_operands, mapped_all, operands_pass, all_operands_pass, BlockType, FuncType, MemArg, Instr, Import, ImportDesc, Func, ConstExpr, GlobalDef, Export, ExportDesc, ElemMode, ElemSeg, DataMode, DataSeg, Module}
@@ -11,7 +12,7 @@ use Rattle.wasm_tree.specs.declared.module.ElemMode.TheVariants as elem
 use Rattle.wasm_tree.specs.declared.module.DataMode.TheVariants as data'
 use Rattle.index_remap.specs.declared.remap.Remap.{Remap}
 
--- the map of an index space
+-- The map of an index space.
 abbrev pub entries : Remap → Space → List ℕ
 entries m Types = m.types
 entries m Functions = m.funcs
@@ -21,7 +22,7 @@ entries m Globals = m.globals
 entries m ElementSegments = m.elems
 entries m DataSegments = m.datas
 
--- the new index of an old one
+-- The new index of an old one.
 abbrev pub entry : Remap → Space → ℕ → ℕ
 entry m s i = slice_index (entries m s) i
 
@@ -94,7 +95,7 @@ abbrev pub new_start : Remap → Option ℕ → Option ℕ
 new_start m None = None
 new_start m (Some f) = Some (slice_index m.funcs f)
 
--- the tree with other indices
+-- The tree with each index replaced by its entry.
 abbrev pub renumbered_tree : Remap → Module → Module
 renumbered_tree m t =
     record {
@@ -112,7 +113,7 @@ renumbered_tree m t =
 
 -- ---- an entry for every index that is named ----
 
--- the map of its space has an entry for the index
+-- The map of the index space has an entry for the index.
 abbrev pub has_entry : Remap → Operand → Bool
 has_entry m o = has (entries m o.space) o.index
 
@@ -178,7 +179,7 @@ fits_start m (Some f) = has m.funcs f
 abbrev pub any_type : Remap → FuncType → Bool
 any_type m t = true
 
--- the map has an entry for every index that the tree names
+-- The map has an entry for every index that the tree names.
 abbrev pub fits_tree : Remap → Module → Bool
 fits_tree m t =
     list_all (fits_import m) t.imports && (list_all (fits_func m) t.funcs && (list_all (fits_global m) t.globals && (list_all (fits_export m) t.exports

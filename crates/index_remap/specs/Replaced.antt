@@ -1,4 +1,5 @@
--- Code in which each index is replaced by its entry in a map, but where a function of a list is called: there stands other code.
+-- Code in which each index is replaced by its entry in a map, and each call of a function of a list
+-- by other code.
 use Rattle.std.specs.Prelude.{◌≡◌, ℕ, Bool, true, false, ◌&&◌, IsTrue, List, [], ◌∷◌, ◌++◌, Option, Some, None, Contains, slice_get}
 use Rattle.std.specs.List.{list_any}
 use Rattle.base_lists.specs.Every.{Every}
@@ -15,20 +16,22 @@ use Rattle.index_remap.specs.Agreement.{LayerAgrees, func_type, labelled}
 
 -- ---- what replaces the instructions of a body ----
 
--- the types of the labels around an instruction, the innermost first (section 3.1.1)
+-- The types of the labels around an instruction, the innermost first (section 3.1.1).
 abbrev pub Labels : Type 0
 Labels = List (List ValType)
 
--- the codes that may replace a call of a function under these labels, each of which is a list of instructions
+-- The codes, each a list of instructions, that may replace a call of a function under these labels.
 abbrev pub Codes : Type 0
 Codes = Labels → ℕ → List (List Instr)
 
--- of a call of a function that is on the list, one of its codes; of another the call of its entry
+-- A call of a function of the list is replaced by one of the function's codes, any other call by
+-- the call of the function's entry.
 abbrev pub CallReplaced : Remap → Bool → Codes → Labels → ℕ → List Instr → Type 0
 CallReplaced m true codes labels f code = Contains (codes labels f) code
 CallReplaced m false codes labels f code = code ≡ renumbered m (Call f) ∷ []
 
--- what the label of a block or an if takes, and that of a loop; nothing where the type that it names is not there (sections 3.3.8 and 3.2.2)
+-- What a branch to the label of a block or an if takes, and below what one to that of a loop takes;
+-- nothing if the type that the block names does not exist (sections 3.3.8 and 3.2.2).
 abbrev pub block_label : Option Signature → List ValType
 block_label None = []
 block_label (Some f) = f.results
@@ -39,8 +42,8 @@ loop_label (Some f) = f.params
 
 module _ (types : List FuncType) (m : Remap) (listed : List ℕ) (codes : Codes) where
   abbrev mutual
-    -- the code replaces the instruction under these labels; a block has its new type, and holds what replaces what it
-    -- held, under one label more
+    -- `code` replaces the instruction under these labels. A block gets its new type and contains
+    -- what replaces its contents, under one more label.
     pub DenotesOne : Labels → Instr → List Instr → Type 0
     DenotesOne labels (Block' ty n body) code = (b : List Instr) × RowReplaced (block_label (signature_of types ty) ∷ labels) body b × (code ≡ Block (new_type m ty) b ∷ [])
     DenotesOne labels (Loop' ty n body) code = (b : List Instr) × RowReplaced (loop_label (signature_of types ty) ∷ labels) body b × (code ≡ Loop (new_type m ty) b ∷ [])
@@ -86,47 +89,50 @@ module _ (types : List FuncType) (m : Remap) (listed : List ℕ) (codes : Codes)
     DenotesOne labels (TableSize table) code = code ≡ renumbered m (TableSize table) ∷ []
     DenotesOne labels (TableFill table) code = code ≡ renumbered m (TableFill table) ∷ []
 
-    -- the same for the instructions of a block
+    -- The same for the instructions of a block.
     pub RowReplaced : {n : _} → Labels → Row_of-Instr n → List Instr → Type 0
     RowReplaced labels end_of-Instr js = js ≡ []
     RowReplaced labels (more_of-Instr i is) js = (code rest : List Instr) × DenotesOne labels i code × RowReplaced labels is rest × (js ≡ code ++ rest)
 
-  -- the second is the first with other indices, and with one of the codes of its function in place of each call of one on the list, in blocks as well; these
-  -- labels stand around it, and these are the types that its blocks name
+  -- The second list is the first with other indices, and with one of the codes of its function in
+  -- place of each call of a function of the list, in blocks as well. `labels` are around it, and
+  -- `types` are the types that its blocks name.
   abbrev pub Replaced : Labels → List Instr → List Instr → Type 0
   Replaced labels [] js = js ≡ []
   Replaced labels (i ∷ is) js = (code rest : List Instr) × DenotesOne labels i code × Replaced labels is rest × (js ≡ code ++ rest)
 
 -- ---- the other instructions ----
 
--- a call of a function of the list
 abbrev pub is_opaque_call : List ℕ → Operand → Bool
 is_opaque_call listed o = o.called && is_among listed o.index
 
--- each index that the layer itself names agrees with its entry, but the function of a call that is replaced, which needs none
+-- Each index that the layer itself names agrees with its entry, unless the layer is a call that is
+-- replaced.
 abbrev pub OthersAgree : Remap → List ℕ → Context → Context → Instr-F Instr → Type 0
 OthersAgree m listed c d l = list_any (is_opaque_call listed) (operands l) ≡ false → LayerAgrees m c d l
 
--- the function of a call that is replaced is at an address of the list; any other index and its entry denote addresses in the code relation, or for
--- equal types, or neither is there
+-- The function of a call that is replaced is opaque. Any other index and its entry denote addresses
+-- of the code relation, or equal types, or neither denotes anything.
 abbrev pub OtherNamed : Pairing → Remap → Bool → Inst → Inst → Space → ℕ → Type 0
 OtherNamed R m true i j space x = (a : ℕ) × (slice_get i.funcs x ≡ Some a) × R.listed a
 OtherNamed R m false i j space x = EntryNames R m i j space x
 
--- so does each index that the layer itself names
+-- `OtherNamed` holds for each index that the layer itself names.
 abbrev pub OthersNamed : Pairing → Remap → List ℕ → Inst → Inst → Instr-F Instr → Type 0
 OthersNamed R m listed i j layer = Every (λ o. OtherNamed R m (is_opaque_call listed o) i j o.space o.index) (operands layer)
 
--- each code that may replace a call of a function on the list is such as may stand in place of one, over the second instance
+-- Each code that may replace a call of a function of the list may stand in place of it, over the
+-- second instance.
 abbrev pub ReplacementCodesFit : Pairing → List ℕ → Codes → Inst → Inst → Type 0
 ReplacementCodesFit R listed codes i j = (labels : Labels) (f a : ℕ) (code : List Instr) → IsTrue (is_among listed f) → Contains (codes labels f) code → slice_get i.funcs f ≡ Some a → R.stands j a code
 
--- ---- what it needs to stay well typed ----
+-- ---- what keeps it well typed ----
 
--- under these labels the code has in d the type that the function has in c
+-- Under these labels the code has, in `d`, the type that the function has in `c`.
 abbrev pub HasTypeOf : Context → Context → Labels → ℕ → List Instr → Type 0
 HasTypeOf c d labels f code = (t : FuncType) → func_type c f ≡ Some t → WellTyped (labelled d labels) code t.params t.results
 
--- each code of each function on the list has its type, where it may stand
+-- Each code that may replace a call of a function of the list under some labels has, under these,
+-- the type of the function.
 abbrev pub CodesHaveTypes : List ℕ → Codes → Context → Context → Type 0
 CodesHaveTypes listed codes c d = (labels : Labels) (f : ℕ) (code : List Instr) → IsTrue (is_among listed f) → Contains (codes labels f) code → HasTypeOf c d labels f code

@@ -1,5 +1,6 @@
--- Places of a store of which nothing is known, beside a relation of addresses: whatever stands there, it need not be related. What is imported is no such place:
--- it has an address in the code relation in both stores, and is not related.
+-- Unknown places of a store, beside a relation of addresses: what is there need not be related.
+-- Imported entities are no unknown places: they have addresses in the code relation in both stores,
+-- and are not related.
 use Rattle.std.proofs.Common.{◌≡◌, ℕ, suc, ◌+◌, ◌<◌, ◌≤◌, List, [], ◌∷◌, ◌++◌, length, Bool, true, false, not, slice_get, Some}
 use Rattle.std.specs.Prelude.{nat_eq, ◌↔◌, ◌&&◌}
 use Rattle.std.specs.List.{list_any, filter}
@@ -11,7 +12,8 @@ use Rattle.index_remap.specs.Related.{Pairing, OneToOneWhereWritten, OptRel, Bot
 use Rattle.index_remap.specs.References.{is_among}
 use Rattle.index_remap.specs.Laws.{passed, Above, Touches, EntriesKnown}
 
--- by their addresses in the first store: globals that were not set yet, and slots of tables and items of element segments, each with its place
+-- Unknown places, by their addresses in the first store: globals that were not set yet, and slots
+-- of tables and items of element segments, each with its position.
 pub record Unknowns : Type 0 where
   pub globals : List ℕ
   pub slots : List (ℕ × ℕ)
@@ -20,16 +22,15 @@ pub record Unknowns : Type 0 where
 abbrev pub none_unknown : Unknowns
 none_unknown = record { globals = []; slots = []; items = [] }
 
--- a place of an address
 abbrev pub is_place_among : List (ℕ × ℕ) → (address place : ℕ) → Bool
 is_place_among xs a n = list_any (λ x. nat_eq x.0 a && nat_eq x.1 n) xs
 
--- of a global the type, and the value where it is known
+-- The types of the globals are equal, and their values are related if they are known.
 pub record GlobalOff (R : Pairing) (known : Bool) (g h : Global) : Type 0 where
   pub type : g.ty ≡ h.ty
   pub value : known ≡ true → ValRel R g.value h.value
 
--- of references in a row how many there are, and each where it is known
+-- The lists have the same length, and the references at a place are related if that is known.
 pub record RefsOff (R : Pairing) (known : ℕ → Bool) (xs ys : List RefVal) : Type 0 where
   pub size : length xs ≡ length ys
   pub each : (n : ℕ) → known n ≡ true → OptRel (RefRel R) (slice_get xs n) (slice_get ys n)
@@ -39,7 +40,7 @@ pub record TableOff (R : Pairing) (known : ℕ → Bool) (t u : Table) : Type 0 
   pub most : t.most ≡ u.most
   pub slots : RefsOff R known t.slots u.slots
 
--- related addresses hold entities with the same contents, but for what is unknown
+-- Related addresses hold entities with related contents, except at unknown places.
 pub record StoreRelOff (R : Pairing) (u : Unknowns) (s t : Store) : Type 0 where
   pub types : {a b : ℕ} → R.of Functions a b → BothRel (◌≡◌ {A = FuncType}) (type_at s a) (type_at t b)
   pub owns : {a b : ℕ} → R.of Functions a b → own_at s a ≡ own_at t b
@@ -50,29 +51,31 @@ pub record StoreRelOff (R : Pairing) (u : Unknowns) (s t : Store) : Type 0 where
   pub elems : {a b : ℕ} → R.of ElementSegments a b → BothRel (λ e f. RefsOff R (λ n. not (is_place_among u.items a n)) e.items f.items) (slice_get s.elems a) (slice_get t.elems b)
   pub datas : {a b : ℕ} → R.of DataSegments a b → BothRel (λ d e. d.bytes ≡ e.bytes) (slice_get s.datas a) (slice_get t.datas b)
 
--- a global that is set is known from then on
+-- A global that is set is known from then on.
 abbrev pub learnt : Unknowns → (address : ℕ) → Unknowns
 learnt u a = record u { globals = filter (λ b. not (nat_eq b a)) u.globals }
 
--- ---- what a step reads of them, and what it leaves unknown ----
+-- ---- what a step reads, and what it leaves unknown ----
 
--- what may be unknown and is read: nothing, a global, or so many references from a place on, of a table or of an element segment
+-- A read of what may be unknown: nothing, a global, or a range of references of a table or of an
+-- element segment.
 pub data ReadPlace : Type 0 where
   ReadsNothing : ReadPlace
   ReadsGlobal : (address : ℕ) → ReadPlace
   ReadsSlots : (address place count : ℕ) → ReadPlace
   ReadsItems : (address place count : ℕ) → ReadPlace
 
--- the slot whose place is on top
+-- The position of the slot is on top of the stack.
 abbrev pub slot_read : ℕ → List Val → Outcome ReadPlace
 slot_read a vs = bind (pop_num W32 vs) (λ i. Gives (ReadsSlots a i.0 1))
 
--- the second and the last of three numbers: where a copy begins, and how much it copies
+-- Of the three numbers on top of the stack, the middle one is where the range begins, and the top
+-- one is its length.
 abbrev pub range_read : (place_count : ℕ → ℕ → ReadPlace) → List Val → Outcome ReadPlace
 range_read f vs = bind (pop_three vs) (λ p. Gives (f p.0.1 p.0.2))
 
--- what an instruction reads of this, with these values on the stack: the global of `global.get`, the slot of `table.get` and `call_indirect`, the references that
--- `table.copy` and `table.init` copy
+-- What an instruction reads of what may be unknown: the global of `global.get`, the slot of
+-- `table.get` and `call_indirect`, and the references that `table.copy` and `table.init` copy.
 abbrev pub read_by : Instr-F Instr → Env → List Val → Outcome ReadPlace
 read_by (Instr-F.GlobalGet n) env vs = with_entry env.inst.globals n (λ a. Gives (ReadsGlobal a))
 read_by (Instr-F.TableGet n) env vs = with_entry env.inst.tables n (λ a. slot_read a vs)
@@ -89,7 +92,7 @@ abbrev pub read_levels : Env → List Level → Outcome ReadPlace
 read_levels env [] = IllTyped
 read_levels env (l ∷ ls) = read_next env l.values l.code
 
--- no unknown place is read
+-- No unknown place is read.
 abbrev pub IsKnown : Unknowns → ReadPlace → Type 0
 IsKnown u ReadsNothing = Unit {0}
 IsKnown u (ReadsGlobal a) = is_among u.globals a ≡ false
@@ -99,12 +102,12 @@ IsKnown u (ReadsItems a place count) = (n : ℕ) → place ≤ n → n < place +
 abbrev pub ReadsKnown : Unknowns → Outcome ReadPlace → Type 0
 ReadsKnown u o = (r : ReadPlace) → o ≡ Gives r → IsKnown u r
 
--- the step of these entries reads no unknown place
+-- The step of these entries reads no unknown place.
 abbrev pub StepReadsKnown : Unknowns → Store → List Entry → Type 0
 StepReadsKnown u s (Running f ∷ es) = ReadsKnown u (read_levels (record { store = s; inst = f.inst }) f.levels)
 StepReadsKnown u s _ = Unit {0}
 
--- what is unknown after a change: a global that is set is known
+-- What is unknown after a change: a global that was set is known.
 abbrev pub left_by : Unknowns → Change → Unknowns
 left_by u (SetGlobal a g) = learnt u a
 left_by u _ = u
@@ -113,12 +116,12 @@ abbrev pub left_after : Unknowns → Outcome Act → Unknowns
 left_after u (Gives (Goes c h)) = left_by u c
 left_after u _ = u
 
--- and after the step of these entries
+-- What is unknown after the step of these entries.
 abbrev pub left_unknown : Unknowns → Store → List Entry → Unknowns
 left_unknown u s (Running f ∷ es) = left_after u (act s f)
 left_unknown u s _ = u
 
--- both write related contents, but that of a table the unknown slots need not be related
+-- Both write related contents, except that the unknown slots of a table need not be related.
 pub data ChangeOff (R : Pairing) (u : Unknowns) : Change → Change → Type 0 where
   known : {c d : Change} → ChangeRel R c d → ChangeOff R u c d
   off_slots : {a b : ℕ} {t v : Table} → R.of Tables a b → TableOff R (λ n. not (is_place_among u.slots a n)) t v → ChangeOff R u (SetTable a t) (SetTable b v)
@@ -131,18 +134,20 @@ NextOff R u = NextRelBy R (StoreRelOff R u)
 
 -- ---- runs of the machine ----
 
--- n steps that each go on
+-- n steps, each of which goes on without an event.
 pub data GoesOn : ℕ → Store → List Entry → Store → List Entry → Type 0 where
   here : {s : Store} {es : List Entry} → GoesOn 0 s es s es
   step_on : {n : ℕ} {s t r : Store} {es fs gs : List Entry} → step s es ≡ Gives (Ran t fs) → GoesOn n t fs r gs → GoesOn (suc n) s es r gs
 
--- n steps that each go on, read no unknown place, begin no call of a function of the list and name related addresses, with what is unknown before and after them
+-- n steps that each go on, read no unknown place, begin no call of an opaque function and name
+-- related addresses, with what is unknown before and after them.
 pub data KnownSteps (R : Pairing) : ℕ → Unknowns → Store → List Entry → Unknowns → Store → List Entry → Type 0 where
   none_left : {u : Unknowns} {s : Store} {es : List Entry} → KnownSteps R 0 u s es u s es
   known_step : {n : ℕ} {u v : Unknowns} {s t r : Store} {es fs gs : List Entry} → StepReadsKnown u s es → TopSkips R s es → ((hs : List Entry) → ListRel (EntryRel R) es hs → EntriesKnown R es hs) → step s es ≡ Gives (Ran t fs) →
       KnownSteps R n (left_unknown u s es) t fs v r gs → KnownSteps R (suc n) u s es v r gs
 
--- the same number of steps from there, to a store that is related off this set and related entries
+-- n steps lead from `t` and `fs` to a store that is related to `s` except at unknown places, and to
+-- entries that are related to `es`.
 pub record FollowsOff (R : Pairing) (n : ℕ) (u : Unknowns) (s : Store) (es : List Entry) (t : Store) (fs : List Entry) : Type 0 where
   pub store : Store
   pub entries : List Entry
@@ -152,28 +157,30 @@ pub record FollowsOff (R : Pairing) (n : ℕ) (u : Unknowns) (s : Store) (es : L
 
 -- ---- laws ----
 
--- Where nothing is unknown, stores are related off nothing exactly where they are related.
+-- If there are no unknown places, stores are related except at these exactly if they are related.
 abbrev pub NothingUnknown : Type 0
 NothingUnknown =
     (of named : Space → ℕ → ℕ → Bool) (l : List ℕ) (s t : Store) → StoreRelOff (passed of named l) none_unknown s t ↔ StoreRel (passed of named l) s t
 
--- From stores that are related off a set: where related globals are set to related values, they are related off the set without them.
+-- If stores are related except at unknown places, by a relation that is one to one except for
+-- functions, and two related globals are set to related values, the stores are then related except
+-- at the other unknown places.
 abbrev pub SetGlobalsAreKnown : Type 0
 SetGlobalsAreKnown =
     (of named : Space → ℕ → ℕ → Bool) (l : List ℕ) → OneToOneWhereWritten (passed of named l) → (u : Unknowns) (s t : Store) (a b : ℕ) (g h : Global) (v w : Val) →
     StoreRelOff (passed of named l) u s t → (passed of named l).of Globals a b → slice_get s.globals a ≡ Some g → slice_get t.globals b ≡ Some h → ValRel (passed of named l) v w →
     StoreRelOff (passed of named l) (learnt u a) (changed s (SetGlobal a (record g { value = v }))) (changed t (SetGlobal b (record h { value = w })))
 
--- The law of steps from stores that are related off a set: where the step reads no unknown place, one step of each agrees as from related stores, and leaves stores
--- that are related off what is still unknown.
+-- The law of steps holds for stores that are related except at unknown places, if the step reads
+-- none of these. Then the stores are related except at what is still unknown.
 abbrev pub StepsAgreeOff : Type 0
 StepsAgreeOff =
     (of named : Space → ℕ → ℕ → Bool) (l : List ℕ) → OneToOneWhereWritten (passed of named l) → (u : Unknowns) (s t : Store) (es fs cs ds : List Entry) →
     StoreRelOff (passed of named l) u s t → ListRel (EntryRel (passed of named l)) es fs → Touches s es cs ds → TopSkips (passed of named l) s es → EntriesKnown (passed of named l) es fs → StepReadsKnown u s es →
     ResRel (NextOff (passed of named l) (left_unknown u s es) (Above (passed of named l) cs ds)) (step s (es ++ cs)) (step t (fs ++ ds))
 
--- A run of the machine whose steps each go on and read no unknown place is led step by step: from a related store and related entries as many steps go on, to a store
--- that is related off what is still unknown, and related entries.
+-- The steps of `KnownSteps` are followed one by one from a store that is related except at unknown
+-- places, and from related entries. Then the stores are related except at what is still unknown.
 abbrev pub RunsAgreeOff : Type 0
 RunsAgreeOff =
     (of named : Space → ℕ → ℕ → Bool) (l : List ℕ) → OneToOneWhereWritten (passed of named l) → (n : ℕ) (u v : Unknowns) (s r t : Store) (es gs fs : List Entry) →

@@ -1,4 +1,4 @@
--- Code that may stand in place of calls, where more may stand there: what was related stays so.
+-- If more code may stand in place of calls, what was related stays related.
 use Rattle.std.specs.Prelude.{ℕ, Bool, IsTrue, List}
 use Rattle.wasm_tree_spec.specs.Prelude.{Space, Instr}
 use Rattle.wasm_meaning.specs.Prelude.{Inst, Store, Run}
@@ -7,11 +7,11 @@ use Rattle.index_remap.specs.RelatedRuns.{RunRel}
 use Rattle.index_remap.specs.Laws.{Test, passed_with}
 use Rattle.index_remap.specs.Trampolines.{FramesBetween}
 
--- what passes the first test passes the second
+-- What passes the first test passes the second.
 abbrev pub Allows : Test → Test → Type 0
 Allows fewer more = (j : Inst) (a : ℕ) (code : List Instr) → IsTrue (fewer j a code) → IsTrue (more j a code)
 
--- code, stores, and runs of which the second has frames of trampolines between
+-- Code stays related, and (below) stores and runs of which the second has passing frames.
 abbrev pub CodeStaysRelated : Type 0
 CodeStaysRelated = (of named : Space → ℕ → ℕ → Bool) (l : List ℕ) (fewer more : Test) → Allows fewer more → (i j : Inst) (c d : List Instr) → CodeRel (passed_with of named l fewer) i j c d → CodeRel (passed_with of named l more) i j c d
 

@@ -1,4 +1,4 @@
-// The call that declares the functions that `ref.func` names in bodies.
+// Declares the functions that `ref.func` names in bodies.
 
 ghost use Rattle.std.specs.Prelude.{◌≡◌, ◌<◌, ◌^◌, length, map, replicate, false, IfOk, OnOk, OnErr};
 ghost use Rattle.std.specs.List.{filter, range_with_len};
@@ -81,7 +81,7 @@ fn no_marks(alloc: Global, count: usize) -> Result<Vec<bool>, AllocError>
     vec![in alloc; false; count]
 }
 
-// For each of the first functions, so many, whether `ref.func` names it in a body.
+// Returns, for each of the first `count` functions, whether `ref.func` names it in a body.
 fn named_inside(alloc: Global, funcs: &[Func], count: usize) -> Result<Vec<bool>, AllocError>
     ensures { IfOk result (λ marks. marks.items ≡ named_from (body_refs funcs.now) 0 count) }
 {
@@ -109,7 +109,8 @@ fn mark_offsets(marks: &mut Vec<bool>, elems: &[ElemSeg])
     }
 }
 
-// For each function whether it is named outside the bodies.
+// Returns, for each function, whether an element segment, an initialiser of a global or an export
+// names it.
 fn named_outside(alloc: Global, module: &Module, count: usize) -> Result<Vec<bool>, AllocError>
     requires { count ≡ length (funcs_of «module».now) }
     ensures { IfOk result (λ marks. marks.items ≡ named_from (outside_refs «module».now) 0 count) }
@@ -127,7 +128,7 @@ fn is_only_inside(inside: &[bool], outside: &[bool], func: usize) -> bool
     inside[func] && !outside[func]
 }
 
-// An item for each function that is marked in the first and not in the second.
+// Returns an item for each function that is marked in `inside` and not in `outside`.
 fn items_of(alloc: Global, inside: &[bool], outside: &[bool]) -> Result<Items<ConstExpr>, NoMemory>
     requires same { length outside.now ≡ length inside.now }
     requires few { length inside.now < 2 ^ 32 }
@@ -142,7 +143,7 @@ fn items_of(alloc: Global, inside: &[bool], outside: &[bool]) -> Result<Items<Co
     Ok(items)
 }
 
-// An item for each function that is to be declared.
+// Returns an item for each function that has to be declared.
 fn undeclared(alloc: Global, module: &Module) -> Result<Items<ConstExpr>, NoMemory>
     requires { length (funcs_of «module».now) < 2 ^ 32 }
     ensures { IfOk result (λ items. items ≡ map const.Func (declared_refs «module».now)) }
@@ -153,9 +154,10 @@ fn undeclared(alloc: Global, module: &Module) -> Result<Items<ConstExpr>, NoMemo
     items_of(alloc, inside.as_slice(), outside.as_slice())
 }
 
-/// Appends one declarative element segment with the functions that a `ref.func` in a body names and that no element segment, initialiser of a global or
-/// export names, in ascending order, and none where there are no such functions (WebAssembly Core 2.0, section 3.4.10). For want of memory the module
-/// stays as it was.
+/// Appends one declarative element segment with the functions that `ref.func` names in a body and
+/// that no element segment, initialiser of a global or export names, in ascending order
+/// (WebAssembly Core 2.0, section 3.4.10). If there are no such functions, the module stays as it
+/// was. If memory runs out, the call returns `NoMemory`, and the module is as it was.
 pub fn declare_refs(alloc: Global, module: &mut Module) -> Result<(), NoMemory>
     requires { length (funcs_of «module».old) < 2 ^ 32 }
     ensures ok { OnOk result («module».new ≡ declared «module».old) }

@@ -1,4 +1,4 @@
-// What has indices in it, and takes other ones where it stands.
+// Parts of a module that have indices, which are replaced in place.
 
 ghost use Rattle.std.specs.Prelude.{◌≡◌, IsTrue, Bool};
 ghost use Rattle.index_remap.specs.declared.remap.Remap.{Remap as Maps};
@@ -13,13 +13,13 @@ use wasm_tree::{ConstExpr, DataSeg, ElemSeg, Export, Func, GlobalDef, Import};
 
 /// A part of a module that names things by index.
 pub(crate) trait Renumber: Drop {
-    /// What it is with other indices.
+    /// The part with other indices.
     ghost renewed: { Maps → Self → Self };
 
-    /// The maps have an entry for each index that it names.
+    /// The maps have an entry for each index that the part names.
     ghost has_entries: { Maps → Self → Bool };
 
-    /// Gives it other indices where it stands.
+    /// Replaces the indices of the part in place.
     fn rewrite(&mut self, map: &Remap)
         requires fits { IsTrue (has_entries map.now self.old) }
         ensures { self.new ≡ renewed map.now self.old };

@@ -1,4 +1,4 @@
-// Trees with other indices, rewritten where they stand.
+// Replaces the indices of trees in place.
 
 ghost use Rattle.std.specs.Prelude.{◌≡◌, IsTrue, map as each};
 ghost use Rattle.std.specs.List.{list_all};
@@ -100,7 +100,7 @@ pub(crate) fn rewrite_all(body: &mut Items<Instr>, map: &Remap)
     }
 }
 
-/// All of them, where they stand.
+/// Replaces the indices of each item in place.
 pub(crate) fn rewrite_each<T: Renumber>(items: &mut Items<T>, entries: &Remap)
     requires fits { IsTrue (list_all (T.has_entries entries.now) items.old) }
     ensures { items.new ≡ each (T.renewed entries.now) items.old }
@@ -112,8 +112,9 @@ pub(crate) fn rewrite_each<T: Renumber>(items: &mut Items<T>, entries: &Remap)
     }
 }
 
-/// Functions with other indices, rewritten where they stand (WebAssembly Core 2.0, section 2.5.3). The map needs an entry for each index that they name. It takes
-/// no memory. Bodies are walked by a recursion as deep as their blocks are nested.
+/// Replaces each index that the functions name by its entry in `map`, in place (WebAssembly Core
+/// 2.0, section 2.5.3). `map` needs an entry for each of these indices. The call takes no memory;
+/// its recursion is as deep as the blocks of the bodies are nested.
 pub fn renumber_funcs_in_place(funcs: &mut Items<Func>, map: &Remap)
     requires fits { IsTrue (list_all (fits_func map.now) funcs.old) }
     ensures { funcs.new ≡ each (new_func map.now) funcs.old }
@@ -121,9 +122,11 @@ pub fn renumber_funcs_in_place(funcs: &mut Items<Func>, map: &Remap)
     rewrite_each(funcs, map);
 }
 
-/// Replaces each index that the module names by its entry in the map of its index space, where it stands (WebAssembly Core 2.0, section 2.5.1): it becomes the
-/// module that [`renumber`](crate::renumber) gives. Every list keeps its order and its length. It needs an entry for every index that the module names, and takes no
-/// memory. Bodies are walked by a recursion as deep as their blocks are nested.
+/// Replaces each index that the module names by its entry in `map` for its index space, in place
+/// (WebAssembly Core 2.0, section 2.5.1); [`renumber`](crate::renumber) returns the same module as
+/// a copy. Every list keeps its order and its length. `map` needs an entry for every index that the
+/// module names. The call takes no memory; its recursion is as deep as the blocks of the bodies are
+/// nested.
 pub fn renumber_in_place(module: &mut Module, map: &Remap)
     requires entries { IsTrue (fits_tree map.now «module».old) }
     ensures tree { «module».new ≡ renumbered_tree map.now «module».old }

@@ -1,4 +1,5 @@
-//! Trees with other indices or with their references declared: the calls that make them, and the laws that related steps agree and related runs have equal traces.
+//! Replaces the indices of module trees and declares their references, and states laws: related
+//! steps agree, and related runs have equal traces.
 #![tactic(auto)]
 
 mod declaring;
@@ -25,23 +26,32 @@ pub use in_place::{renumber_funcs_in_place, renumber_in_place};
 pub use remap::{Remap, renumber_const, renumber_export_desc};
 pub use renumbering::renumber;
 
-/// One step of each agrees, from stores that correspond under a one-to-one relation of addresses (functions need not be one to one) and from configurations that are
-/// related (WebAssembly Core 2.0, section 4.4): both come to related values and again to what corresponds, or both trap, or both are ill typed (`steps`). Of related
-/// values the embedder is shown equal values, where functions too are one to one and those that it was shown before are related, number by number (`shown`). Only the
-/// entries that the step touches need to be related. The instruction that comes next has to name related addresses, other code only such as are in the code relation;
-/// where all of these are related, it does (`known`). A trap ends at the nearest mark: where the two marks are related the same waits at both, and nothing above needs
-/// to be (`traps`).
+/// States that one step of each of two related configurations over related stores has the same
+/// outcome (WebAssembly Core 2.0, section 4.4): both go on to related results, or both trap, or
+/// both are ill typed (`steps`). The simulation relation is one to one except for functions. Only
+/// the entries that the step touches have to be related. The next instruction has to name related
+/// addresses, other code addresses of the code relation; if all of these are related, the next
+/// instruction does name related ones (`known`). If functions are one to one too, and those that
+/// were shown before are related, number by number, the embedder is shown equal values for related
+/// ones (`shown`). A trap ends at the nearest mark: if the two marks are related, the same caller
+/// waits at both, whatever is above them (`traps`).
 ///
-/// Of the functions of a list it is enough that their types are equal, and that neither is the environment's own or both are the same one. In place of a call of one
-/// of them other code may stand, and of a step that begins a call of one, directly or through a table, nothing is said.
+/// An opaque function is one of a list. Two related ones need only have equal types, and neither is
+/// the environment's own or both are the same function of it. Other code may stand in place of a
+/// call of one. Nothing is said about a step that begins a call of one, directly or through a
+/// table.
 ///
-/// A body is related to itself with other indices, where each index that it names and its entry denote addresses in the code relation, or for equal types, or
-/// neither is there (`code`); so it is where other code stands in place of calls of functions at addresses of the list; an index that only such calls name needs no
-/// entry (`replaced`). With no function on the list the body with other indices is such code (`not_opaque`). Over one instance, whose addresses are in the code relation with themselves, code is
-/// related to itself (`reflexive`).
+/// A body is related to the same body with other indices if each index that it names and its entry
+/// denote addresses of the code relation, or equal types, or neither denotes anything (`code`). The
+/// same holds if calls of opaque functions are replaced by code that may stand in their place; an
+/// index that only such calls name needs no entry (`replaced`). If the list is empty, the body with
+/// other indices is such code (`not_opaque`). Code is related to itself over an instance whose
+/// addresses are in the code relation with themselves (`reflexive`).
 ///
-/// A body that is well typed stays so with other indices, over the same locals, results and labels, where the indices of the other instructions agree with their
-/// entries, and what stands in place of a call has the type of the function under the labels where it stands (section 3.3, `typed`).
+/// A well-typed body stays well typed with other indices, over the same locals, results and labels,
+/// if the indices that instructions other than replaced calls name agree with their entries, and if
+/// code that replaces a call has the type of the called function under the labels at that place
+/// (section 3.3, `typed`).
 pub fn steps_agree()
     ensures steps { StepsAgree }
     ensures known { NamedAreKnown }
@@ -54,10 +64,13 @@ pub fn steps_agree()
     ensures typed { TypingIsKept }
 {}
 
-/// Two runs that are related by a one-to-one relation of addresses, functions included, where all that is in the code relation is related and no function is opaque,
-/// have equal traces in however many steps (`events`): each step gives the same event and leaves them related (`steps`). Once they are instantiated it leaves the functions as
-/// they were, and all else that has no partner in the other store (`unrelated`). Where functions are opaque, all of this is so of each step that begins no call of one of
-/// them, be it by a frame, a start or a move (`opaque`).
+/// States that related runs have equal traces in any number of steps, if the simulation relation is
+/// one to one, functions included, if it is also the code relation, and if no function is opaque
+/// (`events`). Each step has the same event and leaves the runs related (`steps`). Once the runs
+/// are instantiated, a step leaves the functions as they were, and everything else that has no
+/// partner in the other store (`unrelated`). If there are opaque functions, or more pairs in the
+/// code relation, each step does the same that begins no call of an opaque function (by a frame, a
+/// start or a move) and whose next instruction names related addresses (`opaque`).
 pub fn related_runs_have_equal_traces()
     ensures events { RelatedRunsHaveEqualTraces }
     ensures steps { RelatedTicksAgree }
@@ -65,11 +78,17 @@ pub fn related_runs_have_equal_traces()
     ensures opaque { RunsWithOpaqueFunctionsAgree }
 {}
 
-/// Calls through the slots of a table, as of a module of which functions are moved to another. Of related runs of which the second has frames of trampolines between, which
-/// only pass results on, a step of the first that begins no call of a function of the list is answered by one or two of the second (`passing_frames`). A trampoline that is
-/// entered has, after a step for each parameter and two more, entered what stands in its slot, with the same values (`trampolines`); so have, after two steps, the two
-/// instructions `i32.const` and `call_indirect` (WebAssembly Core 2.0, section 4.4.8, `slots`). Where that has related code, these come to what the direct call comes to:
-/// with the trampoline's frame between (`through`), and with none (`replaced`). So do a direct call in both, where in the second the function with related code is called (`direct`).
+/// States how calls through slots of a table simulate direct calls, as after functions of a module
+/// are moved to another one. In the second of two related runs, passing frames, which only pass
+/// results on, may be between the other frames. Then one or two of its steps answer a step of the
+/// first that begins no call of an opaque function and whose next instruction names related
+/// addresses; the simulation relation is one to one (`passing_frames`). A trampoline that was
+/// entered has, after a step for each parameter and two more, entered the function in its slot with
+/// the same values (`trampolines`), and the two instructions `i32.const` and `call_indirect` have
+/// entered it after two steps (WebAssembly Core 2.0, section 4.4.8, `slots`). If this function has
+/// related code, the result is related to that of the direct call, with a passing frame between
+/// (`through`) or without one (`replaced`). It is related, too, if the second run calls the
+/// function with related code directly (`direct`).
 pub fn calls_through_slots_simulate_direct_calls()
     ensures passing_frames { PassingFramesStutter }
     ensures trampolines { TrampolinesEnterSlots }
@@ -79,25 +98,32 @@ pub fn calls_through_slots_simulate_direct_calls()
     ensures direct { DirectCallsAgree }
 {}
 
-/// Where more code may stand in place of calls of functions that are opaque, as when another module is there whose code calls them otherwise, what was related stays so: code
-/// (`code`), stores (`stores`), and runs of which the second has frames of trampolines between (`runs`).
+/// States that what is related stays related if more code may stand in place of calls of opaque
+/// functions, as when another module is added whose code calls them in another way. This holds for
+/// code (`code`), for stores (`stores`), and for runs of which the second has passing frames
+/// between its frames (`runs`).
 pub fn code_relation_is_monotone()
     ensures code { CodeStaysRelated }
     ensures stores { StoresStayRelated }
     ensures runs { RunsStayRelated }
 {}
 
-/// Of stores that correspond but for places of which nothing is known: where there are no such places, they correspond (`nothing`); a related global that is set to
-/// a related value is known from then on (`set`).
+/// States two facts about stores that are related except at unknown places. If there are no unknown
+/// places, this means that the stores are related (`nothing`). If two related globals are set to
+/// related values, they are known from then on, for a simulation relation that is one to one except
+/// for functions (`set`).
 pub fn set_globals_are_known()
     ensures nothing { NothingUnknown }
     ensures set { SetGlobalsAreKnown }
 {}
 
-/// From stores that correspond but for places of which nothing is known, one step of each agrees as it does from stores that correspond, where it reads no such
-/// place: `global.get` a global, `table.get` and `call_indirect` a slot, `table.copy` and `table.init` the references that they copy (WebAssembly Core 2.0, sections 4.4.5, 4.4.6 and
-/// 4.4.8). It leaves stores that correspond but for what is still unknown: a global that is set is known (`steps`). So a run of the machine whose steps go on and read
-/// no such place is led step by step (`runs`).
+/// States that the clause `steps` of `steps_agree` holds for stores that are related except at
+/// unknown places, if the step reads no unknown place: `global.get` reads a global, `table.get` and
+/// `call_indirect` read a slot, `table.copy` and `table.init` the references that they copy
+/// (WebAssembly Core 2.0, sections 4.4.5, 4.4.6 and 4.4.8). Afterwards the stores are related
+/// except at what is still unknown; a global that was set is known (`steps`). So a run of the
+/// machine is followed step by step if each of its steps goes on, reads no unknown place, begins no
+/// call of an opaque function and names related addresses (`runs`).
 pub fn steps_agree_off_unknown_places()
     ensures steps { StepsAgreeOff }
     ensures runs { RunsAgreeOff }

@@ -1,4 +1,4 @@
-// The maps of indices, and what has few of them.
+// The maps of indices, and the parts of a module that have only a few indices.
 
 ghost use Rattle.std.specs.Prelude.{◌≡◌, ◌<◌, length, slice_index, IsTrue};
 ghost use Rattle.index_remap.specs.Renumbered.{new_type, new_memarg, new_const, new_import_desc, new_export_desc, new_elem_mode, new_data_mode, new_start, fits_type, has, fits_const, fits_import_desc, fits_export_desc, fits_elem_mode, fits_data_mode, fits_start};
@@ -6,7 +6,7 @@ ghost use Rattle.index_remap.specs.Renumbered.{new_type, new_memarg, new_const, 
 use wasm_bytes::Items;
 use wasm_tree::{BlockType, ConstExpr, DataMode, ElemMode, ExportDesc, ImportDesc, MemArg};
 
-/// For each index space the new index of each old one.
+/// The new index of each old index, for each index space.
 #[derive(Drop)]
 pub struct Remap {
     pub types: Items<u32>,
@@ -47,7 +47,8 @@ pub(crate) fn renumber_memarg(arg: MemArg, map: &Remap) -> MemArg
     }
 }
 
-/// A constant expression with other indices (WebAssembly Core 2.0, section 3.3.10). The map needs an entry for the index that it names.
+/// Returns the constant expression with its index replaced by its entry in `map` (WebAssembly Core
+/// 2.0, section 3.3.10). `map` needs an entry for that index.
 pub fn renumber_const(expr: ConstExpr, map: &Remap) -> ConstExpr
     requires { IsTrue (fits_const map.now expr) }
     ensures { result ≡ new_const map.now expr }
@@ -73,7 +74,8 @@ pub(crate) fn renumber_import_desc(desc: ImportDesc, map: &Remap) -> ImportDesc
     }
 }
 
-/// What an export denotes, with another index (WebAssembly Core 2.0, section 2.5.10). The map needs an entry for it.
+/// Returns what an export denotes, with its index replaced by its entry in `map` (WebAssembly Core
+/// 2.0, section 2.5.10). `map` needs an entry for that index.
 pub fn renumber_export_desc(desc: ExportDesc, map: &Remap) -> ExportDesc
     requires { IsTrue (fits_export_desc map.now desc) }
     ensures { result ≡ new_export_desc map.now desc }

@@ -1,4 +1,4 @@
-// The call that renumbers a module.
+// Renumbers a copy of a module.
 
 ghost use Rattle.std.specs.Prelude.{◌≡◌, IfOk, IsTrue};
 ghost use Rattle.index_remap.specs.Renumbered.{renumbered_tree, fits_tree};
@@ -9,8 +9,9 @@ use std::alloc::Global;
 use wasm_bytes::NoMemory;
 use wasm_tree::Module;
 
-/// The module with each index replaced by its entry in the map of its index space (WebAssembly Core 2.0, section 2.5.1). Every list keeps its order
-/// and its length. It needs an entry for every index that the module names.
+/// Returns the module with each index replaced by its entry in `map` for its index space
+/// (WebAssembly Core 2.0, section 2.5.1). Every list keeps its order and its length. `map` needs an
+/// entry for every index that the module names. If memory runs out, the call returns `NoMemory`.
 pub fn renumber(alloc: Global, module: &Module, map: &Remap) -> Result<Module, NoMemory>
     requires entries { IsTrue (fits_tree map.now «module».now) }
     ensures tree { IfOk result (λ new. new ≡ renumbered_tree map.now «module».now) }

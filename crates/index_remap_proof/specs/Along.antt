@@ -1,4 +1,5 @@
--- When two contexts have the same along a map of indices: at each index of a set, and at its entry (WebAssembly Core 2.0, section 3.1.1).
+-- When two contexts agree along a map of indices: at each index of a set and at its entry
+-- (WebAssembly Core 2.0, section 3.1.1).
 use Rattle.std.specs.Prelude.{ℕ, ◌≤◌, Bool, IsTrue, length}
 use Rattle.wasm_tree_spec.specs.Prelude.{Space}
 use Rattle.wasm_valid_bodies.specs.Typing.{Context}
@@ -6,12 +7,13 @@ use Rattle.index_remap.specs.declared.remap.Remap.{Remap}
 use Rattle.index_remap.specs.Prelude.{OperandAgrees, SameFrame}
 use Rattle.index_remap_proof.specs.Indices.{Indices}
 
--- each index that is kept agrees with its entry; of other indices nothing is said
+-- Each index that is kept agrees with its entry, and locals, results and labels are the same.
+-- Nothing is said about other indices.
 pub record AgreesAlong (m : Remap) (kept : Indices) (c d : Context) : Type 0 where
   pub entries : (space : Space) (called : Bool) (i : ℕ) → IsTrue (kept space i) → OperandAgrees m c d space called i
   pub frame : SameFrame c d
 
--- the lists of the map are at least as long as the spaces of the context
+-- The lists of the map are at least as long as the spaces of the context.
 pub record CoversContext (m : Remap) (c : Context) : Type 0 where
   pub types : length c.types ≤ length m.types
   pub funcs : length c.funcs ≤ length m.funcs
@@ -20,5 +22,5 @@ pub record CoversContext (m : Remap) (c : Context) : Type 0 where
   pub globals : length c.globals ≤ length m.globals
   pub elems : length c.elems ≤ length m.elems
   pub datas : c.datas ≤ length m.datas
-  -- so that what `ref.func` may name has an entry
+  -- So each function that `ref.func` may name has an entry.
   pub refs : length c.named ≤ length m.funcs

@@ -1,4 +1,4 @@
--- Sets of indices, and what names only indices of a set.
+-- Sets of indices, and code and parts of a tree that name only indices of a set.
 use Rattle.std.specs.Prelude.{◌≡◌, ℕ, Bool, IsTrue, Some, slice_get}
 use Rattle.base_lists.specs.Every.{Every}
 use Rattle.wasm_tree_spec.specs.Prelude.{Space, Types, Functions, Tables, Memories, Globals, operands, Instr, ConstExpr, Import, ImportDesc, Func, GlobalDef, Export, ExportDesc, ElemMode, ElemSeg, DataMode, DataSeg, Module, ListLayers}
@@ -11,17 +11,17 @@ use Rattle.wasm_tree.specs.declared.module.DataMode.TheVariants as «data»
 use Rattle.index_remap.specs.declared.remap.Remap.{Remap}
 use Rattle.index_remap.specs.Prelude.{entries, has}
 
--- a set of indices of each space
+-- A set of indices of each index space.
 abbrev pub Indices : Type 0
 Indices = Space → ℕ → Bool
 
--- those that have an entry in the map
+-- The indices that have an entry in the map.
 abbrev pub with_entry : Remap → Indices
 with_entry m space = has (entries m space)
 
 -- ---- code ----
 
--- each index that the layer itself names is of the set
+-- Each index that the layer itself names is in the set.
 abbrev pub LayerNamesOnly : Indices → Instr-F Instr → Type 0
 LayerNamesOnly kept layer = Every (λ o. IsTrue (kept o.space o.index)) (operands layer)
 
@@ -58,7 +58,7 @@ abbrev pub DataModeNamesOnly : Indices → DataMode → Type 0
 DataModeNamesOnly kept («data».Active memory offset) = IsTrue (kept Memories memory) × ConstNamesOnly kept offset
 DataModeNamesOnly kept «data».Passive = Unit {0}
 
--- each index that the tree names is of the set
+-- Each index that the tree names is in the set.
 pub record TreeNamesOnly (kept : Indices) (t : Module) : Type 0 where
   pub imports : (i : ℕ) (x : Import) → slice_get t.imports i ≡ Some x → ImportNamesOnly kept x.desc
   pub funcs : (i : ℕ) (f : Func) → slice_get t.funcs i ≡ Some f → FuncNamesOnly kept f

@@ -1,5 +1,5 @@
-//! What keeps validity where indices are replaced by their entries in a map, as laws: of bodies and constant expressions, of the items of a tree, of whole
-//! trees, and of trees whose references are declared.
+//! Laws of what stays valid when indices are replaced by their entries in a map: bodies and
+//! constant expressions, items of a tree, whole trees, and trees whose references are declared.
 #![tactic(auto)]
 
 ghost use Rattle.std.specs.Prelude.{◌≡◌, ◌<◌, ◌+◌, ◌^◌, ℕ, List, IsTrue, length};
@@ -25,12 +25,15 @@ use index_remap::steps_agree;
 use wasm_tree::operands_pass_layer_by_layer;
 use wasm_valid::valid_where_items_hold;
 
-/// A body that is well typed stays so over the same locals, results and labels where each index is replaced by its entry (WebAssembly Core 2.0, section 3.3):
-/// where each index of a set agrees with its entry and the body names only these (`bodies`), or where the indices that the body names agree with their entries
-/// (`by_index`). Of other indices nothing is asked. This is the clause `typed` of `steps_agree` where no call is replaced. A constant
-/// expression keeps its type likewise, where a global that it reads stays imported (`constants`). What is well typed names only indices of its spaces, so that a
-/// map with as many entries has one for each (`entries`, `tree_entries`). The set may be that of the indices with an entry: a body or a tree that fits a map names
-/// only these (`named`, `tree_named`).
+/// States that a well-typed body stays well typed, over the same locals, results and labels, when
+/// each index is replaced by its entry (WebAssembly Core 2.0, section 3.3), if the indices that the
+/// body names agree with their entries (`by_index`), or if the indices of a set agree with theirs
+/// and the body names only these (`bodies`). This is the clause `typed` of `steps_agree` when no
+/// call is replaced. A constant expression keeps its type in the same way, if the entry of a global
+/// that it reads is imported (`constants`). Well-typed bodies and valid trees name only indices of
+/// their spaces, so a map that covers these spaces has an entry for each (`entries`,
+/// `tree_entries`). The set may be that of the indices with an entry: a body or a tree of which
+/// every index has an entry names only these (`named`, `tree_named`).
 pub fn renumbering_keeps_typing()
     ensures bodies { (m : Remap) (kept : Indices) (c d : Context) (is : List Instr) (ps rs : List ValType) → AgreesAlong m kept c d → ListLayers (LayerNamesOnly kept) is → WellTyped c is ps rs → WellTyped d (renumbered_all m is) ps rs }
     ensures by_index { (m : Remap) (c d : Context) (is : List Instr) (ps rs : List ValType) → SameFrame c d → ListLayers (LayerAgrees m c d) is → WellTyped c is ps rs → WellTyped d (renumbered_all m is) ps rs }
@@ -45,10 +48,14 @@ pub fn renumbering_keeps_typing()
     valid_where_items_hold();
 }
 
-/// An item that comes from a valid one is valid, where each index of a set agrees with its entry and the item names only these (`items`); where references are yet
-/// to be declared, it holds but for references (`undeclared`). So a tree each of whose items comes from one of a valid tree is valid (`trees`), or is so but for
-/// references (`undeclared_trees`): others of the valid tree may be gone, from anywhere, as nothing is asked of an index that is not of the set. One with the same
-/// items, each index replaced by its entry, is valid where also the imported globals of the set stay imported (`renumbered`).
+/// States that an item that comes from a valid item is valid, if the indices of a set agree with
+/// their entries and the valid item names only these (`items`). If references still have to be
+/// declared, it is valid except for references (`undeclared`). So a tree is valid if each of its
+/// items comes from one of a valid tree (`trees`), or valid except for references if these still
+/// have to be declared (`undeclared_trees`). The valid tree may have more items anywhere, because
+/// nothing is required of other indices. A valid tree whose every index is replaced by its entry is
+/// valid, if it names only indices of the set, these agree with their entries, and the imported
+/// globals of the set stay imported (`renumbered`).
 pub fn renumbered_trees_are_valid()
     ensures items { (m : Remap) (kept : Indices) (t u : Module) (k : ItemKind) (i j : ℕ) → TreesAgree m kept t u → RefsAgree m kept t u → ItemComesFrom m kept t u k i j → HoldsAt t k i → HoldsAt u k j }
     ensures undeclared { (m : Remap) (kept : Indices) (t u : Module) (k : ItemKind) (i j : ℕ) → TreesAgree m kept t u → ItemComesFrom m kept t u k i j → HoldsAt t k i → HoldsButForReferences u k j }
@@ -60,8 +67,11 @@ pub fn renumbered_trees_are_valid()
     valid_where_items_hold();
 }
 
-/// A tree that is valid but for references is valid where they are declared (`valid`, WebAssembly Core 2.0, section 3.4.10). One memory at most and the bounds are
-/// kept, with one more element segment counted (`single`, `bounded`). A valid tree has none to be declared (`stays`), and is valid but for references (`weaker`).
+/// States that a tree that is valid except for references is valid after they are declared
+/// (`valid`, WebAssembly Core 2.0, section 3.4.10). A tree with at most one memory still has at
+/// most one (`single`), and a bounded tree stays bounded if it has fewer than 2 ^ 32 - 1 element
+/// segments (`bounded`). A valid tree has nothing to declare (`stays`) and is valid except for
+/// references (`weaker`).
 pub fn declared_trees_are_valid()
     ensures valid { (t : Module) → IsValidButForReferences t → IsValid (declared t) }
     ensures single { (t : Module) → IsSingle t → IsSingle (declared t) }

@@ -1,16 +1,17 @@
--- What loads read and stores write: little-endian numbers of 1, 2, 4 or 8 bytes (WebAssembly Core 2.0, section 4.4.7).
+-- What loads read and stores write: little-endian numbers of 1, 2, 4 or 8 bytes (WebAssembly Core
+-- 2.0, section 4.4.7).
 use Rattle.std.specs.Prelude.{ℕ, zero, suc, ◌+◌, ◌*◌, ◌/◌, ◌%◌, List, [], ◌∷◌}
 use Rattle.wasm_num.specs.Operations.{Width, W32, W64, extended}
 use Rattle.wasm_tree_spec.specs.Prelude.{LoadOp, StoreOp}
 use Rattle.wasm_tree.specs.declared.instr.LoadOp.TheVariants as load
 use Rattle.wasm_tree.specs.declared.instr.StoreOp.TheVariants as store
 
--- the number that bytes spell, the lowest first
+-- The number that the bytes encode, the lowest byte first.
 unfoldable pub little : List ℕ → ℕ
 little [] = 0
 little (b ∷ bs) = b + 256 * little bs
 
--- so many lowest bytes of a number
+-- The lowest bytes of a number, as many as the first argument says, the lowest first.
 unfoldable pub little_bytes : ℕ → ℕ → List ℕ
 little_bytes zero n = []
 little_bytes (suc count) n = n % 256 ∷ little_bytes count (n / 256)
@@ -43,7 +44,7 @@ load_to load.I64Load16U = W64
 load_to load.I64Load32S = W64
 load_to load.I64Load32U = W64
 
--- the value that a load makes of its bytes
+-- The number that a load makes of the bytes that it reads.
 unfoldable pub loaded : LoadOp → List ℕ → ℕ
 unfolding little extended
 loaded load.I32Load bytes = little bytes
@@ -68,7 +69,7 @@ store_from store.I64Store8 = W64
 store_from store.I64Store16 = W64
 store_from store.I64Store32 = W64
 
--- the bytes that a store makes of its value
+-- The bytes that a store writes for a number.
 unfoldable pub stored : StoreOp → ℕ → List ℕ
 unfolding little_bytes
 stored store.I32Store n = little_bytes 4 n

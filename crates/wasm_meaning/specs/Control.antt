@@ -16,7 +16,7 @@ type_of_func (Code t i ls c) = t
 type_of_func (Own p t) = t
 type_of_func (Placeholder n t) = t
 
--- the environment's own function that stands there, if one does
+-- The pair and the type of a function, if it is one of the environment's own.
 abbrev pub own_of : Func → Option (Pair × FuncType)
 own_of (Own p t) = Some (p, t)
 own_of _ = None
@@ -49,16 +49,16 @@ call_indirect env h ty table = with_table env table (λ a t. call_slot env h ty 
 
 -- ---- ends and branches ----
 
--- the frame ends with these values
 abbrev pub finish : Body → List Val → Outcome Act
 finish h vs = Gives (Ends vs)
 
--- these values and this code go on in the level outside, or the frame ends with them
+-- Continues in the next level outwards, with `vs` on top of its values and `c` before its code. If
+-- there is no such level, the frame ends with `vs`.
 abbrev pub resume : Body → List Val → List Instr → List Level → Outcome Act
 resume h vs c [] = finish h vs
 resume h vs c (l ∷ ls) = Gives (go (record h { values = vs ++ l.values; rest = c ++ l.code; gives = l.gives; takes = l.takes; back = l.back; outer = ls }))
 
--- a level ends with as many values as it gives, which are on top
+-- Ends the innermost level with the values on top, as many as it gives.
 abbrev pub end_level : Body → Outcome Act
 end_level h = bind (or_ill_typed (split_at h.gives h.values)) (λ p. resume h p.0 [] h.outer)
 
@@ -68,11 +68,12 @@ level_here h = record { values = h.values; code = h.rest; gives = h.gives; takes
 abbrev pub branch : Body → ℕ → Outcome Act
 branch h n = with_entry (level_here h ∷ h.outer) n (λ t. bind (or_ill_typed (split_at t.takes h.values)) (λ p. resume h p.0 t.back (drop n h.outer)))
 
--- a branch where the number on top is not 0; where it is, the label is not looked at
+-- Branches if the number on top is not 0. If it is 0, the label is not looked up.
 abbrev pub branch_if : Body → ℕ → Outcome Act
 branch_if h n = bind (pop_num W32 h.values) (λ p. cond (nat_eq p.0 0) (Gives (go (with_values h p.1))) (branch (with_values h p.1) n))
 
--- a branch to the label at the place that is on top, or past their end to the last one; the others are not looked at
+-- Branches to the label in `ns` at the place that is on top of the stack, or to `last` if that
+-- place is past the end of `ns`. No other label is looked up.
 abbrev pub branch_table : Body → List ℕ → (last : ℕ) → Outcome Act
 branch_table h ns last = bind (pop_num W32 h.values) (λ p. branch (with_values h p.1) (unwrap_or (slice_get ns p.0) last))
 
@@ -83,7 +84,8 @@ shape_of i bt.Empty = Some (record { params = []; results = [] })
 shape_of i (bt.Value t) = Some (record { params = []; results = t ∷ [] })
 shape_of i (bt.Index n) = slice_get i.types n
 
--- a level is opened with the values of these types; it gives so many at its end, and a branch to it takes so many and begins this code
+-- Opens a level with values of the types `params`. The level gives `gives` values at its end; a
+-- branch to it takes `takes` values and continues with `back`.
 abbrev pub open_level : Body → List Val → (params : List ValType) → (gives takes : ℕ) → (body back : List Instr) → Outcome Act
 open_level h vs params gives takes body back =
     bind (pop_typed params vs) (λ p. Gives (go (record h { values = onto p.0 []; rest = body; gives = gives; takes = takes; back = back; outer = level_here (with_values h p.1) ∷ h.outer })))

@@ -10,8 +10,9 @@ use Rattle.wasm_meaning.specs.State.{Pair, RefVal, FuncRef, ExternRef, Val, Num,
 use Rattle.wasm_meaning.specs.Values.{ref_of}
 use Rattle.wasm_meaning.specs.Linking.{same_pair}
 
--- a value as the embedder sees it: a number, null, a function of its own, a number of its own, or a function that was shown to it, by its number in the order
--- of first showing
+-- A value as the embedder sees it: a number, null, a function of the environment's own, an external
+-- reference by its number, or a function that was shown to it, by its place in the order of first
+-- showing.
 pub data Shown : Type 0 where
   Number : ℕ → Shown
   Null : Shown
@@ -33,7 +34,8 @@ pub record OwnGlobal : Type 0 where
   pub ty : GlobalType
   pub value : Shown
 
--- what is offered under one module and field name: functions of these types, and at most one of each other kind
+-- What is offered under one module and field name: functions of these types, and at most one table,
+-- one memory and one global.
 pub record Offer : Type 0 where
   pub pair : Pair
   pub funcs : List FuncType
@@ -41,10 +43,11 @@ pub record Offer : Type 0 where
   pub memory : Option OwnMemory
   pub global : Option OwnGlobal
 
+-- What an embedder offers for imports.
 abbrev pub Environment : Type 0
 Environment = List Offer
 
--- ---- what is asked of an environment ----
+-- ---- the condition on an environment ----
 
 abbrev pub all_of : {A : Type 0} → (A → Bool) → List A → Bool
 all_of is [] = true
@@ -54,7 +57,6 @@ abbrev pub any_of : {A : Type 0} → (A → Bool) → List A → Bool
 any_of is [] = false
 any_of is (x ∷ xs) = cond (is x) true (any_of is xs)
 
--- no two are the same
 abbrev pub distinct : {A : Type 0} → (A → A → Bool) → List A → Bool
 distinct same [] = true
 distinct same (x ∷ xs) = cond (any_of (same x) xs) false (distinct same xs)
@@ -66,8 +68,9 @@ where_there is (Some x) = is x
 abbrev pub offers_func : Pair → FuncType → Offer → Bool
 offers_func pair ty offer = same_pair pair offer.pair && any_of (same_func_type ty) offer.funcs
 
--- The value is of the type: a number is in its type's range, and a function of the environment's own is one that it offers. No function stands here by its number,
--- since none was shown yet; an extern number may be any.
+-- The value has the type. A number is in its type's range. A reference to a function is null or a
+-- function that the environment offers; no `Function` is allowed, because none has been shown yet.
+-- An external reference is null or has any number.
 abbrev pub is_value : Environment → ValType → Shown → Bool
 is_value env valt.I32 (Number n) = nat_lt n (2 ^ 32)
 is_value env valt.I64 (Number n) = nat_lt n (2 ^ 64)
@@ -77,15 +80,15 @@ is_value env (valt.Ref reft.Extern) Null = true
 is_value env (valt.Ref reft.Extern) (ExternNumber n) = true
 is_value env _ _ = false
 
--- the minimum is at most the maximum, and the size is between them
+-- The minimum is at most the maximum, and `size` is between them.
 abbrev pub is_within : ℕ → Limits → Bool
 is_within size l = nat_le l.min size && (where_there (λ most. nat_le l.min most && nat_le size most) l.max)
 
--- a table has at most 2 ^ 32 - 1 entries; its maximum has no such bound
+-- A table has at most 2 ^ 32 - 1 entries; its maximum has no such bound.
 abbrev pub is_table : Environment → OwnTable → Bool
 is_table env t = is_within (length t.entries) t.limits && ((nat_lt (length t.entries) (2 ^ 32)) && all_of (is_value env (valt.Ref t.ty)) t.entries)
 
--- for a memory both limits are at most 65,536 pages
+-- The size and both limits of a memory are at most 65,536 pages.
 abbrev pub is_memory : OwnMemory → Bool
 is_memory m =
     is_within m.pages m.limits && (where_there (λ most. nat_le most 65536) m.limits.max && (nat_le m.pages 65536 && ((nat_eq (length m.bytes) (65536 * m.pages)) && all_of (λ b. nat_lt b 256) m.bytes)))
@@ -97,26 +100,29 @@ abbrev pub is_offer : Environment → Offer → Bool
 is_offer env o =
     distinct same_func_type o.funcs && (where_there (is_table env) o.table && (where_there is_memory o.memory && where_there (is_global env) o.global))
 
--- one offer for each pair, with contents of their types and limits that are right
+-- Each pair has at most one offer, whose function types differ, whose sizes are within their limits
+-- and whose contents have their types.
 abbrev pub is_environment : Environment → Bool
 is_environment env = distinct same_pair (map (λ o. o.pair) env) && all_of (is_offer env) env
 
--- ---- its entities in the store ----
+-- ---- the environment's entities in the store ----
 
--- an entity of the environment's own
+-- An entity of the environment's own, identified by its kind, its pair and, for a function, its
+-- type.
 pub data OwnKey : Type 0 where
   FuncKey : Pair → FuncType → OwnKey
   TableKey : Pair → OwnKey
   MemoryKey : Pair → OwnKey
   GlobalKey : Pair → OwnKey
 
--- an entity in the store, by address
+-- An external value (section 4.2.13): a function, table, memory or global by its address.
 pub data ExternalValue : Type 0 where
   FuncAt : ℕ → ExternalValue
   TableAt : ℕ → ExternalValue
   MemoryAt : ℕ → ExternalValue
   GlobalAt : ℕ → ExternalValue
 
+-- The environment's own entities, with their external values.
 abbrev pub Owned : Type 0
 Owned = List (OwnKey × ExternalValue)
 
@@ -138,7 +144,7 @@ abbrev pub func_of : ExternalValue → Option ℕ
 func_of (FuncAt a) = Some a
 func_of _ = None
 
--- keys with addresses, counted from n
+-- The keys with consecutive addresses from n on.
 abbrev pub addressed : (ℕ → ExternalValue) → ℕ → List OwnKey → Owned
 addressed thing n [] = []
 addressed thing n (key ∷ keys) = (key, thing n) ∷ addressed thing (suc n) keys
@@ -151,7 +157,7 @@ abbrev pub flat : {A B : Type 0} → (A → List B) → List A → List B
 flat f [] = []
 flat f (x ∷ xs) = f x ++ flat f xs
 
--- the environment's entities have the first addresses of each kind, in the order of its offers
+-- The environment's entities have the first addresses of each kind, in the order of its offers.
 abbrev pub owned_of : Environment → Owned
 owned_of env =
     addressed FuncAt 0 (flat (λ o. map (FuncKey o.pair) o.funcs) env) ++ (addressed TableAt 0 (flat (λ o. one_if (λ t. TableKey o.pair) o.table) env)
@@ -162,7 +168,8 @@ owned_of env =
 abbrev pub func_value : ℕ → Val
 func_value a = Ref (FuncRef (Some a))
 
--- the value that is meant, where it is one of this type: own functions are those that are offered, and a function's number is its place among those shown
+-- The value that the embedder means, if it has this type. `OwnFunc` has to be a function that the
+-- environment offers, and the number of a `Function` is its place in `shown`.
 abbrev pub received : Owned → (shown : List ℕ) → ValType → Shown → Option Val
 received owned shown valt.I32 (Number n) = cond (nat_lt n (2 ^ 32)) (Some (Num W32 n)) None
 received owned shown valt.I64 (Number n) = cond (nat_lt n (2 ^ 64)) (Some (Num W64 n)) None
@@ -176,15 +183,16 @@ received owned shown _ _ = None
 abbrev pub received_ref : Owned → (shown : List ℕ) → RefType → Shown → Option RefVal
 received_ref owned shown ty x = received owned shown (valt.Ref ty) x >>= ref_of
 
--- one value for each type
+-- The values that the embedder means, one for each type.
 abbrev pub received_all : Owned → (shown : List ℕ) → List ValType → List Shown → Option (List Val)
 received_all owned shown [] [] = Some []
 received_all owned shown (t ∷ ts) (x ∷ xs) = received owned shown t x >>= λ v. received_all owned shown ts xs >>= λ vs. Some (v ∷ vs)
 received_all owned shown _ _ = None
 
--- ---- what is allocated for it ----
+-- ---- what is allocated for the environment ----
 
--- where there is no such reference or value, null or zero; under is_environment there always is one
+-- The reference or value, or null or zero if there is none; under `is_environment` there always is
+-- one.
 abbrev pub or_null : RefType → Option RefVal → RefVal
 or_null ty (Some r) = r
 or_null reft.Func _ = FuncRef None

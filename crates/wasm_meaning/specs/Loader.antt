@@ -1,6 +1,8 @@
--- A module under a loader. The loader supplies some imports of a primary module as placeholders, each for a slot of one of the primary's tables. Each slot is of
--- one of several secondary modules: the first call of a placeholder of one's slots instantiates it (WebAssembly Core 2.0, section 4.5.4), and each call of a
--- placeholder goes to the function that is then in its slot.
+-- A module under a loader. The loader supplies some imports of a primary module as placeholders,
+-- each for a slot of one table of the primary module. Each slot belongs to one of several secondary
+-- modules. The first call of a placeholder of a secondary module's slots instantiates that module
+-- (WebAssembly Core 2.0, section 4.5.4), and each call of a placeholder goes to the function that
+-- is then in its slot.
 use Rattle.std.proofs.Common.{ℕ, suc, ◌+◌, ◌-◌, List, [], ◌∷◌, ◌++◌, map, length, Option, Some, None, Bool, true, false, cond, slice_get, slice_set, unwrap_or}
 use Rattle.std.specs.Prelude.{nat_lt}
 use Rattle.wasm_tree_spec.specs.Prelude.{Functions, FuncType, Import, ExportDesc, Module, same_func_type}
@@ -16,38 +18,41 @@ use Rattle.wasm_meaning.specs.World.{Begun, Filled, or_trapped, own_count, own_s
 use Rattle.wasm_meaning.specs.Sequential.{Added, added_with, own_external_value}
 use Rattle.wasm_meaning.specs.Run.{Run, Event, Move, Out, Transition, Steps, made, transition, fresh_run, run_after, events_of}
 
--- a module that is loaded, and the imports of the primary that the loader supplies for it, with their types, a slot each
+-- A secondary module, and the imports of the primary module, with their types, that the loader
+-- supplies for it. Each has one slot.
 pub record Secondary : Type 0 where
   pub «module» : Module
   pub placeholders : List (Pair × FuncType)
 
+-- A primary module with the secondary modules that its loader supplies.
 pub record LoaderWorld : Type 0 where
   pub primary : Module
-  -- they have their slots one after the other
+  -- Their slots follow one another in this order.
   pub secondaries : List Secondary
-  -- the table of slots, by its index in the primary
+  -- The index of the table of slots in the primary module.
   pub slot_table : ℕ
-  -- what the embedder may use, of the primary
+  -- What the embedder sees of the primary module.
   pub view : List (Text × ExportDesc)
 
 -- ---- slots ----
 
--- all placeholders, by slot
+-- All placeholders, in the order of their slots.
 abbrev pub placeholders_of : LoaderWorld → List (Pair × FuncType)
 placeholders_of w = flat (λ s. s.placeholders) w.secondaries
 
--- the secondary of a slot, by its place; none past the last slot
+-- Which secondary module of the list a slot belongs to, by its place in the list; `None` past the
+-- last slot.
 abbrev pub secondary_of : List Secondary → (slot : ℕ) → Option ℕ
 secondary_of [] n = None
 secondary_of (s ∷ ss) n = cond (nat_lt n (length s.placeholders)) (Some 0) (secondary_of ss (n - length s.placeholders) >>= λ j. Some (suc j))
 
--- ---- the primary ----
+-- ---- the primary module ----
 
 abbrev pub placeholders_from : ℕ → List (Pair × FuncType) → List Func
 placeholders_from n [] = []
 placeholders_from n (p ∷ ps) = Placeholder n p.1 ∷ placeholders_from (suc n) ps
 
--- the environment's own entities, and the placeholders after its functions
+-- The environment's own entities, with the placeholders after its functions.
 abbrev pub store_under : Environment → LoaderWorld → Store
 store_under env w = let s = own_store env in record s { funcs = s.funcs ++ placeholders_from 0 (placeholders_of w) }
 
@@ -58,7 +63,7 @@ abbrev pub placeholder_or_own : Environment → LoaderWorld → Import → Optio
 placeholder_or_own env w i (Some n) = Some (FuncAt (own_count Functions env + n))
 placeholder_or_own env w i None = own_external_value (owned_of env) w.primary i
 
--- what an import of the primary denotes
+-- What an import of the primary module denotes.
 abbrev pub supplied : Environment → LoaderWorld → Import → Option ExternalValue
 supplied env w i = placeholder_or_own env w i (slot_of w i)
 
@@ -69,33 +74,37 @@ abbrev pub begun_of : Environment → LoaderWorld → Added → Option Begun
 begun_of env w a =
     all_there (λ v. address_in a.inst v.1 >>= λ x. Some (v.0, x)) w.view >>= λ view. Some (record { store = a.filled.store; trapped = a.filled.trapped; starts = start_in a.inst w.primary.start; view = view; owned = owned_of env })
 
--- its instantiation, in one step
+-- The instantiation of the primary module, which is one step.
 abbrev pub begun_under : Environment → LoaderWorld → Option Begun
 begun_under env w = primary_added env w >>= (begun_of env w)
 
--- ---- a secondary ----
+-- ---- a secondary module ----
 
--- its imports are the exports of these names of the primary's instance, which are there once it is allocated
+-- Adds a secondary module. Each import denotes what the primary module exports under the field
+-- name; this exists once the primary module is allocated.
 abbrev pub secondary_added : LoaderWorld → Inst → Module → Store → Option Added
 secondary_added w i m s = added_with (λ x. export_named w.primary.exports x.field >>= (address_in i)) s m
 
--- The store in which a placeholder's call goes on, after the segments of the secondary. Its start, if it has one, is not made.
+-- The store in which the call of a placeholder goes on. A secondary module that is not loaded is
+-- added first; its start function, if it has one, does not run.
 abbrev pub store_loaded : LoaderWorld → Inst → Module → (is_loaded : Bool) → Store → Filled
 store_loaded w i m true s = record { store = s; trapped = false }
 store_loaded w i m false s = or_trapped s (secondary_added w i m s >>= λ a. Some a.filled)
 
--- a function of another type is not called
+-- Calls a function if it has the type `t`, and traps if it has another type.
 abbrev pub called_as : FuncType → Store → ℕ → List Val → List Entry → Outcome Next
 called_as t s f vs es = bind (or_ill_typed (type_at s f)) (λ u. cond (same_func_type t u) (enter_at s f vs es) Traps)
 
--- the function in the slot is called with the arguments of the placeholder; where a placeholder still stands there, the call of that one traps (`run_after`)
+-- Calls the function in the slot with the arguments of the placeholder. If the slot still holds a
+-- placeholder, the call of that one traps (`run_after`).
 abbrev pub slot_called : LoaderWorld → Inst → (slot : ℕ) → List Val → List Entry → Store → Outcome Next
 slot_called w i slot vs es s =
     with_entry (placeholders_of w) slot (λ p. with_table (record { store = s; inst = i }) w.slot_table (λ a t. with_entry t.slots slot (λ r. bind (func_ref r) (λ f. called_as p.1 s f vs es))))
 
 -- ---- runs ----
 
--- the run so far, the primary's instance, and of each secondary whether it was instantiated, or that was tried
+-- The run so far, the instance of the primary module, and for each secondary module whether its
+-- instantiation was tried.
 pub record LoaderRun : Type 0 where
   pub run : Run
   pub inst : Option Inst
@@ -104,20 +113,23 @@ pub record LoaderRun : Type 0 where
 abbrev pub loader_with : LoaderRun → Out → LoaderRun × Option Event
 loader_with q o = (record q { run = o.0 }, o.1)
 
--- what comes of a placeholder's call: where its secondary does not link or a segment of it traps, the call traps, and what was written stands
+-- Answers the call of a placeholder. If its secondary module does not link or a segment traps, the
+-- call traps, and what was written stays written.
 abbrev pub call_answered : LoaderWorld → Inst → (slot : ℕ) → List Val → List Entry → Filled → Outcome Next
 call_answered w i slot vs es f = cond f.trapped Traps (slot_called w i slot vs es f.store)
 
--- its secondary has been loaded, or that was tried
+-- The instantiation of this secondary module was tried.
 abbrev pub with_loaded : LoaderRun → (secondary : ℕ) → Run → LoaderRun
 with_loaded q j r = record q { run = r; loaded = slice_set q.loaded j true }
 
--- over this run, with the entries that wait for the call: where it traps, these go down to the nearest mark
+-- Answers a call over the run `r`, whose entries `es` wait for it; a trap removes these down to the
+-- nearest mark.
 abbrev pub secondary_called : LoaderWorld → LoaderRun → Run → Inst → (slot : ℕ) → List Val → List Entry → (secondary : ℕ) → Filled → LoaderRun × Option Event
 secondary_called w q r i slot vs es j f =
     let o = run_after (record r { store = f.store; entries = es }) (call_answered w i slot vs es f) in (with_loaded q j o.0, o.1)
 
--- None where there is no instance of the primary or no such slot: then no placeholder is called.
+-- Answers the call of a placeholder over the run `r`. `None` if the primary module has no instance
+-- or there is no such slot; then no placeholder is called.
 abbrev pub placeholder_called : LoaderWorld → LoaderRun → Run → (slot : ℕ) → List Val → Store → List Entry → Option (LoaderRun × Option Event)
 placeholder_called w q r slot vs s es =
     q.inst >>= λ i. secondary_of w.secondaries slot >>= λ j. slice_get w.secondaries j >>= λ x. slice_get q.loaded j >>= λ is_loaded.
@@ -127,8 +139,9 @@ abbrev pub loader_made : LoaderWorld → LoaderRun → Transition → LoaderRun 
 loader_made w q (Steps r (Gives (CallsPlaceholder slot vs s es))) = unwrap_or (placeholder_called w q r slot vs s es) (loader_with q (run_after (record r { store = s; entries = es }) Traps))
 loader_made w q t = loader_with q (made t)
 
--- A placeholder's call is answered in the one step that makes it, the loading included: whether code makes it, a move (`Call` or `Invoke`) or a start. Every other
--- step is that of a run.
+-- One step under a loader. A call of a placeholder is answered in the step that makes it, loading
+-- included, whether code, a move (`Call` or `Invoke`) or a start makes it. Every other step is that
+-- of a run.
 abbrev pub tick_loader : LoaderWorld → LoaderRun → LoaderRun × Option Event
 tick_loader w q = loader_made w q (transition q.run)
 
@@ -136,6 +149,6 @@ abbrev pub fresh_loader : Environment → LoaderWorld → List Move → LoaderRu
 fresh_loader env w moves =
     record { run = fresh_run env (begun_under env w) moves; inst = primary_added env w >>= (λ a. Some a.inst); loaded = map (λ s. false) w.secondaries }
 
--- the events of the first n steps under a loader
+-- The trace of the first n steps under a loader.
 abbrev pub events_loaded : LoaderWorld → Environment → List Move → ℕ → List Event
 events_loaded w env moves n = events_of (tick_loader w) (fresh_loader env w moves) n

@@ -8,21 +8,21 @@ use Rattle.wasm_meaning.specs.Access.{load_to, load_width, loaded, store_from, s
 use Rattle.wasm_meaning.specs.State.{Val, Num, Memory, Env, Body, GrowMemory, SetMemory, DropData, Act, Goes, AsksGrow}
 use Rattle.wasm_meaning.specs.Values.{pop_num, with_values, on_values, pushes}
 
--- the memory with other bytes from a place on; a trap where they pass its end
+-- The memory with `bytes` written from `place` on; a trap if they pass its end.
 abbrev pub written : Memory → ℕ → List ℕ → Outcome Memory
 written m place bytes = bind (or_trap (overwrite m.bytes place bytes)) (λ b. Gives (record m { bytes = b }))
 
 abbrev pub load_from : Memory → LoadOp → ℕ → List Val → Outcome (List Val)
 load_from m o offset vs = bind (pop_num W32 vs) (λ a. bind (or_trap (slice m.bytes (a.0 + offset) (load_width o))) (λ bytes. Gives (Num (load_to o) (loaded o bytes) ∷ a.1)))
 
--- the memory of this index: its address and what it holds
+-- Passes the address and the contents of the memory with index `i` to `f`.
 abbrev pub with_memory : {B : Type 0} → Env → ℕ → (ℕ → Memory → Outcome B) → Outcome B
 with_memory env i f = with_entry env.inst.mems i (λ a. with_entry env.store.mems a (f a))
 
 abbrev pub load : Env → Body → LoadOp → MemArg → Outcome Act
 load env h o arg = with_memory env arg.memory (λ a m. on_values h (load_from m o arg.offset))
 
--- the memory written, and these values left
+-- Sets the memory at address `a` to what `m` gives, and leaves the values `vs`.
 abbrev pub writes : Body → ℕ → Outcome Memory → List Val → Outcome Act
 writes h a m vs = bind m (λ n. Gives (Goes (SetMemory a n) (with_values h vs)))
 
@@ -49,11 +49,13 @@ grow_memory h a m =
 abbrev pub memory_grow : Env → Body → ℕ → Outcome Act
 memory_grow env h i = with_memory env i (grow_memory h)
 
--- three numbers: a place to write to; a place to read from, or for memory.fill the value; and a length, which is on top
+-- Pops three numbers: a destination; a source, or for memory.fill the value; and a length, which is
+-- on top.
 abbrev pub pop_three : List Val → Outcome ((ℕ × ℕ × ℕ) × List Val)
 pop_three vs = bind (pop_num W32 vs) (λ n. bind (pop_num W32 n.1) (λ s. bind (pop_num W32 s.1) (λ d. Gives ((d.0, s.0, n.0), d.1))))
 
--- a part of these bytes is written: they are a segment's, or for memory.copy those of its source before the write
+-- Writes a range of `bytes`: those of a segment, or for memory.copy those of the source before the
+-- write.
 abbrev pub init_memory : Body → List ℕ → ℕ → Memory → Outcome Act
 init_memory h bytes a m = bind (pop_three h.values) (λ p. bind (or_trap (slice bytes p.0.1 p.0.2)) (λ b. writes h a (written m p.0.0 b) p.1))
 

@@ -1,11 +1,11 @@
--- Paths: a point has no way on, or ends with something, or goes on to another point.
+-- Paths: a point has no step, or its step ends with something or leads to another point.
 use Rattle.std.proofs.Common.{◌≡◌, ℕ, zero, suc, List, ◌∷◌, Option, Some, None}
 
 pub data PathStep (A E : Type 0) : Type 0 where
   EndsWith : E → PathStep A E
   LeadsTo : A → PathStep A E
 
--- a path leads from a point to what it ends with
+-- A path leads from a point to what it ends with.
 pub data Path {A E : Type 0} (next : A → Option (PathStep A E)) : A → E → Type 0 where
   ends : {a : A} {e : E} → next a ≡ Some (EndsWith e) → Path next a e
   goes : {a b : A} {e : E} → next a ≡ Some (LeadsTo b) → Path next b e → Path next a e
@@ -15,7 +15,7 @@ walk_on more None = None
 walk_on more (Some (EndsWith e)) = Some e
 walk_on more (Some (LeadsTo b)) = more b
 
--- what a path of at most so many points ends with
+-- What the path from a point ends with, if it has at most `most` points.
 abbrev pub walk : {A E : Type 0} → (A → Option (PathStep A E)) → (most : ℕ) → A → Option E
 walk next zero a = None
 walk next (suc most) a = walk_on (walk next most) (next a)

@@ -1,4 +1,4 @@
--- Names of the meaning of modules, passed on from one place. Declares nothing.
+-- Re-exports definitions of this crate.
 pub use Rattle.wasm_meaning.specs.Access.{little, little_bytes, load_to, load_width, loaded, store_from, stored}
 pub use Rattle.wasm_meaning.specs.Control.{branch, call_slot, end_level, func_ref, level_here, open_block, open_level, own_at, own_of, resume, shape_of, type_at, type_of_func}
 pub use Rattle.wasm_meaning.specs.Environment.{Environment, ExternNumber, ExternalValue, FuncAt, FuncKey, Function, GlobalAt, GlobalKey, MemoryAt, MemoryKey, Null, Number, Offer, OwnFunc, OwnKey, Owned, Shown, TableAt, TableKey, addressed, all_of, flat, func_of, func_value, is_environment, look_up, one_if, own_funcs, own_globals, own_memories, own_tables, owned_at, owned_of, received, received_all, received_ref, same_key}

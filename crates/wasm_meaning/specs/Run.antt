@@ -1,4 +1,5 @@
--- The embedder's moves, and runs. A run instantiates its world, opens the starts and the view, and then makes steps and takes moves; what others see of it are its events.
+-- The embedder's moves, and runs. A run instantiates its world, runs the start functions, opens the
+-- view, and then makes steps and takes moves. What others see of it are its events.
 use Rattle.std.proofs.Common.{ℕ, suc, ◌+◌, ◌*◌, List, [], ◌∷◌, ◌++◌, length, Option, Some, None, Bool, true, false, cond, slice_get}
 use Rattle.wasm_tree_spec.specs.Prelude.{Space, Tables, Memories, ValType, FuncType}
 pub use Rattle.base_simulation.specs.Machines.{events_of, IsPrefix}
@@ -16,31 +17,40 @@ use Rattle.wasm_meaning.specs.Linking.{same_text}
 use Rattle.wasm_meaning.specs.Environment.{Environment, is_environment, owned_of, Shown, Number, Null, OwnFunc, ExternNumber, Function, ExternalValue, FuncAt, TableAt, MemoryAt, GlobalAt, TableKey, MemoryKey, GlobalKey, Owned, owned_at, look_up, func_of, received, received_ref, received_all}
 use Rattle.wasm_meaning.specs.World.{World, Begun, own_store, instantiate}
 
--- ---- what is seen and done ----
+-- ---- events and moves ----
 
+-- An observable action of a run.
 pub data Event : Type 0 where
-  -- instantiation: the view is open; an import did not match, a constant read has no end or a name of the view denotes nothing; a segment or a start trapped
+  -- Instantiation. `Linked`: the view is open. `LinkFault`: an import does not match, a constant
+  -- read has no end, or a name of the view denotes nothing. `InstanceTrapped`: a segment or a start
+  -- function trapped.
   Linked : Event
   LinkFault : Event
   InstanceTrapped : Event
-  -- the end of a call that the embedder made
+  -- The end of a call that the embedder made.
   Returned : List Shown → Event
   Trapped : Event
-  -- a function of the embedder's own is called, or a memory or table is to grow from a size by a count
+  -- A function of the environment's own is called; a memory or table is to grow from `size` by
+  -- `count`.
   Asked : Pair → FuncType → List Shown → Event
   GrowAsked : Space → (size count : ℕ) → Event
-  -- the answers to moves
+  -- The answers to moves: a value that was read, a move that was made, a move that cannot be made.
   Got : Shown → Event
   Done : Event
   BadMove : Event
 
--- a table, memory or global: the environment's own of a pair, or a name of the view
+-- A table, memory or global: one of the environment's own, by its pair, or the one that the view
+-- has under a name.
 pub data Place : Type 0 where
   TableOf : Pair → Place
   MemoryOf : Pair → Place
   GlobalOf : Pair → Place
   Named : Text → Place
 
+-- What the embedder does next: it calls a function of the view (`Call`) or one that it was shown
+-- (`Invoke`), is shown a function of the view (`Take`), answers a call of the environment's own
+-- function (`Answer`, or `Refuse` for a trap), grants or denies a growth, reads or sets an entry of
+-- a place, reads its size, or grows it (`Extend`).
 pub data Move : Type 0 where
   Call : Text → List Shown → Move
   Invoke : (number : ℕ) → List Shown → Move
@@ -57,24 +67,25 @@ pub data Move : Type 0 where
 -- ---- the state of a run ----
 
 pub data Phase : Type 0 where
-  -- about to be instantiated, to this or to none
+  -- Before the instantiation, which has this result; `None` is a link fault.
   Fresh : Option Begun → Phase
-  -- instantiated; the starts are being made, and then this view is opened
+  -- Instantiated: the start functions run, and then this view opens.
   Pending : (view : List (Text × ExternalValue)) → Phase
   Opened : Phase
+  -- The instantiation failed (`LinkFault`) or trapped (`InstanceTrapped`).
   Closed : Phase
 
 pub record Run : Type 0 where
   pub store : Store
   pub entries : List Entry
   pub phase : Phase
-  -- the functions that were shown, in the order of first showing
+  -- The addresses of the functions that the embedder was shown, in the order of first showing.
   pub shown : List ℕ
   pub view : List (Text × ExternalValue)
   pub owned : Owned
   pub moves : List Move
 
--- a state, and the event of the step that led to it, if it has one
+-- A run after a step, and the event of the step, if it has one.
 abbrev pub Out : Type 0
 Out = Run × Option Event
 
@@ -95,7 +106,7 @@ abbrev pub place_of : List ℕ → ℕ → Option ℕ
 place_of [] a = None
 place_of (x ∷ xs) a = cond (nat_eq x a) (Some 0) (place_of xs a >>= λ k. Some (suc k))
 
--- a function that was shown keeps its number; another gets the next one
+-- A function that was shown keeps its number; another one gets the next number.
 abbrev pub numbered : List ℕ → ℕ → Option ℕ → Shown × List ℕ
 numbered shown a (Some k) = (Function k, shown)
 numbered shown a None = (Function (length shown), shown ++ a ∷ [])
@@ -104,6 +115,7 @@ abbrev pub show_func : List ℕ → ℕ → Option (Pair × FuncType) → Shown 
 show_func shown a (Some own) = (OwnFunc own.0 own.1, shown)
 show_func shown a None = numbered shown a (place_of shown a)
 
+-- A value as the embedder sees it, and the functions that the embedder has been shown after that.
 abbrev pub show : Store → List ℕ → Val → Shown × List ℕ
 show s shown (Num w n) = (Number n, shown)
 show s shown (Ref (FuncRef None)) = (Null, shown)
@@ -115,14 +127,16 @@ abbrev pub show_all : Store → List ℕ → List Val → List Shown × List ℕ
 show_all s shown [] = ([], shown)
 show_all s shown (v ∷ vs) = let one = show s shown v in let rest = show_all s one.1 vs in (one.0 ∷ rest.0, rest.1)
 
--- ---- what follows a step ----
+-- ---- after a step of the machine ----
 
--- A trap removes everything down to the nearest mark. Where that is a start's it removes everything and closes the world.
+-- A trap removes everything down to the nearest mark. If that is the mark of a start, the trap
+-- removes everything and closes the world.
 abbrev pub trapped_at : Run → Caller → List Entry → Out
 trapped_at r Host es = (record r { entries = es }, Some Trapped)
 trapped_at r Starter es = (record r { entries = []; phase = Closed }, Some InstanceTrapped)
 
--- to the nearest mark; where the stack has none, which is ill typed, everything is removed
+-- A trap down to the nearest mark. If the stack has none, which is ill typed, everything is
+-- removed.
 abbrev pub trapped_to : Run → Outcome (Caller × List Entry) → Out
 trapped_to r (Gives w) = trapped_at r w.0 w.1
 trapped_to r _ = (record r { entries = [] }, Some Trapped)
@@ -134,7 +148,9 @@ abbrev pub kind_of_growth : Growth → Space
 kind_of_growth (GrowMemory a n) = Memories
 kind_of_growth (GrowTable a n v) = Tables
 
--- nothing supplies placeholders here, so that a call of one traps; so it does under a loader where one still stands in its slot
+-- What follows from a step of the machine. The call of a placeholder traps here. Without a loader,
+-- nothing supplies a function for it; under a loader, this is a call through a slot that still
+-- holds a placeholder.
 abbrev pub run_after : Run → Outcome Next → Out
 run_after r (Gives (Ran s es)) = (record r { store = s; entries = es }, None)
 run_after r (Gives (CallsOwn pair ty vs s es)) = showing r s es vs (Asked pair ty)
@@ -146,7 +162,8 @@ run_after r IllTyped = trapped_to r (to_mark r.entries)
 
 -- ---- transitions ----
 
--- what a step of a run is: a step of the machine, over this run, and what it comes to; or one that the run makes itself, as where a move reads a global
+-- The next step of a run: a step of the machine over this run, with its result, or a step that the
+-- run makes itself, for instance a move that reads a global.
 pub data Transition : Type 0 where
   Steps : Run → Outcome Next → Transition
   Makes : Out → Transition
@@ -155,17 +172,18 @@ abbrev pub made : Transition → Out
 made (Steps r n) = run_after r n
 made (Makes o) = o
 
--- ---- moves: what one comes to, or none where it is not taken ----
+-- ---- moves: the transition of each, or `None` if it cannot be made ----
 
--- a function is called over these entries, with values of its types
+-- Calls a function on top of these entries; each argument has to have its parameter's type.
 abbrev pub called : Run → List Entry → List Shown → ℕ → Option Transition
 called r es xs a = type_at r.store a >>= λ t. received_all r.owned r.shown t.params xs >>= λ vs. Some (Steps r (enter_at r.store a vs es))
 
--- the answer goes to the frame that waits; where the embedder itself made the call, that call ends with it at the next step
 abbrev pub is_mark : List Entry → Bool
 is_mark (Mark ∷ es) = true
 is_mark _ = false
 
+-- Gives an answer to the entry that waits for it. If that is the mark of a call that the embedder
+-- itself made, this call ends at the next step.
 abbrev pub delivered : Run → List Val → List Entry → Transition
 delivered r vs es = cond (is_mark es) (Makes (record r { entries = Ended vs ∷ es }, None)) (Steps r (give r.store vs es))
 
@@ -186,12 +204,12 @@ grown_table t n v = record t { slots = t.slots ++ copies n v }
 abbrev pub with_change : Run → Change → Run
 with_change r c = record r { store = changed r.store c }
 
--- the old size is the result
+-- Grows the memory or table; the result is the old size.
 abbrev pub granted : Run → Growth → List Entry → Option Transition
 granted r (GrowMemory a n) es = slice_get r.store.mems a >>= λ m. Some (delivered (with_change r (SetMemory a (grown_memory m n))) (Num W32 m.pages ∷ []) es)
 granted r (GrowTable a n v) es = slice_get r.store.tables a >>= λ t. Some (delivered (with_change r (SetTable a (grown_table t n v))) (Num W32 (length t.slots) ∷ []) es)
 
--- while a growth waits no other move is taken
+-- While a growth waits, the embedder can only grant or deny it.
 abbrev pub decided : Run → Move → Growth → List Entry → Option Transition
 decided r Grant g es = granted r g es
 decided r Deny g es = Some (delivered r (Num W32 4294967295 ∷ []) es)
@@ -200,14 +218,14 @@ decided r _ g es = None
 abbrev pub shows : Run → Val → Option Transition
 shows r v = let x = show r.store r.shown v in Some (Makes (record r { shown = x.1 }, Some (Got x.0)))
 
--- a global has the one index 0
+-- A global has only the index 0.
 abbrev pub got : Run → ExternalValue → ℕ → Option Transition
 got r (FuncAt a) n = None
 got r (TableAt a) n = slice_get r.store.tables a >>= λ t. slice_get t.slots n >>= λ v. shows r (Ref v)
 got r (MemoryAt a) n = slice_get r.store.mems a >>= λ m. slice_get m.bytes n >>= λ b. shows r (Num W32 b)
 got r (GlobalAt a) n = slice_get r.store.globals a >>= λ g. cond (nat_eq n 0) (shows r g.value) None
 
--- in entries, in pages, or 1
+-- The size: of a table in entries, of a memory in pages, and of a global 1.
 abbrev pub size_of : Run → ExternalValue → Option Transition
 size_of r (FuncAt a) = None
 size_of r (TableAt a) = slice_get r.store.tables a >>= λ t. shows r (Num W32 (length t.slots))
@@ -236,7 +254,7 @@ extended r (TableAt a) n = slice_get r.store.tables a >>= λ t. cond (table_may_
 extended r (MemoryAt a) n = slice_get r.store.mems a >>= λ m. cond (memory_may_grow m n) (does r (SetMemory a (grown_memory m n))) None
 extended r (GlobalAt a) n = None
 
--- a move where no growth waits
+-- A move while no growth waits.
 abbrev pub moved : Run → Move → Option Transition
 moved r (Call name xs) = viewed_at r name >>= λ x. func_of x >>= called r (Mark ∷ r.entries) xs
 moved r (Invoke number xs) = slice_get r.shown number >>= called r (Mark ∷ r.entries) xs
@@ -254,21 +272,21 @@ abbrev pub at_entries : Run → Move → List Entry → Option Transition
 at_entries r m (Growing g ∷ es) = decided r m g es
 at_entries r m _ = moved r m
 
--- a move that is not taken changes nothing
+-- A move that cannot be made changes nothing.
 abbrev pub or_bad : Run → Option Transition → Transition
 or_bad r (Some t) = t
 or_bad r None = Makes (r, Some BadMove)
 
--- where a move is due and none is left, nothing happens
+-- If a move is due and none is left, nothing happens.
 abbrev pub next_move : Run → List Move → Transition
 next_move r [] = Makes (r, None)
 next_move r (m ∷ ms) = let q = record r { moves = ms } in or_bad q (at_entries q m q.entries)
 
--- a closed world takes moves on the environment's own entities alone
 abbrev pub is_own_place : Place → Bool
 is_own_place (Named name) = false
 is_own_place _ = true
 
+-- In a closed world the embedder can only read, set and grow the environment's own entities.
 abbrev pub is_taken_closed : Move → Bool
 is_taken_closed (Get p n) = is_own_place p
 is_taken_closed (Size p) = is_own_place p
@@ -292,7 +310,7 @@ abbrev pub view_of : Run → Phase → List (Text × ExternalValue)
 view_of r (Pending view) = view
 view_of r _ = r.view
 
--- a start takes no arguments and gives no results; a function of another type is none
+-- A start function has no parameters and no results; a function of another type is not started.
 abbrev pub nothing_in : List ValType → Option (List ValType)
 nothing_in [] = Some []
 nothing_in (t ∷ ts) = None
@@ -304,19 +322,21 @@ abbrev pub or_closed : Run → Option Transition → Transition
 or_closed r (Some t) = t
 or_closed r None = Makes (record r { entries = []; phase = Closed }, Some InstanceTrapped)
 
--- the next start is opened, or the view
+-- Begins the next start function, or opens the view if none is left.
 abbrev pub open_next : Run → (starts : List ℕ) → List Entry → Transition
 open_next r [] es = Makes (record r { entries = es; phase = Opened; view = view_of r r.phase }, Some Linked)
 open_next r (a ∷ starts) es = or_closed r (started r starts es a)
 
--- where nothing is on the stack; while starts are made that is ill typed, since the entry that opens them stands there
+-- The transition when the stack is empty. While start functions run that is ill typed, because
+-- their `Opening` is on the stack.
 abbrev pub in_phase : Run → Phase → Transition
 in_phase r (Fresh b) = Makes (began r b)
 in_phase r (Pending view) = Steps r IllTyped
 in_phase r Opened = next_move r r.moves
 in_phase r Closed = closed_move r r.moves
 
--- by what is on top; a mark on top is ill typed, since a call that ends at a mark takes it away
+-- The transition by what is on top. A mark on top is ill typed, because the end of a call removes
+-- its mark.
 abbrev pub transition_at : Run → List Entry → Transition
 transition_at r [] = in_phase r r.phase
 transition_at r (Running f ∷ es) = Steps r (step r.store r.entries)
@@ -329,13 +349,15 @@ transition_at r (Growing g ∷ es) = next_move r r.moves
 abbrev pub transition : Run → Transition
 transition r = transition_at r r.entries
 
--- one step of a run: the instantiation, the opening of a start or of the view, the taking of a move, or a step of the machine
+-- One step of a run: the instantiation, the beginning of a start function, the opening of the view,
+-- a move, or a step of the machine.
 abbrev pub tick : Run → Out
 tick r = made (transition r)
 
 -- ---- runs ----
 
--- a run that is about to enter what was instantiated; the environment's own entities are there also where nothing is
+-- A run before its instantiation, which has the result `b`. The store holds the environment's own
+-- entities, even if `b` is `None`.
 abbrev pub fresh_run : Environment → Option Begun → List Move → Run
 fresh_run env b moves =
     record {
@@ -348,12 +370,15 @@ fresh_run env b moves =
       moves = moves;
     }
 
--- the events of the first n steps of a world in an environment, whose embedder makes these moves
+-- The trace of the first n steps of a world that is instantiated at once, in an environment and
+-- with the moves of an embedder.
 abbrev pub events : World → Environment → List Move → ℕ → List Event
 events w env moves n = events_of tick (fresh_run env (instantiate env w) moves) n
 
--- Of two ways to run, as of a world at once, sequentially or under a loader, each with the events of its first n steps: in each environment of those named, by each
--- list of moves, whatever is seen of the one in n steps is seen of the other in f n, and the other way round in g n.
+-- Two ways to run (at once, sequentially or under a loader), each given by the trace of its first n
+-- steps, are observationally equivalent: in each environment for which `named` holds, for each list
+-- of moves and each n, the trace of n steps of `v` is a prefix of the trace of `f n` steps of `w`,
+-- and the trace of n steps of `w` is a prefix of the trace of `g n` steps of `v`.
 abbrev pub Same : (named : Environment → Type 0) → (v w : Environment → List Move → ℕ → List Event) → (f g : ℕ → ℕ) → Type 0
 Same named v w f g =
     (env : Environment) → IsTrue (is_environment env) → named env → (moves : List Move) (n : ℕ) →

@@ -1,5 +1,6 @@
--- Parts that are instantiated sequentially: each is matched, allocated and filled, and its start is made, before the next part's turn comes
--- (WebAssembly Core 2.0, section 4.5.4, for one module at a time). The view opens after the last.
+-- Sequential instantiation: each part is matched and allocated, its segments are copied and its
+-- start function runs, before the next part's turn (WebAssembly Core 2.0, section 4.5.4, for one
+-- module at a time). The view opens after the last part.
 use Rattle.std.proofs.Common.{◌≡◌, ◌<◌, ℕ, List, [], ◌∷◌, ◌++◌, map, length, Option, Some, None, Bool, true, false, cond, slice_get, unwrap_or, ◌&&◌}
 use Rattle.wasm_tree_spec.specs.Prelude.{Space, Functions, Tables, Memories, Globals, Import, ExportDesc, ConstExpr, ElemMode, DataMode, Module}
 use Rattle.base_lists.specs.Options.{◌>>=◌}
@@ -12,13 +13,13 @@ use Rattle.wasm_meaning.specs.Environment.{Environment, ExternalValue, Owned, ow
 use Rattle.wasm_meaning.specs.World.{World, Begun, Filled, own_key, address_of, address_in, seen_as, all_there, numbers, const_value, store_with, joined_stores, is_match, segments_in, run_elem_with, run_data_with, one_by_one, and_then, start_in, instantiate}
 use Rattle.wasm_meaning.specs.Run.{Run, Pending, Closed, Event, LinkFault, InstanceTrapped, Move, Out, fresh_run, tick, events_of}
 
--- ---- one module in a store that has others already ----
+-- ---- one module, in a store that holds others already ----
 
--- the addresses of one kind
 abbrev pub addresses_of : Space → List ExternalValue → List ℕ
 addresses_of k = filter_map (address_of k)
 
--- its instance, whose imports are these: what it defines comes after all that is there
+-- The instance of a module whose imports denote `things`. What the module defines comes after
+-- everything in the store.
 abbrev pub next_inst : Store → Module → List ExternalValue → Inst
 next_inst s m things = record {
   types = m.types;
@@ -30,18 +31,19 @@ next_inst s m things = record {
   datas = numbers (length s.datas) (length m.datas);
 }
 
--- each import is matched by what it is to be, with the sizes that it has now
+-- Each import is matched by the external value that it denotes, with the size that this has now.
 abbrev pub all_match : Store → Module → List Import → List ExternalValue → Bool
 all_match s m [] [] = true
 all_match s m (i ∷ is) (x ∷ xs) = unwrap_or (is_match s m i.desc x) false && all_match s m is xs
 all_match s m _ _ = false
 
--- its active element segments in order, then its active data segments (the number of the part, 0, is not looked at)
+-- Copies the active element segments in order, then the active data segments. (The part number 0 is
+-- not used.)
 abbrev pub own_segments : (ConstExpr → Option Val) → Module → Inst → Store → Filled
 own_segments value m i s =
     and_then (one_by_one (λ s task. run_elem_with value s task task.segment.mode) s (segments_in 0 i i.elems m.elems)) (λ s. one_by_one (λ s task. run_data_with value s task task.segment.mode) s (segments_in 0 i i.datas m.datas))
 
--- the instance, and the store after its segments
+-- A module's instance, and the store after its segments.
 pub record Added : Type 0 where
   pub inst : Inst
   pub filled : Filled
@@ -50,19 +52,22 @@ abbrev pub added_as : Store → Module → Inst → Option Added
 added_as s m i =
     store_with (const_value s.globals i) m i >>= λ t. Some (record { inst = i; filled = own_segments (const_value s.globals i) m i (joined_stores s t) })
 
--- None where an import does not match. (In a module that is not valid it is none as well where a function's type or what an initialiser or an item names is not there,
--- or is a global that is not imported, or an item is no reference; but a segment whose table, memory or i32 offset is not there traps.) Constant expressions read the
--- imported globals as they are now.
+-- Adds a module whose imports denote `things`. Constant expressions read the imported globals as
+-- they are now. The result is `None` if an import does not match. For a module that is not valid it
+-- is also `None` if the type of a function, or what an initialiser or an item names, does not exist
+-- or is a global that is not imported, or if an item is not a reference; but a segment whose table,
+-- memory or i32 offset does not exist traps.
 abbrev pub added : Store → Module → List ExternalValue → Option Added
 added s m things = cond (all_match s m m.imports things) (added_as s m (next_inst s m things)) None
 
--- where this tells what each import denotes; none where it tells nothing of one
+-- Adds a module, where `supplied` says what each import denotes; `None` if some import denotes
+-- nothing.
 abbrev pub added_with : (Import → Option ExternalValue) → Store → Module → Option Added
 added_with supplied s m = all_there supplied m.imports >>= (added s m)
 
--- ---- what an import denotes, among the parts that are there ----
+-- ---- what an import denotes, given the parts so far ----
 
--- a part that is there, with its instance
+-- A part that was added to the store, with its instance.
 pub record Made : Type 0 where
   pub part : Part
   pub inst : Inst
@@ -71,15 +76,16 @@ abbrev pub made_named : List Made → Text → Option Made
 made_named [] name = None
 made_named (x ∷ xs) name = cond (is_named name x.part) (Some x) (made_named xs name)
 
--- the part that an import names, and what that part exports under the field's name
+-- The added part that an import names, and what that part exports under the field name.
 abbrev pub exported_by : List Made → Import → Option (Made × ExportDesc)
 exported_by made i = made_named made i.«module» >>= λ x. export_named x.part.«module».exports i.field >>= λ d. Some (x, d)
 
--- the environment's own entity for it
+-- The environment's own entity that an import names.
 abbrev pub own_external_value : Owned → Module → Import → Option ExternalValue
 own_external_value owned m i = own_key m i >>= λ key. owned_at owned key
 
--- that, or where there is no such part or export the environment's own. A part whose turn has not come is not there, so that the environment is asked.
+-- The export, or, if there is no such part or export, the environment's own entity. A part whose
+-- turn has not come is not there yet, so the environment's entity is used.
 abbrev pub external_value_or_own : Owned → Module → Import → Option (Made × ExportDesc) → Option ExternalValue
 external_value_or_own owned m i None = own_external_value owned m i
 external_value_or_own owned m i (Some x) = address_in x.0.inst x.1
@@ -89,21 +95,23 @@ external_value_for owned made m i = external_value_or_own owned m i (exported_by
 
 -- ---- runs ----
 
--- the run so far, the parts that are there, those whose turn is to come, and what the embedder may use at the end
+-- The run so far, the parts that were added, the parts whose turn is still to come, and the view
+-- that opens at the end.
 pub record SequentialRun : Type 0 where
   pub run : Run
   pub made : List Made
   pub rest : List Part
   pub view : List (Text × Entity)
 
--- the view over these parts; it is empty while a name of it denotes a part that is not there
+-- The view over the parts that were added. It is empty while one of its names denotes an entity of
+-- a part that was not.
 abbrev pub view_over : List Made → List (Text × Entity) → List (Text × ExternalValue)
 view_over made view = unwrap_or (all_there (seen_as (map (λ x. x.inst) made)) view) []
 
 abbrev pub closed_by : SequentialRun → Event → SequentialRun × Option Event
 closed_by q e = (record q { run = record q.run { entries = []; phase = Closed } }, Some e)
 
--- the part is there, and its start is to be made
+-- The part was added, and its start function runs next.
 abbrev pub goes_on : SequentialRun → Part → List Part → Inst → Store → SequentialRun
 goes_on q part rest i s =
     let made = q.made ++ record { part = part; inst = i } ∷ [] in
@@ -114,7 +122,7 @@ part_added q part rest None = closed_by q LinkFault
 part_added q part rest (Some a) =
     cond a.filled.trapped (closed_by (record q { run = record q.run { store = a.filled.store } }) InstanceTrapped) (goes_on q part rest a.inst a.filled.store, None)
 
--- the next part's turn: one step for its allocation and its segments
+-- The next part's turn: one step for its allocation and its segments.
 abbrev pub next_part : SequentialRun → Part → List Part → SequentialRun × Option Event
 next_part q part rest =
     part_added q part rest (added_with (external_value_for q.run.owned q.made part.«module») q.run.store part.«module»)
@@ -122,7 +130,7 @@ next_part q part rest =
 abbrev pub with_run : SequentialRun → Out → SequentialRun × Option Event
 with_run q o = (record q { run = o.0 }, o.1)
 
--- where no start is left to be made the next part's turn comes, and otherwise the run goes on
+-- If no start function is left to run, it is the next part's turn; otherwise the run goes on.
 abbrev pub turn_at : SequentialRun → List Part → List Entry → SequentialRun × Option Event
 turn_at q (part ∷ rest) (Opening [] ∷ []) = next_part q part rest
 turn_at q rest es = with_run q (tick q.run)
@@ -130,7 +138,7 @@ turn_at q rest es = with_run q (tick q.run)
 abbrev pub tick_sequential : SequentialRun → SequentialRun × Option Event
 tick_sequential q = turn_at q q.rest q.run.entries
 
--- Before the first part's turn. No start is left to be made, which is when the next turn comes.
+-- The state before the first part's turn. No start function is left to run, as before every turn.
 abbrev pub before_parts : Environment → World → List Move → SequentialRun
 before_parts env w moves = record {
   run = record (fresh_run env None moves) { entries = Opening [] ∷ []; phase = Pending [] };
@@ -139,13 +147,13 @@ before_parts env w moves = record {
   view = w.view;
 }
 
--- the events of the first n steps where the parts of a world are instantiated sequentially
+-- The trace of the first n steps of a world whose parts are instantiated sequentially.
 abbrev pub events_sequential : World → Environment → List Move → ℕ → List Event
 events_sequential w env moves n = events_of tick_sequential (before_parts env w moves) n
 
 -- ---- when sequential instantiation makes no difference to the trace ----
 
--- each import that is joined is joined with an earlier part
+-- Each joined import is joined with an earlier part.
 abbrev pub JoinsEarlier : List Part → Type 0
 JoinsEarlier parts = (p n : ℕ) (m : Module) (i : Import) (e : Entity) → module_at parts p ≡ Some m → slice_get m.imports n ≡ Some i → joined parts i ≡ Some e → e.part < p
 
@@ -157,15 +165,15 @@ abbrev pub is_active_data : DataMode → Bool
 is_active_data (data'.Active memory offset) = true
 is_active_data data'.Passive = false
 
--- it has no active segment
+-- The module has no active segment.
 pub record HasNoActive (m : Module) : Type 0 where
   pub elems : any_of (λ e. is_active_elem e.mode) m.elems ≡ false
   pub datas : any_of (λ d. is_active_data d.mode) m.datas ≡ false
 
--- no part after one with a start has an active segment
+-- No part after one with a start function has an active segment.
 abbrev pub NoLateSegments : List Part → Type 0
 NoLateSegments parts = (p q f : ℕ) (m n : Module) → p < q → module_at parts p ≡ Some m → module_at parts q ≡ Some n → m.start ≡ Some f → HasNoActive n
 
--- the environment links the world at once (`links`), and no segment traps
+-- The environment links the world at once (`links`), and no segment traps.
 abbrev pub BeginsWell : Environment → World → Type 0
 BeginsWell env w = (b : Begun) × (instantiate env w ≡ Some b) × (b.trapped ≡ false)

@@ -1,31 +1,31 @@
--- The store and the configuration (WebAssembly Core 2.0, section 4.2), and what a step comes to.
+-- The store and the configuration (WebAssembly Core 2.0, section 4.2), and the results of a step.
 use Rattle.std.proofs.Common.{ℕ, List, Option, Bool}
 use Rattle.wasm_tree_spec.specs.Prelude.{RefType, ValType, FuncType, GlobalType, Instr}
 use Rattle.wasm_num.specs.Operations.{Width}
 
--- bytes of a name
+-- The bytes of a name.
 abbrev pub Text : Type 0
 Text = List ℕ
 
--- module and field of an import
+-- The module name and the field name of an import.
 abbrev pub Pair : Type 0
 Pair = Text × Text
 
 -- ---- values (section 4.2.1) ----
 
--- null, or the address of a function, or the number of something of the embedder
+-- A reference: null, the address of a function, or the number of something of the embedder's.
 pub data RefVal : Type 0 where
   FuncRef : Option ℕ → RefVal
   ExternRef : Option ℕ → RefVal
 
--- an integer as its number below 2 ^ 32 or 2 ^ 64, or a reference
+-- An integer, as a number below 2 ^ 32 or 2 ^ 64, or a reference.
 pub data Val : Type 0 where
   Num : Width → ℕ → Val
   Ref : RefVal → Val
 
 -- ---- the store (sections 4.2.3 to 4.2.11) ----
 
--- the addresses of what a module's indices name
+-- A module instance: its types, and for each other index space the addresses of its indices.
 pub record Inst : Type 0 where
   pub types : List FuncType
   pub funcs : List ℕ
@@ -35,19 +35,21 @@ pub record Inst : Type 0 where
   pub elems : List ℕ
   pub datas : List ℕ
 
--- code with its module's instance and the types of its declared locals; a function of the environment's own, known by pair and type; or the
--- placeholder of a slot, in whose place a loader calls a function of a module that it loads
+-- A function: code, with its module's instance and the types of its declared locals; a function of
+-- the environment's own, identified by its pair and type; or the placeholder of a slot, in whose
+-- place a loader calls a function of a module that it loads.
 pub data Func : Type 0 where
   Code : FuncType → Inst → (locals : List ValType) → (body : List Instr) → Func
   Own : Pair → FuncType → Func
   Placeholder : (slot : ℕ) → FuncType → Func
 
+-- A table; `most` is its maximum.
 pub record Table : Type 0 where
   pub ty : RefType
   pub most : Option ℕ
   pub slots : List RefVal
 
--- there are 65,536 bytes a page
+-- A memory; a page has 65,536 bytes.
 pub record Memory : Type 0 where
   pub most : Option ℕ
   pub pages : ℕ
@@ -65,7 +67,7 @@ pub record Data : Type 0 where
   pub bytes : List ℕ
   pub dropped : Bool
 
--- everything there is, by address
+-- All instances, by address.
 pub record Store : Type 0 where
   pub funcs : List Func
   pub tables : List Table
@@ -76,8 +78,9 @@ pub record Store : Type 0 where
 
 -- ---- the configuration (sections 4.2.14 and 4.2.15) ----
 
--- a body, block, loop or if that was entered: the values on its stack, the last first; what is left of its code; how many values it gives at its end;
--- how many a branch to it takes; and the code that such a branch begins again, which is the loop itself or nothing
+-- A body, block, loop or if that was entered: the values on its operand stack, from the top down;
+-- the rest of its code; how many values it gives at its end; how many a branch to it takes; and the
+-- code with which such a branch continues, which is the loop itself or nothing.
 pub record Level : Type 0 where
   pub values : List Val
   pub code : List Instr
@@ -85,46 +88,47 @@ pub record Level : Type 0 where
   pub takes : ℕ
   pub back : List Instr
 
--- a function's call: its levels from the innermost out
+-- The frame of a function's call, with its levels from the innermost outwards.
 pub record Frame : Type 0 where
   pub inst : Inst
   pub locals : List Val
   pub results : List ValType
   pub levels : List Level
 
--- what was asked to grow, by how much, and for a table the reference in the new entries
+-- What is to grow and by how much, and for a table the reference in its new entries.
 pub data Growth : Type 0 where
   GrowMemory : (address count : ℕ) → Growth
   GrowTable : (address count : ℕ) → RefVal → Growth
 
--- what stands on the stack of a configuration
+-- An entry of the stack of a configuration.
 pub data Entry : Type 0 where
-  -- a frame
   Running : Frame → Entry
-  -- the embedder waits for the end of a call that it made
+  -- The embedder waits for the end of a call that it made.
   Mark : Entry
-  -- the functions that are to be started next, when what is above has ended
+  -- The start functions that run next, when everything above has ended.
   Opening : List ℕ → Entry
-  -- a function of the environment's own was called, and is to answer these results
+  -- A function of the environment's own was called; the embedder is to answer with results of these
+  -- types.
   Waiting : (results : List ValType) → Entry
-  -- the embedder answered a call of its own: it ends with these values
+  -- The embedder answered its own call of such a function, and the call ends with these values.
   Ended : (values : List Val) → Entry
-  -- the embedder is to grant or to deny
+  -- The embedder is to grant or deny this growth.
   Growing : Growth → Entry
 
--- who waits: the embedder, or the opening of a start
+-- Who waits for the end of a call: the embedder, or the `Opening` of a start function.
 pub data Caller : Type 0 where
   Host : Caller
   Starter : Caller
 
--- ---- what an instruction sees, and what it comes to ----
+-- ---- the execution of an instruction ----
 
--- what it reads and leaves alone
+-- What an instruction reads besides its `Body`: the store, and the instance of its frame.
 pub record Env : Type 0 where
   pub store : Store
   pub inst : Inst
 
--- its frame: the innermost level is open, and the instruction is off its code
+-- The locals and the levels of an instruction's frame. The innermost level is taken apart, and the
+-- instruction is removed from its code.
 pub record Body : Type 0 where
   pub locals : List Val
   pub values : List Val
@@ -134,7 +138,7 @@ pub record Body : Type 0 where
   pub back : List Instr
   pub outer : List Level
 
--- what it writes into the store
+-- What an instruction writes into the store.
 pub data Change : Type 0 where
   Keep : Change
   SetGlobal : (address : ℕ) → Global → Change
@@ -143,14 +147,15 @@ pub data Change : Type 0 where
   DropElem : (address : ℕ) → Change
   DropData : (address : ℕ) → Change
 
--- what it comes to, before what is on the stack below the frame is looked at
+-- What the top frame does, before what is on the stack below it is looked at: it goes on after a
+-- change of the store, calls a function, asks for a growth, or ends.
 pub data Act : Type 0 where
   Goes : Change → Body → Act
   Calls : (address : ℕ) → (values : List Val) → Body → Act
   AsksGrow : Growth → (size count : ℕ) → Body → Act
   Ends : (values : List Val) → Act
 
--- what a step comes to: a store and a stack, and perhaps something that others see or do
+-- The result of a step: a store and a stack, and, if others see or do something, what that is.
 pub data Next : Type 0 where
   Ran : Store → List Entry → Next
   CallsOwn : Pair → FuncType → (arguments : List Val) → Store → List Entry → Next

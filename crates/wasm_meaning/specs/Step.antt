@@ -10,7 +10,7 @@ use Rattle.wasm_meaning.specs.Memory.{load, store, memory_size, memory_grow, mem
 use Rattle.wasm_meaning.specs.Tables.{table_get, table_set, table_size, table_grow, table_fill, table_copy, table_init, elem_drop}
 use Rattle.wasm_meaning.specs.Control.{type_at, call, call_indirect, finish, end_level, branch, branch_if, branch_table, open_block, open_loop, open_if}
 
--- what an instruction does
+-- What an instruction does.
 abbrev pub exec : Instr-F Instr → Env → Body → Outcome Act
 exec Instr-F.Unreachable env h = Traps
 exec Instr-F.Nop env h = Gives (go h)
@@ -64,27 +64,27 @@ step_levels env locals [] = IllTyped
 step_levels env locals (l ∷ ls) =
     step_code env (record { locals = locals; values = l.values; rest = []; gives = l.gives; takes = l.takes; back = l.back; outer = ls }) l.code
 
--- what the top frame does: its next instruction, or the end of its innermost level
+-- What the top frame does: its next instruction, or the end of its innermost level.
 abbrev pub act : Store → Frame → Outcome Act
 act s f = step_levels (record { store = s; inst = f.inst }) f.locals f.levels
 
--- the frame put together again
+-- The frame, put together again.
 abbrev pub frame_of : Frame → Body → Frame
 frame_of f h = record f { locals = h.locals; levels = record { values = h.values; code = h.rest; gives = h.gives; takes = h.takes; back = h.back } ∷ h.outer }
 
--- values go to a frame that waits for them
+-- Gives values to a frame that waits for them.
 abbrev pub give_levels : Store → List Val → Frame → List Level → List Entry → Outcome Next
 give_levels s vs f [] es = IllTyped
 give_levels s vs f (l ∷ ls) es = Gives (Ran s (Running (record f { levels = record l { values = onto vs l.values } ∷ ls }) ∷ es))
 
--- values go to whoever waits for them
+-- Gives values to the entry on top, which waits for them; an `Opening` drops them.
 abbrev pub give : Store → List Val → List Entry → Outcome Next
 give s vs (Running f ∷ es) = give_levels s vs f f.levels es
 give s vs (Mark ∷ es) = Gives (EndsCall vs s es)
 give s vs (Opening xs ∷ es) = Gives (Ran s (Opening xs ∷ es))
 give s vs _ = IllTyped
 
--- a function begins, over what waits for it
+-- Begins a function, on top of the entries that wait for it.
 abbrev pub enter : Store → Func → List Val → List Entry → Next
 enter s (Code t i ls c) args es =
     Ran s (Running (record { inst = i; locals = args ++ zeros ls; results = t.results; levels = record { values = []; code = c; gives = length t.results; takes = length t.results; back = [] } ∷ [] }) ∷ es)
@@ -100,7 +100,7 @@ no_items = record { items = []; dropped = true }
 abbrev pub no_bytes : Data
 no_bytes = record { bytes = []; dropped = true }
 
--- the store with a change
+-- The store after a change.
 abbrev pub changed : Store → Change → Store
 changed s Keep = s
 changed s (SetGlobal a g) = record s { globals = slice_set s.globals a g }
@@ -109,19 +109,20 @@ changed s (SetTable a t) = record s { tables = slice_set s.tables a t }
 changed s (DropElem a) = record s { elems = slice_set s.elems a no_items }
 changed s (DropData a) = record s { datas = slice_set s.datas a no_bytes }
 
--- what comes of it, for this frame over these entries
+-- Carries out what the frame `f` does, on top of the entries `es`.
 abbrev pub perform : Store → Frame → List Entry → Act → Outcome Next
 perform s f es (Goes c h) = Gives (Ran (changed s c) (Running (frame_of f h) ∷ es))
 perform s f es (Calls a vs h) = bind (or_ill_typed (type_at s a)) (λ t. bind (pop_typed t.params vs) (λ p. enter_at s a p.0 (Running (frame_of f (with_values h p.1)) ∷ es)))
 perform s f es (AsksGrow g m n h) = Gives (WaitsGrowth g m n s (Growing g ∷ Running (frame_of f h) ∷ es))
 perform s f es (Ends vs) = bind (pop_typed f.results vs) (λ p. give s p.0 es)
 
--- one small step of the frame on top
+-- One small step of the frame on top.
 abbrev pub step : Store → List Entry → Outcome Next
 step s (Running f ∷ es) = bind (act s f) (perform s f es)
 step s _ = IllTyped
 
--- who waits at the nearest mark, and what is on the stack below it; the mark of a start is Opening
+-- Who waits at the nearest mark, and what is on the stack below it. The mark of a start is
+-- `Opening`.
 abbrev pub to_mark : List Entry → Outcome (Caller × List Entry)
 to_mark [] = IllTyped
 to_mark (Mark ∷ es) = Gives (Host, es)

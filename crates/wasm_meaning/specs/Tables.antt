@@ -11,7 +11,7 @@ use Rattle.wasm_meaning.specs.Memory.{below_most, pop_three}
 abbrev pub with_table : {B : Type 0} → Env → ℕ → (ℕ → Table → Outcome B) → Outcome B
 with_table env i f = with_entry env.inst.tables i (λ a. with_entry env.store.tables a (f a))
 
--- a reference, where the table holds its type
+-- The reference, if the table holds references of its type.
 abbrev pub fits : Table → RefVal → Outcome RefVal
 fits t r = cond (same_ref t.ty (type_of_ref r)) (Gives r) IllTyped
 
@@ -50,7 +50,7 @@ fill_table h a t =
 abbrev pub table_fill : Env → Body → ℕ → Outcome Act
 table_fill env h i = with_table env i (fill_table h)
 
--- a part of these references is written
+-- Writes a range of `items`.
 abbrev pub init_table : Body → List RefVal → ℕ → Table → Outcome Act
 init_table h items a t = bind (pop_three h.values) (λ p. bind (or_trap (slice items p.0.1 p.0.2)) (λ b. writes_table h a t (overwrite t.slots p.0.0 b) p.1))
 

@@ -1,4 +1,4 @@
--- What a step writes into the store, told with its place and count, from what stands on top before the step.
+-- What a step writes into the store, computed from what is on top of the stack before it.
 use Rattle.std.proofs.Common.{◌≡◌, ℕ, ◌+◌, true, List, [], ◌∷◌, length, slice_get, Some}
 use Rattle.wasm_tree_spec.specs.Prelude.{Instr, out-Instr, StoreOp}
 use Rattle.wasm_tree.specs.declared.instr.Instr.TheOpen.{Instr-F}
@@ -11,7 +11,8 @@ use Rattle.wasm_meaning.specs.Values.{pop_num, pop_ref}
 use Rattle.wasm_meaning.specs.Memory.{pop_three}
 use Rattle.wasm_meaning.specs.Step.{act}
 
--- so many bytes of a memory or references of a table from a place on, a global, or a segment that is dropped
+-- A range of bytes of a memory or of slots of a table, a global, a segment that is dropped, or
+-- nothing.
 pub data Touched : Type 0 where
   Nothing : Touched
   Bytes : (address place count : ℕ) → Touched
@@ -20,7 +21,7 @@ pub data Touched : Type 0 where
   OneElem : (address : ℕ) → Touched
   OneData : (address : ℕ) → Touched
 
--- how many bytes a store writes
+-- How many bytes a store instruction writes.
 abbrev pub store_width : StoreOp → ℕ
 store_width op.I32Store = 4
 store_width op.I64Store = 8
@@ -30,27 +31,26 @@ store_width op.I64Store8 = 1
 store_width op.I64Store16 = 2
 store_width op.I64Store32 = 4
 
--- the address of an index
 abbrev pub at_address : List ℕ → ℕ → (ℕ → Touched) → Outcome Touched
 at_address addresses n f = with_entry addresses n (λ a. Gives (f a))
 
--- the place under a value
+-- The place is the number below the value on the stack, plus the offset.
 abbrev pub store_touches : ℕ → (offset : ℕ) → StoreOp → List Val → Outcome Touched
 store_touches a offset o vs = bind (pop_num (store_from o) vs) (λ v. bind (pop_num W32 v.1) (λ p. Gives (Bytes a (p.0 + offset) (store_width o))))
 
--- the first and the last of three numbers
+-- Of the three numbers on top of the stack, the bottom one is the place and the top one the count.
 abbrev pub range_touches : (place_count : ℕ → ℕ → Touched) → List Val → Outcome Touched
 range_touches f vs = bind (pop_three vs) (λ p. Gives (f p.0.0 p.0.2))
 
--- the place under a reference
+-- The place is below a reference on the stack.
 abbrev pub slot_touches : ℕ → List Val → Outcome Touched
 slot_touches a vs = bind (pop_ref vs) (λ r. bind (pop_num W32 r.1) (λ i. Gives (Slots a i.0 1)))
 
--- the place under a reference and a number of slots
+-- The place is below a reference on the stack, which is below the count.
 abbrev pub fill_touches : ℕ → List Val → Outcome Touched
 fill_touches a vs = bind (pop_num W32 vs) (λ n. bind (pop_ref n.1) (λ r. bind (pop_num W32 r.1) (λ d. Gives (Slots a d.0 n.0))))
 
--- what an instruction writes, where it does not trap and is not ill typed
+-- What an instruction writes, if it neither traps nor is ill typed.
 abbrev pub touched_by : Instr-F Instr → Env → List Val → Outcome Touched
 touched_by (Instr-F.Store o arg) env vs = with_entry env.inst.mems arg.memory (λ a. store_touches a arg.offset o vs)
 touched_by (Instr-F.MemoryInit s n) env vs = with_entry env.inst.mems n (λ a. range_touches (Bytes a) vs)
@@ -73,11 +73,12 @@ abbrev pub touched_levels : Env → List Level → Outcome Touched
 touched_levels env [] = IllTyped
 touched_levels env (l ∷ ls) = touched_next env l.values l.code
 
--- what the step of this frame writes
+-- What the step of this frame writes.
 abbrev pub touched : Store → Frame → Outcome Touched
 touched s f = touched_levels (record { store = s; inst = f.inst }) f.levels
 
--- the change writes that and nothing else: so many bytes or references stand at the place, and the others are as they were; a global that is set may be set, and keeps its type
+-- The change writes exactly this: the bytes or references are at the place and all others stay as
+-- they were; a global that is set is mutable and keeps its type.
 pub data Writes (s : Store) : Touched → Change → Type 0 where
   nothing : Writes s Nothing Keep
   a_global : {a : ℕ} {g h : Global} → slice_get s.globals a ≡ Some g → g.ty.mutable ≡ true → h.ty ≡ g.ty → Writes s (OneGlobal a) (SetGlobal a h)
@@ -86,17 +87,18 @@ pub data Writes (s : Store) : Touched → Change → Type 0 where
   an_elem : {a : ℕ} → Writes s (OneElem a) (DropElem a)
   a_data : {a : ℕ} → Writes s (OneData a) (DropData a)
 
--- something is told, and the change writes it
+-- `o` gives something, and the change writes exactly that.
 pub record WritesTold (s : Store) (o : Outcome Touched) (c : Change) : Type 0 where
   pub told : Touched
   pub is : o ≡ Gives told
   pub writes : Writes s told c
 
--- what a frame's step does writes what is told of it, and where a call begins, a growth is asked for or the frame ends nothing is written
+-- If the frame goes on, its change writes what `o` says. If a call begins, a growth is asked for or
+-- the frame ends, nothing is written and `o` says so.
 abbrev pub ActWrites : Store → Outcome Touched → Act → Type 0
 ActWrites s o (Goes c h) = WritesTold s o c
 ActWrites s o _ = o ≡ Gives Nothing
 
--- Where the step of a frame does something, what it writes is told from what stands on top before.
+-- If the step of a frame does something, `touched` says what it writes.
 abbrev pub StepsWriteWhatTheyTouch : Type 0
 StepsWriteWhatTheyTouch = (s : Store) (f : Frame) (x : Act) → act s f ≡ Gives x → ActWrites s (touched s f) x

@@ -1,4 +1,5 @@
--- Instructions on values, locals and globals (WebAssembly Core 2.0, sections 4.4.1, 4.4.2, 4.4.4 and 4.4.5).
+-- Instructions on values, locals and globals (WebAssembly Core 2.0, sections 4.4.1, 4.4.2, 4.4.4
+-- and 4.4.5).
 use Rattle.std.proofs.Common.{ℕ, List, [], ◌∷◌, ◌++◌, Option, Some, None, Bool, true, false, cond, slice_set}
 use Rattle.std.specs.Prelude.{nat_eq}
 use Rattle.wasm_tree_spec.specs.Prelude.{RefType, ValType, LocalGroup}
@@ -22,11 +23,11 @@ type_of (Num W32 n) = valt.I32
 type_of (Num W64 n) = valt.I64
 type_of (Ref r) = valt.Ref (type_of_ref r)
 
--- a value, where it has the type
+-- The value, if it has the type.
 abbrev pub typed : ValType → Val → Outcome Val
 typed t v = cond (same_type t (type_of v)) (Gives v) IllTyped
 
--- the value that a local or a table's entry has at first
+-- The null reference of a type, with which locals and table entries begin.
 abbrev pub null_of : RefType → RefVal
 null_of reft.Func = FuncRef None
 null_of reft.Extern = ExternRef None
@@ -40,12 +41,12 @@ abbrev pub zeros : List ValType → List Val
 zeros [] = []
 zeros (t ∷ ts) = zero_of t ∷ zeros ts
 
--- the types of the locals that groups declare
+-- The types of the locals that the groups declare.
 abbrev pub declared : List LocalGroup → List ValType
 declared [] = []
 declared (g ∷ gs) = copies g.count g.ty ++ declared gs
 
--- ---- what is on top of the stack ----
+-- ---- the top of the operand stack ----
 
 abbrev pub pop : List Val → Outcome (Val × List Val)
 pop [] = IllTyped
@@ -66,7 +67,8 @@ pop_num w vs = bind (pop vs) (λ p. bind (or_ill_typed (num_of w p.0)) (λ n. Gi
 abbrev pub pop_ref : List Val → Outcome (RefVal × List Val)
 pop_ref vs = bind (pop vs) (λ p. bind (or_ill_typed (ref_of p.0)) (λ r. Gives (r, p.1)))
 
--- values of these types, the last on top; they come in the order of the types
+-- Pops values of these types, the last of which is on top, and gives them in the order of the
+-- types.
 abbrev pub pop_typed : List ValType → List Val → Outcome (List Val × List Val)
 pop_typed [] vs = Gives ([], vs)
 pop_typed (t ∷ ts) vs = bind (pop_typed ts vs) (λ p. bind (pop p.1) (λ q. bind (typed t q.0) (λ v. Gives (v ∷ p.0, q.1))))
@@ -91,7 +93,8 @@ ref_is_null vs = bind (pop_ref vs) (λ r. Gives (Num W32 (is_null r.0) ∷ r.1))
 
 -- ---- select (section 4.4.4) ----
 
--- two values of this type under a number: the lower one, or where the number is 0 the upper one
+-- Pops a number and two values of type `t` below it, and pushes the lower one, or the upper one if
+-- the number is 0.
 abbrev pub select_of : ValType → List Val → Outcome (List Val)
 select_of t vs =
     bind (pop_num W32 vs) (λ c. bind (pop c.1) (λ b. bind (typed t b.0) (λ b'. bind (pop b.1) (λ a. bind (typed t a.0) (λ a'. Gives (cond (nat_eq c.0 0) b' a' ∷ a.1))))))
@@ -101,7 +104,7 @@ is_number valt.I32 = true
 is_number valt.I64 = true
 is_number (valt.Ref r) = false
 
--- the type of the value below the number, where it is a number's
+-- The type of the value below the number, if that is a number type.
 abbrev pub second_type : List Val → Outcome ValType
 second_type (c ∷ v ∷ vs) = cond (is_number (type_of v)) (Gives (type_of v)) IllTyped
 second_type _ = IllTyped
@@ -113,7 +116,7 @@ abbrev pub select_typed : List ValType → List Val → Outcome (List Val)
 select_typed (t ∷ []) vs = select_of t vs
 select_typed _ vs = IllTyped
 
--- ---- the code goes on ----
+-- ---- acts that do not change the store ----
 
 abbrev pub go : Body → Act
 go h = Goes Keep h

@@ -1,5 +1,6 @@
--- Worlds, and their instantiation at once (WebAssembly Core 2.0, section 4.5.4, for several modules together).
--- Every import is matched and everything allocated; then all active element segments are copied by part, then all active data segments by part.
+-- Worlds, and their instantiation at once (WebAssembly Core 2.0, section 4.5.4, for several modules
+-- together). Every import is matched and everything is allocated; then all active element segments
+-- are copied, part by part, and then all active data segments, part by part.
 use Rattle.std.proofs.Common.{ℕ, zero, suc, ◌+◌, ◌-◌, ◌*◌, List, [], ◌∷◌, ◌++◌, map, length, Option, Some, None, Bool, true, false, cond, slice_get, unwrap_or, ◌&&◌}
 use Rattle.wasm_tree_spec.specs.Prelude.{Space, Types, Functions, Tables, Memories, Globals, ElementSegments, DataSegments, FuncType, Limits, Import, ImportDesc, ExportDesc, ConstExpr, GlobalDef, ElemSeg, ElemMode, DataSeg, DataMode, Module, same_func_type, same_ref, same_type, index_of_export, space_of_export}
 use Rattle.base_lists.specs.Options.{◌>>=◌}
@@ -21,12 +22,13 @@ use Rattle.wasm_meaning.specs.Step.{changed, no_items}
 use Rattle.wasm_meaning.specs.Linking.{Part, Site, End, Defined, Outside, Entity, Read, module_at, import_at, imports_of, pair_of, end_of, read_of, sites}
 use Rattle.wasm_meaning.specs.Environment.{Environment, ExternalValue, FuncAt, TableAt, MemoryAt, GlobalAt, OwnKey, FuncKey, TableKey, MemoryKey, GlobalKey, Owned, owned_of, owned_at, own_funcs, own_tables, own_memories, own_globals, all_of}
 
--- modules with names, whose imports are joined by name, and what the embedder may use: names, each with the entity for which it stands
+-- Modules whose imports are joined by name, and the view: the names under which the embedder sees
+-- entities.
 pub record World : Type 0 where
   pub parts : List Part
   pub view : List (Text × Entity)
 
--- a module alone: no other imports from it, and its exports are what the embedder may use
+-- A module on its own: no other module imports from it, and its exports are the view.
 abbrev pub alone : Module → World
 alone t = record {
   parts = record { name = None; «module» = t } ∷ [];
@@ -35,7 +37,7 @@ alone t = record {
 
 -- ---- addresses ----
 
--- how many a module defines of an index space
+-- How many entries of an index space a module defines.
 abbrev pub defined_count : Space → Module → ℕ
 defined_count Types m = length m.types
 defined_count Functions m = length m.funcs
@@ -45,7 +47,7 @@ defined_count Globals m = length m.globals
 defined_count ElementSegments m = length m.elems
 defined_count DataSegments m = length m.datas
 
--- how many the environment has of its own
+-- How many entities of a kind the environment has.
 abbrev pub own_count : Space → Environment → ℕ
 own_count Types env = 0
 own_count Functions env = length (own_funcs env)
@@ -55,17 +57,18 @@ own_count Globals env = length (own_globals env)
 own_count ElementSegments env = 0
 own_count DataSegments env = 0
 
--- how many the first parts define
+-- How many entries of an index space the parts before part `p` define.
 abbrev pub defined_before : Space → List Part → ℕ → ℕ
 defined_before k [] p = 0
 defined_before k (part ∷ parts) zero = 0
 defined_before k (part ∷ parts) (suc p) = defined_count k part.«module» + defined_before k parts p
 
--- the entities of the environment come first, then what the parts define, by part
+-- The address of the first entity of a kind that part `p` defines. The environment's entities come
+-- first, then what the parts define, by part.
 abbrev pub base : Environment → List Part → Space → ℕ → ℕ
 base env parts k p = own_count k env + defined_before k parts p
 
--- the external value at an address; types and segments are none (section 4.2.13)
+-- The external value at an address; types and segments have none (section 4.2.13).
 abbrev pub external_value_at : Space → ℕ → Option ExternalValue
 external_value_at Types a = None
 external_value_at Functions a = Some (FuncAt a)
@@ -82,11 +85,10 @@ address_of Memories (MemoryAt a) = Some a
 address_of Globals (GlobalAt a) = Some a
 address_of _ _ = None
 
--- the function type that an import names
 abbrev pub import_type : Module → ℕ → Option FuncType
 import_type m ty = slice_get m.types ty
 
--- the environment's entity that a staying import names
+-- The key of the environment's entity that an import names, if it is joined with no export.
 abbrev pub own_key_of : Module → Pair → ImportDesc → Option OwnKey
 own_key_of m pair (im.Func ty) = import_type m ty >>= λ t. Some (FuncKey pair t)
 own_key_of m pair (im.Table t) = Some (TableKey pair)
@@ -99,7 +101,6 @@ own_key m i = own_key_of m (pair_of i) i.desc
 abbrev pub outside_external_value : Owned → List Part → Site → Option ExternalValue
 outside_external_value owned parts s = module_at parts s.part >>= λ m. import_at parts s >>= λ i. own_key m i >>= λ key. owned_at owned key
 
--- the addresses of what a part defines
 abbrev pub defined_addresses : Environment → List Part → Space → ℕ → Module → List ℕ
 defined_addresses env parts k p m = numbers (base env parts k p) (defined_count k m)
 
@@ -111,11 +112,11 @@ abbrev pub external_value_of : Environment → List Part → End → Option Exte
 external_value_of env parts (Defined e) = defined_external_value env parts e
 external_value_of env parts (Outside s) = outside_external_value (owned_of env) parts s
 
--- what an import denotes
+-- What an import denotes.
 abbrev pub imported_external_value : Environment → List Part → Site → Option ExternalValue
 imported_external_value env parts s = end_of parts s >>= (external_value_of env parts)
 
--- the addresses of an index space: of the imports, then of what is defined
+-- The addresses of an index space: those of the imports, then those of what the part defines.
 abbrev pub space : Environment → List Part → Space → ℕ → Module → Option (List ℕ)
 space env parts k p m =
     all_there (λ n. imported_external_value env parts (record { part = p; import = n }) >>= (address_of k)) (imports_of k m) >>= λ imported. Some (imported ++ defined_addresses env parts k p m)
@@ -135,7 +136,7 @@ inst_of env parts p m =
 
 -- ---- constant expressions ----
 
--- the value of an expression; of globals it sees these
+-- The value of a constant expression, which reads globals from this list.
 abbrev pub const_value : List Global → Inst → ConstExpr → Option Val
 const_value globals i (const.I32 v) = Some (Num W32 (wrapped 32 v))
 const_value globals i (const.I64 v) = Some (Num W64 (wrapped 64 v))
@@ -146,7 +147,7 @@ const_value globals i (const.Global x) = slice_get i.globals x >>= λ a. slice_g
 abbrev pub value_of_read : List Global → List Inst → Read → Option Val
 value_of_read own insts r = slice_get insts r.part >>= λ i. const_value own i r.expr
 
--- the value of an expression of a part, by the read that it leads to
+-- The value of a constant expression of part `p`, by the read that it leads to.
 abbrev pub value_of : Environment → List Part → List Inst → ℕ → ConstExpr → Option Val
 value_of env parts insts p expr = read_of parts p expr >>= (value_of_read (own_globals env) insts)
 
@@ -161,26 +162,26 @@ number_value env parts insts p expr = value_of env parts insts p expr >>= num_of
 abbrev pub new_func : Inst → tree.Func → Option Func
 new_func i f = slice_get i.types f.ty >>= λ t. Some (Code t i (declared f.locals) f.body)
 
--- what a module of this instance adds to the store, where constant expressions have these values: a global
+-- The global of a definition, where `value` gives the values of constant expressions.
 abbrev pub global_with : (ConstExpr → Option Val) → GlobalDef → Option Global
 global_with value g = value g.init >>= λ v. Some (record { ty = g.ty; value = v })
 
 abbrev pub new_global : Environment → List Part → List Inst → ℕ → GlobalDef → Option Global
 new_global env parts insts p = global_with (value_of env parts insts p)
 
--- a declarative segment is dropped at once
+-- A declarative segment is dropped at once.
 abbrev pub new_elem : ElemMode → List RefVal → Elem
 new_elem elem.Declarative items = no_items
 new_elem mode items = record { items = items; dropped = false }
 
--- an element segment
+-- The instance of an element segment, where `value` gives the values of constant expressions.
 abbrev pub elem_with : (ConstExpr → Option Val) → ElemSeg → Option Elem
 elem_with value e = all_there (λ x. value x >>= ref_of) e.items >>= λ items. Some (new_elem e.mode items)
 
 abbrev pub elem_of : Environment → List Part → List Inst → ℕ → ElemSeg → Option Elem
 elem_of env parts insts p = elem_with (value_of env parts insts p)
 
--- and all of it
+-- Everything that a module of instance `i` adds to the store.
 abbrev pub store_with : (ConstExpr → Option Val) → Module → Inst → Option Store
 store_with value m i =
     all_there (new_func i) m.funcs >>= λ funcs. all_there (global_with value) m.globals >>= λ globals. all_there (elem_with value) m.elems >>= λ elems.
@@ -193,7 +194,7 @@ store_with value m i =
       datas = map (λ d. record { bytes = d.bytes; dropped = false }) m.datas;
     })
 
--- what one part adds to the store
+-- What part `p` adds to the store.
 abbrev pub part_store : Environment → List Part → List Inst → ℕ → Module → Inst → Option Store
 part_store env parts insts p m i = store_with (value_of env parts insts p) m i
 
@@ -204,12 +205,12 @@ joined_stores s t =
 abbrev pub own_store : Environment → Store
 own_store env = record { funcs = own_funcs env; tables = own_tables env; mems = own_memories env; globals = own_globals env; elems = []; datas = [] }
 
--- the instances of the parts from p on
+-- The instances of the parts from `p` on.
 abbrev pub insts_from : Environment → List Part → ℕ → List Part → Option (List Inst)
 insts_from env all p [] = Some []
 insts_from env all p (part ∷ parts) = inst_of env all p part.«module» >>= λ i. insts_from env all (suc p) parts >>= λ is. Some (i ∷ is)
 
--- the store with what the parts from p on add to it
+-- The store with what the parts from `p` on add to it.
 abbrev pub stores_from : Environment → List Part → List Inst → Store → ℕ → List Part → List Inst → Option Store
 stores_from env all insts s p (part ∷ parts) (i ∷ is) =
     part_store env all insts p part.«module» i >>= λ t. stores_from env all insts (joined_stores s t) (suc p) parts is
@@ -222,17 +223,18 @@ same_bool true b = b
 same_bool false true = false
 same_bool false false = true
 
--- a maximum that is asked for needs one that is there and no greater
+-- A maximum that is asked for needs an actual one that is no greater.
 abbrev pub meets_most : (most demand : Option ℕ) → Bool
 meets_most most None = true
 meets_most None (Some d) = false
 meets_most (Some n) (Some d) = nat_le n d
 
--- an actual size and a maximum meet a demand
+-- An actual size and maximum meet the limits of an import.
 abbrev pub meets : (size : ℕ) → (most : Option ℕ) → Limits → Bool
 meets size most demand = nat_le demand.min size && meets_most most demand.max
 
--- an entity of the store is what an import asks for
+-- Whether the external value is what the import asks for; `None` if it is of another kind, or if it
+-- or the import's function type does not exist.
 abbrev pub is_match : Store → Module → ImportDesc → ExternalValue → Option Bool
 is_match s m (im.Func ty) (FuncAt a) = import_type m ty >>= λ t. type_at s a >>= λ u. Some (same_func_type t u)
 is_match s m (im.Table t) (TableAt a) = slice_get s.tables a >>= λ u. Some (same_ref t.ty u.ty && meets (length u.slots) u.most t.limits)
@@ -246,12 +248,12 @@ is_matched env parts s site =
 
 -- ---- active segments (section 4.5.4) ----
 
--- the store so far, and whether a segment was out of bounds
+-- The store so far, and whether a segment trapped.
 pub record Filled : Type 0 where
   pub store : Store
   pub trapped : Bool
 
--- a segment with its address, its part's instance and its part
+-- A segment with its address, the instance of its part, and its part.
 pub record PlacedSegment (A : Type 0) : Type 0 where
   pub part : ℕ
   pub inst : Inst
@@ -274,7 +276,8 @@ abbrev pub or_trapped : Store → Option Filled → Filled
 or_trapped s (Some f) = f
 or_trapped s None = record { store = s; trapped = true }
 
--- the references of a segment are copied into a table, and the segment is dropped
+-- Gives the table its slots with the segment's references copied in, and drops the segment. `None`
+-- in place of the slots is a trap: the references do not fit.
 abbrev pub copy_slots : Store → (segment table : ℕ) → Table → Option (List RefVal) → Filled
 copy_slots s segment a t (Some slots) = record { store = changed (changed s (SetTable a (record t { slots = slots }))) (DropElem segment); trapped = false }
 copy_slots s segment a t None = record { store = s; trapped = true }
@@ -283,7 +286,7 @@ abbrev pub copy_elem : Store → (segment : ℕ) → Inst → (table : ℕ) → 
 copy_elem s segment i x offset =
     or_trapped s (offset >>= λ n. slice_get i.tables x >>= λ a. slice_get s.tables a >>= λ t. slice_get s.elems segment >>= λ e. Some (copy_slots s segment a t (overwrite t.slots n e.items)))
 
--- by its mode, where constant expressions have these values
+-- Copies an active segment, where `value` gives the values of constant expressions.
 abbrev pub run_elem_with : (ConstExpr → Option Val) → Store → PlacedSegment ElemSeg → ElemMode → Filled
 run_elem_with value s task (elem.Active x offset) = copy_elem s task.address task.inst x (value offset >>= num_of W32)
 run_elem_with value s task _ = record { store = s; trapped = false }
@@ -294,7 +297,8 @@ run_elem_mode env parts insts s task = run_elem_with (value_of env parts insts t
 abbrev pub run_elem : Environment → List Part → List Inst → Store → PlacedSegment ElemSeg → Filled
 run_elem env parts insts s task = run_elem_mode env parts insts s task task.segment.mode
 
--- the bytes of a segment are copied into a memory, and the segment is dropped
+-- Gives the memory its bytes with the segment's bytes copied in, and drops the segment. `None` in
+-- place of the bytes is a trap: the segment's bytes do not fit.
 abbrev pub copy_bytes : Store → (segment memory : ℕ) → Memory → Option (List ℕ) → Filled
 copy_bytes s segment a m (Some bytes) = record { store = changed (changed s (SetMemory a (record m { bytes = bytes }))) (DropData segment); trapped = false }
 copy_bytes s segment a m None = record { store = s; trapped = true }
@@ -303,7 +307,7 @@ abbrev pub copy_data : Store → (segment : ℕ) → Inst → (memory : ℕ) →
 copy_data s segment i x offset =
     or_trapped s (offset >>= λ n. slice_get i.mems x >>= λ a. slice_get s.mems a >>= λ m. slice_get s.datas segment >>= λ d. Some (copy_bytes s segment a m (overwrite m.bytes n d.bytes)))
 
--- by its mode, where constant expressions have these values
+-- Copies an active segment, where `value` gives the values of constant expressions.
 abbrev pub run_data_with : (ConstExpr → Option Val) → Store → PlacedSegment DataSeg → DataMode → Filled
 run_data_with value s task (data'.Active x offset) = copy_data s task.address task.inst x (value offset >>= num_of W32)
 run_data_with value s task data'.Passive = record { store = s; trapped = false }
@@ -317,7 +321,7 @@ run_data env parts insts s task = run_data_mode env parts insts s task task.segm
 abbrev pub and_then : Filled → (Store → Filled) → Filled
 and_then filled f = cond filled.trapped filled (f filled.store)
 
--- one after the other, until one is out of bounds
+-- Applies `f` to one element after the other, until a segment traps.
 abbrev pub one_by_one : {A : Type 0} → (Store → A → Filled) → Store → List A → Filled
 one_by_one f s [] = record { store = s; trapped = false }
 one_by_one f s (x ∷ xs) = and_then (f s x) (λ s. one_by_one f s xs)
@@ -328,7 +332,8 @@ segments env parts insts s =
 
 -- ---- instantiation at once ----
 
--- what instantiation made: a store, whether a segment trapped, the functions to be started, the names that may be used, and the environment's own entities
+-- The result of an instantiation: the store, whether a segment trapped, the start functions that
+-- are to run, the view, and the environment's own entities.
 pub record Begun : Type 0 where
   pub store : Store
   pub trapped : Bool
@@ -348,7 +353,7 @@ abbrev pub starts_of : List Part → List Inst → List ℕ
 starts_of (part ∷ parts) (i ∷ is) = start_in i part.«module».start ++ starts_of parts is
 starts_of _ _ = []
 
--- an entity of a part, by the instance of its part
+-- The external value of an entity, by the instance of its part.
 abbrev pub address_in : Inst → ExportDesc → Option ExternalValue
 address_in i (ex.Func x) = slice_get i.funcs x >>= λ a. Some (FuncAt a)
 address_in i (ex.Table x) = slice_get i.tables x >>= λ a. Some (TableAt a)
@@ -361,10 +366,13 @@ seen_as insts v = slice_get insts v.1.part >>= λ i. address_in i v.1.what >>= �
 abbrev pub begun : Environment → World → List Inst → List (Text × ExternalValue) → Filled → Begun
 begun env w insts view filled = record { store = filled.store; trapped = filled.trapped; starts = starts_of w.parts insts; view = view; owned = owned_of env }
 
--- None where an import does not match or a constant read has no end, or a name of the view denotes nothing. (In a module that is not valid it is none as well where
--- the type of a function or of an import, what an initialiser or an item names, or an export that is imported is not there, where an initialiser or an item reads a
--- global that is not imported, or an item is no reference; but a segment whose table, memory or i32 offset is not there traps, and a start that is not there is no
--- start. An offset whose read has no end stands on a global whose read has none either.)
+-- Instantiates a world at once. The result is `None` if an import does not match, a constant read
+-- has no end, or a name of the view denotes nothing. For modules that are not valid it is also
+-- `None` if the type of a function or of an import, what an initialiser or an item names, or an
+-- export that is imported does not exist, if an initialiser or an item reads a global that is not
+-- imported, or if an item is not a reference; but a segment whose table, memory or i32 offset does
+-- not exist traps, and a start function that does not exist does not run. (An offset whose read has
+-- no end depends on a global whose read has none either.)
 abbrev pub instantiate : Environment → World → Option Begun
 instantiate env w =
     insts_from env w.parts 0 w.parts >>= λ insts. stores_from env w.parts insts (own_store env) 0 w.parts insts >>= λ s. all_there (seen_as insts) w.view >>= λ view.
@@ -374,7 +382,7 @@ abbrev pub is_there : {A : Type 0} → Option A → Bool
 is_there None = false
 is_there (Some a) = true
 
--- an environment links a world where every import matches, every constant read has an end and the view's names denote something, whether or not a segment or a
--- start traps then
+-- The environment links the world: every import matches, every constant read has an end and every
+-- name of the view denotes something. A segment or a start function may trap all the same.
 abbrev pub links : Environment → World → Bool
 links env w = is_there (instantiate env w)

@@ -1,4 +1,5 @@
--- What a run leaves of what is in its store: once it is instantiated each step only extends the store (WebAssembly Core 2.0, section 4.2.3).
+-- What a run does to its store: once it is instantiated, each step only extends the store
+-- (WebAssembly Core 2.0, section 4.2.3).
 use Rattle.std.specs.Prelude.{◌≡◌, ℕ, ◌≤◌, false, List, length, Option, Some, slice_get}
 use Rattle.wasm_tree_spec.specs.Prelude.{Module}
 use Rattle.wasm_meaning.specs.Prelude.{Gives, Val, Func, Table, Memory, Global, Store, Entry, CallsPlaceholder, ExternalValue, Added, added, Run, Event, Out, Steps, transition, tick, LoaderWorld, LoaderRun, tick_loader}
@@ -6,6 +7,7 @@ use Rattle.index_remap.specs.Prelude.{IsBegun}
 
 -- ---- stores ----
 
+-- the type and maximum are the same, and the size does not shrink
 pub record TableExtends (t u : Table) : Type 0 where
   pub type : u.ty ≡ t.ty
   pub most : u.most ≡ t.most
@@ -19,11 +21,12 @@ pub record GlobalExtends (g h : Global) : Type 0 where
   pub type : h.ty ≡ g.ty
   pub fixed : g.ty.mutable ≡ false → h.value ≡ g.value
 
--- what stands at a place of the first still stands there in the second, or what extends it
+-- at each place of the first list, the second has what extends the element there
 abbrev pub EachExtends : {A : Type 0} → (A → A → Type 0) → List A → List A → Type 0
 EachExtends {A} P xs ys = (a : ℕ) (x : A) → slice_get xs a ≡ Some x → (y : A) × (slice_get ys a ≡ Some y) × P x y
 
--- functions stay, sizes do not shrink, types and maxima stay, and so do the values of globals that are not mutable; nothing is added
+-- functions stay, sizes do not shrink, types and maxima stay, and so do the values of immutable
+-- globals; nothing is added or taken away
 pub record Extends (s t : Store) : Type 0 where
   pub funcs : t.funcs ≡ s.funcs
   pub tables : EachExtends TableExtends s.tables t.tables
@@ -35,7 +38,8 @@ pub record Extends (s t : Store) : Type 0 where
   pub elem_count : length t.elems ≡ length s.elems
   pub data_count : length t.datas ≡ length s.datas
 
--- the same of what the first has, where the second may have more behind it
+-- the same for the functions, tables, memories and globals of the first store; the second may have
+-- more behind them
 pub record StaysIn (s t : Store) : Type 0 where
   pub funcs : (a : ℕ) (f : Func) → slice_get s.funcs a ≡ Some f → slice_get t.funcs a ≡ Some f
   pub tables : EachExtends TableExtends s.tables t.tables
@@ -44,33 +48,36 @@ pub record StaysIn (s t : Store) : Type 0 where
 
 -- ---- runs ----
 
--- the store is extended, the environment's own entities are found where they were, and what was instantiated stays so
+-- the store is extended, the environment's own entities stay where they were, and a run that was
+-- instantiated stays so
 pub record Kept (r : Run) (o : Out) : Type 0 where
   pub store : Extends r.store o.0.store
   pub owned : o.0.owned ≡ r.owned
   pub begun : IsBegun r.phase → IsBegun o.0.phase
 
--- Once a run is instantiated, each of its steps extends its store,
+-- Once a run is instantiated, each of its steps extends its store.
 abbrev pub StepsExtend : Type 0
 StepsExtend = (r : Run) → IsBegun r.phase → Kept r (tick r)
 
--- and so does one that calls a placeholder up to the call.
+-- So does a step that calls a placeholder, up to the call.
 abbrev pub CallsExtend : Type 0
 CallsExtend =
     (r q : Run) (slot : ℕ) (vs : List Val) (s : Store) (es : List Entry) → IsBegun r.phase → transition r ≡ Steps q (Gives (CallsPlaceholder slot vs s es)) → Extends r.store s
 
 -- ---- a module that is added ----
 
--- A module that is added to a store adds what it defines behind all else, whether or not a segment traps.
+-- What is in a store stays in it when a module is added, whether or not a segment traps.
 abbrev pub AddedModulesExtend : Type 0
 AddedModulesExtend = (s : Store) (m : Module) (things : List ExternalValue) (a : Added) → added s m things ≡ Some a → StaysIn s a.filled.store
 
--- what was in the store stays in it, the instance of the primary is the same, and what was instantiated stays so
+-- what was in the store stays in it, the instance of the primary module is the same, and the run is
+-- instantiated
 pub record LoaderKept (q : LoaderRun) (o : LoaderRun × Option Event) : Type 0 where
   pub store : StaysIn q.run.store o.0.run.store
   pub inst : o.0.inst ≡ q.inst
   pub begun : IsBegun o.0.run.phase
 
--- So each step under a loader: it extends the store, and a load adds to it.
+-- Once the run is instantiated, each step under a loader keeps this; a step that loads a module may
+-- add to the store.
 abbrev pub LoadersExtend : Type 0
 LoadersExtend = (w : LoaderWorld) (q : LoaderRun) → IsBegun q.run.phase → LoaderKept q (tick_loader w q)

@@ -1,4 +1,5 @@
--- Steps of a run under a loader: those that call no placeholder are steps of the run, and one that calls a placeholder goes on in the function that is then in its slot.
+-- Steps of a run under a loader: those that call no placeholder are steps of the run, and one that
+-- calls a placeholder continues in the function that is then in its slot.
 use Rattle.std.specs.Prelude.{◌≡◌, ℕ, ◌<◌, Bool, false, List, Option, Some, slice_get}
 use Rattle.wasm_tree_spec.specs.Prelude.{FuncType}
 use Rattle.base_simulation.specs.Machines.{events_of, state_after}
@@ -8,10 +9,11 @@ use Rattle.index_remap.specs.Prelude.{calls_placeholder}
 
 -- ---- no placeholder is called ----
 
+-- a step that calls no placeholder is the step of the run
 abbrev pub LoadersStepAsTheirRun : Type 0
 LoadersStepAsTheirRun = (w : LoaderWorld) (q : LoaderRun) → calls_placeholder (transition q.run) ≡ false → tick_loader w q ≡ (record q { run = (tick q.run).0 }, (tick q.run).1)
 
--- so many steps of the one are those of the other
+-- `n` steps under the loader are those of the run
 pub record GoesAsItsRun (w : LoaderWorld) (q : LoaderRun) (n : ℕ) : Type 0 where
   pub shown : events_of (tick_loader w) q n ≡ events_of tick q.run n
   pub state : state_after (tick_loader w) q n ≡ record q { run = state_after tick q.run n }
@@ -21,7 +23,8 @@ LoadersGoAsTheirRun = (w : LoaderWorld) (q : LoaderRun) (n : ℕ) → ((k : ℕ)
 
 -- ---- a placeholder is called ----
 
--- the secondary module of the slot is loaded, or was, without a trap; and then this function is in the slot, with the type of the placeholder
+-- the secondary module of the slot is loaded, or was, without a trap, and then this function is in
+-- the slot and has the type of the placeholder
 pub record IsAnswered (w : LoaderWorld) (q : LoaderRun) (slot : ℕ) (s : Store) : Type 0 where
   pub inst : Inst
   pub is_inst : q.inst ≡ Some inst
@@ -43,10 +46,11 @@ pub record IsAnswered (w : LoaderWorld) (q : LoaderRun) (slot : ℕ) (s : Store)
   pub refers : slice_get table.slots slot ≡ Some (FuncRef (Some func))
   pub typed : type_at after func ≡ Some placeholder.1
 
--- the run in which that function is entered, over what waits
+-- the run that enters that function, over the entries that wait
 abbrev pub answered_out : {w : LoaderWorld} {q : LoaderRun} {slot : ℕ} {s : Store} → IsAnswered w q slot s → Run → List Val → List Entry → Out
 answered_out a r vs es = run_after (record r { store = a.after; entries = es }) (enter_at a.after a.func vs es)
 
+-- a step that calls a placeholder continues in the function that is then in its slot
 abbrev pub PlaceholdersAreAnswered : Type 0
 PlaceholdersAreAnswered =
     (w : LoaderWorld) (q : LoaderRun) (r : Run) (slot : ℕ) (vs : List Val) (s : Store) (es : List Entry) → transition q.run ≡ Steps r (Gives (CallsPlaceholder slot vs s es)) → (a : IsAnswered w q slot s) →

@@ -1,5 +1,6 @@
--- A loader's primary module with functions of its own in place of the placeholders that it imports: so what it begins as is told by the world of one module (WebAssembly Core
--- 2.0, section 4.5.4).
+-- A loader's primary module with functions of its own in place of the placeholders that it imports,
+-- so that the world of one module determines what it begins as (WebAssembly Core 2.0, section
+-- 4.5.4).
 use Rattle.std.specs.Prelude.{◌≡◌, ℕ, suc, ◌+◌, List, [], ◌∷◌, ◌++◌, map, drop, length, Some, None, slice_get}
 use Rattle.base_lists.specs.Every.{Every}
 use Rattle.base_lists.specs.Options.{◌>>=◌}
@@ -10,13 +11,15 @@ use Rattle.wasm_meaning.specs.Prelude.{Pair, Func, Store, Environment, own_funcs
 
 -- ---- a primary that imports its placeholders last ----
 
--- from this slot on each of these imports is that of the placeholder of its slot, with the type at this place among the types
+-- from slot `n` on, each of these imports is that of the placeholder of its slot, with the type at
+-- this index
 abbrev pub ArePlaceholders : LoaderWorld → (slot : ℕ) → List Import → List (Pair × FuncType) → (types : List ℕ) → Type 0
 ArePlaceholders w n [] [] [] = Unit {0}
 ArePlaceholders w n (i ∷ is) (p ∷ ps) (ty ∷ tys) = (i.desc ≡ im.Func ty) × (slot_of w i ≡ Some n) × (slice_get w.primary.types ty ≡ Some p.1) × ArePlaceholders w (suc n) is ps tys
 ArePlaceholders w n _ _ _ = ⊥
 
--- The primary module imports these from the environment, and then the placeholders in the order of their slots.
+-- The primary module imports `others` from the environment, and then the placeholders in the order
+-- of their slots.
 pub record ImportsThemLast (w : LoaderWorld) (others : List Import) (types : List ℕ) : Type 0 where
   pub slots : List Import
   pub all : w.primary.imports ≡ others ++ slots
@@ -29,7 +32,8 @@ pub record ImportsThemLast (w : LoaderWorld) (others : List Import) (types : Lis
 abbrev pub stub : (ty : ℕ) → tree.Func
 stub ty = record { ty = ty; locals = []; body = Unreachable ∷ [] }
 
--- a loader that supplies nothing, whose primary module has these before its own functions: so each function has the index and the address that it had
+-- a loader that supplies nothing, whose primary module has these stubs before its own functions, so
+-- that each function keeps its index and its address
 abbrev pub stubbed : LoaderWorld → (others : List Import) → (types : List ℕ) → LoaderWorld
 stubbed w others types = record w { primary = record w.primary { imports = others; funcs = map stub types ++ w.primary.funcs }; secondaries = [] }
 
@@ -45,7 +49,8 @@ placeholders_begun env w b = record b { store = with_placeholders env w b.store 
 
 -- ---- the law ----
 
--- The instance is the same, the stores are but for the placeholders, and it is linked or not, and traps or not, alike.
+-- The instances are the same, and the stores too, except for the placeholders; both are linked or
+-- neither, and both trap or neither.
 abbrev pub LoadersAddAsStubbed : Type 0
 LoadersAddAsStubbed =
     (env : Environment) (w : LoaderWorld) (others : List Import) (types : List ℕ) → ImportsThemLast w others types → primary_added env w ≡ primary_added env (stubbed w others types) >>= λ a. Some (placeholders_in env w a)

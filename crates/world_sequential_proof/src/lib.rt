@@ -1,4 +1,5 @@
-//! That parts which are instantiated sequentially have the traces of parts that are instantiated at once, as a law.
+//! A law: sequential instantiation of parts is observationally equivalent to their instantiation at
+//! once.
 #![tactic(auto)]
 
 ghost use Rattle.world_sequential_proof.specs.Laws.{SequentialInstantiationIsEquivalent};
@@ -9,9 +10,11 @@ use wasm_valid::valid_where_items_hold;
 use world_extension_proof::stores_are_extended;
 use world_simulation::own_entities_correspond;
 
-/// A world of at least one part, all valid, has equal traces at once and where its parts are instantiated sequentially, each with its segments and
-/// its start before the next (WebAssembly Core 2.0, section 4.5.4), in at most four steps more for each part: in environments that link it at once, where each
-/// joined import leads to an earlier part, no part after one with a start has an active segment, and no segment traps.
+/// For a world of at least one part, all valid, sequential instantiation, in which each part has
+/// its segments and its start before the next (WebAssembly Core 2.0, section 4.5.4), is
+/// observationally equivalent to instantiation at once, in at most four more steps for each part.
+/// The premises are that the environment links the world at once, each joined import leads to an
+/// earlier part, no part after one with a start has an active segment, and no segment traps.
 pub fn sequential_instantiation_equivalent()
     ensures equivalent { SequentialInstantiationIsEquivalent }
 {

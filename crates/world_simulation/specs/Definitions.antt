@@ -17,7 +17,8 @@ values_in env w p = value_of env w.parts w.insts p
 
 -- ---- what is defined at an address ----
 
--- a part defines what stands at the address: it has this place among the part's definitions of the space
+-- a part defines what is at the address: it is at this place among the part's definitions of the
+-- index space
 pub record DefinedAt (env : Environment) (w : Instantiated) (k : Space) {A : Type 0} (definitions : Module → List A) (a : ℕ) : Type 0 where
   pub part : ℕ
   pub of : Module
@@ -31,13 +32,14 @@ pub record DefinedAt (env : Environment) (w : Instantiated) (k : Space) {A : Typ
 
 -- ---- definitions that correspond ----
 
--- equal types and locals, and code that does the same
+-- equal types and locals, and related code
 pub record FuncsCorrespond (R : Pairing) (i j : Inst) (f g : tree.Func) : Type 0 where
   pub type : slice_get i.types f.ty ≡ slice_get j.types g.ty
   pub locals : f.locals ≡ g.locals
   pub code : CodeRel R i j f.body g.body
 
--- at an address of the first; of a function that is opaque only the type is asked
+-- the functions correspond, of which the first is at address `a` of its world; if that one is
+-- opaque, only their types have to be equal
 pub data FuncsAt (R : Pairing) (a : ℕ) (i j : Inst) (f g : tree.Func) : Type 0 where
   alike : FuncsCorrespond R i j f g → FuncsAt R a i j f g
   set_apart : R.listed a → slice_get i.types f.ty ≡ slice_get j.types g.ty → FuncsAt R a i j f g
@@ -47,22 +49,26 @@ pub record GlobalsCorrespond (R : Pairing) (value second_value : ConstExpr → O
   pub type : g.ty ≡ h.ty
   pub init : OptRel (ValRel R) (value g.init) (second_value h.init)
 
--- a declarative segment is dropped when it is allocated
+-- whether a segment is declarative, so that it is dropped when it is allocated
 abbrev pub is_declarative : ElemMode → Bool
 is_declarative elem.Declarative = true
 is_declarative _ = false
 
--- both are declarative, and whatever their items are, they are gone after the allocation; or neither is, and the values of their items are related
+-- both are declarative, so that their items are gone after the allocation; or neither is, and the
+-- values of their items are related
 pub data ElemsCorrespond (R : Pairing) (value second_value : ConstExpr → Option Val) (d e : ElemSeg) : Type 0 where
   declared : is_declarative d.mode ≡ true → is_declarative e.mode ≡ true → ElemsCorrespond R value second_value d e
   kept : is_declarative d.mode ≡ false → is_declarative e.mode ≡ false → ListRel (λ x y. OptRel (ValRel R) (value x) (second_value y)) d.items e.items → ElemsCorrespond R value second_value d e
 
--- what stands at two addresses of a space: one entity of the environment's own, or definitions that correspond, told by their parts and instances
+-- what is at two addresses of an index space: one entity of the environment's own, or definitions
+-- that correspond, in their parts and instances
 pub data Partners (env : Environment) (v w : Instantiated) (k : Space) {A : Type 0} (definitions : Module → List A) (correspond : ℕ → Inst → A → ℕ → Inst → A → Type 0) (a b : ℕ) : Type 0 where
   own : a ≡ b → a < own_count k env → Partners env v w k definitions correspond a b
   defined : (x : DefinedAt env v k definitions a) (y : DefinedAt env w k definitions b) → correspond x.part x.inst x.definition y.part y.inst y.definition → Partners env v w k definitions correspond a b
 
--- at related addresses stand partners: functions (but for those that are opaque), globals and segments that correspond, tables and memories of equal types, data segments of equal bytes
+-- related addresses have partners: functions, globals and element segments that correspond (of
+-- opaque functions only the types), tables and memories of equal types, data segments of equal
+-- bytes
 pub record DefinitionsCorrespond (R : Pairing) (env : Environment) (v w : Instantiated) : Type 0 where
   pub funcs : (a b : ℕ) → R.of Functions a b → Partners env v w Functions (λ m. m.funcs) (λ p i f q j g. FuncsAt R a i j f g) a b
   pub tables : (a b : ℕ) → R.of Tables a b → Partners env v w Tables (λ m. m.tables) (λ p i t q j u. t ≡ u) a b

@@ -4,14 +4,15 @@ use Rattle.wasm_tree_spec.specs.Prelude.{Space}
 use Rattle.wasm_meaning.specs.Prelude.{Environment, World, Begun, instantiate, Move, tick, events_of, fresh_run, events}
 use Rattle.index_remap.specs.Prelude.{OneToOne, OptRel, BegunRel, passed, EntryByEntry}
 
--- Where neither world can be instantiated, or both to what corresponds, their runs have equal traces. Before the instantiation only what the environment
--- offers is in the stores, so that they need not correspond.
+-- If neither world can be instantiated, or both can, with results that correspond, their runs have
+-- equal traces. Before the instantiation the stores have only what the environment offers, so they
+-- need not correspond.
 abbrev pub RelatedInstancesHaveEqualTraces : Type 0
 RelatedInstancesHaveEqualTraces =
     (of : Space → ℕ → ℕ → Bool) → OneToOne (passed of of []) → (v w : World) (env : Environment) →
     OptRel (BegunRel (passed of of []) (EntryByEntry (passed of of []))) (instantiate env v) (instantiate env w) → (moves : List Move) (n : ℕ) → events v env moves n ≡ events w env moves n
 
--- The same of what the worlds are instantiated to, whatever the worlds are.
+-- The same for any results of instantiation, whatever the worlds are.
 abbrev pub RelatedBegunHaveEqualTraces : Type 0
 RelatedBegunHaveEqualTraces =
     (of : Space → ℕ → ℕ → Bool) → OneToOne (passed of of []) → (env : Environment) (b c : Option Begun) →

@@ -1,5 +1,6 @@
--- The segments of two instantiated worlds in the order in which they are copied (WebAssembly Core 2.0, section 4.5.4): partners stand in the same order, and an active
--- segment without partner is in bounds and writes only what has no partner.
+-- The segments of two instantiated worlds in the order in which they are copied (WebAssembly Core
+-- 2.0, section 4.5.4): partners are in the same order, and an active segment without a partner is
+-- in bounds and writes only what has no partner.
 use Rattle.std.specs.Prelude.{◌≡◌, ℕ, ◌+◌, ◌*◌, ◌≤◌, List, [], ◌∷◌, length, Option, Some, slice_get}
 use Rattle.base_lists.specs.Options.{◌>>=◌}
 use Rattle.wasm_tree_spec.specs.Prelude.{Space, Tables, Memories, ElementSegments, DataSegments, ConstExpr, ElemMode, ElemSeg, DataMode, DataSeg}
@@ -10,7 +11,7 @@ use Rattle.wasm_meaning.specs.Prelude.{Val, num_of, Environment, PlacedSegment, 
 use Rattle.index_remap.specs.Prelude.{Pairing, OptRel, turned, HasNoPartner}
 use Rattle.world_simulation.specs.Definitions.{Instantiated, DefinedAt, values_in}
 
--- partners stand in the same order, with other items alone between them
+-- partners are in the same order; between them there may be items without a partner
 pub data InOrder {A B : Type 0} (partners : A → B → Type 0) (first : A → Type 0) (second : B → Type 0) : List A → List B → Type 0 where
   ends : InOrder partners first second [] []
   both : {x : A} {y : B} {xs : List A} {ys : List B} → partners x y → InOrder partners first second xs ys → InOrder partners first second (x ∷ xs) (y ∷ ys)
@@ -22,13 +23,15 @@ offset_in value e = value e >>= num_of W32
 
 -- ---- element segments ----
 
--- Both are active, and copied to related tables at equal offsets; or neither is active.
+-- Both are active and related, and are copied to related tables at equal offsets; or both are
+-- passive, or both declarative.
 pub data ElemsPartner (R : Pairing) (value second_value : ConstExpr → Option Val) (x y : PlacedSegment ElemSeg) : ElemMode → ElemMode → Type 0 where
   active : {t u : ℕ} {d e : ConstExpr} → R.of ElementSegments x.address y.address → OptRel (R.of Tables) (slice_get x.inst.tables t) (slice_get y.inst.tables u) → offset_in value d ≡ offset_in second_value e → ElemsPartner R value second_value x y (elem.Active t d) (elem.Active u e)
   passive : ElemsPartner R value second_value x y elem.Passive elem.Passive
   declarative : ElemsPartner R value second_value x y elem.Declarative elem.Declarative
 
--- Active in bounds of a defined table: neither the table nor the segment has a partner. Or it is not active.
+-- Active in bounds of a defined table, and neither the table nor the segment has a partner; or not
+-- active.
 pub data ElemAlone (alone : Space → ℕ → Type 0) (env : Environment) (w : Instantiated) (x : PlacedSegment ElemSeg) : ElemMode → Type 0 where
   active : {t n a : ℕ} {e : ConstExpr} → slice_get x.inst.tables t ≡ Some a → alone Tables a → (table : DefinedAt env w Tables (λ m. m.tables) a) → alone ElementSegments x.address →
       offset_in (values_in env w x.part) e ≡ Some n → n + length x.segment.items ≤ table.definition.limits.min → ElemAlone alone env w x (elem.Active t e)
@@ -37,10 +40,12 @@ pub data ElemAlone (alone : Space → ℕ → Type 0) (env : Environment) (w : I
 
 -- ---- data segments ----
 
+-- the same for data segments, which are not declarative
 pub data DatasPartner (R : Pairing) (value second_value : ConstExpr → Option Val) (x y : PlacedSegment DataSeg) : DataMode → DataMode → Type 0 where
   active : {t u : ℕ} {d e : ConstExpr} → R.of DataSegments x.address y.address → OptRel (R.of Memories) (slice_get x.inst.mems t) (slice_get y.inst.mems u) → offset_in value d ≡ offset_in second_value e → DatasPartner R value second_value x y (data'.Active t d) (data'.Active u e)
   passive : DatasPartner R value second_value x y data'.Passive data'.Passive
 
+-- the same for data segments and memories
 pub data DataAlone (alone : Space → ℕ → Type 0) (env : Environment) (w : Instantiated) (x : PlacedSegment DataSeg) : DataMode → Type 0 where
   active : {t n a : ℕ} {e : ConstExpr} → slice_get x.inst.mems t ≡ Some a → alone Memories a → (memory : DefinedAt env w Memories (λ m. m.mems) a) → alone DataSegments x.address →
       offset_in (values_in env w x.part) e ≡ Some n → n + length x.segment.bytes ≤ 65536 * memory.definition.min → DataAlone alone env w x (data'.Active t e)

@@ -1,5 +1,5 @@
-//! Simulation of worlds: two worlds of which definitions, segments, starts and views correspond have equal traces for each embedder; and one start may call several
-//! functions.
+//! Laws about two worlds: they have equal traces if their definitions, segments, starts and views
+//! correspond, and one start may call several functions in place of several starts.
 #![tactic(auto)]
 
 ghost use Rattle.world_simulation.specs.Alone.{
@@ -24,9 +24,11 @@ use index_remap::{related_runs_have_equal_traces, steps_agree};
 use index_remap_proof::renumbering_keeps_typing;
 use wasm_meaning::start_depends_only_on_its_frames;
 
-/// In the world of a module alone each import is its own end (`ends`) and denotes what the environment offers of its name, and of its type if it is a function,
-/// or for nothing (`external_values`); the index spaces are these, then what the module defines, or none where an import denotes nothing (`spaces`); and what a constant
-/// expression reads is the expression itself, or the `global.get` of the import that it names, or nothing (`reads`).
+/// In the world of a module alone each import is its own end (`ends`). It denotes the entity that
+/// the environment offers under its name, for a function also of its type, if there is one
+/// (`external_values`). An index space has the addresses of the imports, then those of what the
+/// module defines; there is none if an import denotes nothing (`spaces`). A constant expression
+/// reads itself, or the `global.get` of the import that it names, or nothing (`reads`).
 pub fn imports_of_one_module_denote_the_environment()
     ensures ends { ImportsStay }
     ensures external_values { ImportsDenoteTheEnvironment }
@@ -34,13 +36,16 @@ pub fn imports_of_one_module_denote_the_environment()
     ensures reads { ReadsStay }
 {}
 
-/// Where each address of the environment's own entities is related to itself, their keys correspond, and the tables and globals that are allocated for them do.
+/// If each address of the environment's own entities is related to itself, these entities
+/// correspond, and so do the tables and globals that are allocated for them.
 pub fn own_entities_correspond()
     ensures own { OwnEntitiesCorrespond }
 {}
 
-/// Two worlds have equal traces, step by step, where neither can be instantiated, or both to what corresponds under a one-to-one relation, with no opaque
-/// function (WebAssembly Core 2.0, section 4.5.4): of worlds (`equal_traces`), and of what they are instantiated to (`begun`).
+/// Two worlds have equal traces, step by step, if neither can be instantiated, or both can, with
+/// results that correspond under a one-to-one relation without opaque functions (WebAssembly Core
+/// 2.0, section 4.5.4). The law is stated for worlds (`equal_traces`) and for any results of
+/// instantiation (`begun`).
 pub fn related_instances_have_equal_traces()
     ensures equal_traces { RelatedInstancesHaveEqualTraces }
     ensures begun { RelatedBegunHaveEqualTraces }
@@ -48,11 +53,17 @@ pub fn related_instances_have_equal_traces()
     related_runs_have_equal_traces();
 }
 
-/// Two worlds in an environment that links one exactly where it links the other (WebAssembly Core 2.0, section 4.5.4): where what they define corresponds under a
-/// one-to-one relation of addresses and partnered segments, starts and views stand in the same order, an active segment without partner being in bounds and writing only
-/// what has no partner, both show `LinkFault`, or both are instantiated to related states (`instantiated`), and each embedder sees the same of both, step by step (`equal_traces`).
-/// Where only starts may differ, both are instantiated to related stores, trapped both or neither, with related views (`begin`); before segments are copied the
-/// stores are related (`allocated`): in both functions may be opaque, of which only the types have to be equal; and what `instantiate` gives is taken apart: instances, the allocated store, the view, matched imports (`made`).
+/// Two worlds have equal traces, step by step, in an environment that links both or neither
+/// (WebAssembly Core 2.0, section 4.5.4), if what they define corresponds under a one-to-one
+/// relation of addresses, their partnered segments, starts and views are in the same order, and
+/// each active segment without a partner is in bounds and writes only what has no partner
+/// (`equal_traces`): neither is instantiated, or both are, to related states (`instantiated`).
+///
+/// Without the premises about starts and linking, if both are instantiated, their stores and views
+/// are related, and both trapped or neither (`begin`). Before segments are copied, the allocated
+/// stores are related if the definitions correspond (`allocated`). In these two laws functions may
+/// be opaque, of which only the types have to be equal. `made` says what a result of `instantiate`
+/// is made of: instances, the allocated store, the view, and imports that match.
 pub fn corresponding_worlds_have_equal_traces()
     ensures made { WhatIsInstantiated }
     ensures allocated { AllocatedStoresCorrespond }
@@ -63,8 +74,10 @@ pub fn corresponding_worlds_have_equal_traces()
     related_instances_have_equal_traces();
 }
 
-/// Where each index of a set and its entry in a map name addresses in the code relation, or equal types, or nothing, so do each index of a body and its entry,
-/// if the body names only indices of the set (`kept`); if the set is that of the indices with an entry, such is each body that the map has entries for (`fitting`).
+/// If each index of a set and its entry in a map denote addresses of the code relation, or equal
+/// types, or both nothing, so do each index of a body and its entry, if the body names only indices
+/// of the set (`kept`). If the set is that of the indices with an entry, this holds for each body
+/// whose indices all have entries (`fitting`).
 pub fn remapped_code_is_related()
     ensures kept { KeptCodeIsNamed }
     ensures fitting { FittingCodeIsNamed }
@@ -72,8 +85,8 @@ pub fn remapped_code_is_related()
     renumbering_keeps_typing();
 }
 
-/// One start that calls several functions that take and give nothing has the trace that these have as starts one after the other, in two stuttering steps more; the other way
-/// round in no step more.
+/// One start that calls several functions of type [] to [] has the trace that these have as starts
+/// one after the other, within two more steps; the other way round no more steps are needed.
 pub fn one_start_for_several_equivalent()
     ensures calls { OneStartMayCallSeveral }
 {
