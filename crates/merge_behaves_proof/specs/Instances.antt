@@ -5,19 +5,19 @@ use Rattle.wasm_meaning.specs.Prelude.{Inst, Part, module_at, Environment}
 use Rattle.merge_spec.specs.Prelude.{map_of}
 use Rattle.merge_behaves_proof.specs.Shared.{shared_count}
 
--- an index of a part and its entry name one address, which both worlds have
+-- an index of a part and its entry name the same address, which both worlds have
 pub record SameAddress (env : Environment) (parts : List Part) (k : Space) (xs ys entries : List ℕ) (x : ℕ) : Type 0 where
   pub address : ℕ
   pub first : slice_get xs x ≡ Some address
   pub second : slice_get ys (slice_index entries x) ≡ Some address
   pub shared : address < shared_count env parts k
 
--- each index of an index space has an entry, and both name one address
+-- each index of an index space has an entry, and both name the same address
 pub record SpaceAgrees (env : Environment) (parts : List Part) (k : Space) (xs ys entries : List ℕ) : Type 0 where
   pub size : length xs ≡ length entries
   pub each : (x : ℕ) → x < length entries → SameAddress env parts k xs ys entries x
 
--- a part's instance, and the merged module's
+-- a part's instance agrees with the merged module's
 pub record PartAgrees (env : Environment) (parts : List Part) (p : ℕ) (m : Module) (i j : Inst) : Type 0 where
   pub own_types : i.types ≡ m.types
   pub types : (x : ℕ) (t : FuncType) → slice_get m.types x ≡ Some t → slice_get j.types (slice_index (map_of parts p m).types x) ≡ Some t
@@ -28,7 +28,7 @@ pub record PartAgrees (env : Environment) (parts : List Part) (p : ℕ) (m : Mod
   pub elems : SpaceAgrees env parts ElementSegments i.elems j.elems (map_of parts p m).elems
   pub datas : SpaceAgrees env parts DataSegments i.datas j.datas (map_of parts p m).datas
 
--- one instance for each part, and one of the merged module
+-- the instance of each part agrees with the one of the merged module
 pub record InstancesAgree (env : Environment) (parts : List Part) (insts js : List Inst) : Type 0 where
   pub merged : Inst
   pub alone : js ≡ merged ∷ []

@@ -1,15 +1,16 @@
--- The addresses that parts which are linked by name and their merged module both have: those of the environment's entities, and of what the parts define.
--- They are the same numbers, since both allocate what the parts define by part.
+-- The addresses that the parts, linked by name, and their merged module both have: those of the
+-- environment's entities, and of what the parts define. They are the same numbers, because both
+-- allocate what the parts define part by part.
 use Rattle.std.specs.Prelude.{ℕ, length, List, [], Bool, nat_eq, nat_lt, ◌&&◌}
 use Rattle.wasm_tree_spec.specs.Prelude.{Space}
 use Rattle.wasm_meaning.specs.Prelude.{Part, Environment, base}
 use Rattle.index_remap.specs.Prelude.{Pairing, passed}
 
--- how many there are
+-- how many shared addresses an index space has
 abbrev pub shared_count : Environment → List Part → Space → ℕ
 shared_count env parts k = base env parts k (length parts)
 
--- an address and itself, where both have it
+-- an address and itself, if both have it
 abbrev pub is_shared : Environment → List Part → Space → ℕ → ℕ → Bool
 is_shared env parts k a b = nat_eq a b && nat_lt a (shared_count env parts k)
 

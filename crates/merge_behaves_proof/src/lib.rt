@@ -1,4 +1,4 @@
-//! That a merged module behaves as its parts linked by name, as a law.
+//! A law: a merged module is observationally equivalent to its parts, linked by name.
 #![tactic(auto)]
 
 ghost use Rattle.merge_behaves_proof.specs.Laws.{MergedModuleEquivalent};
@@ -14,8 +14,9 @@ use world_simulation::{
     remapped_code_is_related,
 };
 
-/// Where valid parts can be joined, their world, linked by name, and the world of the merged module alone have equal traces to each embedder, in at most
-/// four steps more (WebAssembly Core 2.0, section 4.5.4, for several modules together).
+/// If valid parts can be joined, the merged module alone is observationally equivalent to the
+/// parts, linked by name and instantiated at once, in at most four more steps (WebAssembly Core
+/// 2.0, section 4.5.4, for several modules together).
 pub fn merged_module_equivalent()
     ensures equivalent { MergedModuleEquivalent }
 {

@@ -1,4 +1,5 @@
-//! The numbers of merged modules are in the ranges of their types, as those of the parts are.
+//! A law: the numbers of merged modules are in the ranges of their types, if those of the parts
+//! are.
 #![tactic(auto)]
 
 ghost use Rattle.std.specs.Prelude.{List, IsTrue};
@@ -15,9 +16,9 @@ use wasm_tree::operands_pass_layer_by_layer;
 use wasm_valid::valid_where_items_hold;
 use wasm_write_proof::{encoded_operands_are_in_range, renumbering_keeps_numbers_in_range};
 
-/// Where the parts of a merge have their numbers in range and their names in UTF-8, so has the merged module, if it is valid and has at
-/// most one memory (`range`): what it names is there, and its other numbers stand in some part. And its bodies name no memory but memory 0
-/// (`memory`).
+/// Let a merged module be valid and bounded, with at most one memory. Then its numbers are in range
+/// and its names in UTF-8 if those of the parts are (`range`), because what it names exists and its
+/// other numbers come from some part; and its bodies name no memory but memory 0 (`memory`).
 pub fn merged_modules_are_in_range()
     ensures range { (parts : List Part) (mode : Mode) → Every (λ p. InRange p.«module») parts
         → IsValid (joined_module parts mode) → IsSingle (joined_module parts mode) → IsBounded (joined_module parts mode)

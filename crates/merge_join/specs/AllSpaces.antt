@@ -4,6 +4,7 @@ use Rattle.merge_spec.specs.declared.parts.Part.{Part}
 use Rattle.wasm_tree_spec.specs.Prelude.{Functions, Tables, Memories, Globals}
 use Rattle.merge_join.specs.declared.all_spaces.Spaces.{Spaces}
 
+-- `spaces` are the merged index spaces of the parts
 pub record AreSpaces (parts : List Part) (spaces : Spaces) : Type 0 where
   pub funcs_parts : spaces.funcs.parts.now ≡ parts
   pub funcs_space : spaces.funcs.space ≡ Functions

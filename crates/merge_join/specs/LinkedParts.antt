@@ -1,4 +1,4 @@
--- What the calls of this crate say of parts, links and index spaces.
+-- What the contracts of this crate say about parts, links and index spaces.
 use Rattle.std.specs.Prelude.{◌≡◌, ℕ, ◌+◌, ◌-◌, ◌<◌, List, ◌∷◌, [], length, Some, None, true, unwrap_or}
 use Rattle.wasm_tree_spec.specs.Prelude.{Space, Functions, Module, IsBounded}
 use Rattle.wasm_valid.specs.Prelude.{IsValid}
@@ -16,47 +16,48 @@ use Rattle.merge_join.specs.declared.mapped_parts.MappedParts.{MappedParts}
 abbrev pub site : (part import : ℕ) → Site
 site p n = record { part = p; import = n }
 
--- the part has an import at this place
+-- the part `p` has an import at place `n`
 abbrev pub IsSite : List linking.Part → ℕ → ℕ → Type 0
 IsSite ps p n = (m : Module) × (module_at ps p ≡ Some m) × (n < length m.imports)
 
 abbrev pub space_size : Space → Module → ℕ
 space_size k m = length (imports_of k m) + defined_count k m
 
--- what is written down of an end of this kind is there
+-- the end exists: part `p` has this entry in its index space `k`, or has this import
 abbrev pub IsEnd : List linking.Part → Space → End → Type 0
 IsEnd ps k (Defined p i) = (m : Module) × (module_at ps p ≡ Some m) × (i < space_size k m)
 IsEnd ps k (Outside p n) = IsSite ps p n
 
--- the place in the merged index space of an end that is written down
+-- the place of an end in the merged index space `k`
 unfoldable pub place_at : List linking.Part → Space → End → ℕ
 place_at ps k (Defined p i) = length (staying_of ps k) + (defined_before k ps p + (i - imported_count ps p k))
 place_at ps k (Outside p n) = unwrap_or (first_place (same_site (site p n)) (staying_of ps k) 0) 0
 
--- each part's module is valid
+-- each part's module is valid and bounded
 abbrev pub PartsHold : List linking.Part → Type 0
 PartsHold ps = (p : ℕ) (m : Module) → module_at ps p ≡ Some m → IsValid m × IsBounded m
 
--- parts that are linked
+-- `links` are the links of the parts, which are valid and bounded, have no link fault (several
+-- memories are allowed), and can be joined with indices below 2^32
 pub record PartsAreLinked (parts : List Part) (links : Links) : Type 0 where
   pub links_are : AreLinks (named_modules parts) links
   pub no_fault : link_fault (named_modules parts) true ≡ None
   pub few : FewInAll (named_modules parts)
   pub hold : PartsHold (named_modules parts)
 
--- for each part one thing
+-- one entry for each part
 abbrev pub each_part : {A : Type 0} → (ℕ → Module → A) → List linking.Part → List A
 each_part f = by_part (λ p m. f p m ∷ [])
 
--- these are the maps of the parts
+-- `maps` are the maps of the parts
 abbrev pub AreMaps : List linking.Part → List Remap → Type 0
 AreMaps ps maps = maps ≡ each_part (map_of ps) ps
 
--- the parts are linked, and the maps are theirs
+-- the parts are linked, and the maps are their maps
 pub record HaveTheirMaps (j : MappedParts) : Type 0 where
   pub linked : PartsAreLinked j.parts.now j.links.now
   pub maps : AreMaps (named_modules j.parts.now) j.maps.now
 
--- how many functions stand before the one that calls several starts
+-- how many functions come before the one that calls several starts
 abbrev pub funcs_before_calls : List linking.Part → ℕ
 funcs_before_calls ps = length (staying_of ps Functions) + defined_before Functions ps (length ps)

@@ -1,4 +1,5 @@
--- What is moved from a part into the merged module: its lists, with the indices of a map, and with what stands there for the part's imported globals.
+-- What moves from a part into the merged module: what the part defines, with new indices, and with
+-- values in place of the globals that it imports.
 use Rattle.std.specs.Prelude.{◌≡◌, ℕ, List, ◌++◌, map, Some, slice_get, slice_index, unwrap_or}
 use Rattle.wasm_tree_spec.specs.Prelude.{ConstExpr, GlobalDef, ElemMode, ElemSeg, DataMode, DataSeg, Module}
 use Rattle.wasm_tree.specs.declared.module.ConstExpr.TheVariants as const
@@ -10,7 +11,8 @@ use Rattle.index_remap.specs.Prelude.{new_const, new_func}
 use Rattle.merge_spec.specs.Prelude.{merged_const}
 use Rattle.merge_join.specs.Reads.{HasType}
 
--- a constant expression with other indices, where these replace the imported globals, in order
+-- a constant expression with new indices; one that reads an imported global becomes the entry of
+-- `values` for it, if there is one
 abbrev pub moved_const : Remap → List ConstExpr → ConstExpr → ConstExpr
 moved_const m values (const.I32 v) = new_const m (const.I32 v)
 moved_const m values (const.I64 v) = new_const m (const.I64 v)
@@ -36,7 +38,7 @@ moved_data_mode m values data'.Passive = data'.Passive
 abbrev pub moved_data : Remap → List ConstExpr → DataSeg → DataSeg
 moved_data m values d = record d { mode = moved_data_mode m values d.mode }
 
--- the tree, with what another defines behind its own
+-- the tree `t` with what `new` defines, rewritten, at the end of its lists
 abbrev pub with_moved : Remap → List ConstExpr → Module → Module → Module
 with_moved m values new t =
     record t {
@@ -48,10 +50,10 @@ with_moved m values new t =
       datas = t.datas ++ map (moved_data m values) new.datas;
     }
 
--- what replaces each imported global of a part that a constant expression may name
+-- `values` has what replaces each imported global of the part that a constant expression may name
 abbrev pub AreValues : List Part → ℕ → List ConstExpr → Type 0
 AreValues ps p values = (x : ℕ) → HasType ps p (const.Global x) → slice_get values x ≡ Some (merged_const ps p (const.Global x))
 
--- there are such for each part
+-- `all` has such values for each part
 abbrev pub AreAllValues : List Part → List (List ConstExpr) → Type 0
 AreAllValues ps all = (p : ℕ) (m : Module) → module_at ps p ≡ Some m → (values : List ConstExpr) × (slice_get all p ≡ Some values) × AreValues ps p values

@@ -1,4 +1,5 @@
--- The merged module in two halves: what is made of the parts together, and what they define, which is moved.
+-- The merged module in two halves: the frame, which is made of all parts together, and what the
+-- parts define, which is moved.
 use Rattle.std.specs.Prelude.{◌≡◌, List, map, Option}
 use Rattle.std.specs.List.{flat_map, filter_map}
 use Rattle.wasm_tree_spec.specs.Prelude.{Module}
@@ -8,7 +9,8 @@ use Rattle.merge_join.specs.declared.tree.Plan.{Plan}
 use Rattle.merge_join.specs.Moved.{AreAllValues}
 use Rattle.merge_join.specs.LinkedParts.{AreMaps, funcs_before_calls}
 
--- the types, the imports, the exports and the start of the merged module, and the function that calls several starts
+-- the module has the types, the imports, the exports and the start of the merged module, and no
+-- function but the one that calls several starts, if there is one
 pub record IsFrame (ps : List Part) (names : List (Option Text)) (m : Module) : Type 0 where
   pub types_are : m.types ≡ merged_types ps
   pub imports_are : m.imports ≡ filter_map (merged_import ps) (staying ps)
@@ -16,7 +18,7 @@ pub record IsFrame (ps : List Part) (names : List (Option Text)) (m : Module) : 
   pub start_is : m.start ≡ start_among (funcs_before_calls ps) (starts ps)
   pub calls_are : m.funcs ≡ start_calls ps (starts ps)
 
--- what the parts define, as the merged module has it
+-- the module has what the parts define, as the merged module has it
 pub record IsMoved (ps : List Part) (m : Module) : Type 0 where
   pub funcs_are : m.funcs ≡ defined_funcs ps
   pub tables_are : m.tables ≡ flat_map (λ p. p.«module».tables) ps
@@ -25,7 +27,7 @@ pub record IsMoved (ps : List Part) (m : Module) : Type 0 where
   pub elems_are : m.elems ≡ by_part (λ p m. map (merged_elem ps p (map_of ps p m)) m.elems) ps
   pub datas_are : m.datas ≡ by_part (λ p m. map (merged_data ps p (map_of ps p m)) m.datas) ps
 
--- what the merged module is made with
+-- `plan` has the frame, the maps and the values from which the merged module is made
 pub record IsPlan (ps : List Part) (names : List (Option Text)) (plan : Plan) : Type 0 where
   pub frame : IsFrame ps names plan.frame
   pub maps : AreMaps ps plan.maps

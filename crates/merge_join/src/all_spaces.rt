@@ -1,5 +1,3 @@
-// The four merged index spaces.
-
 ghost use Rattle.std.specs.Prelude.{IfOk};
 ghost use Rattle.merge_join.specs.LinkedParts.{PartsAreLinked};
 ghost use Rattle.merge_join.specs.AllSpaces.{AreSpaces};
@@ -10,7 +8,7 @@ use std::alloc::Global;
 use wasm_bytes::NoMemory;
 use wasm_tree::Space;
 
-/// The merged index spaces.
+/// The merged index spaces of functions, tables, memories and globals.
 #[derive(Drop)]
 pub(crate) struct Spaces<'a> {
     pub funcs: MergedSpace<'a>,
@@ -19,7 +17,7 @@ pub(crate) struct Spaces<'a> {
     pub globals: MergedSpace<'a>,
 }
 
-/// The four merged index spaces.
+/// Computes the four merged index spaces.
 pub(crate) fn spaces_of<'a>(
     alloc: Global,
     parts: &'a [Part],

@@ -1,4 +1,4 @@
-// Constant expressions, which read through joined globals.
+// Constant expressions, which may read joined globals.
 
 ghost use Rattle.std.specs.Prelude.{◌≡◌, ◌<◌, length, false, IfOk};
 ghost use Rattle.wasm_tree.specs.declared.module.ConstExpr.TheVariants as const;
@@ -17,7 +17,8 @@ use std::alloc::Global;
 use wasm_bytes::{Items, NoMemory};
 use wasm_tree::{ConstExpr, ImportDesc, Space};
 
-/// What is read through each imported global of a part.
+/// Returns what is read through each global that the part imports, in order; `None` for a mutable
+/// one.
 pub(crate) fn reads_of(
     alloc: Global,
     joining: &MappedParts<'_>,
@@ -38,7 +39,8 @@ pub(crate) fn reads_of(
     Ok(reads)
 }
 
-// What stands in the merged module for a constant expression that reads a global which a part imports.
+// Returns what the merged module has in place of a constant expression that reads an imported
+// global.
 fn merged_read(
     global: u32,
     joining: &MappedParts<'_>,
@@ -57,7 +59,8 @@ fn merged_read(
     }
 }
 
-// What replaces a global that a part imports: what is read through it. It stays where it may change, since no constant expression names it then.
+// Returns what replaces a global that the part imports: what is read through it. A mutable global
+// stays as it is, because no constant expression names it.
 fn value_of(
     global: u32,
     mutable: bool,
@@ -76,7 +79,7 @@ fn value_of(
     merged_read(global, joining, part, reads)
 }
 
-// What replaces each global that a part imports.
+// Returns what replaces each global that the part imports.
 fn values_of(
     alloc: Global,
     joining: &MappedParts<'_>,
@@ -98,7 +101,7 @@ fn values_of(
     Ok(values)
 }
 
-/// For each part what replaces each global that it imports.
+/// Returns, for each part, what replaces each global that it imports.
 pub(crate) fn all_values(
     alloc: Global,
     joining: &MappedParts<'_>,

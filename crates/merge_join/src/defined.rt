@@ -1,11 +1,9 @@
-// What a module defines, beside what it imports.
-
 ghost use Rattle.std.specs.Prelude.{◌≡◌};
 ghost use Rattle.wasm_meaning.specs.World as world;
 
 use wasm_tree::{Module, Space};
 
-/// How many the module defines of an index space.
+/// Returns how many entries of an index space the module itself defines.
 pub(crate) fn defined_count(space: Space, module: &Module) -> usize
     ensures { result ≡ world.defined_count space «module».now }
 {

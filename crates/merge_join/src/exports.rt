@@ -30,7 +30,7 @@ fn add_names<'a>(names: &mut Vec<&'a str>, exports: &'a [Export]) -> Result<(), 
     Ok(())
 }
 
-// The names of all exports, by part, then in order.
+// Returns the names of all exports, part by part, in order.
 fn all_names<'a>(alloc: Global, parts: &'a [Part]) -> Result<Vec<&'a str>, NoMemory>
     ensures { IfOk result (λ names. texts names.items ≡ export_names (named_modules parts.now)) }
 {
@@ -41,7 +41,9 @@ fn all_names<'a>(alloc: Global, parts: &'a [Part]) -> Result<Vec<&'a str>, NoMem
     Ok(names)
 }
 
-/// What each export is called, and nothing where it is dropped, or the name that stands twice.
+/// Returns the new name of each export, or `None` for one that is dropped. Fails with
+/// `ExportConflict` if the mode allows no repeated name and there is one; the fault has the first
+/// name that repeats an earlier one.
 pub(crate) fn new_names(
     alloc: Global,
     parts: &[Part],
@@ -63,7 +65,7 @@ pub(crate) fn new_names(
     }
 }
 
-// Appends an export, if it has a name.
+// Appends an export under its new name, if it has one.
 fn add_export(
     alloc: Global,
     all: &mut Items<Export>,
@@ -83,7 +85,8 @@ fn add_export(
     }
 }
 
-// Appends the exports of one part that have a name. So many exports come before them, whose names come first.
+// Appends those exports of one part that have a new name. Their names are in `names` from `first`
+// on.
 fn add_exports(
     alloc: Global,
     all: &mut Items<Export>,
@@ -102,7 +105,7 @@ fn add_exports(
     Ok(())
 }
 
-/// The exports that have a name, by part, then in order.
+/// Returns the exports that have a new name, with their new indices, part by part, in order.
 pub(crate) fn merged_exports(
     alloc: Global,
     joining: &MappedParts<'_>,

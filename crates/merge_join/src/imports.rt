@@ -1,5 +1,3 @@
-// The imports that stay.
-
 ghost use Rattle.std.specs.Prelude.{◌≡◌, ◌<◌, ◌++◌, length, true, IfOk, OnOk, IsTrue, Some};
 ghost use Rattle.std.specs.List.{filter, filter_map};
 ghost use Rattle.wasm_tree.specs.declared.module.Module.{Module};
@@ -19,7 +17,8 @@ use std::alloc::Global;
 use wasm_bytes::{Items, NoMemory};
 use wasm_tree::{Import, ImportDesc, Limits, TableType};
 
-// What a staying import denotes: a function has the new place of its type, tables and memories have the limits that they keep.
+// Returns what a staying import asks for in the merged module: a function has the new index of its
+// type, and a table or memory has the limits `kept`, if there are any.
 fn merged_desc(desc: ImportDesc, map: &Remap, kept: Option<Limits>) -> ImportDesc
     requires fits { IsTrue (fits_import_desc map.now desc) }
     ensures { result ≡ kept_desc map.now kept desc }
@@ -35,7 +34,7 @@ fn merged_desc(desc: ImportDesc, map: &Remap, kept: Option<Limits>) -> ImportDes
     }
 }
 
-// The import at a place, which stays.
+// Returns the staying import at a place, as the merged module has it.
 fn merged_import(
     alloc: Global,
     joining: &MappedParts<'_>,
@@ -56,7 +55,7 @@ fn merged_import(
     })
 }
 
-// Appends the imports of one part that stay.
+// Appends the staying imports of one part.
 fn add_imports(
     alloc: Global,
     all: &mut Items<Import>,
@@ -75,7 +74,7 @@ fn add_imports(
     Ok(())
 }
 
-/// The imports that stay, by part, then in order.
+/// Returns the staying imports of all parts as the merged module has them, part by part, in order.
 pub(crate) fn merged_imports(
     alloc: Global,
     joining: &MappedParts<'_>,

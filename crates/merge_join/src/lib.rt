@@ -1,4 +1,4 @@
-//! MappedParts parts whose imports are linked: the one module that behaves as they do together.
+//! Joins linked parts into one module that is observationally equivalent to them.
 #![tactic(auto)]
 
 mod all_spaces;

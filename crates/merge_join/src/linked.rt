@@ -1,5 +1,3 @@
-// Parts and their links, read at a place.
-
 ghost use Rattle.std.specs.Prelude.{◌≡◌, ◌<◌, length, Some, Bool, option_map, map};
 ghost use Rattle.wasm_tree.specs.Bounds.{IsBounded};
 ghost use Rattle.wasm_valid.specs.Validity.{IsValid};
@@ -12,7 +10,7 @@ ghost use Rattle.merge_join.specs.LinkedParts.{site, IsSite, PartsHold};
 use merge_spec::{End, Links, Part, Read};
 use wasm_tree::{Limits, Module};
 
-/// The module of the part at a place.
+/// Returns the module of the part at a place.
 pub(crate) fn module_of(parts: &[Part], part: usize) -> &Module
     requires { part < length parts.now }
     ensures at { module_at (named_modules parts.now) part ≡ Some result.now }
@@ -22,7 +20,7 @@ pub(crate) fn module_of(parts: &[Part], part: usize) -> &Module
     parts[part].module.module()
 }
 
-/// Each part's module is valid, as its type keeps it.
+/// Shows that each part's module is valid and bounded, as the type `Valid` guarantees.
 pub(crate) fn parts_hold(parts: &[Part])
     ensures { PartsHold (named_modules parts.now) }
 {
@@ -31,7 +29,7 @@ pub(crate) fn parts_hold(parts: &[Part])
     }
 }
 
-/// The end of an import.
+/// Returns the end of an import.
 pub(crate) fn end_of(parts: &[Part], links: &Links, part: usize, import: usize) -> End
     requires links { AreLinks (named_modules parts.now) links.now }
     requires there { IsSite (named_modules parts.now) part import }
@@ -40,7 +38,7 @@ pub(crate) fn end_of(parts: &[Part], links: &Links, part: usize, import: usize) 
     links.ends.as_slice()[part].as_slice()[import]
 }
 
-/// The limits that an import keeps.
+/// Returns the limits that an import keeps; `None` unless it is a table or memory that stays.
 pub(crate) fn limits_of(parts: &[Part], links: &Links, part: usize, import: usize) -> Option<Limits>
     requires links { AreLinks (named_modules parts.now) links.now }
     requires there { IsSite (named_modules parts.now) part import }
@@ -49,7 +47,7 @@ pub(crate) fn limits_of(parts: &[Part], links: &Links, part: usize, import: usiz
     links.limits.as_slice()[part].as_slice()[import]
 }
 
-/// What is read through an import.
+/// Returns what is read through an import; `None` unless it is an immutable global.
 pub(crate) fn read_of(parts: &[Part], links: &Links, part: usize, import: usize) -> Option<Read>
     requires links { AreLinks (named_modules parts.now) links.now }
     requires there { IsSite (named_modules parts.now) part import }
@@ -58,7 +56,7 @@ pub(crate) fn read_of(parts: &[Part], links: &Links, part: usize, import: usize)
     links.reads.as_slice()[part].as_slice()[import]
 }
 
-/// Whether an import stays: whether it is its own end.
+/// Returns whether an import stays, that is, whether it is its own end.
 pub(crate) fn stays(parts: &[Part], links: &Links, part: usize, import: usize) -> bool
     requires links { AreLinks (named_modules parts.now) links.now }
     requires there { IsSite (named_modules parts.now) part import }

@@ -1,5 +1,3 @@
-// What is joined.
-
 ghost use Rattle.std.specs.Prelude.{◌≡◌, ◌<◌, length, Some, IsTrue};
 ghost use Rattle.wasm_tree.specs.declared.module.Module as tree;
 ghost use Rattle.wasm_meaning.specs.Linking.{module_at};
@@ -12,7 +10,7 @@ use index_remap::Remap;
 use merge_spec::{Links, Part};
 use merge_valid_proof::maps_have_entries;
 
-/// Parts that are linked, with the map of the indices of each.
+/// Linked parts, with the map of each part's indices.
 #[derive(Drop)]
 pub(crate) struct MappedParts<'a> {
     pub parts: &'a [Part],
@@ -21,7 +19,8 @@ pub(crate) struct MappedParts<'a> {
 }
 
 impl MappedParts<'_> {
-    /// The map of the indices of the part at a place, which has an entry for each index that the part's module names.
+    /// Returns the map of the indices of the part at a place. It has an entry for each index that
+    /// the part's module names.
     pub(crate) fn map(&self, part: usize) -> &Remap
         requires joined { HaveTheirMaps self.now }
         requires there { part < length self.now.parts.now }

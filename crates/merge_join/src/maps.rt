@@ -25,7 +25,7 @@ use std::alloc::Global;
 use wasm_bytes::{Items, NoMemory};
 use wasm_tree::FuncType;
 
-// So many numbers from one on.
+// Returns `count` consecutive numbers from `first` on.
 fn numbers(alloc: Global, first: u32, count: usize) -> Result<Items<u32>, NoMemory>
     requires { first + count ≤ 2 ^ 32 }
     ensures { IfOk result (λ all. all ≡ world.numbers first count) }
@@ -35,7 +35,7 @@ fn numbers(alloc: Global, first: u32, count: usize) -> Result<Items<u32>, NoMemo
     Ok(all)
 }
 
-// The new places of a part's types.
+// Returns the place of each type in `all`, or 0 if it is not there.
 fn type_map(alloc: Global, types: &[FuncType], all: &Types) -> Result<Items<u32>, NoMemory>
     ensures { IfOk result (λ places. places ≡ each (λ t. unwrap_or (first_place (same_func_type t) all.now.list 0) 0) types.now) }
 {
@@ -46,7 +46,8 @@ fn type_map(alloc: Global, types: &[FuncType], all: &Types) -> Result<Items<u32>
     Ok(map)
 }
 
-// The new indices of what a part imports of a kind, by its ends.
+// Returns the new indices of what a part imports into an index space. Each is the place of the
+// import's end.
 fn imported_map(
     alloc: Global,
     links: &Links,
@@ -68,7 +69,7 @@ fn imported_map(
     Ok(map)
 }
 
-// The new indices of a part's index space of a kind.
+// Returns the new indices of all entries of a part's index space.
 fn space_map(
     alloc: Global,
     links: &Links,
@@ -86,14 +87,14 @@ fn space_map(
     Ok(map)
 }
 
-// The places of the first element segment and the first data segment of a part.
+// The new indices of the first element segment and the first data segment of a part.
 #[derive(Clone, Copy)]
 struct Segments {
     elem: u32,
     data: u32,
 }
 
-// The map of a part's indices.
+// Returns the map of a part's indices.
 fn map_of(
     alloc: Global,
     parts: &[Part],
@@ -123,7 +124,7 @@ fn map_of(
     })
 }
 
-/// For each part the map of its indices.
+/// Returns the map of the indices of each part.
 pub(crate) fn all_maps(
     alloc: Global,
     parts: &[Part],

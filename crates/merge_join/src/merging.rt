@@ -1,5 +1,3 @@
-// MappedParts parts.
-
 ghost use Rattle.std.specs.Prelude.{◌≡◌, ◌⊎◌, true, Ok, Err, None, IfOk, IfErr};
 ghost use Rattle.merge_spec.specs.declared.faults.JoinFault.TheVariants.{NoMemory as OutOfMemory};
 ghost use Rattle.merge_spec.specs.Faults.{link_fault};
@@ -21,19 +19,29 @@ use wasm_bytes::Items;
 use wasm_valid::Valid;
 use world_sequential_proof::sequential_instantiation_equivalent;
 
-/// The one module that parts whose imports are linked make together.
+/// Joins linked parts into one module.
 ///
-/// Its types are the distinct ones of the parts, its imports those that stay, and its functions, tables, memories, globals and segments what the parts
-/// define, by part. Each index is the one in the merged index spaces, and a constant expression that reads a joined global becomes what it reads. Where
-/// several parts have a start, one more function calls each, by part. Exports have the names that the mode gives them, and functions that `ref.func` names
-/// are declared (WebAssembly Core 2.0, sections 2.5 and 3.4.10). The module is valid, and alone it shows each embedder the same as the parts, linked by name,
-/// in at most four steps more (`same`, section 4.5.4 for several modules together). Where each part imports from earlier ones alone, no part after one with a start
-/// has an active segment, no segment traps and the environment links all parts at once, that is also what the parts show when they are instantiated one after the
-/// other (`sequential`).
+/// The types of the module are the distinct types of the parts, its imports are the staying
+/// imports, and its functions, tables, memories, globals and segments are those that the parts
+/// define, part by part. Each index is the one in the merged index spaces, and a constant
+/// expression that reads a joined global becomes what it reads. If several parts have a start, the
+/// start of the module is one more function, which calls theirs in the order of the parts. Exports
+/// have the names that `mode` gives them, and functions that `ref.func` names are declared
+/// (WebAssembly Core 2.0, sections 2.5 and 3.4.10).
 ///
-/// `ExportConflict` comes exactly where the mode is `Refuse` and a name came before, with the first such name; else `TooMany` exactly where a count of
-/// the merged module is above its limit, with the first such count in the order types, imports, functions, tables, memories, globals, exports, element
-/// segments and data segments. `NoMemory` is want of memory, and says nothing of the parts. The parts are given up in each case.
+/// The module is valid and observationally equivalent to the parts, linked by name and instantiated
+/// at once, in at most four more steps (`equivalent`; section 4.5.4 for several modules together).
+/// Sequential instantiation of the parts is observationally equivalent to instantiation at once
+/// (`sequential`) if there is at least one part, each joined import leads to an earlier part, no
+/// part after one with a start has an active segment, no segment traps, and the environment links
+/// all parts at once.
+///
+/// Unless memory runs out, the call fails with `ExportConflict` exactly if `mode` is `Refuse` and
+/// an export name repeats an earlier one, and reports the first that does; otherwise with `TooMany`
+/// exactly if a count of the merged module is above its limit, and reports the first such count, in
+/// the order types, imports, functions, tables, memories, globals, exports, element segments, data
+/// segments. `NoMemory` means that memory ran out and says nothing about the parts. The call
+/// consumes the parts, also if it fails.
 pub fn join(
     alloc: Global,
     parts: Items<Part>,

@@ -1,4 +1,4 @@
-// What a part defines, given its new indices where it stands.
+// What a part defines, rewritten in place.
 
 ghost use Rattle.std.specs.Prelude.{◌≡◌, IsTrue, Bool, List, map as each};
 ghost use Rattle.std.specs.List.{list_all};
@@ -12,21 +12,23 @@ use index_remap::{Remap, renumber_const};
 use wasm_bytes::Items;
 use wasm_tree::{ConstExpr, DataMode, DataSeg, ElemMode, ElemSeg, GlobalDef};
 
-/// What has constant expressions in it, of what a part defines: globals, segments, and the items of element segments.
+/// An item of a part that contains constant expressions: a global, a segment, or a constant
+/// expression itself.
 pub(crate) trait Moved: Drop {
-    /// What it is in the merged module.
+    /// What the item is in the merged module.
     ghost renewed: { Maps → List Constant → Self → Self };
 
-    /// The map has an entry for each index that it names.
+    /// Whether the map has an entry for each index that the item names.
     ghost has_entries: { Maps → Self → Bool };
 
-    /// Makes it what it is in the merged module, where it stands. The values replace the globals that the part imports, in order.
+    /// Rewrites the item in place to what it is in the merged module. `values` replace the globals
+    /// that the part imports, in order.
     fn rewrite(&mut self, map: &Remap, values: &[ConstExpr])
         requires fits { IsTrue (has_entries map.now self.old) }
         ensures { self.new ≡ renewed map.now values.now self.old };
 }
 
-/// All of them, where they stand.
+/// Rewrites each item in place.
 pub(crate) fn rewrite_each<T: Moved>(items: &mut Items<T>, entries: &Remap, values: &[ConstExpr])
     requires fits { IsTrue (list_all (T.has_entries entries.now) items.old) }
     ensures { items.new ≡ each (T.renewed entries.now values.now) items.old }
@@ -38,7 +40,7 @@ pub(crate) fn rewrite_each<T: Moved>(items: &mut Items<T>, entries: &Remap, valu
     }
 }
 
-// A constant expression in the merged module.
+// Returns what a constant expression of a part is in the merged module.
 fn moved_const(expr: ConstExpr, map: &Remap, values: &[ConstExpr]) -> ConstExpr
     requires { IsTrue (fits_const map.now expr) }
     ensures { result ≡ moved.moved_const map.now values.now expr }

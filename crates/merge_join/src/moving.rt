@@ -1,4 +1,4 @@
-// Moving what the parts define into the merged module.
+// Moves what the parts define into the merged module.
 
 ghost use Rattle.std.specs.Prelude.{◌≡◌, IfOk, OnOk, IsTrue};
 ghost use Rattle.index_remap.specs.Renumbered.{fits_tree};
@@ -19,14 +19,14 @@ use wasm_bytes::{Items, NoMemory};
 use wasm_tree::{ConstExpr, Module};
 use wasm_valid::{Valid, valid_where_items_hold};
 
-// Takes the module out of a part; an empty one stays there.
+// Takes the module out of a part and leaves an empty one in its place.
 fn take_module(alloc: Global, part: &mut Part) -> Module
     ensures { result ≡ part.old.«module» }
 {
     mem::replace(&mut part.module, Valid::known(Module::empty(alloc))).into_module()
 }
 
-// Gives what a module defines its new indices, and moves it behind what the tree has.
+// Gives what a module defines its new indices, and appends it to the lists of `tree`.
 fn move_module(
     from: Module,
     map: &Remap,
@@ -49,7 +49,8 @@ fn move_module(
     tree.datas.append(&mut from.datas)
 }
 
-/// What the parts define, by part, in an otherwise empty module. The parts are taken apart.
+/// Returns an otherwise empty module with what the parts define, part by part. The call consumes
+/// the parts.
 pub(crate) fn moved_parts(
     alloc: Global,
     parts: Items<Part>,

@@ -1,11 +1,8 @@
-// Lists of numbers.
-
 ghost use Rattle.std.specs.Prelude.{◌≡◌, ◌+◌, ◌++◌, ◌<◌, ◌≤◌, ◌^◌, length, slice_index, OnOk};
 ghost use Rattle.wasm_meaning.specs.World as world;
 
 use wasm_bytes::{Items, NoMemory};
 
-/// The number at a place.
 pub(crate) fn number_at(all: &Items<u32>, at: usize) -> u32
     requires { at < length all.now }
     ensures { result ≡ slice_index all.now at }
@@ -13,7 +10,7 @@ pub(crate) fn number_at(all: &Items<u32>, at: usize) -> u32
     all.as_slice()[at]
 }
 
-/// Appends so many numbers from one on.
+/// Appends `count` consecutive numbers from `first` on.
 pub(crate) fn add_numbers(all: &mut Items<u32>, first: u32, count: usize) -> Result<(), NoMemory>
     requires { first + count ≤ 2 ^ 32 }
     ensures { OnOk result (all.new ≡ all.old ++ world.numbers first count) }

@@ -1,4 +1,4 @@
-// The merged index space of a kind: first the imports that stay, then what the parts define, by part.
+// A merged index space: first the staying imports, then what the parts define, part by part.
 
 ghost use Rattle.std.specs.Prelude.{◌≡◌, ◌+◌, ◌<◌, ◌^◌, ℕ, cond, length, map, Some, None, IfOk, OnOk};
 ghost use Rattle.wasm_tree.specs.declared.module.Module.{Module as Tree};
@@ -19,25 +19,25 @@ use std::alloc::Global;
 use wasm_bytes::{Items, NoMemory};
 use wasm_tree::{Import, Space};
 
-/// Where things of a kind stand in the merged index space of these parts.
+/// A merged index space, with the places that the parts' imports and definitions have in it.
 #[derive(Drop)]
 pub(crate) struct MergedSpace<'a> {
     pub parts: &'a [Part],
     pub space: Space,
-    /// For each import of each part its place, where it stays and is of this kind.
+    /// For each import of each part its place, if it stays and belongs to this space.
     pub staying: Items<Items<Option<u32>>>,
-    /// For each part the place of the first that it defines.
+    /// For each part the place of the first entry that it defines.
     pub firsts: Items<u32>,
-    /// For each part how many it imports.
+    /// For each part how many entries it imports.
     pub imported: Items<u32>,
-    /// How many there are.
+    /// The number of entries.
     pub count: u32,
     ghost few: { count < 2 ^ 32 },
     pub ghost is: { IsSpace (named_modules parts.now) space staying firsts imported count },
 }
 
 impl<'a> MergedSpace<'a> {
-    // The place of an import, where it stays and is of this kind.
+    // Returns the place of an import, if it stays and belongs to this space.
     fn staying_at(&self, part: usize, import: usize) -> Option<u32>
         requires { IsSite (named_modules self.now.parts.now) part import }
         ensures { result ≡ staying_place (named_modules self.now.parts.now) self.now.space (site part import) }
@@ -45,7 +45,7 @@ impl<'a> MergedSpace<'a> {
         self.staying.as_slice()[part].as_slice()[import]
     }
 
-    // The place of what a part defines, by its index in that part's index space.
+    // Returns the place of an entry that a part defines, by its index in that part.
     fn defined_at(&self, part: usize, index: u32) -> u32
         requires { IsEnd (named_modules self.now.parts.now) self.now.space (Defined part index) }
         ensures { result ≡ place_at (named_modules self.now.parts.now) self.now.space (Defined part index) }
@@ -54,7 +54,7 @@ impl<'a> MergedSpace<'a> {
         number_at(&self.firsts, part) + index.saturating_sub(imported)
     }
 
-    /// The place of an end.
+    /// Returns the place of an end.
     pub(crate) fn place(&self, end: End) -> u32
         requires { IsEnd (named_modules self.now.parts.now) self.now.space end }
         ensures { result ≡ place_at (named_modules self.now.parts.now) self.now.space end }
@@ -68,7 +68,7 @@ impl<'a> MergedSpace<'a> {
     }
 }
 
-// Whether an import stays and is of a kind.
+// Returns whether an import stays and belongs to `space`.
 fn is_picked(parts: &[Part], links: &Links, part: usize, import: usize, space: Space) -> bool
     requires links { AreLinks (named_modules parts.now) links.now }
     requires there { IsSite (named_modules parts.now) part import }
@@ -78,7 +78,7 @@ fn is_picked(parts: &[Part], links: &Links, part: usize, import: usize, space: S
     stays(parts, links, part, import) && imports[import].desc.is_in(space)
 }
 
-// The next place, where one is taken.
+// Returns the next place and counts it if `taken`; otherwise returns `None`.
 fn next_place(count: &mut u32, taken: bool) -> Option<u32>
     requires { count.old + cond taken 1 0 < 2 ^ 32 }
     ensures place { result ≡ cond taken (Some count.old) None }
@@ -92,7 +92,8 @@ fn next_place(count: &mut u32, taken: bool) -> Option<u32>
     Some(place)
 }
 
-// The places of the imports of one part that stay and are of a space, where so many come before them.
+// Returns for each import of a part its place, if it stays and belongs to `space`. `count` is how
+// many such imports come before; the call adds those of this part.
 fn staying_in(
     alloc: Global,
     parts: &[Part],
@@ -128,7 +129,7 @@ fn imported_count(imports: &[Import], space: Space) -> u32
     count
 }
 
-/// The merged index space of a kind.
+/// Computes the merged index space that `space` names.
 pub(crate) fn space_of<'a>(
     alloc: Global,
     parts: &'a [Part],
@@ -152,7 +153,8 @@ pub(crate) fn space_of<'a>(
     })
 }
 
-// For each import of each part its place, where it stays and is of a space, and how many these are.
+// Returns for each import of each part its place, if it stays and belongs to `space`, and how many
+// of them do.
 fn all_staying(
     alloc: Global,
     parts: &[Part],
@@ -171,7 +173,8 @@ fn all_staying(
     Ok((staying, count))
 }
 
-// For each part the place of the first of a kind that it defines, where so many stay, and the place after all of them.
+// Returns for each part the place of the first entry that it defines, if `staying` imports come
+// before them all, and the number of all entries.
 fn firsts_of(
     alloc: Global,
     parts: &[Part],

@@ -1,5 +1,3 @@
-// The start of the merged module.
-
 ghost use Rattle.std.specs.Prelude.{◌≡◌, ◌<◌, ◌++◌, List, map, length, Some, IfOk, OnOk};
 ghost use Rattle.wasm_tree.specs.declared.module.Module as tree;
 ghost use Rattle.wasm_tree.specs.declared.instr.Instr.TheVariants.{Call};
@@ -16,7 +14,7 @@ use std::alloc::Global;
 use wasm_bytes::{Items, NoMemory};
 use wasm_tree::{Func, FuncType, Instr};
 
-// Appends the start function of one part, if it has one.
+// Appends the new index of the start function of one part, if it has one.
 fn add_start(
     starts: &mut Items<u32>,
     joining: &MappedParts<'_>,
@@ -32,7 +30,7 @@ fn add_start(
     }
 }
 
-/// The start functions of the parts that have one, by part.
+/// Returns the new indices of the start functions, for those parts that have one, in order.
 pub(crate) fn all_starts(alloc: Global, joining: &MappedParts<'_>) -> Result<Items<u32>, NoMemory>
     requires joined { HaveTheirMaps joining.now }
     ensures { IfOk result (λ starts. starts ≡ merged.starts (named_modules joining.now.parts.now)) }
@@ -44,7 +42,6 @@ pub(crate) fn all_starts(alloc: Global, joining: &MappedParts<'_>) -> Result<Ite
     Ok(starts)
 }
 
-// The calls of each.
 fn calls(alloc: Global, starts: &[u32]) -> Result<Items<Instr>, NoMemory>
     ensures { IfOk result (λ body. body ≡ map Call starts.now) }
 {
@@ -55,7 +52,7 @@ fn calls(alloc: Global, starts: &[u32]) -> Result<Items<Instr>, NoMemory>
     Ok(body)
 }
 
-/// Where several parts have a start, appends a function of type [] to [] that calls each.
+/// Appends a function of type [] to [] that calls each start, if there are several.
 pub(crate) fn add_calling(
     alloc: Global,
     funcs: &mut Items<Func>,
@@ -78,7 +75,8 @@ pub(crate) fn add_calling(
     })
 }
 
-/// The start, where so many functions stand before the one that calls each.
+/// Returns the start of the merged module: none, the only start, or the function at `count`, which
+/// calls several starts.
 pub(crate) fn start_among(starts: &[u32], count: u32) -> Option<u32>
     ensures { result ≡ merged.start_among count starts.now }
 {

@@ -1,4 +1,4 @@
-// Function types as texts, by which they are looked up.
+// Function types as texts, which are the keys of look-ups.
 
 ghost use Rattle.std.specs.Prelude.{◌≡◌, ◌++◌, ◌∷◌, [], map, string_bytes, IfOk, OnOk};
 ghost use Rattle.merge_join.specs.Texts.{letter_of, text_of_type};
@@ -28,7 +28,7 @@ fn push_letters(text: &mut String, types: &[ValType]) -> Result<(), NoMemory>
     Ok(())
 }
 
-/// The text of a function type: no two have the same.
+/// Returns the text of a function type. Different types have different texts.
 #[tactic(auto, unfolding(crate::specs::Texts::text_of_type))]
 pub(crate) fn type_text(alloc: Global, ty: &FuncType) -> Result<String, NoMemory>
     ensures { IfOk result (λ text. string_bytes text ≡ text_of_type ty.now) }

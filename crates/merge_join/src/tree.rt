@@ -1,5 +1,3 @@
-// The merged module.
-
 ghost use Rattle.std.specs.Prelude.{◌≡◌, ◌⊎◌, ◌<◌, ◌≤◌, ◌^◌, ◌++◌, Ok, Err, length, IfOk, IfErr, OnOk};
 ghost use Rattle.std.specs.List.{filter_map};
 ghost use Rattle.wasm_tree.specs.Spaces.{funcs_of};
@@ -31,8 +29,9 @@ use std::alloc::Global;
 use wasm_bytes::{Items, Name, NoMemory};
 use wasm_tree::{ConstExpr, Module};
 
-/// What the merged module is made with: its types, imports, exports and start with the function that calls several, and for each part the map of its indices
-/// and what replaces each global that it imports.
+/// What the merged module is made from. `frame` has its types, imports, exports and start, with the
+/// function that calls several starts; `maps` and `values` have for each part the map of its
+/// indices and what replaces each global that it imports.
 #[derive(Drop)]
 pub(crate) struct Plan {
     pub frame: Module,
@@ -40,7 +39,7 @@ pub(crate) struct Plan {
     pub values: Items<Items<ConstExpr>>,
 }
 
-// Puts the function that calls several starts, and the start.
+// Sets the start, and adds the function that calls several starts.
 fn put_starts(
     alloc: Global,
     joining: &MappedParts<'_>,
@@ -61,7 +60,7 @@ fn put_starts(
     Ok(())
 }
 
-// Puts the imports that stay, and the exports under these names.
+// Sets the imports to the staying imports, and the exports to those that have a name in `names`.
 fn put_names(
     alloc: Global,
     joining: &MappedParts<'_>,
@@ -80,7 +79,8 @@ fn put_names(
     Ok(())
 }
 
-// What is made of the parts together, from the types and the number of the functions without the one that calls several starts.
+// Returns the frame of a plan. `count` is the number of functions without the one that calls
+// several starts.
 fn frame_of(
     alloc: Global,
     joining: &MappedParts<'_>,
@@ -101,7 +101,7 @@ fn frame_of(
     Ok(tree)
 }
 
-// What the merged module is made with, over its index spaces.
+// Returns the plan, given the merged index spaces.
 fn plan_over(
     alloc: Global,
     parts: &[Part],
@@ -130,7 +130,7 @@ fn plan_over(
     })
 }
 
-// What the merged module is made with, where its exports have these names.
+// Returns the plan, given the new names of the exports.
 fn plan_of(
     alloc: Global,
     parts: &[Part],
@@ -145,7 +145,7 @@ fn plan_of(
     plan_over(alloc, parts, links, names, &spaces)
 }
 
-// Puts what is made of the parts together round what they define.
+// Adds the frame of a plan to the tree that has what the parts define.
 fn put_frame(frame: Module, tree: &mut Module) -> Result<(), NoMemory>
     ensures { OnOk result (tree.new ≡ record tree.old {
       types = frame.types;
@@ -164,7 +164,7 @@ fn put_frame(frame: Module, tree: &mut Module) -> Result<(), NoMemory>
     Ok(())
 }
 
-// The merged module, where its exports have these names.
+// Returns the merged module, given the new names of the exports.
 fn merged(
     alloc: Global,
     parts: Items<Part>,
@@ -182,8 +182,8 @@ fn merged(
     Ok(tree)
 }
 
-// Declares the functions that `ref.func` names in bodies and that are named in no other place, where the parts have so many exports. While all of these are there,
-// there is no such function.
+// Declares the functions that `ref.func` names in bodies and that the module names nowhere else.
+// There are none if the module has all exports of the parts, whose number is `exports`.
 fn declare_references(alloc: Global, module: &mut Module, exports: usize) -> Result<(), NoMemory>
     requires few { length (funcs_of «module».old) < 2 ^ 32 }
     requires kept { exports ≤ length «module».old.exports → declared «module».old ≡ «module».old }
@@ -196,7 +196,7 @@ fn declare_references(alloc: Global, module: &mut Module, exports: usize) -> Res
     }
 }
 
-/// The merged module with its references declared, or why there is none.
+/// Returns the merged module with its references declared, or why there is none.
 pub(crate) fn joined_tree(
     alloc: Global,
     parts: Items<Part>,

@@ -1,4 +1,4 @@
-// The distinct types of all parts, in order of first appearance.
+// Types, each once, in order of first appearance.
 
 ghost use Rattle.std.specs.Prelude.{◌≡◌, ℕ, List, Some, cond, ◌<◌, ◌^◌, [], ◌+◌, length, string_bytes, IfOk, OnOk, unwrap_or};
 ghost use Rattle.std.specs.List.{flat_map};
@@ -19,7 +19,7 @@ use std::collections::BTreeMap;
 use wasm_bytes::{Items, NoMemory};
 use wasm_tree::FuncType;
 
-/// Distinct types, with the place of each by its text.
+/// Distinct types, and the place of each, found by its text.
 #[derive(Drop)]
 pub(crate) struct Types {
     pub list: Items<FuncType>,
@@ -28,7 +28,7 @@ pub(crate) struct Types {
 }
 
 impl Types {
-    /// The place of a type, and 0 where it is not there.
+    /// Returns the place of a type, or 0 if it is not there.
     pub(crate) fn place(&self, alloc: Global, ty: &FuncType) -> Result<u32, NoMemory>
         ensures { IfOk result (λ place. place ≡ unwrap_or (first_place (same_func_type ty.now) self.now.list 0) 0) }
     {
@@ -36,7 +36,6 @@ impl Types {
         Ok(self.places.get(text.as_str()).copied().unwrap_or(0))
     }
 
-    /// The types.
     pub(crate) fn into_list(self) -> Items<FuncType>
         ensures { result ≡ self.list }
     {
@@ -44,7 +43,7 @@ impl Types {
     }
 }
 
-// Adds a type, where it is not there yet.
+// Adds a type if it is not there yet.
 fn add_type(
     alloc: Global,
     list: &mut Items<FuncType>,
@@ -90,7 +89,7 @@ fn add_types(
     Ok(())
 }
 
-/// The distinct types of the parts.
+/// Returns the distinct types of the parts, in order of first appearance.
 pub(crate) fn all_types(alloc: Global, parts: &[Part]) -> Result<Types, NoMemory>
     requires { length (flat_map (λ p. p.«module».types) (named_modules parts.now)) < 2 ^ 32 }
     ensures { IfOk result (λ types. types.list ≡ merged_types (named_modules parts.now)) }

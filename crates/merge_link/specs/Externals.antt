@@ -11,7 +11,7 @@ the_external (Table t) = faults.TableOf t
 the_external (Memory l) = faults.MemoryOf l
 the_external (Global t) = faults.GlobalOf t
 
--- what a module defines at a place
+-- the external type of what a module defines at a place
 abbrev pub own_func : Module → ℕ → Option faults.External
 own_func m n = option_map faults.FuncOf (option_and_then (slice_get m.types) (option_map (λ f. f.ty) (slice_get m.funcs n)))
 

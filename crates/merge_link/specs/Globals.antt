@@ -16,7 +16,7 @@ the_own g = record { part = g.part; index = g.index; init = g.init }
 abbrev pub the_read : Read → linking.Read
 the_read r = record { part = r.part; expr = r.expr }
 
--- these are the defined globals
+-- `globals` are the defined globals
 abbrev pub AreOwn : List Part → List DefinedGlobal → Type 0
 AreOwn parts globals = map the_own globals ≡ faults.defined_globals (named_modules parts)
 
@@ -27,12 +27,12 @@ own_read g = record { part = g.part; expr = g.init }
 abbrev pub own_reads : List linking.Part → List linking.Read
 own_reads lp = map own_read (faults.defined_globals lp)
 
--- the defined global that an entity is, by its number
+-- the number of an entity among the defined globals, if it is one
 abbrev pub IsOwn : List linking.Part → linking.Entity → Option ℕ → Type 0
 IsOwn lp e None = linking.initial lp e ≡ None
 IsOwn lp e (Some n) = (g : faults.DefinedGlobal) × (slice_get (faults.defined_globals lp) n ≡ Some g) × (g.part ≡ e.part) × (linking.initial lp e ≡ Some g.init)
 
--- from the end of a global's import
+-- the step from the end of a global's import
 abbrev pub IsEndStep : List Part → linking.End → Step Read → Type 0
 IsEndStep parts e (Goes n) = (r : linking.Read) × (slice_get (own_reads (named_modules parts)) n ≡ Some r) × (linking.end_step (named_modules parts) (Some e) ≡ Some (paths.LeadsTo r))
 IsEndStep parts e (Ends r) = linking.end_step (named_modules parts) (Some e) ≡ Some (paths.EndsWith (the_read r))

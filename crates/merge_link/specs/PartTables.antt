@@ -1,4 +1,4 @@
--- Following imports, by the definitions of linking by name.
+-- Following imports, in terms of linking by name.
 use Rattle.std.specs.Prelude.{◌≡◌, ◌<◌, ◌^◌, ℕ, List, Option, Some, None, length, map, slice_get}
 use Rattle.wasm_meaning.specs.Paths as paths
 use Rattle.wasm_meaning.specs.Linking as linking
@@ -21,41 +21,41 @@ abbrev pub the_end : Ending → linking.End
 the_end (Defined e) = linking.Defined (the_entity e)
 the_end (Outside s) = linking.Outside (the_site s)
 
--- what is looked up is that of the parts, and a u32 counts their imports and defined globals
+-- the look-up tables are those of the parts, and a u32 can number their imports and defined globals
 pub record ArePartTables (j : PartTables) : Type 0 where
   pub names : AreNames (named_modules j.parts.now) j.names
   pub tables : AreTables (named_modules j.parts.now) j.tables.items
   pub imports : length (linking.sites (named_modules j.parts.now)) < 2 ^ 32
   pub globals : length (defined_globals (named_modules j.parts.now)) < 2 ^ 32
 
--- the import that an entity is, by its number
+-- the number of the import that an entity is, or none if its part defines it
 abbrev pub IsImportedAs : List linking.Part → linking.Entity → Option ℕ → Type 0
 IsImportedAs lp e None = linking.imported_as lp e ≡ None
 IsImportedAs lp e (Some n) = (s : linking.Site) × (slice_get (linking.sites lp) n ≡ Some s) × (linking.imported_as lp e ≡ Some s)
 
--- from a point to another, which has a number among all points, or to what it ends with
+-- the step from a point: to another, by its number among all points, or to what the path ends with
 abbrev pub IsStep : {A E F : Type 0} → (A → Option (paths.PathStep A E)) → List A → (F → E) → A → Step F → Type 0
 IsStep {A = A} next points meaning a (Goes n) = (b : A) × (slice_get points n ≡ Some b) × (next a ≡ Some (paths.LeadsTo b))
 IsStep next points meaning a (Ends e) = next a ≡ Some (paths.EndsWith (meaning e))
 IsStep next points meaning a Nowhere = next a ≡ None
 
--- from each of these points
+-- `steps` has the step from each of the points `froms`
 pub record AreSteps {A E F : Type 0} (next : A → Option (paths.PathStep A E)) (points : List A) (meaning : F → E) (froms : List A) (steps : List (Step F)) : Type 0 where
   pub one_each : length steps ≡ length froms
   pub right : (n : ℕ) (a : A) (s : Step F) → slice_get froms n ≡ Some a → slice_get steps n ≡ Some s → IsStep next points meaning a s
 
--- some import has this end at once
+-- some import has this end in one step
 abbrev pub IsStop : List linking.Part → linking.End → Type 0
 IsStop lp e = (s : linking.Site) × (linking.import_step lp s ≡ Some (paths.EndsWith e))
 
 abbrev pub AreStops : List Part → List (Option Ending) → Type 0
 AreStops parts ends = (n : ℕ) (e : Ending) → slice_get ends n ≡ Some (Some e) → IsStop (named_modules parts) (the_end e)
 
--- the end of an import, or none where following it never ends
+-- the end of an import, or none if following it never ends
 unfoldable pub end_at : List Part → Site → Option linking.End
 end_at parts s = linking.end_of (named_modules parts) (the_site s)
 
--- these are the ends of the imports, which all have one
+-- `ends` are the ends of the imports, which all have one
 pub record AreKnown (parts : List Part) (sites : List Site) (ends : List Ending) : Type 0 where
   pub same : map (λ e. Some (the_end e)) ends ≡ map (end_at parts) sites
   pub stops : (n : ℕ) (e : Ending) → slice_get ends n ≡ Some e → IsStop (named_modules parts) (the_end e)

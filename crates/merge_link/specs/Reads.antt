@@ -14,7 +14,7 @@ use Rattle.merge_link.specs.Globals.{the_read}
 unfoldable pub own_value : List Part → faults.DefinedGlobal → Option linking.Read
 own_value parts g = linking.read_of (named_modules parts) g.part g.init
 
--- these are the reads of all defined globals
+-- `values` has what each defined global reads
 abbrev pub AreValues : List Part → List (Option Read) → Type 0
 AreValues parts values = map (option_map the_read) values ≡ map (own_value parts) (faults.defined_globals (named_modules parts))
 
@@ -27,6 +27,6 @@ abbrev pub fixed_desc : List linking.Part → linking.End → ImportDesc → Opt
 fixed_desc lp e (im.Global t) = when_fixed t.mutable (read_past lp e)
 fixed_desc lp e _ = None
 
--- what is read through the import at this place, which has this end
+-- what is read through the import at this place, which has this end, if it is an immutable global
 abbrev pub fixed_read : List linking.Part → linking.Site → linking.End → Option Read
 fixed_read lp s e = option_map read_entry (linking.import_at lp s >>= λ i. fixed_desc lp e i.desc)

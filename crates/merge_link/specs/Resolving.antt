@@ -1,4 +1,5 @@
--- What each stage of linking gives: what it finds where there is no fault of its kind, or the first such fault.
+-- What each stage of linking gives: its result if there is no fault of its kind, or the first such
+-- fault.
 use Rattle.std.specs.Prelude.{◌≡◌, ◌⊎◌, List, Option, Some, None, map, Result, Ok, Err}
 use Rattle.wasm_tree_spec.specs.Prelude.{Limits}
 use Rattle.wasm_meaning.specs.Linking as linking
@@ -17,7 +18,7 @@ use Rattle.merge_link.specs.Sites.{the_site}
 use Rattle.std.specs.declared.vec.Vec.{Vec}
 use Rattle.std.proofs.Common.{Global}
 
--- the first fault of an import, of limits that clash, and of a global
+-- the first fault of an import, of limits that clash, and of a global's value
 unfoldable pub import_faults : List linking.Part → Option LinkFault
 import_faults lp = faults.first_fault (faults.import_fault lp) (linking.sites lp)
 
@@ -33,12 +34,12 @@ read_entry_at parts s = read_at (named_modules parts) (the_site s)
 unfoldable pub kept_entry_at : List Part → Site → Option Limits
 kept_entry_at parts s = faults.kept_limits (named_modules parts) (the_site s)
 
--- these are the linked ends, and the limits that are kept
+-- `kept` has the linked ends, and the limits that are kept
 pub record IsLinkedKept (parts : List Part) (sites : List Site) (kept : Kept) : Type 0 where
   pub ends : AreLinkedEnds parts sites kept.linked.items
   pub limits : kept.limits.items ≡ map (kept_entry_at parts) sites
 
--- why a stage refuses: its first fault, or want of memory
+-- why a stage fails: its first fault, or that memory ran out
 abbrev pub IsRefusal : Option LinkFault → LinkFault → Type 0
 IsRefusal first fault = (fault ≡ NoMemory) ⊎ (first ≡ Some fault)
 

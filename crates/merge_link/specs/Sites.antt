@@ -1,4 +1,4 @@
--- The places of imports, as linking by name speaks of them.
+-- The places of imports, in terms of linking by name.
 use Rattle.std.specs.Prelude.{◌≡◌, List, map, Some}
 use Rattle.wasm_tree_spec.specs.Prelude.{Import}
 use Rattle.wasm_meaning.specs.Linking as linking
@@ -9,7 +9,7 @@ use Rattle.merge_link.specs.declared.sites.Site.{Site}
 abbrev pub the_site : Site → linking.Site
 the_site s = record { part = s.part; import = s.import }
 
--- these are the places of all imports
+-- `sites` are the places of all imports
 abbrev pub AreSites : List Part → List Site → Type 0
 AreSites parts sites = map the_site sites ≡ linking.sites (named_modules parts)
 

@@ -12,7 +12,7 @@ use merge_spec::{End, Part};
 use std::alloc::Global;
 use wasm_bytes::{Items, NoMemory};
 
-// An end as it is written down.
+// Returns an end as the links record it.
 fn end_entry(end: Ending) -> End
     ensures { result ≡ end_entry (the_end end) }
 {
@@ -28,7 +28,7 @@ fn end_entry(end: Ending) -> End
     }
 }
 
-/// Ends as they are written down.
+/// Returns ends as the links record them.
 pub fn end_entries(alloc: Global, ends: &[Ending]) -> Result<Vec<End>, NoMemory>
     ensures { IfOk result (λ entries. entries.items ≡ map (λ e. end_entry (the_end e)) ends.now) }
 {
@@ -39,7 +39,7 @@ pub fn end_entries(alloc: Global, ends: &[Ending]) -> Result<Vec<End>, NoMemory>
     Ok(entries)
 }
 
-// So many entries from a place on.
+// Returns `count` entries from place `from` on.
 fn piece<T: Copy>(
     alloc: Global,
     flat: &[T],
@@ -52,7 +52,7 @@ fn piece<T: Copy>(
     Items::from_slice(alloc, &flat[from..from + count])
 }
 
-/// One list for each part, with one entry for each of its imports.
+/// Cuts `flat` into one list for each part, with one entry for each of its imports.
 pub fn cut<T: Copy + Drop>(
     alloc: Global,
     parts: &[Part],

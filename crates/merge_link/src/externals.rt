@@ -1,4 +1,5 @@
-// What imports ask for and what their ends are: external types (WebAssembly Core 2.0, sections 2.5.11 and 3.2.7).
+// The external types that imports ask for and that their ends have (WebAssembly Core 2.0, sections
+// 2.5.11 and 3.2.7).
 
 ghost use Rattle.std.specs.Prelude.{None, length, option_map, ◌≡◌, ◌≤◌};
 ghost use Rattle.merge_spec.specs.Faults as faults;
@@ -41,7 +42,7 @@ fn same_func_type(a: &FuncType, b: &FuncType) -> bool
         && same_types(a.results.as_slice(), b.results.as_slice())
 }
 
-// One kind and one type, the limits of tables and memories left aside.
+// Returns whether kind and type are the same, apart from the limits of tables and memories.
 fn same_but_limits(demand: &External, found: &External) -> bool
     ensures { result ≡ faults.same_but_limits (the_external demand.now) (the_external found.now) }
 {
@@ -54,7 +55,8 @@ fn same_but_limits(demand: &External, found: &External) -> bool
     }
 }
 
-// A maximum that is asked for needs one that is there and no greater.
+// Returns whether a maximum meets the demand: if one is asked for, there is one, and it is no
+// greater.
 fn meets_most(most: Option<u32>, demand: Option<u32>) -> bool
     ensures { result ≡ world.meets_most most demand }
 {
@@ -65,7 +67,6 @@ fn meets_most(most: Option<u32>, demand: Option<u32>) -> bool
     }
 }
 
-// These limits meet the demand.
 fn meets(limits: Limits, demand: Limits) -> bool
     ensures { result ≡ world.meets limits.min limits.max demand }
 {
@@ -82,7 +83,8 @@ fn meets_limits(demand: &External, found: &External) -> bool
     }
 }
 
-// What is found at the end suits the demand; only of what is defined are the limits compared.
+// Returns whether what is found at the end suits the demand. Limits are compared only if it is
+// defined.
 fn suits(demand: &External, end: Ending, found: &External) -> bool
     ensures { result ≡ faults.suits (the_external demand.now) (the_end end) (the_external found.now) }
 {
@@ -92,7 +94,7 @@ fn suits(demand: &External, end: Ending, found: &External) -> bool
     }
 }
 
-// What an import of the module asks for.
+// Returns what an import of the module asks for.
 fn asked<'a>(module: &'a Module, import: &Import) -> Option<External<'a>>
     ensures { option_map the_external result ≡ faults.asked «module».now import.now.desc }
 {
@@ -107,7 +109,7 @@ fn asked<'a>(module: &'a Module, import: &Import) -> Option<External<'a>>
     }
 }
 
-// A function that the module defines, by its place among those.
+// Returns the type of a function that the module defines, by its place among the defined ones.
 fn defined_func<'a>(module: &'a Module, place: usize) -> Option<External<'a>>
     ensures { option_map the_external result ≡ own_func «module».now place }
 {
@@ -147,7 +149,7 @@ fn defined_global<'a>(module: &'a Module, place: usize) -> Option<External<'a>>
     }
 }
 
-// An entry of an index space that the module defines.
+// Returns the external type of an entry that the module defines.
 fn defined<'a>(module: &'a Module, table: &Table, what: ExportDesc) -> Option<External<'a>>
     requires places { HasPlaces «module».now table.now }
     requires own { length (linking.imports_of (space_of_export what) «module».now) ≤ index_of_export what }
@@ -163,7 +165,7 @@ fn defined<'a>(module: &'a Module, table: &Table, what: ExportDesc) -> Option<Ex
 }
 
 impl<'a> PartTables<'a> {
-    // What the import at a place asks for.
+    // Returns what the import at a place asks for.
     fn asked_at(&self, site: Site) -> Option<External<'a>>
         requires { IsThere self.now.parts.now site }
         ensures { option_map the_external result ≡ faults.asked_at (named_modules self.now.parts.now) (the_site site) }
@@ -172,7 +174,7 @@ impl<'a> PartTables<'a> {
         asked(self.parts[site.part as usize].module.module(), import)
     }
 
-    // What an entity is that its part defines.
+    // Returns the external type of an entity that its part defines.
     fn defined_at(&self, entity: Entity) -> Option<External<'a>>
         requires joining { ArePartTables self.now }
         requires own { linking.imported_as (named_modules self.now.parts.now) (the_entity entity) ≡ None }
@@ -187,7 +189,7 @@ impl<'a> PartTables<'a> {
         }
     }
 
-    // What is found at an end.
+    // Returns the external type that is found at an end.
     fn found(&self, end: Ending) -> Option<External<'a>>
         requires joining { ArePartTables self.now }
         requires stop { IsStop (named_modules self.now.parts.now) (the_end end) }
@@ -199,7 +201,7 @@ impl<'a> PartTables<'a> {
         }
     }
 
-    /// Whether an import's end is what it asks for.
+    /// Returns whether an import's end is what it asks for.
     pub fn is_suited(&self, site: Site, end: Ending) -> bool
         requires joining { ArePartTables self.now }
         requires there { IsThere self.now.parts.now site }

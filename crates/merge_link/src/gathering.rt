@@ -1,4 +1,4 @@
-// Staying memory imports of one module and field name end together, at the first of them.
+// Staying memory imports with the same module and field name end together, at the first of them.
 
 ghost use Rattle.std.specs.Prelude.{IfOk, List, None, Some, map, ℕ, ◌≡◌};
 ghost use Rattle.std.specs.BTreeMap.{get_by};
@@ -16,7 +16,7 @@ use wasm_bytes::NoMemory;
 use wasm_tree::{Import, Space};
 
 impl<'a> PartTables<'a> {
-    /// The import at a place, where it is a memory that stays.
+    /// Returns the import at a place, if it is a memory that stays.
     pub fn staying_memory(&self, site: Site, end: Ending) -> Option<&'a Import>
         requires there { IsThere self.now.parts.now site }
         ensures { IsStayingMemory (named_modules self.now.parts.now) site end result }
@@ -34,7 +34,8 @@ impl<'a> PartTables<'a> {
         }
     }
 
-    // Of each module and field name the first memory that stays, from the last to the first.
+    // Returns the first staying memory of each module and field name. The loop runs backwards, so
+    // that the first one remains in the map.
     fn first_memories(
         &self,
         alloc: Global,
@@ -58,7 +59,7 @@ impl<'a> PartTables<'a> {
         Ok(firsts)
     }
 
-    // The end, with such memories as one.
+    // Returns the end; for a staying memory, the first one with the same module and field name.
     fn gathered(
         &self,
         firsts: &BTreeMap<(&'a str, &'a str), Site>,
@@ -87,7 +88,8 @@ impl<'a> PartTables<'a> {
         }
     }
 
-    /// The ends of imports, with such memories as one.
+    /// Returns the linked ends of imports: staying memories with the same module and field name are
+    /// one.
     pub fn linked(
         &self,
         alloc: Global,

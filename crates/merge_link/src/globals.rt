@@ -17,7 +17,8 @@ use wasm_bytes::NoMemory;
 use wasm_meaning::ends_and_reads_are_paths;
 use wasm_tree::{ConstExpr, ExportDesc, Space};
 
-/// A global that a part defines: the part, its index in that part's global space, and its value expression.
+/// A global that a part defines: the part, its index in that part's global space, and its value
+/// expression.
 #[derive(Clone, Copy, Drop)]
 pub struct DefinedGlobal {
     pub part: u32,
@@ -26,7 +27,7 @@ pub struct DefinedGlobal {
 }
 
 impl<'a> PartTables<'a> {
-    /// The globals that the parts define, by part, then by index.
+    /// Returns the globals that the parts define, part by part, in the order of their indices.
     pub fn defined_globals(&self, alloc: Global) -> Result<Vec<DefinedGlobal>, NoMemory>
         requires joining { ArePartTables self.now }
         requires parts { length self.now.parts.now < 2 ^ 32 }
@@ -47,7 +48,8 @@ impl<'a> PartTables<'a> {
         Ok(all)
     }
 
-    /// The number of a defined global among those of all parts.
+    /// Returns the number of a defined global among those of all parts, or `None` if there is no
+    /// such global.
     pub fn global_number(&self, entity: Entity) -> Option<u32>
         requires { ArePartTables self.now }
         ensures { IsOwn (named_modules self.now.parts.now) (the_entity entity) result }
@@ -71,7 +73,7 @@ impl<'a> PartTables<'a> {
         }
     }
 
-    /// The `global.get` of an import that stays.
+    /// Returns the `global.get` of a staying import.
     pub fn outside_read(&self, site: Site) -> Read
         requires joining { ArePartTables self.now }
         requires there { IsThere self.now.parts.now site }
@@ -84,7 +86,8 @@ impl<'a> PartTables<'a> {
         }
     }
 
-    // From the end of a global's import: to a defined global's value expression, or to the `global.get` of what stays.
+    // Returns the step from the end of a global's import: to the value expression of a defined
+    // global, or to the `global.get` of a staying import.
     fn end_step(&self, end: Ending) -> Step<Read>
         requires joining { ArePartTables self.now }
         requires stop { IsStop (named_modules self.now.parts.now) (the_end end) }
@@ -99,7 +102,7 @@ impl<'a> PartTables<'a> {
         }
     }
 
-    // From a global's value expression.
+    // Returns the step from a global's value expression.
     fn value_step(&self, sites: &[Site], ends: &[Ending], global: DefinedGlobal) -> Step<Read>
         requires joining { ArePartTables self.now }
         requires sites { AreSites self.now.parts.now sites.now }
@@ -143,7 +146,8 @@ impl<'a> PartTables<'a> {
         Ok(steps)
     }
 
-    /// What the value expression of each defined global reads, or none where following it never ends.
+    /// Returns what the value expression of each defined global reads, or `None` if following it
+    /// never ends.
     pub fn values(
         &self,
         alloc: Global,
@@ -163,7 +167,7 @@ impl<'a> PartTables<'a> {
         Ok(values)
     }
 
-    /// The fault of the first defined global whose value has no end.
+    /// Returns the fault of the first defined global whose value has no end, if there is one.
     pub fn first_global_fault(
         &self,
         globals: &[DefinedGlobal],

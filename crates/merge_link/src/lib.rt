@@ -1,4 +1,5 @@
-//! Linking: where the imports of parts end, what is asked of those that stay, and what constant expressions read, or the first fault.
+//! Links parts: finds where their imports end, which limits the staying imports keep, and what
+//! constant expressions read, or the first fault.
 #![tactic(auto)]
 
 mod cutting;

@@ -1,5 +1,5 @@
-// What is asked of the tables and memories that stay: limits that all their imports accept (import subtyping, WebAssembly Core 2.0, section 3.2.8, for several
-// imports of one).
+// The limits of staying tables and memories, which all their imports accept (import subtyping,
+// WebAssembly Core 2.0, section 3.2.8, for several imports of one).
 
 ghost use Rattle.std.specs.Prelude.{IfOk, None, Some, map, max, replicate, slice_get, ◌≡◌};
 ghost use Rattle.merge_spec.specs.Faults as faults;
@@ -27,7 +27,7 @@ fn least(a: Option<u32>, b: Option<u32>) -> Option<u32>
     }
 }
 
-// The greater minimum, and the lesser maximum.
+// Returns the greater minimum and the lesser maximum.
 fn meet(limits: Limits, met: Limits) -> Limits
     ensures { result ≡ record { min = max limits.min met.min; max = linking.least limits.max met.max } }
 {
@@ -37,7 +37,6 @@ fn meet(limits: Limits, met: Limits) -> Limits
     }
 }
 
-// What nobody asks for, so many times.
 fn no_demands(alloc: Global, count: usize) -> Result<Vec<Limits>, NoMemory>
     ensures { IfOk result (λ all. all.items ≡ replicate count (record { min = 0; max = None })) }
 {
@@ -55,7 +54,7 @@ fn limits_of(desc: ImportDesc) -> Option<Limits>
     }
 }
 
-// The fault of an import whose limits clash.
+// Returns the fault of an import, if its limits clash.
 fn clash(site: Site, limits: Option<Limits>) -> Option<LinkFault>
     ensures { result ≡ clash_of (the_site site) limits }
 {
@@ -81,7 +80,7 @@ fn clash(site: Site, limits: Option<Limits>) -> Option<LinkFault>
 }
 
 impl<'a> PartTables<'a> {
-    // The number of an import among those of all parts.
+    // Returns the number of an import among those of all parts.
     fn number(&self, site: Site) -> u32
         requires joining { ArePartTables self.now }
         requires there { IsThere self.now.parts.now site }
@@ -90,7 +89,8 @@ impl<'a> PartTables<'a> {
         self.tables[site.part as usize].first_import() + site.import
     }
 
-    // The limits that an import asks of what stays, with the number of the import at which it ends.
+    // Returns the limits that an import asks of the staying import at which it ends, with that
+    // one's number.
     fn demand(&self, site: Site, end: Ending) -> Option<(u32, Limits)>
         requires joining { ArePartTables self.now }
         requires there { IsThere self.now.parts.now site }
@@ -106,7 +106,7 @@ impl<'a> PartTables<'a> {
         }
     }
 
-    // For each import the met limits of all that end there.
+    // Returns for each import the greatest minimum and the least maximum of all that end there.
     fn met_limits(
         &self,
         alloc: Global,
@@ -131,7 +131,7 @@ impl<'a> PartTables<'a> {
         Ok(all)
     }
 
-    // The limits of an import, where it is a table or a memory that stays.
+    // Returns `met`, if the import is a table or memory that stays.
     fn kept(&self, site: Site, end: Ending, met: Limits) -> Option<Limits>
         requires there { IsThere self.now.parts.now site }
         ensures { result ≡ kept_of (named_modules self.now.parts.now) (the_site site) (the_end end) met }
@@ -148,7 +148,7 @@ impl<'a> PartTables<'a> {
         }
     }
 
-    /// The limits that each import keeps, which the tables and memories do that stay.
+    /// Returns the limits that each import keeps; `None` unless it is a table or memory that stays.
     pub fn kept_limits(
         &self,
         alloc: Global,
@@ -168,7 +168,7 @@ impl<'a> PartTables<'a> {
         Ok(kept)
     }
 
-    /// The fault of the first import whose limits clash.
+    /// Returns the fault of the first import whose limits clash, if there is one.
     pub fn first_clash(&self, sites: &[Site], kept: &[Option<Limits>]) -> Option<LinkFault>
         requires { kept.now ≡ map (λ s. faults.kept_limits (named_modules self.now.parts.now) (the_site s)) sites.now }
         ensures { result ≡ faults.first_fault (λ s. faults.clash_fault (named_modules self.now.parts.now) (the_site s)) sites.now }

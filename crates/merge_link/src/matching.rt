@@ -1,5 +1,3 @@
-// Imports compared with their ends.
-
 ghost use Rattle.std.specs.Prelude.{IfOk, IfSome, None, Some, length, map, option_map, slice_get, ℕ, ◌≡◌};
 ghost use Rattle.merge_spec.specs.Faults as faults;
 ghost use Rattle.merge_spec.specs.Parts.{named_modules};
@@ -13,7 +11,7 @@ use std::alloc::Global;
 use wasm_bytes::NoMemory;
 
 impl<'a> PartTables<'a> {
-    // Why an import does not end as it asks, if it does not.
+    // Returns the fault of an import, if it never ends or its end is not what it asks for.
     fn import_fault(&self, site: Site, end: Option<Ending>) -> Option<LinkFault>
         requires joining { ArePartTables self.now }
         requires there { IsThere self.now.parts.now site }
@@ -38,7 +36,8 @@ impl<'a> PartTables<'a> {
         }
     }
 
-    /// The fault of the first import that never ends or whose end is not what it asks for.
+    /// Returns the fault of the first import that never ends or whose end is not what it asks for,
+    /// if there is one.
     pub fn first_import_fault(&self, sites: &[Site], ends: &[Option<Ending>]) -> Option<LinkFault>
         requires joining { ArePartTables self.now }
         requires sites { AreSites self.now.parts.now sites.now }
@@ -56,7 +55,7 @@ impl<'a> PartTables<'a> {
     }
 }
 
-/// The ends of imports that all have one.
+/// Returns the ends of imports that all have one.
 pub fn known_ends(alloc: Global, ends: &[Option<Ending>]) -> Result<Vec<Ending>, NoMemory>
     requires { (n : ℕ) → slice_get ends.now n ≡ Some None → ⊥ }
     ensures { IfOk result (λ known. map Some known.items ≡ ends.now) }

@@ -1,5 +1,3 @@
-// How many memories there are: those that are defined, and those that stay imported.
-
 ghost use Rattle.std.specs.Prelude.{Some, cond, false, length, nat_lt, ◌+◌, ◌≡◌, ◌&&◌};
 ghost use Rattle.wasm_tree.specs.declared.space.Space.TheVariants.{Memories};
 ghost use Rattle.merge_spec.specs.Faults as faults;
@@ -21,7 +19,7 @@ impl<'a> PartTables<'a> {
         self.staying_memory(site, end).is_some()
     }
 
-    // How many memories stay, those of one module and field name counted once.
+    // Returns how many memories stay; those with the same module and field name count once.
     fn staying_memories(&self, sites: &[Site], linked: &[Ending]) -> usize
         requires sites { AreSites self.now.parts.now sites.now }
         requires linked { AreLinkedEnds self.now.parts.now sites.now linked.now }
@@ -36,7 +34,7 @@ impl<'a> PartTables<'a> {
         count
     }
 
-    // Whether these and the defined memories are more than one.
+    // Returns whether the defined memories and these staying ones are more than one.
     fn are_more_than_one(&self, staying: usize) -> bool
         ensures { result ≡ nat_lt 1 (staying + world.defined_before Memories (named_modules self.now.parts.now) (length (named_modules self.now.parts.now))) }
     {
@@ -50,7 +48,7 @@ impl<'a> PartTables<'a> {
         count > 1
     }
 
-    /// Whether the memories that are defined and those that stay are more than one.
+    /// Returns whether the memories that are defined and those that stay are more than one.
     pub fn has_too_many_memories(&self, sites: &[Site], linked: &[Ending]) -> bool
         requires sites { AreSites self.now.parts.now sites.now }
         requires linked { AreLinkedEnds self.now.parts.now sites.now linked.now }

@@ -1,5 +1,3 @@
-// What imports are joined with, and where following them ends.
-
 ghost use Rattle.std.specs.Prelude.{IfOk, None, Some, length, map, option_map, slice_get, ℕ, ◌<◌, ◌^◌, ◌≡◌};
 ghost use Rattle.merge_spec.specs.Parts.{named_modules};
 ghost use Rattle.wasm_meaning.specs.Linking as linking;
@@ -30,7 +28,7 @@ pub enum Ending {
     Outside(Site),
 }
 
-/// Parts, with what is looked up in them.
+/// Parts, with tables for look-ups in them.
 #[derive(Drop)]
 pub struct PartTables<'a> {
     pub parts: &'a [Part],
@@ -39,7 +37,7 @@ pub struct PartTables<'a> {
 }
 
 impl<'a> PartTables<'a> {
-    // What the import is joined with, or none where it stays.
+    // Returns the entity with which the import is joined, or `None` if it stays.
     fn entity_of(&self, import: &Import) -> Option<Entity>
         requires { ArePartTables self.now }
         ensures { option_map the_entity result ≡ linking.joined (named_modules self.now.parts.now) import.now }
@@ -50,7 +48,7 @@ impl<'a> PartTables<'a> {
         Some(Entity { part, what })
     }
 
-    /// The number of the import that an entity is, or none where its part defines it.
+    /// Returns the number of the import that an entity is, or `None` if its part defines it.
     pub fn imported_as(&self, entity: Entity) -> Option<u32>
         requires { ArePartTables self.now }
         ensures { IsImportedAs (named_modules self.now.parts.now) (the_entity entity) result }
@@ -60,7 +58,7 @@ impl<'a> PartTables<'a> {
         Some(table.first_import() + place)
     }
 
-    // From an import to the next one, or its end.
+    // Returns the step from an import to the next one, or to its end.
     fn step_of(&self, site: Site, import: &Import) -> Step<Ending>
         requires joining { ArePartTables self.now }
         requires import { linking.import_at (named_modules self.now.parts.now) (the_site site) ≡ Some import.now }
@@ -88,7 +86,7 @@ impl<'a> PartTables<'a> {
         Ok(steps)
     }
 
-    /// The end of each import, or none where following it never ends.
+    /// Returns the end of each import, or `None` if following it never ends.
     pub fn ends(&self, alloc: Global, sites: &[Site]) -> Result<Vec<Option<Ending>>, NoMemory>
         requires joining { ArePartTables self.now }
         requires sites { AreSites self.now.parts.now sites.now }

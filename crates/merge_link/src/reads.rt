@@ -1,5 +1,3 @@
-// What is read through imports of immutable globals.
-
 ghost use Rattle.std.specs.Prelude.{IfOk, map, option_map, ◌≡◌};
 ghost use Rattle.merge_spec.specs.Linked as links;
 ghost use Rattle.merge_spec.specs.Parts.{named_modules};
@@ -17,7 +15,7 @@ use wasm_meaning::ends_and_reads_are_paths;
 use wasm_tree::{GlobalType, ImportDesc};
 
 impl<'a> PartTables<'a> {
-    // What is read from the end of a global's import.
+    // Returns what is read from the end of a global's import.
     fn read_past(&self, end: Ending, values: &[Option<Read>]) -> Option<Read>
         requires joining { ArePartTables self.now }
         requires stop { IsStop (named_modules self.now.parts.now) (the_end end) }
@@ -33,7 +31,7 @@ impl<'a> PartTables<'a> {
         }
     }
 
-    // What is read through an import, where it is an immutable global.
+    // Returns what is read through an import, if it is an immutable global.
     fn read_through(&self, site: Site, end: Ending, values: &[Option<Read>]) -> Option<Read>
         requires joining { ArePartTables self.now }
         requires there { IsThere self.now.parts.now site }
@@ -50,7 +48,7 @@ impl<'a> PartTables<'a> {
         }
     }
 
-    /// What is read through each import that is an immutable global.
+    /// Returns what is read through each import; `None` unless it is an immutable global.
     pub fn reads(
         &self,
         alloc: Global,

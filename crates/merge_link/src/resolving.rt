@@ -1,5 +1,3 @@
-// Linking as a whole: the links of parts, or the first fault.
-
 ghost use Rattle.std.specs.Prelude.{IfErr, IfOk, Some, None, false, length, map, ◌<◌, ◌^◌, ◌≡◌, ◌⊎◌};
 ghost use Rattle.wasm_tree.specs.declared.space.Space.TheVariants.{Globals};
 ghost use Rattle.wasm_meaning.specs.Linking as linking;
@@ -30,7 +28,8 @@ pub struct Kept {
 }
 
 impl<'a> PartTables<'a> {
-    // The ends of all imports, or the fault of the first that has none or whose end is not what it asks for.
+    // Returns the ends of all imports, or the fault of the first that has none or whose end is not
+    // what it asks for.
     fn matched(&self, alloc: Global, sites: &[Site]) -> Result<Vec<Ending>, LinkFault>
         requires joining { ArePartTables self.now }
         requires sites { AreSites self.now.parts.now sites.now }
@@ -43,7 +42,8 @@ impl<'a> PartTables<'a> {
         }
     }
 
-    // The linked ends with the limits that stay, or the fault of the first import whose limits clash.
+    // Returns the linked ends and the limits that are kept, or the fault of the first import whose
+    // limits clash.
     fn kept_ends(&self, alloc: Global, sites: &[Site], ends: &[Ending]) -> Result<Kept, LinkFault>
         requires joining { ArePartTables self.now }
         requires sites { AreSites self.now.parts.now sites.now }
@@ -58,7 +58,8 @@ impl<'a> PartTables<'a> {
         }
     }
 
-    // What is read through imports, or the fault of the first defined global whose value has no end.
+    // Returns what is read through imports, or the fault of the first defined global whose value
+    // has no end.
     fn read_values(
         &self,
         alloc: Global,
@@ -79,7 +80,7 @@ impl<'a> PartTables<'a> {
         }
     }
 
-    // The links, written down by part.
+    // Returns the links, with one list for each part.
     fn written(
         &self,
         alloc: Global,
@@ -100,7 +101,7 @@ impl<'a> PartTables<'a> {
         })
     }
 
-    // The links, or the first fault of all.
+    // Returns the links, or the first fault.
     fn linked_sites(&self, alloc: Global, sites: &[Site]) -> Result<Links, LinkFault>
         requires joining { ArePartTables self.now }
         requires parts { length self.now.parts.now < 2 ^ 32 }
@@ -119,11 +120,14 @@ impl<'a> PartTables<'a> {
     }
 }
 
-/// Links parts by name: where each import ends, which limits it keeps, and what is read through it.
+/// Links parts by name: finds where each import ends, which limits it keeps, and what is read
+/// through it.
 ///
-/// An import whose module is a part's name is joined with that part's export of its field's name, and followed on where that export is an import. A
-/// refusal carries the first fault in this order: of imports, by part and then in order; of limits that clash; of more than one memory; of values of
-/// globals that have no end.
+/// An import whose module is a part's name is joined with that part's export of its field's name,
+/// if there is one, and stays otherwise. If the export is itself an import, that one is followed in
+/// turn. Fails with the first fault in this order: `ImportMismatch` or `ImportCycle`, part by part,
+/// in the order of the imports; `LimitsClash`; `TooManyMemories`; `GlobalCycle`. `NoMemory` means
+/// that memory ran out and says nothing about the parts.
 pub fn resolve(alloc: Global, parts: &Items<Part>) -> Result<Links, LinkFault>
     requires names { HaveDistinctNames parts.now }
     requires parts { length parts.now < 2 ^ 32 }

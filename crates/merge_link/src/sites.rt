@@ -1,5 +1,3 @@
-// The imports of all parts, by part, then in order.
-
 ghost use Rattle.std.specs.Prelude.{IfOk, Some, length, ◌<◌, ◌^◌, ◌≡◌};
 ghost use Rattle.merge_spec.specs.Parts.{named_modules};
 ghost use Rattle.wasm_meaning.specs.Linking as linking;
@@ -17,7 +15,7 @@ pub struct Site {
     pub import: u32,
 }
 
-/// The places of all imports.
+/// Returns the places of all imports, part by part, in order.
 pub fn all_sites(alloc: Global, parts: &[Part]) -> Result<Vec<Site>, NoMemory>
     requires parts { length parts.now < 2 ^ 32 }
     requires imports { length (linking.sites (named_modules parts.now)) < 2 ^ 32 }
@@ -36,7 +34,7 @@ pub fn all_sites(alloc: Global, parts: &[Part]) -> Result<Vec<Site>, NoMemory>
     Ok(sites)
 }
 
-/// The import at a place that is there.
+/// Returns the import at a place.
 pub fn import_at<'a>(parts: &'a [Part], site: Site) -> &'a Import
     requires there { IsThere parts.now site }
     ensures { linking.import_at (named_modules parts.now) (the_site site) ≡ Some result.now }

@@ -1,5 +1,6 @@
-// What is looked up in each part: the places of its imports in its index spaces, what its exports denote, and the numbers of its first import
-// and of its first defined global among those of all parts.
+// The look-up table of each part: the places of its imports in its index spaces, what its exports
+// denote, and the numbers of its first import and of its first defined global among those of all
+// parts.
 
 ghost use Rattle.std.specs.Prelude.{IfOk, List, Some, length, slice_get, ℕ, ◌<◌, ◌^◌, ◌≡◌};
 ghost use Rattle.std.specs.Option.{option_copied};
@@ -17,7 +18,7 @@ use std::collections::BTreeMap;
 use wasm_bytes::NoMemory;
 use wasm_tree::{Export, ExportDesc, Import, Module, Space};
 
-/// What is looked up in a part.
+/// The look-up table of a part.
 #[derive(Drop)]
 pub struct Table<'a> {
     exports: BTreeMap<&'a str, ExportDesc>,
@@ -30,7 +31,8 @@ pub struct Table<'a> {
     first_global: u32,
 }
 
-// What each name denotes, from the last export to the first, so that the first that bears a name counts.
+// Returns what each name denotes. The loop runs backwards, so that the first export with a name
+// counts.
 fn exported<'a>(
     alloc: Global,
     exports: &'a [Export],
@@ -45,7 +47,7 @@ fn exported<'a>(
     Ok(map)
 }
 
-// The places of the imports that add to an index space.
+// Returns the places of the imports that belong to an index space.
 fn places(alloc: Global, imports: &[Import], space: Space) -> Result<Vec<u32>, NoMemory>
     requires { length imports.now < 2 ^ 32 }
     ensures { IfOk result (λ places. places.items ≡ linking.places (linking.has_kind space) imports.now 0) }
@@ -59,7 +61,7 @@ fn places(alloc: Global, imports: &[Import], space: Space) -> Result<Vec<u32>, N
     Ok(places)
 }
 
-// For each import how many globals are imported before it.
+// Returns for each import how many globals are imported before it.
 fn global_indices(alloc: Global, imports: &[Import]) -> Result<Vec<u32>, NoMemory>
     requires { length imports.now < 2 ^ 32 }
     ensures { IfOk result (λ indices. AreIndices imports.now indices.items) }
@@ -97,7 +99,7 @@ fn table_of<'a>(
     })
 }
 
-/// What is looked up in each part.
+/// Returns the look-up table of each part.
 pub fn all_tables<'a>(alloc: Global, parts: &'a [Part]) -> Result<Vec<Table<'a>>, NoMemory>
     requires imports { length (linking.sites (named_modules parts.now)) < 2 ^ 32 }
     requires globals { length (defined_globals (named_modules parts.now)) < 2 ^ 32 }
@@ -116,7 +118,7 @@ pub fn all_tables<'a>(alloc: Global, parts: &'a [Part]) -> Result<Vec<Table<'a>>
     Ok(tables)
 }
 
-/// The part of each name; where several bear one, the first.
+/// Returns the part of each name, or the first if several have it.
 pub fn all_names<'a>(alloc: Global, parts: &'a [Part]) -> Result<BTreeMap<&'a str, u32>, NoMemory>
     requires { length parts.now < 2 ^ 32 }
     ensures { IfOk result (λ names. AreNames (named_modules parts.now) names) }
@@ -129,14 +131,14 @@ pub fn all_names<'a>(alloc: Global, parts: &'a [Part]) -> Result<BTreeMap<&'a st
 }
 
 impl<'a> Table<'a> {
-    /// The export of a name.
+    /// Returns what the export of this name denotes, if there is one.
     pub fn export(&self, name: &str) -> Option<ExportDesc>
         ensures { result ≡ get_by (λ k. slice_cmp nat_cmp name.now k.now) self.now.exports }
     {
         self.exports.get(name).copied()
     }
 
-    /// The place in the import section of an entry of an index space, where it is imported.
+    /// Returns the place in the import section of an entry of an index space, if it is imported.
     pub fn place(&self, space: Space, index: u32) -> Option<u32>
         ensures { result ≡ slice_get (places_of self.now space) index }
     {
@@ -150,7 +152,7 @@ impl<'a> Table<'a> {
         places.get(index as usize).copied()
     }
 
-    /// How many entries of an index space are imported.
+    /// Returns how many entries of an index space are imported.
     pub fn imported(&self, space: Space) -> usize
         ensures { result ≡ length (places_of self.now space) }
     {
@@ -163,7 +165,8 @@ impl<'a> Table<'a> {
         }
     }
 
-    /// The index in the global space of a global import at a place.
+    /// Returns how many globals are imported before the import at a place: its global index, if it
+    /// is a global.
     pub fn global_index(&self, place: u32) -> u32
         requires { place < length self.now.indices.items }
         ensures { slice_get self.now.indices.items place ≡ Some result }
@@ -171,14 +174,14 @@ impl<'a> Table<'a> {
         self.indices[place as usize]
     }
 
-    /// The number of the part's first import among those of all parts.
+    /// Returns the number of the part's first import among those of all parts.
     pub fn first_import(&self) -> u32
         ensures { result ≡ self.now.first_import }
     {
         self.first_import
     }
 
-    /// The number of the part's first defined global among those of all parts.
+    /// Returns the number of the part's first defined global among those of all parts.
     pub fn first_global(&self) -> u32
         ensures { result ≡ self.now.first_global }
     {

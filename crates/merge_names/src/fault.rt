@@ -7,9 +7,9 @@ use wasm_bytes::NoMemory;
 /// Why no names are chosen.
 #[derive(Clone, Copy, Debug, PartialEq, Eq)]
 pub enum NameFault {
-    /// The name at this place came before.
+    /// The mode is `Refuse`, and the name at this place is the first that repeats an earlier one.
     Conflict { place: usize },
-    /// Want of memory, which says nothing of the names.
+    /// Memory ran out, which says nothing about the names.
     NoMemory,
 }
 

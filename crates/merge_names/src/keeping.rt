@@ -1,4 +1,4 @@
-// Names where the first of each is kept.
+// Modes that keep the first export of each name: `Refuse` and `Skip`.
 
 ghost use Rattle.std.specs.Prelude.{◌≡◌, ℕ, List, [], Some, None, Bool, true, cond, map, is_some, IfOk, IfErr, OnOk, IsOk};
 ghost use Rattle.std.specs.HashMap.{get_by};
@@ -12,7 +12,7 @@ use indexmap::IndexMap;
 use std::alloc::{AllocError, Global};
 use wasm_bytes::{Items, Name, NoMemory};
 
-// Notes a name, and says whether it came before.
+// Notes a name, and returns whether it was noted before.
 fn comes_again<'a>(came: &mut IndexMap<&'a str, ()>, name: &'a str) -> Result<bool, AllocError>
     ensures again { IfOk result (λ again. again ≡ is_some (get_by (λ k. bytes_eq name.now k.now) came.old)) }
     ensures noted { OnOk result ((q : List ℕ) → is_some (get_by (λ k. bytes_eq q k.now) came.new) ≡ cond (bytes_eq name.now q) true (is_some (get_by (λ k. bytes_eq q k.now) came.old))) }
@@ -20,7 +20,7 @@ fn comes_again<'a>(came: &mut IndexMap<&'a str, ()>, name: &'a str) -> Result<bo
     Ok(came.insert(name, ())?.is_some())
 }
 
-/// All names, or the first that came before.
+/// Returns all names, or the place of the first that repeats an earlier one.
 pub(crate) fn all_of(alloc: Global, names: &[&str]) -> Result<Items<Option<Name>>, NameFault>
     ensures all { IfOk result (λ news. news ≡ map Some (texts names.now)) }
     ensures distinct { IsOk result → first_repeated (texts names.now) ≡ None }
@@ -38,7 +38,7 @@ pub(crate) fn all_of(alloc: Global, names: &[&str]) -> Result<Items<Option<Name>
     Ok(all)
 }
 
-/// The names, and nothing in the place of one that came before.
+/// Returns the names, with `None` in place of each that repeats an earlier one.
 pub(crate) fn kept(alloc: Global, names: &[&str]) -> Result<Items<Option<Name>>, NameFault>
     ensures kept { IfOk result (λ news. news ≡ kept_behind [] (texts names.now)) }
     ensures no_memory { IfErr result (λ e. IsConflictOf e None) }
@@ -53,7 +53,7 @@ pub(crate) fn kept(alloc: Global, names: &[&str]) -> Result<Items<Option<Name>>,
     Ok(all)
 }
 
-// The name, or nothing where it came before.
+// Returns the name, or `None` if it comes again.
 fn unless(alloc: Global, again: bool, name: &str) -> Result<Option<Name>, NoMemory>
     ensures { IfOk result (λ new. new ≡ cond again None (Some name.now)) }
 {

@@ -1,4 +1,5 @@
-//! What the exports of several parts are called once they stand in one module, whose export names differ (WebAssembly Core 2.0, section 3.4.10).
+//! Chooses names for the exports of several parts in one module, where export names must differ
+//! (WebAssembly Core 2.0, section 3.4.10).
 #![tactic(auto)]
 
 mod fault;
@@ -21,11 +22,13 @@ pub use mode::Mode;
 use std::alloc::Global;
 use wasm_bytes::{Items, Name};
 
-/// What each of these exports is called, and nothing where it is dropped.
+/// Returns the new name of each export, or `None` for one that is dropped.
 ///
-/// With `Refuse` all keep their names, and where one came before there is a `Conflict` at the first such place. With `Rename` the first that
-/// has a name keeps it, and each later one takes the name, `_` and the least number from 1 that makes a name unlike all that are given, later ones
-/// too, and all that were chosen before. With `Skip` the later ones are dropped. `NoMemory` is want of memory and says nothing of the names.
+/// With `Refuse` all exports keep their names; if a name repeats an earlier one, the call fails
+/// with `Conflict` at the first such place. With `Rename` the first export of a name keeps it, and
+/// each later one gets the name, `_` and the least number from 1 that makes a name different from
+/// all given ones, also later ones, and from all that were chosen before. With `Skip` the later
+/// ones are dropped. `NoMemory` means that memory ran out and says nothing about the names.
 pub fn choose_names(
     alloc: Global,
     names: &[&str],
@@ -53,17 +56,17 @@ fn names_by(alloc: Global, names: &[&str], mode: Mode) -> Result<Items<Option<Na
     }
 }
 
-/// The names of each mode follow its rule.
+/// The new names of each mode follow its rule, if there are fewer than 2^62 names.
 pub fn new_names_follow_rules()
     ensures rules { NamesFollowRules }
 {}
 
-/// Where there is no conflict the names that are given differ.
+/// If there is no conflict and there are fewer than 2^62 new names, they differ.
 pub fn given_names_differ()
     ensures differ { GivenNamesDiffer }
 {}
 
-/// A conflict is the first name that came before, and it comes with `Refuse` alone.
+/// A conflict is at the first name that repeats an earlier one, and only `Refuse` has one.
 pub fn conflicts_are_first()
     ensures first { ConflictsAreFirst }
 {}

@@ -1,9 +1,10 @@
-/// What becomes of an export whose name came before.
+/// What happens to an export whose name repeats an earlier one.
 #[derive(Clone, Copy, Debug, PartialEq, Eq)]
 pub enum Mode {
-    /// There is no such export: it is a conflict.
+    /// It is a conflict.
     Refuse,
-    /// It takes its name, `_` and the least number from 1 that makes a name unlike all others.
+    /// It gets its name, `_` and the least number from 1 that makes a name different from all
+    /// others.
     Rename,
     /// It is dropped.
     Skip,

@@ -1,4 +1,4 @@
-// Names where a later one takes a number.
+// The mode `Rename`: an export whose name repeats an earlier one gets a number.
 
 ghost use Rattle.std.specs.Prelude.{◌≡◌, ◌+◌, ℕ, List, ◌<◌, ◌≤◌, ◌^◌, true, false, length, map, Some, None, IfOk, IfErr, OnOk, string_bytes};
 ghost use Rattle.std.specs.BTreeSet.{contains_text, btree_set_len};
@@ -25,7 +25,8 @@ fn with_number(alloc: Global, name: &str, k: u64) -> Result<String, AllocError>
     Ok(new)
 }
 
-// The least number that makes a free name, and that name. All numbers below `from` are known not to make one.
+// Returns the first name with a free number, and that number. All numbers below `from` are known to
+// be taken.
 fn least_free(
     alloc: Global,
     taken: &BTreeSet<String>,
@@ -48,7 +49,8 @@ fn least_free(
     }
 }
 
-// The new name of one. `tried` has, of each name that came before, a number below which none is free.
+// Returns the new name of one export. `tried` has for each earlier name a number below which none
+// is free.
 fn rename_one<'a>(
     alloc: Global,
     taken: &mut BTreeSet<String>,
@@ -78,7 +80,7 @@ fn rename_one<'a>(
     }
 }
 
-// The set of the names.
+// Returns the set of the names.
 fn set_of(alloc: Global, names: &[&str]) -> Result<BTreeSet<String>, AllocError>
     ensures has { IfOk result (λ taken. (q : List ℕ) → contains_text taken q ≡ among (texts names.now) q) }
     ensures few { IfOk result (λ taken. btree_set_len taken ≤ length names.now) }
@@ -91,7 +93,8 @@ fn set_of(alloc: Global, names: &[&str]) -> Result<BTreeSet<String>, AllocError>
     Ok(taken)
 }
 
-/// The names, each that came before with the least number that makes it unlike all others.
+/// Returns the names, where each that repeats an earlier one gets the least number that makes it
+/// different from all others.
 pub(crate) fn renamed(alloc: Global, names: &[&str]) -> Result<Items<Option<Name>>, NameFault>
     ensures renamed { IfOk result (λ news. news ≡ map Some (new_texts (texts names.now))) }
     ensures no_memory { IfErr result (λ e. IsConflictOf e None) }

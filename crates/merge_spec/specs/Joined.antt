@@ -12,11 +12,11 @@ use Rattle.merge_spec.specs.Merged.{merged, export_names, imports_kind}
 use Rattle.merge_spec.specs.declared.faults.JoinFault.{JoinFault}
 use Rattle.merge_spec.specs.declared.faults.JoinFault.TheVariants.{ExportConflict, TooMany}
 
--- the merged module, its references declared, with the names that the mode gives its exports
+-- the merged module, with its references declared and the names that the mode gives its exports
 unfoldable pub joined_module : List Part → Mode → Module
 joined_module parts mode = declared (merged parts (new_names mode (export_names parts)))
 
--- where no name may stand twice, the first name that came before
+-- the first name that repeats an earlier one, if the mode allows none
 unfoldable pub repeated_name : List Part → Mode → Option Text
 repeated_name parts mode = conflict mode (export_names parts) >>= (slice_get (export_names parts))
 
@@ -25,14 +25,16 @@ outcome (Some name) which m = Err (ExportConflict name)
 outcome None (Some which) m = Err (TooMany which)
 outcome None None m = Ok m
 
--- what joining gives, want of memory left aside: a conflict of names comes before a count that is too great
+-- what joining gives unless memory runs out; a repeated name is reported before a count that is too
+-- great
 abbrev pub join_of : List Part → Mode → Result Module JoinFault
 join_of parts mode = outcome (repeated_name parts mode) (over_limit (joined_module parts mode)) (joined_module parts mode)
 
+-- joining the parts with this mode gives the result
 abbrev pub Joins : List Part → Mode → Result Module JoinFault → Type 0
 Joins parts mode result = join_of parts mode ≡ result
 
--- what joining may add to what the parts define: a function that calls their starts
+-- how many entries joining adds at most to those of the parts: a function that calls their starts
 abbrev pub most_added : Space → ℕ
 most_added Types = 0
 most_added Functions = 1
@@ -42,7 +44,8 @@ most_added Globals = 0
 most_added ElementSegments = 0
 most_added DataSegments = 0
 
--- A u32 can name each part, and in each index space all that the parts import and define, and what joining adds.
+-- A u32 can number the parts, and in each index space all that the parts import and define and
+-- joining adds.
 pub record FewInAll (parts : List Part) : Type 0 where
   pub parts_few : length parts < 2 ^ 32
   pub entries : (k : Space) → count_of (imports_kind parts k) (sites parts) + (defined_before k parts (length parts) + most_added k) < 2 ^ 32

@@ -1,4 +1,5 @@
--- The links of parts: for each import its end, the limits that it keeps, and what is read through it.
+-- The links of parts: for each import its end, the limits that it keeps, and what is read through
+-- it.
 use Rattle.std.specs.Prelude.{◌≡◌, ℕ, suc, List, [], ◌∷◌, map, length, Option, Some, None, option_map, Bool, true, false}
 use Rattle.wasm_tree_spec.specs.Prelude.{Globals, GlobalType, ImportDesc, index_of_export}
 use Rattle.base_lists.specs.Options.{◌>>=◌}
@@ -20,7 +21,7 @@ by_import_from f p (part ∷ parts) = map f (sites_in p (length part.«module».
 abbrev pub by_import : {A : Type 0} → (Site → A) → List Part → List (List A)
 by_import f = by_import_from f 0
 
--- an end as it is written down: of an entity its part and its index
+-- an end as the links record it: a part, with the index of an entity or the place of an import
 abbrev pub end_entry : linking.End → End
 end_entry (linking.Defined e) = Defined e.part (index_of_export e.what)
 end_entry (linking.Outside s) = Outside s.part s.import
@@ -32,7 +33,7 @@ abbrev pub when_fixed : {A : Type 0} → (mutable : Bool) → Option A → Optio
 when_fixed true x = None
 when_fixed false x = x
 
--- what is read through the import at this site, where it is an immutable global
+-- what is read through the import at this site, if it is an immutable global
 abbrev pub read_through : List Part → Site → GlobalType → Option linking.Read
 read_through parts s t = when_fixed t.mutable (module_at parts s.part >>= λ m. read_of parts s.part (const.Global (space_index m.imports s.import Globals)))
 
@@ -43,7 +44,7 @@ read_at_desc parts s _ = None
 abbrev pub read_at : List Part → Site → Option Read
 read_at parts s = option_map read_entry (import_at parts s >>= λ i. read_at_desc parts s i.desc)
 
--- these are the links of the parts
+-- `links` are the links of the parts
 pub record AreLinks (parts : List Part) (links : Links) : Type 0 where
   pub ends : map (map Some) links.ends ≡ by_import (λ s. option_map end_entry (linked_end parts s)) parts
   pub limits : links.limits ≡ by_import (kept_limits parts) parts

@@ -1,4 +1,5 @@
--- The merged module: its lists are filters and joins of the parts' lists, and its indices are places in these.
+-- The merged module: its lists are filtered or joined from the parts' lists, and its indices are
+-- places in these.
 use Rattle.std.specs.Prelude.{ℕ, suc, ◌+◌, ◌-◌, List, [], ◌∷◌, ◌++◌, map, filter, length, Option, Some, None, Bool, false, cond, slice_index, slice_get, unwrap_or}
 use Rattle.wasm_tree_spec.specs.Prelude.{Space, Functions, Tables, Memories, Globals, DataSegments, ElementSegments, FuncType, Import, ImportDesc, Export, ConstExpr, Func, GlobalDef, ElemSeg, ElemMode, DataSeg, DataMode, Module, Call, funcs_of, tables_of, memories_of, globals_of, index_of_export, same_func_type}
 use Rattle.base_lists.specs.Options.{◌>>=◌}
@@ -13,21 +14,22 @@ use Rattle.merge_spec.specs.Faults.{stays}
 
 -- ---- what stays, and places in the merged index spaces ----
 
--- the imports that stay, by part, then in order
+-- the staying imports, part by part, in order
 unfoldable pub staying : List Part → List Site
 staying parts = filter (stays parts) (sites parts)
 
 abbrev pub imports_kind : List Part → Space → Site → Bool
 imports_kind parts k s = unwrap_or (import_at parts s >>= λ i. Some (has_kind k i)) false
 
--- those of one kind, which come first in that kind's index space
+-- the staying imports of one kind, which come first in that kind's index space
 unfoldable pub staying_of : List Part → Space → List Site
 staying_of parts k = filter (imports_kind parts k) (staying parts)
 
 abbrev pub imported_count : List Part → ℕ → Space → ℕ
 imported_count parts p k = unwrap_or (module_at parts p >>= λ m. Some (length (imports_of k m))) 0
 
--- the place in the merged index space of what a part defines at an index of its own: after what stays imported, and after what the parts before it define
+-- the place in the merged index space of what part `p` defines at its own index `i`: after the
+-- staying imports, and after what the parts before it define
 abbrev pub place_of_defined : List Part → Space → (part index : ℕ) → ℕ
 place_of_defined parts k p i = length (staying_of parts k) + (defined_before k parts p + (i - imported_count parts p k))
 
@@ -36,21 +38,23 @@ unfoldable pub place_of_end : List Part → Space → End → ℕ
 place_of_end parts k (Outside s) = unwrap_or (first_place (same_site s) (staying_of parts k) 0) 0
 place_of_end parts k (Defined e) = place_of_defined parts k e.part (index_of_export e.what)
 
--- the place of an entry of a part's index space, which the part defines, or which is the import at a place
+-- the place in the merged index space of entry `i` of part `p`: the part defines the entry, or it
+-- is the part's import at place `n`
 abbrev pub place_of_entry : List Part → (part : ℕ) → Space → (index : ℕ) → (import : Option ℕ) → Option ℕ
 place_of_entry parts p k i None = Some (place_of_defined parts k p i)
 place_of_entry parts p k i (Some n) = linked_end parts (record { part = p; import = n }) >>= λ end. Some (place_of_end parts k end)
 
+-- the index in the merged module of entry `i` of part `p`
 unfoldable pub new_index : List Part → ℕ → Space → ℕ → ℕ
 new_index parts p k i = unwrap_or (module_at parts p >>= λ m. place_of_entry parts p k i (slice_get (imports_of k m) i)) 0
 
 -- ---- types ----
 
--- one more type, where it is not there yet
+-- the list with one more type, if it is not there yet
 abbrev pub with_type : List FuncType → FuncType → List FuncType
 with_type ts t = cond (list_any (same_func_type t) ts) ts (ts ++ t ∷ [])
 
--- these, and then the further ones in order of first appearance
+-- the list with the further types that are not there yet, in order of first appearance
 abbrev pub with_types : List FuncType → List FuncType → List FuncType
 with_types ts [] = ts
 with_types ts (u ∷ us) = with_types (with_type ts u) us
@@ -64,6 +68,7 @@ place_of_type parts t = unwrap_or (first_place (same_func_type t) (merged_types 
 
 -- ---- the maps of a part's indices ----
 
+-- the map of the indices of part `p`, whose module is `m`
 unfoldable pub map_of : List Part → ℕ → Module → Remap
 map_of parts p m = record {
   types = map (place_of_type parts) m.types;
@@ -75,7 +80,7 @@ map_of parts p m = record {
   datas = numbers (defined_before DataSegments parts p) (length m.datas);
 }
 
--- for each part, with its place, a list; these joined
+-- the lists that `f` gives for each part, joined into one
 abbrev pub by_part_from : {A : Type 0} → (ℕ → Module → List A) → ℕ → List Part → List A
 by_part_from f p [] = []
 by_part_from f p (part ∷ parts) = f p part.«module» ++ by_part_from f (suc p) parts
@@ -127,14 +132,14 @@ abbrev pub start_of : List Part → ℕ → Option ℕ → List ℕ
 start_of parts p None = []
 start_of parts p (Some f) = new_index parts p Functions f ∷ []
 
--- the start functions of the parts that have one, by part
+-- the new indices of the start functions, for those parts that have one, in order
 unfoldable pub starts : List Part → List ℕ
 starts parts = by_part (λ p m. start_of parts p m.start) parts
 
 abbrev pub nullary : FuncType
 nullary = record { params = []; results = [] }
 
--- where several parts have a start, one more function that calls each
+-- if several parts have a start, one more function, which calls each
 abbrev pub start_calls : List Part → List ℕ → List Func
 start_calls parts (f ∷ g ∷ fs) = record { ty = place_of_type parts nullary; locals = []; body = map Call (f ∷ g ∷ fs) } ∷ []
 start_calls parts _ = []
@@ -142,6 +147,7 @@ start_calls parts _ = []
 unfoldable pub defined_funcs : List Part → List Func
 defined_funcs parts = by_part (λ p m. map (new_func (map_of parts p m)) m.funcs) parts
 
+-- the start: none, the only one, or the function at `functions`, which calls several
 abbrev pub start_among : (functions : ℕ) → List ℕ → Option ℕ
 start_among n [] = None
 start_among n (f ∷ []) = Some f
@@ -149,14 +155,14 @@ start_among n (f ∷ g ∷ fs) = Some n
 
 -- ---- the exports ----
 
--- the exports of all parts, by part, then in order
+-- the exports of all parts, with their new indices, part by part, in order
 unfoldable pub all_exports : List Part → List Export
 all_exports parts = by_part (λ p m. map (new_export (map_of parts p m)) m.exports) parts
 
 abbrev pub export_names : List Part → List Text
 export_names parts = map (λ e. e.name) (all_exports parts)
 
--- exports under other names; one without a name is dropped
+-- exports under new names; one without a name is dropped
 abbrev pub named_exports : List Export → List (Option Text) → List Export
 named_exports (e ∷ es) (Some name ∷ names) = record e { name = name } ∷ named_exports es names
 named_exports (e ∷ es) (None ∷ names) = named_exports es names
@@ -164,7 +170,7 @@ named_exports _ _ = []
 
 -- ---- the module ----
 
--- the merged module, where its exports have these names
+-- the merged module whose exports have these names
 unfoldable pub merged : List Part → List (Option Text) → Module
 merged parts names = record {
   types = merged_types parts;

@@ -10,16 +10,18 @@ use wasm_tree::Which;
 /// Why the imports of parts are not linked.
 #[derive(Clone, Copy, Drop)]
 pub enum LinkFault {
-    /// The import and its end have different kinds or types, or the limits of a defined table or memory do not match.
+    /// The import and its end differ in kind or type, or the limits of a defined table or memory do
+    /// not match.
     ImportMismatch { part: u32, import: u32 },
     /// Following the import never ends.
     ImportCycle { part: u32, import: u32 },
-    /// The greatest minimum of all imports that end at this one exceeds the least maximum that is present among them.
+    /// Of all imports that end at this one, the greatest minimum exceeds the least maximum.
     LimitsClash { part: u32, import: u32 },
     /// The merged module would have more than one memory.
     TooManyMemories,
     /// Following the value of this defined global never ends.
     GlobalCycle { part: u32, global: u32 },
+    /// Memory ran out, which says nothing about the parts.
     NoMemory,
 }
 
@@ -34,10 +36,11 @@ impl From<NoMemory> for LinkFault {
 /// Why linked parts are not joined.
 #[derive(Drop)]
 pub enum JoinFault {
-    /// The name of an export came before, where no mode renames or skips it; the first such.
+    /// The mode is `Refuse`, and `name` is the first export name that repeats an earlier one.
     ExportConflict { name: Name },
-    /// The merged module would have more of something than a module may have.
+    /// A count of the merged module is above its limit; `which` is the first such count.
     TooMany { which: Which },
+    /// Memory ran out, which says nothing about the parts.
     NoMemory,
 }
 

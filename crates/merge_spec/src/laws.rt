@@ -1,8 +1,9 @@
-// What the merged module is, in the subject's own words.
+// A law about the types of the merged module.
 
 ghost use Rattle.merge_spec.specs.Types.{MergedTypesAreDistinct};
 
-/// No two types of the merged module are equal, and each stands at the place of its first appearance among the types of the parts.
+/// The types of the merged module are those of the parts, each once, in the order in which they
+/// first appear.
 pub fn merged_types_are_distinct()
     ensures distinct { MergedTypesAreDistinct }
 {}

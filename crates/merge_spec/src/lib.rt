@@ -1,4 +1,5 @@
-//! What a merge speaks of: parts with names, where their imports end, the faults of linking and of joining. The definitions of both stand in `specs/`.
+//! What a merge is about: parts with names, the links of their imports, and the faults of linking
+//! and of joining. The definitions are in `specs/`.
 #![tactic(auto)]
 
 mod faults;

@@ -5,7 +5,7 @@ use Rattle.wasm_meaning.specs.Prelude.{Part, Read, module_at}
 use Rattle.index_remap.specs.Prelude.{fits_const}
 use Rattle.merge_spec.specs.Prelude.{map_of}
 
--- what is read stands in a part whose map has an entry for the index that it names
+-- what is read is in a part whose map has an entry for the index that it names
 pub record HasEntry (parts : List Part) (r : Read) : Type 0 where
   pub of : Module
   pub is_part : module_at parts r.part ≡ Some of

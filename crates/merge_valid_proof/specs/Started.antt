@@ -1,4 +1,4 @@
--- The functions that parts start.
+-- The start functions of parts.
 use Rattle.std.specs.Prelude.{◌≡◌, ℕ, true, List, Option, Some, None, slice_get}
 use Rattle.wasm_tree_spec.specs.Prelude.{type_of_func}
 use Rattle.wasm_valid.specs.Prelude.{IsValid}
@@ -6,7 +6,7 @@ use Rattle.wasm_meaning.specs.Prelude.{Text, Part}
 use Rattle.merge_spec.specs.Prelude.{link_fault, merged, merged_types, place_of_type, nullary, starts}
 use Rattle.merge_valid_proof.specs.Joinable.{EachPart}
 
--- in the merged module each takes and gives nothing, which is one of its types
+-- in the merged module each start function takes and returns nothing, and the module has this type
 abbrev pub StartsTakeNothing : Type 0
 StartsTakeNothing =
     (parts : List Part) (names : List (Option Text)) → EachPart IsValid parts → link_fault parts true ≡ None → (n f : ℕ) → slice_get (starts parts) n ≡ Some f →

@@ -1,4 +1,5 @@
-//! That what joining gives is a valid module, as a law.
+//! Laws: what joining gives is a valid module, and what this needs of the imports, maps and starts
+//! of linked parts.
 #![tactic(auto)]
 
 ghost use Rattle.std.specs.Prelude.{◌≡◌, ℕ, true, false, IsTrue, List, Some, None};
@@ -36,8 +37,10 @@ use module_limits::counts_are_within_where_none_is_over;
 use wasm_meaning::ends_and_reads_are_paths;
 use wasm_valid::valid_where_items_hold;
 
-/// Where valid parts can be joined, the merged module is valid (`valid`, WebAssembly Core 2.0, section 3.4.10), a u32 can count its lists, its index spaces
-/// and the locals of each function (`bounded`). Where several memories are a fault of linking, it has at most one (`single`).
+/// If valid parts can be joined, the merged module is valid (`valid`, WebAssembly Core 2.0, section
+/// 3.4.10), and a u32 can count its lists, its index spaces and the locals of each function
+/// (`bounded`). If linking also takes several memories for a fault and finds none, the merged
+/// module has at most one memory (`single`).
 pub fn merged_modules_are_valid()
     ensures valid { (parts : List Part) (mode : Mode) → CanBeJoined parts mode → IsValid (joined_module parts mode) }
     ensures bounded { (parts : List Part) (mode : Mode) → CanBeJoined parts mode → IsBounded (joined_module parts mode) }
@@ -53,8 +56,10 @@ pub fn merged_modules_are_valid()
     counts_are_within_where_none_is_over();
 }
 
-/// The map of a part has an entry for each index that its valid module names (`entries`) and that a constant expression with a type names (`constants`).
-/// Where the parts are linked, what such an expression reads through joined globals is there (`there`), in a part whose map has an entry for it (`reads`).
+/// The map of a part has an entry for each index that its valid module names (`entries`) and for
+/// each that a constant expression with a type names (`constants`). If valid parts are linked, such
+/// an expression reads something through joined globals (`there`), in a part whose map has an entry
+/// for it (`reads`).
 pub fn maps_have_entries()
     ensures entries { (parts : List Part) (p : ℕ) (m : Module) → IsValid m → IsTrue (fits_tree (map_of parts p m) m) }
     ensures constants { (parts : List Part) (p : ℕ) (m : Module) (e : ConstExpr) (ty : ValType) → const_type m e ≡ Some ty → IsTrue (fits_const (map_of parts p m) e) }
@@ -66,9 +71,12 @@ pub fn maps_have_entries()
     ends_and_reads_are_paths();
 }
 
-/// Where parts are linked, each import ends with what it asks for, inside or outside (`ends`), and what stays is its own end (`stays`); the sites are the
-/// imports that are there (`sites`). In the merged module each import that stays, each index, each definition and each type of a part has its place
-/// (`places`, `indices`, `defined`, `types`), and what is defined are the definitions of all parts, and the function that calls the starts where one does (`counts`).
+/// If parts are linked, each import ends with what it asks for, defined by a part or not (`ends`),
+/// and a staying import is its own end (`stays`). The sites are the imports that exist (`sites`).
+/// In the merged module each staying import, each index, each definition and each type of a part
+/// has its place (`places`, `indices`, `defined`, `types`), and the module defines as many
+/// functions, tables, memories and globals as all parts, and the function that calls several
+/// starts, if there is one (`counts`).
 pub fn linked_imports_have_ends()
     ensures ends { LinkedImportsEnd }
     ensures stays { StayingImportsEndThere }
@@ -82,7 +90,8 @@ pub fn linked_imports_have_ends()
     ends_and_reads_are_paths();
 }
 
-/// The functions that valid parts start take and give nothing, also in the merged module, if the parts are linked.
+/// In the merged module, the start functions of valid parts take and return nothing, if the parts
+/// are linked.
 pub fn starts_take_nothing()
     ensures starts { StartsTakeNothing }
 {
