@@ -1,4 +1,5 @@
--- What is left of a module shows what the module shows to an embedder that uses only the exports that are kept.
+-- That what is left of a module is observationally equivalent to the module, seen through the
+-- exports that are kept.
 use Rattle.std.specs.Prelude.{IsTrue}
 use Rattle.wasm_tree_spec.specs.Prelude.{Module}
 use Rattle.wasm_valid.specs.Prelude.{IsValid}
@@ -8,9 +9,11 @@ use Rattle.dce_sweep_spec.specs.Closed.{AreClosed}
 use Rattle.dce_sweep_spec.specs.Swept.{swept}
 use Rattle.dce_sweep_spec.specs.Unswept.{unswept}
 
--- in every environment that links the module, an embedder that uses only the exports that are kept sees the same of it and of the other, step by step
+-- the module with a view of only the kept exports, and the other module alone, have the same
+-- traces, step by step, in every environment that links the former
 abbrev pub ObservationallyEquivalent : Marks → Module → Module → Type 0
 ObservationallyEquivalent k t other = Same (λ env. IsTrue (links env (unswept k t))) (events (unswept k t)) (events (alone other)) (λ n. n) (λ n. n)
 
+-- This holds for what closed marks leave of a valid module.
 abbrev pub SweptModuleEquivalent : Type 0
 SweptModuleEquivalent = (k : Marks) (t : Module) → IsValid t → AreClosed k t → ObservationallyEquivalent k t (swept k t)

@@ -1,4 +1,5 @@
-//! That what is left of a module, where what is kept names only what is kept, shows an embedder what the module showed, as a law.
+//! A law: what closed marks leave of a module is observationally equivalent to the module, seen
+//! through the exports that are kept.
 #![tactic(auto)]
 
 ghost use Rattle.dce_behaves_proof.specs.Laws.{SweptModuleEquivalent};
@@ -11,8 +12,9 @@ use world_simulation::{
     corresponding_worlds_have_equal_traces, related_instances_have_equal_traces,
 };
 
-/// The module with only those names of its exports that are kept, and what is left of it by marks that are closed, have equal traces, step by step, to each embedder whose
-/// environment links the module (WebAssembly Core 2.0, section 2.5): nothing that is kept names what was removed.
+/// What closed marks leave of a valid module is observationally equivalent, step by step, to the
+/// module with a view of only the kept exports, in each environment that links the latter
+/// (WebAssembly Core 2.0, section 2.5): nothing that is kept names what was removed.
 pub fn swept_module_equivalent()
     ensures { SweptModuleEquivalent }
 {

@@ -1,4 +1,5 @@
-//! The numbers of what is left of a module are in the ranges of their types, as those of the module are.
+//! A law: the numbers of what is left of a module are in the ranges of their types, if those of the
+//! module are.
 #![tactic(auto)]
 
 ghost use Rattle.std.specs.Prelude.{IsTrue};
@@ -14,8 +15,10 @@ use wasm_tree::operands_pass_layer_by_layer;
 use wasm_valid::valid_where_items_hold;
 use wasm_write_proof::{encoded_operands_are_in_range, renumbering_keeps_numbers_in_range};
 
-/// Where a module has its numbers in range and its names in UTF-8, so has what is left of it by some marks, if that is valid and has at most one memory
-/// (`range`): what it names is there, and its other numbers stand in the module. And its bodies name no memory but memory 0 (`memory`).
+/// Let what any marks leave of a module be valid and bounded, with at most one memory. Then its
+/// numbers are in range and its names in UTF-8 if those of the module are (`range`), because what
+/// it names exists and its other numbers come from the module; and its bodies name no memory but
+/// memory 0 (`memory`).
 pub fn swept_modules_are_in_range()
     ensures range { (k : Marks) (m : Module) → InRange m → IsValid (swept k m) → IsSingle (swept k m) → IsBounded (swept k m) → InRange (swept k m) }
     ensures memory { (k : Marks) (m : Module) → IsValid (swept k m) → IsSingle (swept k m) → IsBounded (swept k m) → IsTrue (memory_zero_funcs (swept k m).funcs) }

@@ -1,4 +1,4 @@
--- What the program's entries, which are parts of a value, denote.
+-- The meaning of the program's entries, which are parts of a JSON value.
 use Rattle.std.specs.Prelude.{ℕ, List, map, Option, option_map}
 use Rattle.std.specs.List.{filter_map}
 use Rattle.std.specs.BTreeMap.{BTreeMap, get_by}
@@ -12,7 +12,7 @@ use Rattle.dce_graph.specs.declared.graph.ImportPair.{ImportPair}
 use Rattle.dce_graph.specs.declared.entry.Entry.{Entry as Read}
 use Rattle.dce_graph.specs.GraphFile.{Entry, Text}
 
--- the texts that values are
+-- the strings among these values
 abbrev pub texts_in : List Value → List Text
 texts_in vs = filter_map as_str (map view vs)
 

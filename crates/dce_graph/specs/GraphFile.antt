@@ -1,6 +1,8 @@
--- What a graph file says: a JSON array of objects, each of which is a node. `name` is a text and must be there; `reaches` is an array of texts, the names of
--- nodes; `root` is a truth value; `export` is a text; `import` is an array of two texts. Each but `name` may be absent, and `export` and `import` do not stand
--- together. Other keys say nothing. Of a key that is given twice the last counts, as the reading of JSON has it.
+-- What a graph file says: a JSON array of objects, each of which is a node. `name` is a string and
+-- is required; `reaches` is an array of strings, the names of nodes; `root` is a boolean; `export`
+-- is a string; `import` is an array of two strings. Each but `name` may be absent, and an entry
+-- does not have both `export` and `import`. Other keys have no meaning. Of a key that is given
+-- twice the last counts, as the JSON reader has it.
 use Rattle.std.specs.Prelude.{◌≡◌, ℕ, Bool, false, ◌&&◌, cond, List, [], ◌∷◌, ◌++◌, map, Option, Some, None, is_some, is_none, option_map, Result, Ok, Err, codes}
 use Rattle.std.specs.List.{filter_map, flat_map}
 use Rattle.std.specs.Str.{bytes_eq, is_utf8}
@@ -15,17 +17,17 @@ use Rattle.dce_graph.specs.declared.graph.Graph.{Graph}
 use Rattle.dce_graph.specs.declared.graph.ImportPair.{ImportPair}
 use Rattle.dce_graph.specs.declared.graph.Node.{Node}
 
--- a text, as its bytes
+-- a string, as its bytes
 abbrev pub Text : Type 0
 Text = List ℕ
 
--- the value that bytes are, if they are UTF-8 and JSON of the depth that is read
+-- the value that the bytes encode, if they are UTF-8 and JSON that is not nested too deep
 abbrev pub value_of : List ℕ → Option Data
 value_of bytes = cond (is_utf8 bytes) (read bytes) None
 
 -- ---- one entry ----
 
--- what an entry says of its node, with the names of the nodes that it reaches
+-- what an entry says about its node, with the names of the nodes that it reaches
 pub record Entry : Type 0 where
   pub name : Text
   pub root : Bool
@@ -37,18 +39,20 @@ abbrev pub listed : Items → List Data
 listed no_items = []
 listed (item d ds) = d ∷ listed ds
 
--- what is read of a key, where it stands; and what holds where it is absent. `null` is a value like others
+-- what is read of the value of a key, or `absent` if there is no such key; `null` is a value like
+-- others
 abbrev pub optional : {A : Type 0} → (Data → Option A) → A → Option Data → Option A
 optional read_as absent None = Some absent
 optional read_as absent (Some d) = read_as d
 
+-- an array of strings
 abbrev pub texts_of : Data → Option (List Text)
 texts_of d = as_array d >>= λ ds. all_there as_str (listed ds)
 
 abbrev pub text_of : Data → Option (Option Text)
 text_of d = option_map Some (as_str d)
 
--- two texts: a module and a field
+-- two strings: a module and a field
 abbrev pub import_pair_of_two : List Text → Option (Option ImportPair)
 import_pair_of_two [] = None
 import_pair_of_two (a ∷ []) = None
@@ -58,11 +62,11 @@ import_pair_of_two (a ∷ b ∷ c ∷ more) = None
 abbrev pub import_pair_of : Data → Option (Option ImportPair)
 import_pair_of d = texts_of d >>= import_pair_of_two
 
--- not both an export and an import
+-- the entry, unless it has both an export and an import
 abbrev pub unless_both : Entry → Option Entry
 unless_both e = cond (is_some e.export && is_some e.import) None (Some e)
 
--- what is said under each key
+-- what the value of each key says
 abbrev pub name_in : Data → Option Text
 name_in d = get (codes "name") d >>= as_str
 
@@ -78,7 +82,7 @@ export_in d = optional text_of None (get (codes "export") d)
 abbrev pub import_in : Data → Option (Option ImportPair)
 import_in d = optional import_pair_of None (get (codes "import") d)
 
--- what an entry says, if it has the shape of one
+-- what a value says, if it has the shape of an entry
 abbrev pub entry_of : Data → Option Entry
 entry_of d =
     name_in d >>= λ name.
@@ -93,11 +97,11 @@ entry_of d =
 abbrev pub names_of : List Entry → List Text
 names_of = map (λ e. e.name)
 
--- the place of the first of these names that a text is
+-- the place of a text among these names, the first if there are several
 abbrev pub place_of_name : List Text → Text → Option ℕ
 place_of_name names text = first_place (bytes_eq text) names 0
 
--- the first name that stands among those before it, where others stand before the first
+-- the first name that repeats an earlier one or one of `before`
 abbrev pub repeated_after : List Text → List Text → Option Text
 repeated_after before [] = None
 repeated_after before (name ∷ names) = cond (is_some (place_of_name before name)) (Some name) (repeated_after (before ++ name ∷ []) names)
@@ -116,7 +120,7 @@ reached_names = flat_map (λ e. e.reaches)
 
 -- ---- the graph ----
 
--- the node of an entry, where the names have these places
+-- the node of an entry, if names have these places
 abbrev pub node_of : (Text → Option ℕ) → Entry → Node
 node_of place e = record { name = e.name; root = e.root; reaches = filter_map place e.reaches; export = e.export; import = e.import }
 
@@ -125,21 +129,21 @@ graph_of entries = record { nodes = map (node_of (place_of_name (names_of entrie
 
 -- ---- the graph, or why there is none ----
 
--- where each name that is reached is an entry's
+-- the graph, if each name that is reached is an entry's
 abbrev pub if_known : Option Text → Graph → Result Graph GraphFault
 if_known (Some name) graph = Err (UnknownNode name)
 if_known None graph = Ok graph
 
--- where no name stands twice
+-- the graph, if no name is repeated
 abbrev pub if_distinct : Option Text → List Entry → Result Graph GraphFault
 if_distinct (Some name) entries = Err (NodeTwice name)
 if_distinct None entries = if_known (first_unknown (place_of_name (names_of entries)) (reached_names entries)) (graph_of entries)
 
--- the first of the values that is no entry
+-- the place of the first value that is no entry
 abbrev pub misshapen : List Data → Option ℕ
 misshapen ds = first_place (λ d. is_none (entry_of d)) ds 0
 
--- where each value is an entry
+-- the graph, if each value is an entry
 abbrev pub if_shaped : Option ℕ → List Entry → Result Graph GraphFault
 if_shaped (Some n) entries = Err (GraphShape n)
 if_shaped None entries = if_distinct (first_repeated (names_of entries)) entries
@@ -147,22 +151,23 @@ if_shaped None entries = if_distinct (first_repeated (names_of entries)) entries
 abbrev pub graph_of_values : List Data → Result Graph GraphFault
 graph_of_values ds = if_shaped (misshapen ds) (filter_map entry_of ds)
 
--- where the value is an array
+-- the graph, if the value is an array
 abbrev pub if_array : Option Items → Result Graph GraphFault
 if_array None = Err (GraphShape 0)
 if_array (Some items) = graph_of_values (listed items)
 
--- where the bytes are JSON
+-- the graph, if the bytes are JSON
 abbrev pub if_text : Option Data → Result Graph GraphFault
 if_text None = Err GraphText
 if_text (Some d) = if_array (as_array d)
 
+-- the graph of a file with these bytes, or why there is none
 abbrev pub graph_result : List ℕ → Result Graph GraphFault
 graph_result bytes = if_text (value_of bytes)
 
 -- ---- faults ----
 
--- the fault that is told, or want of memory
+-- the fault is the one that is reported, or says that memory ran out
 abbrev pub IsFault : GraphFault → Option GraphFault → Type 0
 IsFault GraphFault.NoMemory fault = Unit {0}
 IsFault GraphText fault = fault ≡ Some GraphText

@@ -20,7 +20,7 @@ flags r (Global i) = r.globals
 abbrev pub marked : Reached → Point → Bool
 marked r p = get_or (flags r p) (place_in_kind p) false
 
--- whether a mark is there and not set
+-- whether a mark exists and is not set
 abbrev pub not_set : Option Bool → Bool
 not_set None = false
 not_set (Some true) = false
@@ -58,7 +58,8 @@ unmarked r = blanks r.nodes + (blanks r.exports + (blanks r.imports + (blanks r.
 abbrev pub HasMark : Reached → Point → Type 0
 HasMark r p = place_in_kind p < length (flags r p)
 
--- a search met these points: those that have a mark are marked now and no others besides those that were, and each that is newly marked waits
+-- a search visited the points `ps`: those of them that have a mark are now marked, and no others
+-- but those that were, and each that is newly marked is on the stack
 pub record Spread (old : Search) (ps : List Point) (new : Search) : Type 0 where
   pub met : (q : Point) → Contains ps q → HasMark old.marks q → marked new.marks q ≡ true
   pub kept : (q : Point) → marked old.marks q ≡ true → marked new.marks q ≡ true

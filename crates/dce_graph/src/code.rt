@@ -37,7 +37,7 @@ fn visit_operand(search: &mut Search, operand: Option<Operand>) -> Result<(), No
     }
 }
 
-// What the instruction itself names.
+// Visits what the instruction itself names.
 fn visit_operands(search: &mut Search, instr: &Instr) -> Result<(), NoMemory>
     ensures { OnOk result (Spread search.old (filter_map operand_point (operands_of instr.now)) search.new) }
 {
@@ -62,7 +62,7 @@ fn visit_instr(search: &mut Search, instr: &Instr) -> Result<(), NoMemory>
     }
 }
 
-/// Meets each function and global that the body names.
+/// Visits each function and global that the body names.
 #[cycle(code)]
 pub(crate) fn visit_body(search: &mut Search, body: &[Instr]) -> Result<(), NoMemory>
     ensures { OnOk result (Spread search.old (body_points body.now) search.new) }
@@ -73,7 +73,7 @@ pub(crate) fn visit_body(search: &mut Search, body: &[Instr]) -> Result<(), NoMe
     Ok(())
 }
 
-/// Meets the function or global that a constant expression names.
+/// Visits the function or global that a constant expression names, if there is one.
 pub(crate) fn visit_const(search: &mut Search, expr: &ConstExpr) -> Result<(), NoMemory>
     ensures { OnOk result (Spread search.old (const_points expr.now) search.new) }
 {
@@ -106,7 +106,7 @@ fn visit_elem(search: &mut Search, segment: &ElemSeg) -> Result<(), NoMemory>
     }
 }
 
-/// Meets what element segments name that are not declarative.
+/// Visits what active and passive element segments name.
 pub(crate) fn visit_elems(search: &mut Search, segments: &[ElemSeg]) -> Result<(), NoMemory>
     ensures { OnOk result (Spread search.old (flat_map (λ s. elem_points s.mode s.items) segments.now) search.new) }
 {
@@ -125,7 +125,7 @@ fn visit_data(search: &mut Search, segment: &DataSeg) -> Result<(), NoMemory>
     }
 }
 
-/// Meets what the offsets of data segments name.
+/// Visits what the offsets of data segments name.
 pub(crate) fn visit_datas(search: &mut Search, segments: &[DataSeg]) -> Result<(), NoMemory>
     ensures { OnOk result (Spread search.old (flat_map (λ s. data_points s.mode) segments.now) search.new) }
 {

@@ -10,7 +10,8 @@ ghost use Rattle.dce_graph.specs.Entries.{texts_in, pair_now, entry_now};
 
 use serde_json::Value;
 
-/// What an entry says of its node, as parts of the value that was read. The values in `reaches` are texts.
+/// What an entry says about its node, as parts of the JSON value. The values in `reaches` are
+/// strings.
 #[derive(Clone, Copy)]
 pub(crate) struct Entry<'v> {
     pub(crate) name: &'v str,
@@ -26,7 +27,7 @@ fn are_texts(values: &[Value]) -> bool
     values.iter().all(|value| value.is_string())
 }
 
-// The values of an array, where all are texts.
+// Returns the values of an array, if all are strings.
 fn texts(value: &Value) -> Option<&[Value]>
     ensures { option_map (λ vs. texts_in vs.now) result ≡ texts_of (view value.now) }
 {
@@ -81,7 +82,7 @@ fn export(value: &Value) -> Option<Option<&str>>
     }
 }
 
-// A module and a field, where there are two texts and no more.
+// Returns a module and a field, if there are exactly two strings.
 fn two_texts(values: &[Value]) -> Option<Option<(&str, &str)>>
     ensures { option_map (λ o. option_map pair_now o) result ≡ option_and_then import_pair_of_two (all_there as_str (map view values.now)) }
 {
@@ -115,7 +116,7 @@ fn import(value: &Value) -> Option<Option<(&str, &str)>>
     }
 }
 
-/// What the value says, if it has the shape of an entry.
+/// Returns what the value says, if it has the shape of an entry.
 pub(crate) fn read_entry(value: &Value) -> Option<Entry<'_>>
     ensures { option_map entry_now result ≡ entry_of (view value.now) }
 {

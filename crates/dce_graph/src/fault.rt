@@ -1,23 +1,21 @@
-// Why a graph file is refused.
-
 ghost use Rattle.std.specs.Prelude.{◌≡◌};
 ghost use Rattle.dce_graph.specs.declared.fault.GraphFault.TheVariants.{NoMemory as OutOfMemory};
 
 use std::alloc::{AllocError, AllocFailed};
 use wasm_bytes::{Name, NoMemory};
 
-/// Why a graph file is refused, in the order in which it is tested.
+/// Why a graph file is refused, in the order in which the faults are tested.
 #[derive(Drop)]
 pub enum GraphFault {
-    /// The bytes are no JSON, no UTF-8, or nested deeper than 127.
+    /// The bytes are not UTF-8, not JSON, or nested more than 127 deep.
     GraphText,
-    /// The entry does not have the shape of one, and it is the first; entry 0 where the value is no array.
+    /// The first entry that does not have the shape of one; 0 if the value is not an array.
     GraphShape { entry: u32 },
-    /// The name is that of an entry before, and it is the first such name.
+    /// The first name that repeats an earlier one.
     NodeTwice { name: Name },
-    /// The name is reached, and no entry has it; of the first such entry it is the first such name.
+    /// The first name that is reached and that no entry has, in the order of the entries.
     UnknownNode { name: Name },
-    /// Want of memory, which says nothing of the file.
+    /// Memory ran out, which says nothing about the file.
     NoMemory,
 }
 

@@ -1,4 +1,5 @@
-//! The graph of what stands outside a module, and what of the module and of the graph is reached from its roots.
+//! Reads the graph of what is outside a module, and finds what of the module and of the graph is
+//! reached from its roots.
 #![tactic(auto)]
 
 mod code;

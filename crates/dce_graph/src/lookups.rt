@@ -1,4 +1,4 @@
-// The tables that a walk looks up.
+// The look-up tables of a walk.
 
 ghost use Rattle.std.specs.Prelude.{◌≡◌, ◌<◌, ◌^◌, ℕ, List, Some, cond, length, IfOk, OnOk, option_and_then};
 ghost use Rattle.std.specs.Str.{bytes_eq};
@@ -15,7 +15,8 @@ use std::collections::BTreeMap;
 use wasm_bytes::NoMemory;
 use wasm_tree::{Export, Import, ImportDesc, Module};
 
-// The place of each name of an export, from the last to the first, so that the first that bears a name counts.
+// Returns the place of each export name. The loop runs backwards, so that the first export with a
+// name counts.
 fn export_places<'a>(
     alloc: Global,
     exports: &'a [Export],
@@ -30,7 +31,8 @@ fn export_places<'a>(
     Ok(places)
 }
 
-// Notes that a node denotes its module and field, if it does, and gives the one that did before.
+// Notes the module and field that a node denotes, if any, and returns the last node before it that
+// denotes the same.
 fn note<'a>(
     last: &mut BTreeMap<(&'a str, &'a str), u32>,
     import: &'a Option<ImportPair>,
@@ -45,7 +47,8 @@ fn note<'a>(
     }
 }
 
-// The nodes that denote modules and fields.
+// For each module and field the last node that denotes them, and for each node the one before it
+// that denotes the same.
 #[derive(Drop)]
 struct NodeChains<'a> {
     last: BTreeMap<(&'a str, &'a str), u32>,
@@ -89,7 +92,7 @@ fn imported_places(alloc: Global, imports: &[Import]) -> Result<Imported, NoMemo
     Ok(Imported { funcs, globals })
 }
 
-/// The walk over a graph and a module.
+/// Returns the walk over a graph and a module.
 pub(crate) fn walk<'a>(
     alloc: Global,
     graph: &'a Graph,

@@ -1,4 +1,4 @@
-// What was reached, as marks.
+// Marks on what is reached.
 
 ghost use Rattle.std.specs.Prelude.{◌≡◌, get_or, slice_get, slice_set, replicate, true, false, length, IfOk, OnOk};
 ghost use Rattle.wasm_tree.specs.Spaces.{funcs_of, globals_of};
@@ -10,7 +10,8 @@ use std::alloc::Global;
 use wasm_bytes::{Items, NoMemory};
 use wasm_tree::Module;
 
-/// For each point of a graph and a module whether it is reached: one mark for each node, and for each export, import, function and global.
+/// Whether each point of a graph and a module is reached: one mark for each node, export, import,
+/// function and global.
 #[derive(Drop)]
 pub struct Reached {
     pub nodes: Items<bool>,
@@ -29,7 +30,7 @@ fn is_blank(flags: &[bool], place: u32) -> bool
     }
 }
 
-/// Whether a flag is there and set.
+/// Returns whether a flag exists and is set.
 pub(crate) fn is_set(flags: &[bool], place: u32) -> bool
     ensures { result ≡ get_or flags.now place false }
 {
@@ -39,7 +40,7 @@ pub(crate) fn is_set(flags: &[bool], place: u32) -> bool
     }
 }
 
-/// Sets a flag, if it is there.
+/// Sets a flag, if it exists.
 pub(crate) fn set_flag(flags: &mut Items<bool>, place: u32)
     ensures { flags.new ≡ slice_set flags.old place true }
 {
@@ -48,7 +49,7 @@ pub(crate) fn set_flag(flags: &mut Items<bool>, place: u32)
     }
 }
 
-/// So many flags, none of them set.
+/// Returns `count` flags, none of them set.
 pub(crate) fn blank_flags(alloc: Global, count: usize) -> Result<Items<bool>, NoMemory>
     ensures { IfOk result (λ flags. flags ≡ replicate count false) }
 {
@@ -60,7 +61,7 @@ pub(crate) fn blank_flags(alloc: Global, count: usize) -> Result<Items<bool>, No
 }
 
 impl Reached {
-    /// A blank mark for each point.
+    /// Returns marks for all points, none of them set.
     pub(crate) fn blank(alloc: Global, graph: &Graph, module: &Module) -> Result<Reached, NoMemory>
         ensures { IfOk result (λ marks. marks ≡ blank_marks graph.now «module».now) }
     {
@@ -73,7 +74,7 @@ impl Reached {
         })
     }
 
-    /// Whether the point is there and has no mark.
+    /// Returns whether the point exists and is not marked.
     pub(crate) fn is_unmet(&self, point: Point) -> bool
         ensures { result ≡ unmet self.now point }
     {
@@ -86,7 +87,7 @@ impl Reached {
         }
     }
 
-    /// Marks the point, if it is there.
+    /// Marks the point, if it exists.
     pub(crate) fn mark(&mut self, point: Point)
         ensures { self.new ≡ with_mark self.old point }
     {

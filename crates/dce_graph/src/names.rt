@@ -1,4 +1,4 @@
-// The places of names, and the nodes that names denote.
+// The places of names, and the nodes of entries.
 
 ghost use Rattle.std.specs.Prelude.{◌≡◌, ◌<◌, ◌^◌, List, ℕ, Some, None, cond, length, map, is_some, option_map, IfOk, IfErr, IsOk, OnOk};
 ghost use Rattle.std.specs.List.{filter_map};
@@ -15,7 +15,7 @@ use std::alloc::{AllocError, Global};
 use std::collections::BTreeMap;
 use wasm_bytes::{Items, Name, NoMemory};
 
-// Inserts the place of a name, and says whether it had one.
+// Inserts the place of a name, and returns whether it had one.
 fn insert_name<'v>(
     names: &mut BTreeMap<&'v str, u32>,
     name: &'v str,
@@ -36,7 +36,7 @@ fn twice(alloc: Global, name: &str) -> GraphFault
     }
 }
 
-/// The place of each name, where none stands twice.
+/// Returns the place of each name, or a fault if a name is repeated.
 pub(crate) fn all_names<'v>(
     alloc: Global,
     entries: &[Entry<'v>],
@@ -65,7 +65,7 @@ fn unknown(alloc: Global, name: &str) -> GraphFault
     }
 }
 
-// The places of the names that an entry reaches, where each has one.
+// Returns the places of the names that an entry reaches, or a fault if one has none.
 fn reached_places(
     alloc: Global,
     names: &BTreeMap<&str, u32>,
@@ -108,7 +108,7 @@ fn owned_pair(alloc: Global, pair: Option<(&str, &str)>) -> Result<Option<Import
     }
 }
 
-// The node of an entry.
+// Returns the node of an entry.
 fn node(alloc: Global, names: &BTreeMap<&str, u32>, entry: &Entry<'_>) -> Result<Node, GraphFault>
     ensures known { IsOk result → first_unknown (place_in_map names.now) (texts_in entry.now.reaches.now) ≡ None }
     ensures node { IfOk result (λ node. node ≡ node_of (place_in_map names.now) (entry_now entry.now)) }
@@ -124,7 +124,7 @@ fn node(alloc: Global, names: &BTreeMap<&str, u32>, entry: &Entry<'_>) -> Result
     })
 }
 
-/// The node of each entry, where each name that is reached has a place.
+/// Returns the node of each entry, or a fault if a name that is reached has no place.
 pub(crate) fn all_nodes(
     alloc: Global,
     names: &BTreeMap<&str, u32>,

@@ -1,7 +1,6 @@
-// What may be reached.
-
-/// A node of the graph, an export or an import of the module by its place, or a function or a global by its index, imported ones
-/// included (WebAssembly Core 2.0, section 2.5.1).
+/// A point that may be reached: a node of the graph, an export or import of the module by its
+/// place, or a function or global by its index, also an imported one (WebAssembly Core 2.0, section
+/// 2.5.1).
 #[derive(Clone, Copy, Debug, PartialEq, Eq)]
 pub enum Point {
     Node(u32),

@@ -1,5 +1,3 @@
-// What a path from a root meets.
-
 ghost use Rattle.std.specs.Prelude.{◌≡◌, ◌↔◌, ◌<◌, ◌^◌, true, length, IfOk};
 ghost use Rattle.dce_graph.specs.declared.point.Point.{Point as AnyPoint};
 ghost use Rattle.dce_graph.specs.Marks.{flags, marked};
@@ -13,13 +11,17 @@ use std::alloc::Global;
 use wasm_bytes::{Items, NoMemory};
 use wasm_valid::Valid;
 
-/// Marks exactly the nodes of the graph, and the exports, imports, functions and globals of the module, that a path from a root meets.
+/// Marks exactly those nodes of the graph, and those exports, imports, functions and globals of the
+/// module, that a path from a root meets.
 ///
-/// Roots are the graph's root nodes, the start function, the imports of tables and memories, and the functions and globals that the offsets and items of
-/// active and passive segments name. Edges lead from a node to each node that it reaches and to the export that it names; from an export to its function
-/// or global; from a defined function to each function and global that its body names; from a defined global to what its initialiser names; and from an
-/// imported function or global to its import, and from an import to every node that denotes its module and field. A node whose export or import the
-/// module does not have names nothing (WebAssembly Core 2.0, sections 2.5 and 2.5.1).
+/// The roots are the root nodes of the graph, the start function, the imports of tables and
+/// memories, and the functions and globals that the offsets and items of active and passive
+/// segments name. Edges lead from a node to each node that it reaches and to the export that it
+/// denotes; from an export to its function or global; from a defined function to each function and
+/// global that its body names; from a defined global to what its initialiser names; from an
+/// imported function or global to its import; and from an import to every node that denotes its
+/// module and field. If the module does not have a node's export or import, the node denotes
+/// nothing (WebAssembly Core 2.0, sections 2.5 and 2.5.1).
 pub fn reached(alloc: Global, graph: &Graph, input: &Valid) -> Result<Reached, NoMemory>
     requires { length graph.now.nodes < 2 ^ 32 }
     ensures exactly { IfOk result (λ marks. (p : AnyPoint) → (marked marks p ≡ true) ↔ IsReached graph.now input.now p) }

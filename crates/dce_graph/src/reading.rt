@@ -1,5 +1,3 @@
-// The graph of a file.
-
 ghost use Rattle.std.specs.Prelude.{◌≡◌, ◌<◌, ◌^◌, ◌⊎◌, Ok, None, length, map, option_map, IfOk, IfErr, IsOk};
 ghost use Rattle.std.specs.List.{filter_map};
 ghost use Rattle.serde_json.specs.Errors.{IsMemory};
@@ -15,7 +13,7 @@ use crate::names::{all_names, all_nodes};
 use serde_json::{Error, Value};
 use std::alloc::Global;
 
-// Each value as an entry, where each is one.
+// Returns the entry of each value, or a fault for the first that is none.
 fn all_entries(alloc: Global, values: &[Value]) -> Result<Vec<Entry<'_>>, GraphFault>
     requires few { length values.now < 2 ^ 32 }
     ensures shaped { IsOk result → misshapen (map view values.now) ≡ None }
@@ -35,7 +33,7 @@ fn all_entries(alloc: Global, values: &[Value]) -> Result<Vec<Entry<'_>>, GraphF
     Ok(entries)
 }
 
-// The graph of the values of an array.
+// Returns the graph of the values of an array, or why there is none.
 fn graph_of_values(alloc: Global, values: &[Value]) -> Result<Graph, GraphFault>
     requires few { length values.now < 2 ^ 32 }
     ensures ok { IfOk result (λ graph. graph_of_data (map view values.now) ≡ Ok graph) }
@@ -51,7 +49,7 @@ fn graph_of_values(alloc: Global, values: &[Value]) -> Result<Graph, GraphFault>
     Ok(Graph { nodes })
 }
 
-// What an error of the reading of JSON is.
+// Returns the fault for an error in reading JSON.
 fn text_fault(error: &Error) -> GraphFault
     ensures memory { (result ≡ OutOfMemory) ⊎ ((result ≡ GraphText) × ¬ IsMemory error.now) }
 {
@@ -64,14 +62,18 @@ fn text_fault(error: &Error) -> GraphFault
 
 /// Reads a graph file: a JSON array of objects.
 ///
-/// `name` is a text and must be there; `reaches` is an array of texts, `root` a truth value, `export` a text, `import` an array of two texts. Each but
-/// `name` may be absent, and `export` and `import` do not stand together. Other keys are ignored, `root` false is as absent, and of a key that is given twice
-/// the last counts.
+/// `name` is a string and is required; `reaches` is an array of strings, `root` a boolean, `export`
+/// a string, `import` an array of two strings. Each but `name` may be absent, and an entry does not
+/// have both `export` and `import`. Other keys are ignored, `root` false means the same as no
+/// `root`, and of a key that is given twice the last counts.
 ///
-/// The faults are tested in this order. `GraphText` comes exactly where the bytes are not UTF-8 or no JSON, or nest deeper than 127. `GraphShape` comes
-/// exactly where the value is no array, or an entry breaks a rule above: the first. `NodeTwice` comes exactly where an entry's name is that of one before:
-/// the first. `UnknownNode` comes exactly where a name that is reached is no entry's: that of the first entry, the first name. `NoMemory` is want of memory
-/// and says nothing of the file.
+/// Unless memory runs out, the call fails exactly if one of these faults applies, and reports the
+/// first that does. `GraphText`: the bytes are not UTF-8, not JSON, or nested more than 127 deep.
+/// `GraphShape`: the value is not an array, or an entry breaks a rule above; the fault has the
+/// first such entry. `NodeTwice`: an entry has the name of an earlier one; the fault has the first
+/// such name. `UnknownNode`: an entry reaches a name that no entry has; the fault has the first
+/// such name of the first such entry. `NoMemory` means that memory ran out and says nothing about
+/// the file.
 pub fn read_graph(alloc: Global, text: &[u8]) -> Result<Graph, GraphFault>
     requires { length text.now < 2 ^ 32 }
     ensures graph { IfOk result (λ graph. graph_result text.now ≡ Ok graph) }

@@ -1,4 +1,4 @@
-// The points that were met, and those of them whose edges were not followed yet.
+// The points that were visited, and those of them whose edges were not followed yet.
 
 ghost use Rattle.std.specs.Prelude.{◌≡◌, ◌∷◌, ◌++◌, [], OnOk, MatchOption};
 ghost use Rattle.dce_graph.specs.Marks.{Spread, with_stack};
@@ -13,7 +13,7 @@ pub(crate) struct Search {
     pub(crate) stack: Items<Point>,
 }
 
-/// Meets a point, if it is there.
+/// Visits a point, if it exists.
 pub(crate) fn visit(search: &mut Search, point: Point) -> Result<(), NoMemory>
     ensures { OnOk result (Spread search.old (point ∷ []) search.new) }
 {

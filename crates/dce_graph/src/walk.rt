@@ -1,4 +1,4 @@
-// The roots of a graph and a module, and the edges of each point.
+// Visits the roots of a graph and a module, and the points to which edges lead.
 
 ghost use Rattle.std.specs.Prelude.{◌≡◌, ◌<◌, ◌^◌, [], ◌∷◌, Some, cond, map, length, OnOk, slice_get};
 ghost use Rattle.wasm_tree.specs.Spaces.{space_of_import};
@@ -16,16 +16,16 @@ use std::collections::BTreeMap;
 use wasm_bytes::{Items, Name, NoMemory};
 use wasm_tree::{ExportDesc, Import, ImportDesc, Module};
 
-/// What is looked up while points are met.
+/// A graph and a module, with what is looked up in them during a search.
 #[derive(Drop)]
 pub(crate) struct Walk<'a> {
     pub(crate) graph: &'a Graph,
     pub(crate) module: &'a Module,
-    /// The place of each name of an export.
+    /// The place of each export name.
     pub(crate) exports: BTreeMap<&'a str, u32>,
-    /// Of each module and field the last node that denotes them.
+    /// For each module and field the last node that denotes them.
     pub(crate) last: BTreeMap<(&'a str, &'a str), u32>,
-    /// Of each node the one before it that denotes the same module and field.
+    /// For each node the one before it that denotes the same module and field.
     pub(crate) before: Vec<Option<u32>>,
     /// The places of the imports of functions.
     pub(crate) funcs: Vec<u32>,
@@ -76,7 +76,7 @@ fn stays(desc: &ImportDesc) -> bool
     }
 }
 
-// Meets the imports of tables and memories.
+// Visits the imports of tables and memories.
 fn visit_imports(search: &mut Search, imports: &[Import]) -> Result<(), NoMemory>
     requires few { length imports.now < 2 ^ 32 }
     ensures { OnOk result (Spread search.old (import_points imports.now) search.new) }
@@ -89,7 +89,7 @@ fn visit_imports(search: &mut Search, imports: &[Import]) -> Result<(), NoMemory
 }
 
 impl<'a> Walk<'a> {
-    /// Meets the roots.
+    /// Visits the roots.
     pub(crate) fn visit_roots(&self, search: &mut Search) -> Result<(), NoMemory>
         requires nodes { length self.now.graph.now.nodes < 2 ^ 32 }
         requires imports { length self.now.«module».now.imports < 2 ^ 32 }
@@ -102,7 +102,7 @@ impl<'a> Walk<'a> {
         visit_datas(search, self.module.datas.as_slice())
     }
 
-    // Meets the export of a name, if there is one.
+    // Visits the export with a name, if there is one.
     fn visit_named_export(&self, search: &mut Search, name: &Option<Name>) -> Result<(), NoMemory>
         requires lookups { AreLookups self.now }
         ensures { OnOk result (Spread search.old (export_of_node self.now.«module».now.exports name.now) search.new) }
@@ -124,7 +124,7 @@ impl<'a> Walk<'a> {
         self.visit_named_export(search, &node.export)
     }
 
-    // Meets each node that denotes the import, from the last to the first.
+    // Visits each node that denotes the import, from the last to the first.
     fn visit_standing(
         &self,
         search: &mut Search,
@@ -143,8 +143,8 @@ impl<'a> Walk<'a> {
         Ok(())
     }
 
-    // Meets each node that denotes the import. Each module and field is followed once, however often they are imported: then the flag of the last node
-    // that denotes them is set.
+    // Visits each node that denotes the import. Each module and field is followed only once, even
+    // if it is imported several times: the flag of the last node that denotes it is set after that.
     fn visit_from_import(
         &self,
         search: &mut Search,
@@ -208,7 +208,7 @@ impl<'a> Walk<'a> {
         }
     }
 
-    /// Meets the points to which edges lead from a point.
+    /// Visits the points to which edges lead from a point.
     pub(crate) fn visit_edges(
         &self,
         search: &mut Search,

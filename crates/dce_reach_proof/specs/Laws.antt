@@ -1,4 +1,4 @@
--- The law of marks that are exactly on what is reached.
+-- The law of marks on exactly what is reached.
 use Rattle.wasm_tree_spec.specs.Prelude.{Module}
 use Rattle.wasm_valid.specs.Prelude.{IsValid}
 use Rattle.dce_graph.specs.declared.graph.Graph.{Graph}
@@ -6,5 +6,6 @@ use Rattle.dce_graph.specs.declared.marks.Reached.{Reached}
 use Rattle.dce_sweep_spec.specs.Closed.{AreClosed}
 use Rattle.dce_sweep_spec.specs.Reached.{AreExact, marks_of}
 
+-- marks on exactly what is reached from the roots of a graph and a valid module are closed
 abbrev pub ReachedMarksAreClosed : Type 0
 ReachedMarksAreClosed = (g : Graph) (m : Module) (r : Reached) → IsValid m → AreExact g m r → AreClosed (marks_of r) m

@@ -1,4 +1,4 @@
-//! That marks which are exactly on what is reached are closed, as a law.
+//! A law: marks on exactly what is reached are closed.
 #![tactic(auto)]
 
 ghost use Rattle.dce_reach_proof.specs.Laws.{ReachedMarksAreClosed};
@@ -6,8 +6,8 @@ ghost use Rattle.dce_reach_proof.specs.Laws.{ReachedMarksAreClosed};
 use index_remap_proof::renumbering_keeps_typing;
 use wasm_tree::operands_pass_layer_by_layer;
 
-/// Marks that are exactly on what a path from a root of a graph and a valid module meets are closed: what is marked of the module names only what is marked
-/// (WebAssembly Core 2.0, section 2.5.1).
+/// Marks on exactly what a path from a root of a graph and a valid module meets are closed: what is
+/// marked of the module names only what is marked (WebAssembly Core 2.0, section 2.5.1).
 pub fn reached_marks_are_closed()
     ensures closed { ReachedMarksAreClosed }
 {

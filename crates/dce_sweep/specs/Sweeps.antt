@@ -1,4 +1,4 @@
--- What a sweep gives: what is left of the module, or why there is nothing.
+-- What a sweep gives: the swept module, or why there is none.
 use Rattle.std.specs.Prelude.{◌≡◌, Option, Some, None, Result, Ok, Err}
 use Rattle.wasm_tree_spec.specs.Prelude.{Which, Module}
 use Rattle.module_limits.specs.Counts.{over_limit}
@@ -11,9 +11,10 @@ abbrev pub outcome : Option Which → Module → Result Module SweepFault
 outcome (Some which) m = Err (TooMany which)
 outcome None m = Ok m
 
--- what a sweep gives, want of memory left aside
+-- what a sweep gives unless memory runs out
 abbrev pub sweep_of : Marks → Module → Result Module SweepFault
 sweep_of k m = outcome (over_limit (swept k m)) (swept k m)
 
+-- a sweep of the module by these marks gives the result
 abbrev pub Sweeps : Marks → Module → Result Module SweepFault → Type 0
 Sweeps k m result = sweep_of k m ≡ result

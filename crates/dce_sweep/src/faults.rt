@@ -1,16 +1,15 @@
-// Why nothing is removed.
-
 ghost use Rattle.std.specs.Prelude.{◌≡◌};
 ghost use Rattle.dce_sweep.specs.declared.faults.SweepFault.TheVariants.{NoMemory as OutOfMemory};
 
 use wasm_bytes::NoMemory;
 use wasm_tree::Which;
 
-/// Why there is no module with what is kept.
+/// Why there is no swept module.
 #[derive(Drop)]
 pub enum SweepFault {
-    /// It would have more of something than a module may have.
+    /// A count of the swept module is above its limit; `which` is the first such count.
     TooMany { which: Which },
+    /// Memory ran out, which says nothing about the module.
     NoMemory,
 }
 

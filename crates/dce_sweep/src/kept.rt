@@ -1,4 +1,4 @@
-// What is kept of a module, which is moved.
+// What is kept of a module.
 
 ghost use Rattle.std.specs.Prelude.{◌≡◌, ◌-◌, ◌≤◌, length, map as each, drop, filter, IfOk, OnOk};
 ghost use Rattle.wasm_tree.specs.Spaces.{funcs_of, globals_of};
@@ -12,7 +12,7 @@ use std::alloc::Global;
 use wasm_bytes::{Items, NoMemory};
 use wasm_tree::{ConstExpr, ElemMode, ElemSeg, Module};
 
-// What is marked of what a module defines, whose marks come after those of what it imports.
+// Keeps what is marked of what a module defines. Its marks come after those of its imports.
 fn keep_defined<T: Drop>(
     alloc: Global,
     defined: Items<T>,
@@ -39,7 +39,7 @@ fn is_kept(item: ConstExpr, marks: &Reached) -> bool
     }
 }
 
-// The items that declare functions which are kept.
+// Returns the items that are `ref.func` of a kept function.
 fn kept_refs(
     alloc: Global,
     items: &[ConstExpr],
@@ -56,7 +56,7 @@ fn kept_refs(
     Ok(all)
 }
 
-// Leaves of a declarative segment only the declarations of functions that are kept.
+// Keeps of the items of a declarative segment only those that declare kept functions.
 fn keep_items(alloc: Global, elem: &mut ElemSeg, marks: &Reached) -> Result<(), NoMemory>
     ensures { OnOk result (elem.new ≡ kept_elem (marks_of marks.now) elem.old) }
 {
@@ -80,7 +80,8 @@ fn keep_declared(alloc: Global, elems: &mut Items<ElemSeg>, marks: &Reached) -> 
     Ok(())
 }
 
-/// The module without what is not reached; what is left still has the indices of the whole module in it.
+/// Returns the module without what is not marked. What is left still has the indices of the whole
+/// module.
 pub(crate) fn kept_module(alloc: Global, from: Module, marks: &Reached) -> Result<Module, NoMemory>
     requires exports { length marks.now.exports ≡ length from.exports }
     requires imports { length marks.now.imports ≡ length from.imports }

@@ -1,4 +1,5 @@
-//! Removing what is not reached of a module: what is kept is moved, and given its new indices where it stands.
+//! Removes from a module what is not reached. What is kept is moved, and gets its new indices in
+//! place.
 #![tactic(auto)]
 
 mod faults;

@@ -1,4 +1,4 @@
-// Where each index goes.
+// The map of a sweep.
 
 ghost use Rattle.std.specs.Prelude.{◌≡◌, ◌≤◌, ◌<◌, ◌^◌, length, IfOk};
 ghost use Rattle.base_lists.specs.Places as places;
@@ -13,7 +13,7 @@ use std::alloc::Global;
 use wasm_bytes::{Items, NoMemory};
 use wasm_tree::Module;
 
-// So many numbers in a row, from 0 on.
+// Returns `count` consecutive numbers from 0 on.
 fn numbers(alloc: Global, count: usize) -> Result<Items<u32>, NoMemory>
     requires { count ≤ 2 ^ 32 }
     ensures { IfOk result (λ all. all ≡ places.numbers 0 count) }
@@ -23,7 +23,8 @@ fn numbers(alloc: Global, count: usize) -> Result<Items<u32>, NoMemory>
     Ok(all)
 }
 
-/// Where each index goes: functions and globals to their places among those that are kept, all else where it is.
+/// Returns the map of a sweep: functions and globals go to their places among those that are kept,
+/// and all other indices stay the same.
 pub(crate) fn sweep_map(alloc: Global, module: &Module, marks: &Reached) -> Result<Remap, NoMemory>
     requires bounded { IsBounded «module».now }
     requires funcs { length marks.now.funcs < 2 ^ 32 }

@@ -1,5 +1,3 @@
-// Sweeping a module.
-
 ghost use Rattle.std.specs.Prelude.{◌≡◌, ◌⊎◌, Ok, Err, IfOk, IfErr};
 ghost use Rattle.dce_sweep_spec.specs.Closed.{AreClosed};
 ghost use Rattle.dce_sweep_spec.specs.Swept.{renumbered_kept};
@@ -24,7 +22,7 @@ use wasm_bytes::NoMemory;
 use wasm_tree::Module;
 use wasm_valid::Valid;
 
-// What is kept of the module, with its new indices.
+// Returns what is kept of the module, with its new indices.
 fn renumbered(alloc: Global, from: Module, marks: &Reached) -> Result<Module, NoMemory>
     requires valid { IsValid from }
     requires bounded { IsBounded from }
@@ -38,17 +36,23 @@ fn renumbered(alloc: Global, from: Module, marks: &Reached) -> Result<Module, No
     Ok(tree)
 }
 
-/// The module without what is not reached.
+/// Removes from a module what is not marked.
 ///
-/// Functions, globals, imports and exports that are not marked are left out, the others keep their order, and each index is the one among what is left. Types, tables,
-/// memories and segments stay; of the items of a declarative segment only each `ref.func` of a function that is kept. Functions that `ref.func` names in a body
-/// and that nothing else declares any more are declared last (WebAssembly Core 2.0, sections 2.5 and 3.4.10). What is marked has to name only what is marked, so
-/// that the module is valid. Nothing is copied: what is kept is moved, and its indices are replaced where they stand.
+/// Functions, globals, imports and exports that are not marked are left out, the others keep their
+/// order, and each index becomes the one in what is left. Types, tables, memories and segments
+/// stay, but a declarative segment keeps only the items that are `ref.func` of a kept function.
+/// Functions that `ref.func` names in a body and that nothing else declares any more are declared
+/// in one more element segment, the last (WebAssembly Core 2.0, sections 2.5 and 3.4.10). What is
+/// marked has to name only what is marked (`closed`), so that the module is valid. Nothing is
+/// copied: what is kept is moved, and its indices are replaced in place.
 ///
-/// In every environment that links the module with only those names of its exports that are kept, an embedder sees the same of both, step by step (`behaves`).
+/// The result is observationally equivalent, step by step, to the whole module with a view of only
+/// the kept exports, in every environment that links the latter (`behaves`).
 ///
-/// `TooMany` comes exactly where a count of this module is above its limit, with the first such count in the order types, imports, functions, tables, memories,
-/// globals, exports, element segments and data segments. `NoMemory` is want of memory, and says nothing of the module. The input is given up in each case.
+/// Unless memory runs out, the call fails exactly if a count of the result is above its limit, with
+/// `TooMany`, and reports the first such count, in the order types, imports, functions, tables,
+/// memories, globals, exports, element segments, data segments. `NoMemory` means that memory ran
+/// out and says nothing about the module. The call consumes the input, also if it fails.
 pub fn sweep(alloc: Global, input: Valid, marks: &Reached) -> Result<Valid, SweepFault>
     requires closed { AreClosed (marks_of marks.now) input }
     ensures swept { IfOk result (λ valid. Sweeps (marks_of marks.now) input (Ok valid)) }

@@ -1,4 +1,4 @@
-//! That what is left of a valid module, where what is kept names only what is kept, is valid, as a law.
+//! Laws: what closed marks leave of a valid module is valid, and the map of the sweep fits it.
 #![tactic(auto)]
 
 ghost use Rattle.std.specs.Prelude.{◌≡◌, ◌<◌, ◌^◌, length, None, IsTrue};
@@ -18,8 +18,9 @@ use index_remap_proof::{
 use module_limits::counts_are_within_where_none_is_over;
 use wasm_valid::valid_where_items_hold;
 
-/// What is left of a valid module by marks that are closed is valid (`valid`, WebAssembly Core 2.0, section 3.4). It has at most one memory where the module has
-/// (`single`), and a u32 can count what it has where none of its counts is above its limit (`bounded`).
+/// What closed marks leave of a valid module is valid (`valid`, WebAssembly Core 2.0, section 3.4).
+/// It has at most one memory if the module has (`single`), and it is bounded if the module is and
+/// no count of what is left is above its limit (`bounded`).
 pub fn swept_modules_are_valid()
     ensures valid { (k : Marks) (m : Module) → IsValid m → AreClosed k m → IsValid (swept k m) }
     ensures single { (k : Marks) (m : Module) → IsValid m → AreClosed k m → IsSingle m → IsSingle (swept k m) }
@@ -32,7 +33,8 @@ pub fn swept_modules_are_valid()
     counts_are_within_where_none_is_over();
 }
 
-/// The map of a sweep has an entry for each index that is named in what is kept (`entries`), which, with its new indices, has functions that a u32 can count (`funcs`).
+/// The map of a sweep has an entry for each index that is named in what is kept (`entries`). With
+/// its new indices, what is kept of a bounded module has functions that a u32 can count (`funcs`).
 pub fn what_is_kept_fits()
     ensures entries { (k : Marks) (m : Module) → IsValid m → AreClosed k m → IsTrue (fits_tree (sweep_map k m) (kept_tree k m)) }
     ensures funcs { (k : Marks) (m : Module) → IsValid m → AreClosed k m → IsBounded m → length (funcs_of (renumbered_kept k m)) < 2 ^ 32 }

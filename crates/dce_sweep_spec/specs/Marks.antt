@@ -1,5 +1,6 @@
--- What is to be kept of a module, as marks: of the exports and the imports by their places, of the functions and the globals by their indices
--- (WebAssembly Core 2.0, section 2.5.1). All types, tables, memories and segments are kept.
+-- What is to be kept of a module, as marks on exports and imports by their places, and on functions
+-- and globals by their indices (WebAssembly Core 2.0, section 2.5.1). All types, tables, memories
+-- and segments are kept.
 use Rattle.std.specs.Prelude.{Bool, true, List}
 use Rattle.wasm_tree_spec.specs.Prelude.{Types, Functions, Tables, Memories, Globals, ElementSegments, DataSegments}
 use Rattle.index_remap_proof.specs.Indices.{Indices}

@@ -9,12 +9,13 @@ use Rattle.index_remap.specs.Prelude.{declared, renumbered_tree}
 use Rattle.base_kept.specs.Kept.{kept, is_marked, new_places}
 use Rattle.dce_sweep_spec.specs.Marks.{Marks}
 
--- whether it is `ref.func` of a function that is kept
+-- whether the item is `ref.func` of a kept function
 abbrev pub is_kept_ref : Marks → ConstExpr → Bool
 is_kept_ref k (const.Func f) = is_marked k.funcs f
 is_kept_ref k _ = false
 
--- a declarative segment only declares functions for `ref.func` (section 3.4.10), so that of its items only those of functions that are kept stay; of others all stay
+-- a declarative segment only declares functions for `ref.func` (section 3.4.10), so it keeps only
+-- the items of kept functions; other segments keep all items
 abbrev pub kept_items : Marks → ElemMode → List ConstExpr → List ConstExpr
 kept_items k (elem.Active table offset) items = items
 kept_items k elem.Passive items = items
@@ -23,14 +24,14 @@ kept_items k elem.Declarative items = filter (is_kept_ref k) items
 abbrev pub kept_elem : Marks → ElemSeg → ElemSeg
 kept_elem k e = record e { items = kept_items k e.mode e.items }
 
--- the marks of what the module defines, which comes in an index space after what it imports
+-- the marks of what the module defines, which comes after the imports in an index space
 abbrev pub defined_funcs : Marks → Module → List Bool
 defined_funcs k m = drop (length (imported_funcs m.imports)) k.funcs
 
 abbrev pub defined_globals : Marks → Module → List Bool
 defined_globals k m = drop (length (imported_globals m.imports)) k.globals
 
--- the module without what is not kept; what is left still has the indices of the whole module in it
+-- the module without what is not kept, still with the indices of the whole module
 abbrev pub kept_tree : Marks → Module → Module
 kept_tree k m =
     record m {
@@ -41,7 +42,7 @@ kept_tree k m =
       elems = map (kept_elem k) m.elems;
     }
 
--- where each index goes
+-- the new index of each old one
 abbrev pub sweep_map : Marks → Module → Remap
 sweep_map k m = record {
   types = numbers 0 (length m.types);
@@ -57,6 +58,7 @@ sweep_map k m = record {
 abbrev pub renumbered_kept : Marks → Module → Module
 renumbered_kept k m = renumbered_tree (sweep_map k m) (kept_tree k m)
 
--- and with the functions declared that `ref.func` names and that nothing else declares any more (section 3.4.10)
+-- the same, with those functions declared that `ref.func` names and that nothing else declares any
+-- more (section 3.4.10)
 unfoldable pub swept : Marks → Module → Module
 swept k m = declared (renumbered_kept k m)

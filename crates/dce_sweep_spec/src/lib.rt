@@ -1,3 +1,3 @@
-//! What is left of a module when some of its exports, imports, functions and globals are removed: definitions alone, over marks of what is kept, and small modules
-//! of which it is computed.
+//! What is left of a module when some of its exports, imports, functions and globals are removed.
+//! The crate has only definitions, over marks on what is kept; its proofs compute small examples.
 #![tactic(auto)]
