@@ -1,6 +1,8 @@
--- Which addresses correspond where a module is instantiated alone and where its split is, under the loader of its secondary modules, and which code may stand in
--- place of a call of a function that moves. In both stores the environment's own entities come first. Then the split has the placeholders, one for each slot, the functions
--- that its primary module defines, and those of the secondary modules, in the order in which these are loaded.
+-- Which addresses correspond in two stores: the first of the module alone, the second of its split
+-- under the loader of its secondary modules; and which code may replace a call of a moved function.
+-- In both stores the environment's own entities come first. In the second, these functions follow:
+-- the placeholders, one for each slot; the functions that the primary module defines; and those of
+-- the secondary modules, in the order in which these are loaded.
 use Rattle.std.specs.Prelude.{ℕ, ℤ, ◌+◌, ◌-◌, Bool, false, ◌&&◌, cond, nat_eq, nat_lt, List, [], ◌∷◌, map, length, Some, slice_get, slice_index, unwrap_or}
 use Rattle.std.specs.List.{list_any}
 use Rattle.base_lists.specs.Options.{◌>>=◌}
@@ -14,42 +16,46 @@ use Rattle.split_behaves_proof.specs.Worlds.{type_in}
 
 -- ---- addresses ----
 
--- of a function that the module defines, where it is instantiated alone
+-- the address in the first store of a function that the module defines
 abbrev pub defined_address : Environment → Module → (func : ℕ) → ℕ
 defined_address env m func = own_count Functions env + (func - length (imported_funcs m.imports))
 
--- the functions of the environment denote themselves; one that the module defines and the primary module has as well, for that which has the entry of its index
+-- A function of the environment corresponds to itself. One that the module defines corresponds to
+-- the function that the primary module has in its place, if it has one.
 abbrev pub is_left_at : Environment → Module → (moved : List ℕ) → (a b : ℕ) → Bool
 is_left_at env m moved a b =
     let own = own_count Functions env in let imported = length (imported_funcs m.imports) in let index = imported + (a - own) in
     cond (nat_lt a own) (nat_eq a b) (nat_lt (a - own) (length m.funcs) && (is_left m moved index && nat_eq (imported + b) (own + slice_index (primary_map m moved).funcs index)))
 
--- all else that the module has stands at the same address; what is added, the slot table and its segment, comes behind
+-- In the other index spaces each entity of the environment or of the module corresponds to the one
+-- at the same address. The slot table and its segment come after these.
 abbrev pub is_partner : Environment → Module → (moved : List ℕ) → Space → (a b : ℕ) → Bool
 is_partner env m moved Functions a b = is_left_at env m moved a b
 is_partner env m moved k a b = nat_eq a b && nat_lt a (own_count k env + defined_count k m)
 
--- ---- functions that move ----
+-- ---- moved functions ----
 
--- their addresses where the module is instantiated alone, in the order of their slots
+-- the addresses of the moved functions in the first store, in the order of their slots
 abbrev pub moved_addresses : Environment → Module → (moved : List ℕ) → List ℕ
 moved_addresses env m moved = map (defined_address env m) moved
 
--- the slot table of the primary module's instance
+-- the address of the slot table in the second store
 abbrev pub slot_table_address : Environment → Module → ℕ
 slot_table_address env m = own_count Tables env + length m.tables
 
--- These indices of an instance, and this constant, call what is in the slot of the function at this address, with its type.
+-- An `i32.const` with this number and a `call_indirect` with these indices, in this instance, call
+-- what is in the slot of the moved function at this address, with its type.
 abbrev pub calls_its_slot : Environment → Module → (moved : List ℕ) → Inst → (function : ℕ) → (slot : ℤ) → (ty table : ℕ) → Bool
 calls_its_slot env m moved j a slot ty table =
     unwrap_or (place_among (moved_addresses env m moved) a >>= λ place. slice_get moved place >>= λ func. slice_get j.types ty >>= λ u. slice_get j.tables table >>= λ t.
     Some (nat_eq (wrapped 32 slot) place && (same_func_type u (type_in m func) && nat_eq t (slot_table_address env m)))) false
 
--- This index of an instance names a function that is loaded for the one at this address.
+-- the index names, in an instance, a function that is loaded for the moved one at this address
 abbrev pub calls_loaded : (loaded : List (ℕ × ℕ)) → Inst → (function : ℕ) → (index : ℕ) → Bool
 calls_loaded loaded j a index = unwrap_or (slice_get j.funcs index >>= λ c. Some (list_any (λ p. nat_eq p.0 a && nat_eq p.1 c) loaded)) false
 
--- what may stand in place of a call of such a function: the call of what is in its slot, or, in a secondary module that is loaded, the call of that module's own function for it
+-- what may replace a call of a moved function: a call through its slot, or a direct call of a
+-- function that is loaded for it
 abbrev pub may_stand : Environment → Module → (moved : List ℕ) → (loaded : List (ℕ × ℕ)) → Test
 may_stand env m moved loaded j a (I32Const slot ∷ (CallIndirect ty table ∷ [])) = calls_its_slot env m moved j a slot ty table
 may_stand env m moved loaded j a (Call index ∷ []) = calls_loaded loaded j a index
@@ -57,7 +63,7 @@ may_stand env m moved loaded j a code = false
 
 -- ---- the relation ----
 
--- Of the functions that move only the types are known. `loaded` tells of each that is loaded its address where the module is instantiated alone, and then that of the function of a
--- secondary module.
+-- The simulation relation of a split. The moved functions are opaque. `loaded` has for each loaded
+-- function the address of the moved function in the first store, and then its own in the second.
 abbrev pub split_pairing : Environment → Module → (moved : List ℕ) → (loaded : List (ℕ × ℕ)) → Pairing
 split_pairing env m moved loaded = passed_with (is_partner env m moved) (is_partner env m moved) (moved_addresses env m moved) (may_stand env m moved loaded)

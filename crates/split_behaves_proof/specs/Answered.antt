@@ -1,11 +1,13 @@
--- Steps of a split module under its loader answer one step of the module alone.
+-- The steps of a split under its loader that answer one step of the module alone.
 use Rattle.std.specs.Prelude.{◌≡◌, ℕ, suc, ◌+◌, ◌≤◌, List}
 use Rattle.wasm_tree_spec.specs.Prelude.{Module}
 use Rattle.base_simulation.specs.Machines.{events_of, state_after}
 use Rattle.wasm_meaning.specs.Prelude.{Inst, Environment, Run, tick, LoaderWorld, LoaderRun, tick_loader}
 use Rattle.split_behaves_proof.specs.States.{Corresponds}
 
--- They show what it shows, and lead to the same place; they are one for the step, and at most so many more where a call passes a trampoline: one for each parameter, and two.
+-- The steps have the events of that one step and lead to a corresponding state. There is one step,
+-- and at most `most + 2` more, which a call through a trampoline takes: one for each parameter, and
+-- two.
 pub record StepAnswered (env : Environment) (m : Module) (moved : List ℕ) (w : LoaderWorld) (first second : Inst) (most : ℕ) (r : Run) (q : LoaderRun) : Type 0 where
   pub further : ℕ
   pub bound : further ≤ most + 2

@@ -1,4 +1,4 @@
--- How a split module begins under its loader, against the module alone: both link or neither, both trap or neither, and what they are instantiated to corresponds.
+-- How a split begins under its loader, compared with the module alone.
 use Rattle.std.specs.Prelude.{◌≡◌, ℕ, List, [], Some, None}
 use Rattle.wasm_tree_spec.specs.Prelude.{Module}
 use Rattle.wasm_meaning.specs.Prelude.{Environment, alone, instantiate, Run, Closed, LinkFault, InstanceTrapped, Move, Out, fresh_run, tick, begun_under}
@@ -10,13 +10,15 @@ use Rattle.split_behaves_proof.specs.Laws.{CanBeSplit}
 
 -- ---- addresses ----
 
+-- the relation of addresses is one to one, whatever is loaded
 abbrev pub SplitAddressesAreOneToOne : Type 0
 SplitAddressesAreOneToOne =
     (namespace : ℕ → List ℕ) (names : SplitNames) (m : Module) (moved : List ℕ) (owns : List (List ℕ)) → CanBeSplit namespace names m moved owns → (env : Environment) (loaded : List (ℕ × ℕ)) → OneToOne (split_pairing env m moved loaded)
 
--- ---- what both are instantiated to ----
+-- ---- instantiation ----
 
--- In every environment neither can be instantiated, or both, to related states, trapped both or neither.
+-- In every environment neither can be instantiated, or both can, to related states; then both trap
+-- or neither.
 abbrev pub SplitModulesBeginRelated : Type 0
 SplitModulesBeginRelated =
     (namespace : ℕ → List ℕ) (names : SplitNames) (m : Module) (moved : List ℕ) (owns : List (List ℕ)) → CanBeSplit namespace names m moved owns → (env : Environment) →
@@ -24,19 +26,20 @@ SplitModulesBeginRelated =
 
 -- ---- the first step ----
 
--- related runs, of which the second may have frames of trampolines between
+-- related runs, of which the second may have frames of trampolines in between
 abbrev pub RunsRelated : Pairing → Run → Run → Type 0
 RunsRelated R = RunRel R (FramesBetween R) (FramesBetween R)
 
--- what the first step of each comes to
+-- the first steps of two runs agree
 pub data FirstStepsAgree (R : Pairing) : Out → Out → Type 0 where
-  -- neither is linked: both are closed, and go on as one run
+  -- neither links: both runs are closed, and they are equal
   unlinked : (r : Run) → r.entries ≡ [] → r.phase ≡ Closed → FirstStepsAgree R (r, Some LinkFault) (r, Some LinkFault)
-  -- a segment of both traps
+  -- in both a segment traps
   trapped : {r q : Run} → r.entries ≡ [] → r.phase ≡ Closed → RunsRelated R r q → FirstStepsAgree R (r, Some InstanceTrapped) (q, Some InstanceTrapped)
-  -- the starts are to be made
+  -- both are instantiated, and the starts come next
   begun : {r q : Run} → IsBegun r.phase → RunsRelated R r q → FirstStepsAgree R (r, None) (q, None)
 
+-- in every environment the first steps of the module alone and of its split agree
 abbrev pub FirstStepsOfSplitsAgree : Type 0
 FirstStepsOfSplitsAgree =
     (namespace : ℕ → List ℕ) (names : SplitNames) (m : Module) (moved : List ℕ) (owns : List (List ℕ)) → CanBeSplit namespace names m moved owns → (env : Environment) (moves : List Move) →

@@ -1,4 +1,5 @@
--- What a load keeps of the relation between a module alone and its split: stores stay related, and the functions that are loaded are related to those that moved.
+-- What a load preserves of the relation between a module alone and its split: stores stay related,
+-- and the loaded functions are related to the moved ones.
 use Rattle.std.specs.Prelude.{◌≡◌, ℕ, suc, ◌+◌, ◌-◌, ◌<◌, true, List, [], ◌∷◌, ◌++◌, length, Some, IsTrue, slice_get, slice_index}
 use Rattle.wasm_tree_spec.specs.Prelude.{Space, Functions, Tables, Memories, Globals, Module, imported_funcs, funcs_of, tables_of, memories_of, globals_of}
 use Rattle.wasm_tree.specs.declared.module.Func as tree
@@ -17,8 +18,9 @@ use Rattle.split_behaves_proof.specs.Laws.{CanBeSplit}
 abbrev pub Partnered : Environment → Module → (moved : List ℕ) → Space → ℕ → ℕ → Type 0
 Partnered env m moved k a b = IsTrue (is_partner env m moved k a b)
 
--- What an index names in the instance of the module alone is the partner of what its entry names in the primary module's instance, where the primary module has it; and the
--- slot table and the functions that move are where they are said to be.
+-- Each index in the instance of the module alone, and its entry in the instance of the primary
+-- module, name partners, if the primary module has the entity. The slot table and the moved
+-- functions are at their addresses.
 pub record InstancesAreRelated (env : Environment) (m : Module) (moved : List ℕ) (first primary : Inst) : Type 0 where
   pub first_types : first.types ≡ m.types
   pub types : primary.types ≡ m.types
@@ -29,7 +31,7 @@ pub record InstancesAreRelated (env : Environment) (m : Module) (moved : List �
   pub slots : slice_get primary.tables (slot_table m) ≡ Some (slot_table_address env m)
   pub moves : (p f : ℕ) → slice_get moved p ≡ Some f → slice_get first.funcs f ≡ Some (defined_address env m f)
 
--- So they are once both are instantiated.
+-- The instances are related once both are instantiated.
 abbrev pub InstancesOfSplitsAreRelated : Type 0
 InstancesOfSplitsAreRelated =
     (namespace : ℕ → List ℕ) (names : SplitNames) (m : Module) (moved : List ℕ) (owns : List (List ℕ)) → CanBeSplit namespace names m moved owns → (env : Environment) (i : Inst) → insts_from env (one m) 0 (one m) ≡ Some (i ∷ []) →
@@ -37,16 +39,21 @@ InstancesOfSplitsAreRelated =
 
 -- ---- loaded functions ----
 
--- the functions of a secondary module whose own begin at an address: where each stands where the module is instantiated alone, and then where it is loaded
+-- for each function of `own` its address in the first store, and then that in the second, where the
+-- own functions begin at `from`
 abbrev pub loaded_from : Environment → Module → (own : List ℕ) → (from : ℕ) → List (ℕ × ℕ)
 loaded_from env m [] from = []
 loaded_from env m (func ∷ funcs) from = (defined_address env m func, from) ∷ loaded_from env m funcs (suc from)
 
--- Where a module is loaded into the second of two related stores they stay related, with its functions as those that are loaded; and each is related to the one that moved.
+-- The stores are related, and each function of `own` is defined in both, in the second at the
+-- addresses from `from` on, with its type and with related code.
 pub record RelatedAsLoaded (env : Environment) (m : Module) (moved : List ℕ) (loaded : List (ℕ × ℕ)) (own : List ℕ) (from : ℕ) (s t : Store) : Type 0 where
   pub store : StoreRel (split_pairing env m moved loaded) s t
   pub code : (p f : ℕ) → slice_get own p ≡ Some f → CodeAt (split_pairing env m moved loaded) s t (type_in m f) (defined_address env m f) (from + p)
 
+-- A load into the second of two related stores preserves the relation, whatever was loaded before,
+-- if the first store has the moved functions as the module defines them. `loaded` then has the
+-- functions of this load as well.
 abbrev pub LoadsKeepTheRelation : Type 0
 LoadsKeepTheRelation =
     (namespace : ℕ → List ℕ) (names : SplitNames) (m : Module) (moved : List ℕ) (owns : List (List ℕ)) → CanBeSplit namespace names m moved owns → (env : Environment) (i j : Inst) → InstancesAreRelated env m moved i j →

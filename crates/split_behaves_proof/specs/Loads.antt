@@ -1,5 +1,6 @@
--- What the load of a secondary module does (WebAssembly Core 2.0, section 4.5.4): its indices name what the primary module's instance has, its functions come behind all that is
--- there, and references to them into their slots.
+-- What the load of a secondary module does (WebAssembly Core 2.0, section 4.5.4): its indices name
+-- what the primary module's instance has, its functions come after all others in the store, and
+-- references to them are put into their slots.
 use Rattle.std.specs.Prelude.{◌≡◌, ℕ, ◌+◌, ◌^◌, ◌<◌, true, false, None, List, length, map, Some, slice_get, slice_index}
 use Rattle.base_lists.specs.Options.{◌>>=◌}
 use Rattle.base_lists.specs.Places.{numbers}
@@ -18,7 +19,8 @@ use Rattle.split_proof.specs.Premises.{CanMove}
 
 -- ---- what its indices name ----
 
--- What the own functions name from the primary module has two entries, one in each module; both name one thing. So does that of the slot table.
+-- What the own functions name from the primary module has an entry in both remaps. In the two
+-- instances these entries name one entity. So do both indices of the slot table.
 pub record NamesWhatThePrimaryHas (m : Module) (moved own : List ℕ) (primary secondary : Inst) : Type 0 where
   pub types : secondary.types ≡ m.types
   pub funcs : (x : ℕ) → x < length (funcs_of m) → is_from_primary moved (defined_at m own) Functions x ≡ true → slice_get secondary.funcs (slice_index (secondary_map m moved own).funcs x) ≡ slice_get primary.funcs (slice_index (primary_map m moved).funcs x)
@@ -29,19 +31,20 @@ pub record NamesWhatThePrimaryHas (m : Module) (moved own : List ℕ) (primary s
 
 -- ---- what it leaves ----
 
--- references to so many functions, from an address on
+-- references to `count` functions, from address `from` on
 abbrev pub references : (from count : ℕ) → List RefVal
 references from count = map (λ a. FuncRef (Some a)) (numbers from count)
 
--- In the store before the load stands the primary module's instance, and in that after it the secondary one's. Its functions have the slots from `before` on.
+-- A load: `s` is the store before it, and `t` the store after it, in which `secondary` is the
+-- instance of the loaded module. Its own functions have the slots from `before` on.
 pub record IsLoaded (m : Module) (moved own : List ℕ) (before : ℕ) (primary secondary : Inst) (s t : Store) : Type 0 where
   pub names : NamesWhatThePrimaryHas m moved own primary secondary
-  -- its own functions, each by its index
+  -- the own functions, by index
   pub own_index : (p : ℕ) → p < length own → slice_get secondary.funcs (slice_index (secondary_map m moved own).funcs (length (funcs_of m) + p)) ≡ Some (length s.funcs + p)
   pub own_stands : (p : ℕ) (f : tree.Func) → slice_get (defined_at m own) p ≡ Some f → Stands t.funcs (length s.funcs + p) (world.new_func secondary (new_func (secondary_map m moved own) (secondary_func m moved own f)))
-  -- the slot table, with references to these over its slots
+  -- the slot table, with references to these functions in their slots
   pub slots_filled : (a : ℕ) (u : Table) → slice_get primary.tables (slot_table m) ≡ Some a → slice_get s.tables a ≡ Some u → (slots : List RefVal) × (overwrite u.slots before (references (length s.funcs) (length own)) ≡ Some slots) × (slice_get t.tables a ≡ Some (record u { slots = slots }))
-  -- all else that was there is as it was
+  -- everything else is unchanged
   pub earlier_funcs : (a : ℕ) (f : Func) → slice_get s.funcs a ≡ Some f → slice_get t.funcs a ≡ Some f
   pub other_tables : (a : ℕ) (u : Table) → slice_get s.tables a ≡ Some u → (slice_get primary.tables (slot_table m) ≡ Some a → ⊥) → slice_get t.tables a ≡ Some u
   pub earlier_mems : (a : ℕ) (x : Memory) → slice_get s.mems a ≡ Some x → slice_get t.mems a ≡ Some x
@@ -51,14 +54,15 @@ pub record IsLoaded (m : Module) (moved own : List ℕ) (before : ℕ) (primary 
 
 -- ---- the law ----
 
--- it links, and none of its segments traps
+-- the secondary module links, none of its segments traps, and it is loaded
 pub record Loads (namespace : ℕ → List ℕ) (names : SplitNames) (m : Module) (moved own : List ℕ) (before : ℕ) (primary : Inst) (s : Store) : Type 0 where
   pub added : Added
   pub links : added_with (λ x. export_named (primary_with namespace names.export_prefix m moved).exports x.field >>= (address_in primary)) s (secondary_with names m moved own before) ≡ Some added
   pub fills : added.filled.trapped ≡ false
   pub is_loaded : IsLoaded m moved own before primary added.inst s added.filled.store
 
--- So it is in each store in which the indices of the primary module's instance still name what the primary module says.
+-- This holds in each store in which the indices of the primary module's instance name what the
+-- primary module says.
 abbrev pub SecondariesLoad : Type 0
 SecondariesLoad =
     (namespace : ℕ → List ℕ) (names : SplitNames) (m : Module) (moved own : List ℕ) (before : ℕ) → IsValid m → IsBounded m → CanMove m moved → length moved < 2 ^ 32 → prefix_taken names.export_prefix m moved ≡ None → HasSlots moved own before →

@@ -1,4 +1,5 @@
--- Which way a step of the first of two related runs begins a call of a function that is opaque, where the second may have frames of trampolines between.
+-- In which ways the first of two related runs takes a step, as to calls of opaque functions; the
+-- second may have frames of trampolines in between.
 use Rattle.std.proofs.Common.{◌≡◌, ℕ, List, ◌∷◌, ◌++◌, Bool, false, Some, slice_get}
 use Rattle.wasm_tree_spec.specs.Prelude.{Space, Functions, FuncType, Instr, Call}
 use Rattle.wasm_meaning.specs.Prelude.{Val, Level, Frame, Entry, Running, type_at, enter_at, step, Move, Run, Steps, transition, tick}
@@ -6,7 +7,8 @@ use Rattle.index_remap.specs.Prelude.{Pairing, OneToOne, ListRel, ValRel, IsBegu
 use Rattle.index_remap.specs.Laws.{Test}
 use Rattle.split_behaves_proof.specs.Begins.{RunsRelated}
 
--- Both enter functions that are related, the first's being opaque, with related values of its type, over related stacks; these moves are left.
+-- Both enter functions that are partners, with related values of the first's type, over related
+-- stacks; the first is opaque. `moves` are the moves that are left.
 pub record EntersInBoth (R : Pairing) (r q : Run) : Type 0 where
   pub first : ℕ
   pub second : ℕ
@@ -25,7 +27,7 @@ pub record EntersInBoth (R : Pairing) (r q : Run) : Type 0 where
   pub step : transition r ≡ Steps (record r { moves = moves }) (enter_at r.store first values below)
   pub second_step : transition q ≡ Steps (record q { moves = moves }) (enter_at q.store second second_values second_below)
 
--- The first calls it, and other code stands there in the second.
+-- The first run calls an opaque function directly, and other code replaces that call in the second.
 pub record ReplacementCode (R : Pairing) (r q : Run) : Type 0 where
   pub frame : Frame
   pub second_frame : Frame
@@ -48,7 +50,8 @@ pub record ReplacementCode (R : Pairing) (r q : Run) : Type 0 where
   pub step : step r.store r.entries ≡ step r.store (Running (at_code frame level outer level.values (Call index ∷ rest)) ∷ below)
   pub second_top : q.entries ≡ Running (at_code second_frame second_level second_outer second_level.values (code ++ second_rest)) ∷ second_below
 
--- No call begins, since its arguments or its type are wrong: both come to the same, and nothing is written.
+-- No call begins, because the arguments or the type do not fit: both steps have the same event and
+-- lead to related runs, neither changes its store, and the second calls no placeholder.
 pub record NoCallBegins (R : Pairing) (r q : Run) : Type 0 where
   pub event : (tick r).1 ≡ (tick q).1
   pub runs : RunsRelated R (tick r).0 (tick q).0
@@ -56,13 +59,14 @@ pub record NoCallBegins (R : Pairing) (r q : Run) : Type 0 where
   pub second_store : (tick q).0.store ≡ q.store
   pub plain : calls_placeholder (transition q) ≡ false
 
+-- the four ways; in the first, the step begins no call of an opaque function
 pub data StepsCallMovedTogether (R : Pairing) (r q : Run) : Type 0 where
   skips : TickSkips R r r.entries → StepsCallMovedTogether R r q
   enters : EntersInBoth R r q → StepsCallMovedTogether R r q
   instead : ReplacementCode R r q → StepsCallMovedTogether R r q
   wrong : NoCallBegins R r q → StepsCallMovedTogether R r q
 
--- One of these it is, where only what is related is in the code relation.
+-- Each step goes one of these ways, if the code relation is the simulation relation.
 abbrev pub EveryStepCallsMovedTogether : Type 0
 EveryStepCallsMovedTogether =
     (of : Space → ℕ → ℕ → Bool) (l : List ℕ) (stands : Test) → OneToOne (passed_with of of l stands) → (r q : Run) → IsBegun r.phase → RunsRelated (passed_with of of l stands) r q → StepsCallMovedTogether (passed_with of of l stands) r q

@@ -1,5 +1,6 @@
-//! What is seen of a module that is split, under the loader of its secondary modules, is what is seen of the module itself, and each secondary module can be loaded wherever
-//! it is asked for. Small modules are computed in `proofs/SmallRuns`, wrong splits in `proofs/WrongSplits`.
+//! Proves that a split module under the loader of its secondary modules is observationally
+//! equivalent to the module, and that each secondary module can be loaded wherever a run asks for
+//! it. `proofs/SmallRuns` computes small modules, and `proofs/WrongSplits` refutes wrong splits.
 #![tactic(auto)]
 
 ghost use Rattle.split_behaves_proof.specs.Begins.{FirstStepsOfSplitsAgree, SplitAddressesAreOneToOne, SplitModulesBeginRelated};
@@ -25,9 +26,12 @@ use world_loader_proof::{
     loaders_step_as_their_run,
 };
 
-/// A module alone, and its split under the loader of its secondary modules, begin alike in every environment (WebAssembly Core 2.0, section 4.5.4): neither links or both do,
-/// and then both trap or neither, and the states are related (`begin`); so their first steps have equal traces (`first_step`). Addresses correspond one to one, whatever is
-/// loaded (`one_to_one`).
+/// Proves that a module alone, and its split under the loader of its secondary modules, begin alike
+/// in every environment (WebAssembly Core 2.0, section 4.5.4).
+///
+/// Neither can be instantiated, or both can, to related states, and then both trap or neither
+/// (`begin`). So their first steps agree (`first_step`). The relation of addresses is one to one,
+/// whatever is loaded (`one_to_one`).
 pub fn split_modules_begin_related()
     ensures one_to_one { SplitAddressesAreOneToOne }
     ensures begin { SplitModulesBeginRelated }
@@ -44,9 +48,14 @@ pub fn split_modules_begin_related()
     instances_stay_typed();
 }
 
-/// A secondary module links, and none of its segments traps, in each store in which the primary module's instance is what the primary module says; its indices name what the
-/// primary module has, its functions come behind all that is there, and references to them into their slots (`load`, WebAssembly Core 2.0, section 4.5.4). So it is wherever in
-/// a run of the split module under its loader a secondary module is loaded: by the first call of one of its placeholders, whatever makes it (`always`).
+/// Proves that secondary modules can be loaded.
+///
+/// A secondary module links, and none of its segments traps, in each store in which the indices of
+/// the primary module's instance name what the primary module says. When it is loaded, the indices
+/// of its instance name what the primary module has, its functions come after all others in the
+/// store, and references to them are in their slots (`load`, WebAssembly Core 2.0, section 4.5.4).
+/// So it can be loaded wherever a run of the split under its loader asks for it: at the first call
+/// of one of its placeholders, whatever makes that call (`always`).
 pub fn secondary_modules_load()
     ensures load { SecondariesLoad }
     ensures always { SecondariesAlwaysLoad }
@@ -60,10 +69,14 @@ pub fn secondary_modules_load()
     closed_runs_stay_closed();
 }
 
-/// Where a secondary module is loaded, related stores stay related, whatever was loaded before; and each function that is loaded is defined with the type of the one that moved,
-/// and with code that is related to that one's, in which a call of a function that moves may be one through its slot or a direct one of a function that is loaded for it (`kept`).
-/// It asks that the stores are related, that the functions that move stand as the module defines them, and that the instances of the module alone and of the primary module
-/// name partners, as they do once both are instantiated (`instances`).
+/// Proves that related stores stay related when a secondary module is loaded, whatever was loaded
+/// before (`kept`).
+///
+/// Each loaded function has the type of the moved one, and code that is related to that one's; a
+/// call of a moved function in it may go through the slot, or directly to a loaded function. The
+/// premises are that the first store has the moved functions as the module defines them, and that
+/// the instances of the module alone and of the primary module are related, as they are once both
+/// are instantiated (`instances`).
 pub fn loads_preserve_the_relation()
     ensures instances { InstancesOfSplitsAreRelated }
     ensures kept { LoadsKeepTheRelation }
@@ -80,15 +93,22 @@ pub fn loads_preserve_the_relation()
     instances_stay_typed();
 }
 
-/// A step of the first of two related runs, where the second may have frames of trampolines between, goes one of four ways: it begins no call of a function that is opaque;
-/// or both enter functions, the second the partner of the first's; or other code stands there in the second; or no call begins, since the arguments or the type do not fit, and both come to the same (`ways`).
+/// Proves in which four ways the first of two related runs takes a step; the second may have frames
+/// of trampolines in between (`together`).
+///
+/// The step begins no call of an opaque function; or both enter functions, which are partners; or
+/// other code replaces the call in the second run; or no call begins, because the arguments or the
+/// type do not fit, and both steps agree.
 pub fn steps_call_moved_functions_together()
     ensures together { EveryStepCallsMovedTogether }
 {}
 
-/// What is seen of a module that is split, under the loader of its secondary modules, is what is seen of the module itself (WebAssembly Core 2.0, section 4): in every
-/// environment and by the same moves of the embedder, whatever is seen of the module in n steps is seen under the loader in (p + 8) (n + 1), where p is the most parameters of a
-/// function that moves, and whatever is seen there in n steps is seen of the module in n (`equivalent`).
+/// Proves that a split module under the loader of its secondary modules is observationally
+/// equivalent to the module, in every environment (`equivalent`, WebAssembly Core 2.0, section 4).
+///
+/// For the same moves of the embedder, the trace of n steps of the module is a prefix of the trace
+/// of (p + 8) (n + 1) steps under the loader, where p is the most parameters of a moved function,
+/// and the trace of n steps under the loader is a prefix of the trace of n steps of the module.
 pub fn split_module_equivalent()
     ensures equivalent { SplitModuleEquivalent }
 {

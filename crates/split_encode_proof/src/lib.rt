@@ -1,4 +1,5 @@
-//! The numbers of both modules of a split are in the ranges of their types, as those of the module are.
+//! Proves that in both modules of a split each number is in the range of its type and each name is
+//! UTF-8, if that is so in the input module.
 #![tactic(auto)]
 
 ghost use Rattle.std.specs.Prelude.{◌≡◌, ℕ, ◌^◌, ◌≤◌, ◌<◌, List, length, None, IsTrue, IsUtf8};
@@ -17,11 +18,16 @@ use wasm_tree::operands_pass_layer_by_layer;
 use wasm_valid::valid_where_items_hold;
 use wasm_write_proof::{encoded_operands_are_in_range, renumbering_keeps_numbers_in_range};
 
-/// Where a module has its numbers in range and its names in UTF-8, and a u32 can count what it has, so have both modules of a split of it (`primary`, `secondary`), if
-/// these are valid and have at most one memory, a u32 can count what they have, the names that the split is given are UTF-8, and the slots are below 2^31, so that an `i32.const`
-/// has their numbers (WebAssembly Core 2.0, section 5.4.7): what they name is there, and their other numbers stand in the module, or are those of slots and of parameters. And their
-/// bodies name no memory but memory 0 (`primary_memory`, `secondary_memory`). Fewer than 2^31 functions move where no count of the primary module is above its limit: it imports a
-/// placeholder for each (`few`).
+/// Proves that in both modules of a split each number is in the range of its type and each name is
+/// UTF-8 (`primary`, `secondary`), and that their bodies name no memory but memory 0
+/// (`primary_memory`, `secondary_memory`).
+///
+/// In all four the module that the split makes has to be valid and bounded, with at most one
+/// memory. `primary` and `secondary` also need that the input module is bounded and has its numbers
+/// in range and its names in UTF-8, that the names that the split is given are UTF-8, and that the
+/// slots are below 2^31, so that an `i32.const` can have their numbers (WebAssembly Core 2.0,
+/// section 5.4.7). Fewer than 2^31 functions move if no count of the primary module is above its
+/// limit, because it imports a placeholder for each (`few`).
 pub fn split_modules_are_in_range()
     ensures few { (namespace : ℕ → List ℕ) (prefix : List ℕ) (m : Module) (moved : List ℕ) → over_limit (primary_with namespace prefix m moved) ≡ None → length moved < 2 ^ 31 }
     ensures primary { (namespace : ℕ → List ℕ) (prefix : List ℕ) (m : Module) (moved : List ℕ) → ((slot : ℕ) → IsUtf8 (namespace slot)) → IsUtf8 prefix

@@ -1,4 +1,5 @@
--- What the faults mean: each tells the first word that is at fault.
+-- The cause of each fault of a plan: what holds for the first word that is at fault. A word is a
+-- name in `split` or `keep`.
 use Rattle.std.specs.Prelude.{◌≡◌, ◌≤◌, ℕ, List, [], ◌∷◌, ◌++◌, ◌⊎◌, length, Option, Some, None, Result, Err, true, ◌↔◌}
 use Rattle.std.specs.List.{list_any}
 use Rattle.base_lists.specs.Every.{Every}
@@ -10,7 +11,7 @@ use Rattle.split_plan.specs.declared.plans.Plan.{Plan}
 use Rattle.split_plan.specs.Words.{entries_with_name, exported_among, function_of, names_func}
 use Rattle.split_plan.specs.Plans.{words_of, plan_fault}
 
--- the word is one of these, and none before it is at fault
+-- the word is in the list and is faulty, and all words before it are right
 abbrev pub IsFirst : (List ℕ → Type 0) → (List ℕ → Type 0) → List (List ℕ) → List ℕ → Type 0
 IsFirst Faulty Right words word = (front : List (List ℕ)) × (back : List (List ℕ)) × (words ≡ front ++ word ∷ back) × Every Right front × Faulty word
 
@@ -18,18 +19,19 @@ IsFirst Faulty Right words word = (front : List (List ℕ)) × (back : List (Lis
 abbrev pub Names : Module → List FuncName → List ℕ → Type 0
 Names m names word = (func : ℕ) × (function_of m names word ≡ Some func)
 
--- no defined function bears the word, and none is exported under it
+-- no defined function has the word as its name in the name list, and none is exported under it
 abbrev pub NamesNone : Module → List FuncName → List ℕ → Type 0
 NamesNone m names word = (entries_with_name m names word ≡ []) × (exported_among m m.exports word ≡ None)
 
--- several bear it
+-- two or more entries of the name list give the word to defined functions
 abbrev pub IsShared : Module → List FuncName → List ℕ → Type 0
 IsShared m names word = 2 ≤ length (entries_with_name m names word)
 
--- a word to keep names its function too
+-- a word in `keep` names the function of this word too
 abbrev pub IsKept : Module → List FuncName → List (List ℕ) → List ℕ → Type 0
 IsKept m names keep word = (func : ℕ) × (function_of m names word ≡ Some func) × (list_any (names_func m names func) keep ≡ true)
 
+-- the cause of a fault; running out of memory has none
 abbrev pub Cause : Module → List FuncName → Option (List (List ℕ)) → Option (List (List ℕ)) → PlanFault → Type 0
 Cause m names split keep (NoSuchFunction word) = IsFirst (NamesNone m names) (Names m names) (words_of split ++ words_of keep) word
 Cause m names split keep (AmbiguousFunction word) = IsFirst (IsShared m names) (Names m names) (words_of split ++ words_of keep) word
@@ -37,10 +39,11 @@ Cause m names split keep (KeptAndSplit word) =
     Every (Names m names) (words_of split ++ words_of keep) × IsFirst (IsKept m names (words_of keep)) (λ w. IsKept m names (words_of keep) w → ⊥) (words_of split) word
 Cause m names split keep NoMemory = ⊥
 
--- the first fault is the one that has its cause
+-- a fault is the first one exactly if its cause holds
 abbrev pub FaultsHaveCauses : Type 0
 FaultsHaveCauses = (m : Module) (names : List FuncName) (split keep : Option (List (List ℕ))) (e : PlanFault) → (plan_fault m names split keep ≡ Some e) ↔ Cause m names split keep e
 
--- a call answers this fault exactly where the cause holds, but for want of memory
+-- The call returns this fault only if the cause holds, and whenever it holds, unless memory runs
+-- out.
 abbrev pub Told : Result Plan PlanFault → PlanFault → Type 0 → Type 0
 Told result fault cause = (result ≡ Err fault → cause) × (cause → (result ≡ Err fault) ⊎ (result ≡ Err NoMemory))

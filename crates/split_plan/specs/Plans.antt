@@ -1,4 +1,5 @@
--- Which functions of a module move to the secondary module, which were asked to and stay, and the first fault of the words that ask.
+-- Which functions of a module move to the secondary module, which were asked to move and stay, and
+-- the first fault. A word is a name in `split` or `keep`.
 use Rattle.std.specs.Prelude.{◌≡◌, ℕ, ◌-◌, ◌&&◌, List, [], ◌∷◌, length, filter, Bool, true, false, not, Option, Some, None, slice_get, unwrap_or, if◌then◌else◌}
 use Rattle.std.specs.List.{list_any}
 use Rattle.std.specs.List.Sorted.{IsStrictlyIncreasing}
@@ -16,22 +17,22 @@ use Rattle.split_plan.specs.Words.{is_defined, function_of, word_fault, names_fu
 
 -- ---- faults
 
--- the first that f gives
+-- the first result of `f` that is not `None`
 abbrev pub first_given : {A B : Type 0} → (A → Option B) → List A → Option B
 first_given f [] = None
 first_given f (x ∷ xs) = or_else (f x) (first_given f xs)
 
--- the words that are given, if any are
+-- the words, or no words for `None`
 abbrev pub words_of : Option (List (List ℕ)) → List (List ℕ)
 words_of words = unwrap_or words []
 
--- the word's function is to be kept too
+-- the fault of a word in `split` whose function is to be kept too
 abbrev pub kept_fault : (ℕ → Bool) → Option ℕ → List ℕ → Option PlanFault
 kept_fault is_kept None word = None
 kept_fault is_kept (Some func) word = if is_kept func then Some (KeptAndSplit word) else None
 
--- The first fault: of the words to split, then of those to keep, in their order; then of the first word to split whose function a word to keep
--- names.
+-- The first fault: of the words in `split`, then of those in `keep`, each in order; else the first
+-- word in `split` whose function a word in `keep` names too.
 abbrev pub plan_fault : Module → List FuncName → Option (List (List ℕ)) → Option (List (List ℕ)) → Option PlanFault
 plan_fault m names split keep =
     or_else (first_given (word_fault m names) (words_of split))
@@ -40,30 +41,32 @@ plan_fault m names split keep =
 
 -- ---- the plan
 
+-- the indices of the functions that the module defines
 abbrev pub defined_funcs : Module → List ℕ
 defined_funcs m = numbers (length (imported_funcs m.imports)) (length m.funcs)
 
--- a function's body names a segment
+-- the body of the function names a segment
 abbrev pub body_uses_segment : Module → ℕ → Bool
 body_uses_segment m func = option_map_or (λ f. uses_segment f.body) (slice_get m.funcs (func - length (imported_funcs m.imports))) false
 
--- the functions that the words to split name, or else those that no word to keep names
+-- whether `split` names the function, or, without `split`, whether `keep` does not name it
 abbrev pub is_wanted : Module → List FuncName → Option (List (List ℕ)) → Option (List (List ℕ)) → ℕ → Bool
 is_wanted m names (Some words) keep func = list_any (names_func m names func) words
 is_wanted m names None keep func = not (list_any (names_func m names func) (words_of keep))
 
--- of these the ones that name no segment move
+-- the defined functions that are wanted: those that name no segment move, and the others are kept
 abbrev pub plan_for : Module → (ℕ → Bool) → Plan
 plan_for m wanted = record {
   moved = filter (λ func. wanted func && not (body_uses_segment m func)) (defined_funcs m);
   kept = filter (λ func. wanted func && body_uses_segment m func) (defined_funcs m);
 }
 
+-- the plan for the names in `split` and `keep`
 abbrev pub plan_of : Module → List FuncName → Option (List (List ℕ)) → Option (List (List ℕ)) → Plan
 plan_of m names split keep = plan_for m (is_wanted m names split keep)
 
--- What is so of a plan for a module: its lists ascend and hold defined functions; those that move name no segment, and those that are kept do, so
--- that no function is in both.
+-- A plan for a module: its lists ascend and hold defined functions; those that move name no
+-- segment, and those that are kept name one, so no function is in both.
 pub record IsPlan (m : Module) (p : Plan) : Type 0 where
   pub moved_ascend : IsStrictlyIncreasing p.moved
   pub kept_ascend : IsStrictlyIncreasing p.kept

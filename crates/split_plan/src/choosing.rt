@@ -1,4 +1,4 @@
-// The functions that move, and those that are kept.
+// Divides the wanted functions into those that move and those that are kept.
 
 ghost use Rattle.std.specs.Prelude.{◌≡◌, ◌<◌, ◌^◌, ◌&&◌, [], ◌∷◌, ◌++◌, cond, length, not, IfOk, OnOk};
 ghost use Rattle.wasm_tree.specs.Spaces.{funcs_of};
@@ -12,7 +12,7 @@ use std::alloc::Global;
 use wasm_bytes::{Items, NoMemory};
 use wasm_tree::{Instr, Module};
 
-// Whether the function has this mark.
+// Returns whether the mark of the function is `mark`.
 fn has_mark(marks: &[bool], func: usize, mark: bool) -> bool
     requires { func < length marks.now }
     ensures { result ≡ has_mark marks.now mark func }
@@ -20,7 +20,7 @@ fn has_mark(marks: &[bool], func: usize, mark: bool) -> bool
     if mark { marks[func] } else { !marks[func] }
 }
 
-// Puts a function that is wanted where it belongs.
+// If the function is wanted, adds it to `kept` if its body names a segment, else to `moved`.
 fn place(plan: &mut Plan, func: u32, wanted: bool, body: &[Instr]) -> Result<(), NoMemory>
     ensures moved { OnOk result (plan.new.moved ≡ plan.old.moved ++ cond (wanted && not (uses_segment body.now)) (func ∷ []) []) }
     ensures kept { OnOk result (plan.new.kept ≡ plan.old.kept ++ cond (wanted && uses_segment body.now) (func ∷ []) []) }
@@ -35,7 +35,7 @@ fn place(plan: &mut Plan, func: u32, wanted: bool, body: &[Instr]) -> Result<(),
     }
 }
 
-/// The plan for those functions that have this mark.
+/// Returns the plan for the case that the defined functions whose mark is `mark` are wanted.
 pub fn choose(alloc: Global, module: &Module, marks: &[bool], mark: bool) -> Result<Plan, NoMemory>
     requires each { length marks.now ≡ length (funcs_of «module».now) }
     requires few { length (funcs_of «module».now) < 2 ^ 32 }

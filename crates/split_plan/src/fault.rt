@@ -4,16 +4,17 @@ ghost use Rattle.split_plan.specs.declared.fault.PlanFault.TheVariants.{NoMemory
 use std::alloc::AllocError;
 use wasm_bytes::{Name, NoMemory};
 
-/// Why there is no plan. Each names the first word that is at fault.
+/// Why there is no plan. Each fault has the first name in `split` or `keep` that is at fault.
 #[derive(Drop)]
 pub enum PlanFault {
-    /// No defined function bears the word in the name list, and none is exported under it.
+    /// No defined function has this name in the name list (`names` of `plan`), and none is exported
+    /// under it.
     NoSuchFunction { name: Name },
-    /// Two or more defined functions bear the word in the name list.
+    /// Two or more entries of the name list give this name to defined functions.
     AmbiguousFunction { name: Name },
-    /// The function of this word to split is also named by a word to keep.
+    /// The function of this name in `split` is also named in `keep`.
     KeptAndSplit { name: Name },
-    /// Want of memory, which says nothing of the words.
+    /// Memory ran out; this says nothing of the names.
     NoMemory,
 }
 

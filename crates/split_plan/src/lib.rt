@@ -1,4 +1,4 @@
-//! Which functions of a module a split moves to the secondary module.
+//! Determines which functions of a module a split moves to the secondary module.
 #![tactic(auto)]
 
 mod choosing;

@@ -1,4 +1,4 @@
-// The functions that several words name.
+// The functions that the names in `split` or `keep` stand for.
 
 ghost use Rattle.std.specs.Prelude.{◌≡◌, ℕ, ◌⊎◌, None, Some, map, slice_get, unwrap_or, length, true, false, IfOk, IfErr, IsOk};
 ghost use Rattle.split_plan.specs.declared.fault.PlanFault.TheVariants.{NoMemory as OutOfMemory};
@@ -12,7 +12,7 @@ use std::collections::HashMap;
 use wasm_bytes::Name;
 use wasm_valid::mark;
 
-// The function that the word names.
+// Returns the function that `word` names, or the fault of `word`.
 fn function_named(
     alloc: Global,
     table: &HashMap<&str, Named>,
@@ -33,7 +33,8 @@ fn function_named(
     }
 }
 
-/// For each of so many functions, whether one of the words names it; or the fault of the first word that has one.
+/// Returns for each of `count` functions whether one of the `words` names it, or the fault of the
+/// first word that has one.
 pub fn marked(
     alloc: Global,
     table: &HashMap<&str, Named>,
@@ -58,7 +59,7 @@ fn is_marked(marks: &[bool], func: u32) -> bool
     marks.get(func as usize).copied().unwrap_or(false)
 }
 
-// Refuses the word where its function is marked as one to be kept.
+// Refuses `word` if its function is marked in `kept`.
 fn refuse_one(
     alloc: Global,
     table: &HashMap<&str, Named>,
@@ -82,7 +83,7 @@ fn refuse_one(
     Ok(())
 }
 
-/// Refuses the first word whose function is marked as one to be kept.
+/// Refuses the first word whose function is marked in `kept`.
 pub fn refuse_kept(
     alloc: Global,
     table: &HashMap<&str, Named>,

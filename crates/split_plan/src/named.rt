@@ -1,4 +1,4 @@
-// The functions that words can name.
+// A table of the names that stand for defined functions.
 
 ghost use Rattle.std.specs.Prelude.{◌≡◌, ◌&&◌, ℕ, List, length, Some, IfOk, OnOk, cond, nat_le, nat_lt, option_map};
 ghost use Rattle.std.specs.Str.{bytes_eq};
@@ -15,19 +15,19 @@ use wasm_bytes::NoMemory;
 use wasm_names::FuncName;
 use wasm_tree::{Export, Module, Space};
 
-/// What a word names.
+/// What the table has for a name.
 #[derive(Clone, Copy, Drop)]
 pub enum Named {
-    /// The one defined function that bears the word in the name list.
+    /// The one defined function with this name in the name list.
     InNameList(u32),
-    /// Several bear it.
+    /// Several entries of the name list give this name to defined functions.
     Shared,
-    /// None bears it, and this one is exported under it.
+    /// No defined function has this name in the name list, and this one is exported under it.
     Exported(u32),
 }
 
 impl Named {
-    /// The function, if it is one.
+    /// Returns the function, or `None` if the name is shared.
     pub fn func(self) -> Option<u32>
         ensures { result ≡ func_in (Some self) }
     {
@@ -38,7 +38,7 @@ impl Named {
     }
 }
 
-/// The defined functions of a module: those from the first on, before the end.
+/// The indices of the defined functions of a module: from `first` on, before `end`.
 #[derive(Clone, Copy, Drop)]
 struct Defined {
     first: usize,
@@ -59,7 +59,8 @@ impl Defined {
     }
 }
 
-// The defined functions that are exported, from the last export to the first, so that the first under a name counts.
+// Enters the exported defined functions, from the last export to the first, so that of several
+// exports with one name the first stays.
 fn exported<'a>(
     alloc: Global,
     module: &'a Module,
@@ -80,7 +81,7 @@ fn exported<'a>(
     Ok(table)
 }
 
-// What is entered where one function more bears the name.
+// Returns the new entry of a name, after the name list gives it to one more defined function.
 fn once_more(entry: Option<Named>, func: u32) -> Named
     ensures { Some result ≡ once_more func entry }
 {
@@ -90,7 +91,7 @@ fn once_more(entry: Option<Named>, func: u32) -> Named
     }
 }
 
-// One function more bears the name.
+// Enters that the name list gives the name to one more defined function.
 fn enter<'a>(table: &mut HashMap<&'a str, Named>, name: &'a str, func: u32) -> Result<(), NoMemory>
     ensures { OnOk result ((word : List ℕ) → held_of table.new word ≡ cond (bytes_eq name.now word) (once_more func (held_of table.old word)) (held_of table.old word)) }
 {
@@ -99,7 +100,7 @@ fn enter<'a>(table: &mut HashMap<&'a str, Named>, name: &'a str, func: u32) -> R
     Ok(())
 }
 
-/// What each word names.
+/// Returns a table of what each name stands for.
 pub fn named_functions<'a>(
     alloc: Global,
     module: &'a Module,

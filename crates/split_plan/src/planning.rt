@@ -19,16 +19,20 @@ use wasm_names::FuncName;
 use wasm_tree::Module;
 use wasm_valid::Valid;
 
-/// Which functions a split moves, and which were asked to move and stay.
+/// Determines which functions a split moves, and which were asked to move but stay.
 ///
-/// A word names the defined function that bears it in the name list; where none does, the one that is exported under it. The words of `split`
-/// tell the functions that are wanted; without them all are wanted that no word of `keep` names. A function whose body has `memory.init`,
-/// `data.drop`, `table.init` or `elem.drop` (WebAssembly Core 2.0, sections 2.4.6 and 2.4.7) is kept, and the others move. Names of imported
-/// functions and of functions that are not there are passed over.
+/// A name in `split` or `keep` stands for the defined function that has it in `names`; if none has
+/// it there, for the one that is exported under it. With `split`, the functions that it names are
+/// wanted; without it, all defined functions that `keep` does not name. A wanted function whose
+/// body has `memory.init`, `data.drop`, `table.init` or `elem.drop` (WebAssembly Core 2.0, sections
+/// 2.4.6 and 2.4.7) is kept, and the others move. Entries of `names` for imported functions, or for
+/// functions that do not exist, are ignored.
 ///
-/// The words of `split` are tried in order, then those of `keep`: `NoSuchFunction` tells the first that names none, and `AmbiguousFunction` one
-/// that several functions bear. Then `KeptAndSplit` tells the first word of `split` whose function a word of `keep` names too. `NoMemory` is
-/// want of memory and says nothing of the words.
+/// The names in `split` are looked up in order, then those in `keep`. The first that stands for no
+/// function gives `NoSuchFunction`, or `AmbiguousFunction` if several entries of `names` give it to
+/// defined functions. If each stands for a function, the first name in `split` whose function
+/// `keep` names too gives `KeptAndSplit`. `NoMemory` means that memory ran out, and says nothing of
+/// the names.
 pub fn plan(
     alloc: Global,
     input: &Valid,
@@ -41,7 +45,7 @@ pub fn plan(
     ensures none { IsOk result → plan_fault input.now names.now (option_copied split.entry) (option_copied keep.entry) ≡ None }
     ensures fault { IfErr result (λ e. (e ≡ OutOfMemory) ⊎ (plan_fault input.now names.now (option_copied split.entry) (option_copied keep.entry) ≡ Some e)) }
     ensures first { (e : SomeFault) → plan_fault input.now names.now (option_copied split.entry) (option_copied keep.entry) ≡ Some e → (result ≡ Err e) ⊎ (result ≡ Err OutOfMemory) }
-    // What each fault means: it is answered exactly where this is so, unless memory runs out.
+    // Each other fault is returned exactly if its cause holds, unless memory runs out.
     ensures told { (e : SomeFault) → (e ≡ OutOfMemory → ⊥) → Told result e (Cause input.now names.now (option_copied split.entry) (option_copied keep.entry) e) }
 {
     plan_faults_have_causes();
@@ -68,7 +72,7 @@ fn planned(
     Ok(choose_by(alloc, module, split, &wanted, &kept)?)
 }
 
-// The plan for the functions that words to split name, or else for those that no word to keep names.
+// Plans for the functions that `split` names, or without it for those that `keep` does not name.
 fn choose_by(
     alloc: Global,
     module: &Module,
@@ -87,7 +91,7 @@ fn choose_by(
     }
 }
 
-// The words that are given, if any are.
+// Returns the names, or no names for `None`.
 fn words_of<'a>(words: Option<&'a Items<Name>>) -> &'a [Name]
     ensures { result.now ≡ words_of (option_copied words.entry) }
 {

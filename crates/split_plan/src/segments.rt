@@ -5,7 +5,7 @@ ghost use Rattle.split_plan.specs.Segments.{uses_segment, uses_segment_in};
 
 use wasm_tree::{Instr, operands_pass_layer_by_layer};
 
-// Whether the instruction names a segment, or one inside it does.
+// Returns whether the instruction names a segment, or one inside it does.
 #[cycle(uses)]
 fn uses_in(instr: &Instr) -> bool
     ensures { result ≡ uses_segment_in instr.now }
@@ -31,7 +31,8 @@ fn uses_in(instr: &Instr) -> bool
     }
 }
 
-/// Whether one of the instructions names a segment, or one inside them does (`memory.init`, `data.drop`, `table.init` and `elem.drop`).
+/// Returns whether an instruction, or one inside it, names a segment: `memory.init`, `data.drop`,
+/// `table.init` and `elem.drop` do.
 #[cycle(uses)]
 pub fn uses_segments(body: &[Instr]) -> bool
     ensures { result ≡ uses_segment body.now }

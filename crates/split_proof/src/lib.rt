@@ -1,4 +1,4 @@
-//! That both modules of a split are valid, as laws.
+//! Proves laws of both modules of a split: they are valid, and their remaps fit.
 #![tactic(auto)]
 
 ghost use Rattle.std.specs.Prelude.{◌≡◌, ℕ, List, None, IsTrue};
@@ -20,14 +20,19 @@ use module_limits::counts_are_within_where_none_is_over;
 use wasm_tree::operands_pass_layer_by_layer;
 use wasm_valid::valid_where_items_hold;
 
-/// Code in which other code stands in place of calls, and then each index is replaced by its entry, is such code with other indices (`ensures`).
+/// Proves that replacing calls in code and then renumbering it gives the renumbered code, in which
+/// the renumbered replacements are in place of the calls.
 pub fn replacing_calls_commutes_with_renumbering()
     ensures { CallsAreReplaced }
 {}
 
-/// The primary module of a split of a valid module is valid, whatever the namespaces of its placeholders, where the functions on the list can move, a u32 can count what
-/// the module has, and no export has a name that is added (`valid`, WebAssembly Core 2.0, section 3.4). It has at most one memory where the module has (`single`), and a
-/// u32 can count what it has where none of its counts is above its limit (`bounded`).
+/// Proves that the primary module of a split is valid, whatever the namespaces of its placeholders
+/// (`valid`, WebAssembly Core 2.0, section 3.4).
+///
+/// The premises are that the input module is valid and bounded, that the functions `moved` can
+/// move, and that no export has an added name. The primary module has at most one memory if the
+/// input module has (`single`), and is bounded if none of its counts is above its limit
+/// (`bounded`); these need only some of the premises.
 pub fn primary_modules_are_valid()
     ensures valid { (namespace : ℕ → List ℕ) (prefix : List ℕ) (m : Module) (moved : List ℕ) → IsValid m → IsBounded m → CanMove m moved → prefix_taken prefix m moved ≡ None → IsValid (primary_with namespace prefix m moved) }
     ensures single { (namespace : ℕ → List ℕ) (prefix : List ℕ) (m : Module) (moved : List ℕ) → IsValid m → CanMove m moved → IsSingle m → IsSingle (primary_with namespace prefix m moved) }
@@ -41,8 +46,9 @@ pub fn primary_modules_are_valid()
     replacing_calls_commutes_with_renumbering();
 }
 
-/// So is a secondary module, whichever functions that can move are its own, whatever others move and whatever slots stand before its own (`valid`), and it has no more
-/// memories (`single`) and no more than a u32 can count (`bounded`) likewise.
+/// Proves the same of a secondary module, for any `moved`, `before` and names (`valid`, `single`,
+/// `bounded`). The premises are that the input module is valid, that the functions `own` can move,
+/// and for `bounded` that the input module is bounded.
 pub fn secondary_modules_are_valid()
     ensures valid { (names : SplitNames) (m : Module) (moved own : List ℕ) (before : ℕ) → IsValid m → CanMove m own → IsValid (secondary_with names m moved own before) }
     ensures single { (names : SplitNames) (m : Module) (moved own : List ℕ) (before : ℕ) → IsValid m → CanMove m own → IsSingle m → IsSingle (secondary_with names m moved own before) }
@@ -56,7 +62,9 @@ pub fn secondary_modules_are_valid()
     replacing_calls_commutes_with_renumbering();
 }
 
-/// The maps by which both modules are renumbered have an entry for each index that is named in the trees that they renumber (`primary`, `secondary`).
+/// Proves that the remap of each module has an entry for each index that is named in the tree that
+/// it renumbers (`primary`, `secondary`). The premises are that the input module is valid, and that
+/// the functions `moved`, or `own`, can move.
 pub fn maps_of_a_split_fit()
     ensures primary { (namespace : ℕ → List ℕ) (prefix : List ℕ) (m : Module) (moved : List ℕ) → IsValid m → CanMove m moved → IsTrue (fits_tree (primary_map m moved) (primary_tree namespace prefix m moved)) }
     ensures secondary { (names : SplitNames) (m : Module) (moved own : List ℕ) (before : ℕ) → IsValid m → CanMove m own → IsTrue (fits_tree (secondary_map m moved own) (secondary_tree names m moved own before)) }

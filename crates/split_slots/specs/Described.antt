@@ -1,10 +1,10 @@
--- What a module has in an index space, as imports of it would describe it.
+-- The functions, tables, memories or globals of a module, each as an import would describe it.
 use Rattle.std.specs.Prelude.{cond, List, [], map, Option, Some, None}
 use Rattle.std.specs.List.{filter_map}
 use Rattle.wasm_tree_spec.specs.Prelude.{same_space, space_of_import, Space, Types, Functions, Tables, Memories, Globals, ElementSegments, DataSegments, Import, Module, ImportDesc}
 use Rattle.wasm_tree.specs.declared.module.ImportDesc.TheVariants as im
 
--- what an import adds to an index space, if it adds to it
+-- the description itself, if it is of an entity of this index space
 abbrev pub desc_in : Space → ImportDesc → Option ImportDesc
 desc_in space desc = cond (same_space space (space_of_import desc)) (Some desc) None
 

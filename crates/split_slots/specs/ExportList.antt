@@ -1,4 +1,4 @@
--- What the primary module exports for secondary ones, by marks.
+-- What the primary module exports for secondary ones, from marks.
 use Rattle.std.specs.Prelude.{ℕ, List, [], ◌∷◌, ◌++◌}
 use Rattle.base_lists.specs.Places.{places}
 use Rattle.wasm_tree_spec.specs.Prelude.{Space, Types, Functions, Tables, Memories, Globals, ElementSegments, DataSegments, Export, ExportDesc}
@@ -6,7 +6,7 @@ use Rattle.wasm_tree.specs.declared.module.ExportDesc.TheVariants as ex
 use Rattle.split_spec.specs.Prelude.{exports_for_secondary, name_from_primary, slots_name}
 use Rattle.split_slots.specs.declared.sharing.Marks.{Marks}
 
--- what is exported of an index space
+-- what is exported for an index of a space; types and segments are never exported
 abbrev pub desc_of : Space → ℕ → ExportDesc
 desc_of Functions i = ex.Func i
 desc_of Tables i = ex.Table i
@@ -19,7 +19,7 @@ desc_of DataSegments i = ex.Func i
 abbrev pub exported : (prefix : List ℕ) → Space → ℕ → Export
 exported prefix space i = record { name = name_from_primary prefix space i; desc = desc_of space i }
 
--- of each kind what is marked, in ascending order, and last the slot table
+-- the marked entities of each kind, in ascending order, and last the slot table
 abbrev pub exports_by : (prefix : List ℕ) → Marks → (table : ℕ) → List Export
 exports_by prefix marks table =
     exports_for_secondary prefix Functions ex.Func (places (λ named. named) marks.funcs.items 0)

@@ -1,4 +1,4 @@
--- What a table of slots tells.
+-- Looking up slots in a list with an entry for each function.
 use Rattle.std.specs.Prelude.{ℕ, List, Option, None, slice_get, unwrap_or}
 
 -- the slot of a function, if it has one

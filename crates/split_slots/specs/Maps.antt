@@ -1,4 +1,4 @@
--- Where each index of the module that is split goes, by marks.
+-- The remaps of both modules, from marks.
 use Rattle.std.specs.Prelude.{ℕ, suc, ◌+◌, Bool, List, [], ◌∷◌, ◌++◌, drop, length, map}
 use Rattle.base_lists.specs.Places.{numbers, places}
 use Rattle.base_kept.specs.Kept.{new_places}
@@ -8,11 +8,12 @@ use Rattle.split_slots.specs.declared.sharing.Marks.{Marks}
 
 -- ---- in the primary module ----
 
--- the placeholders, so many, come between what is imported and what is left of the defined functions
+-- the `count` placeholders come between the imported functions and the defined functions that are
+-- left
 abbrev pub primary_funcs_by : (imported : ℕ) → (left : List Bool) → (count : ℕ) → List ℕ
 primary_funcs_by imported left count = numbers 0 imported ++ (map (λ place. count + place) (drop imported (new_places left)) ++ numbers imported count)
 
--- all else goes where it is
+-- everything else keeps its index
 abbrev pub primary_map_by : Module → (left : List Bool) → (count : ℕ) → Remap
 primary_map_by m left count = record {
   types = numbers 0 (length m.types);
@@ -26,11 +27,12 @@ primary_map_by m left count = record {
 
 -- ---- in the secondary module ----
 
--- what is marked goes to its place among the marked, and the own functions, so many, come behind
+-- a marked function goes to its place among the marked ones, and `own` functions more come after
+-- all of these
 abbrev pub secondary_funcs_by : (marks : List Bool) → (own : ℕ) → List ℕ
 secondary_funcs_by marks own = new_places marks ++ numbers (length (places (λ named. named) marks 0)) own
 
--- and behind the marked tables the slot table
+-- the slot table comes after the marked tables
 abbrev pub secondary_tables_by : (marks : List Bool) → List ℕ
 secondary_tables_by marks = new_places marks ++ length (places (λ named. named) marks 0) ∷ []
 

@@ -1,4 +1,4 @@
-// Code in which other code stands in place of calls of functions that move.
+// Replaces calls of moved functions in code.
 
 ghost use Rattle.std.specs.Prelude.{◌≡◌, ℕ, ◌++◌, ◌<◌, ◌≤◌, ◌^◌, drop, length, take, true, IfOk, OnOk};
 ghost use Rattle.std.specs.List.{flat_map};
@@ -14,28 +14,28 @@ use std::mem;
 use wasm_bytes::{Items, NoMemory};
 use wasm_tree::Instr;
 
-/// What becomes of calls in a module.
+/// What is needed to replace the calls in one of the two modules.
 #[derive(Clone, Copy, Drop)]
 pub(crate) struct Calls<'a> {
-    /// The type of each function, as a place in the types.
+    /// The type index of each function.
     pub(crate) types: &'a [u32],
-    /// The slot of each function that moves.
+    /// For each function its slot, or `None` if it does not move.
     pub(crate) slots: &'a [Option<u32>],
     /// The index of the slot table.
     pub(crate) table: u32,
-    /// The index of the first of the module's own functions that moved.
+    /// The index of the first moved function that this module defines itself.
     pub(crate) base: u32,
-    /// The slots of these: from this one on, before the end.
+    /// The slots of these functions: from `first` on, before `end`.
     pub(crate) first: u32,
     pub(crate) end: u32,
 }
 
-/// What stands in place of a call.
+/// What replaces a call.
 #[derive(Clone, Copy, Drop)]
 enum Target {
-    /// The call of this function.
+    /// A call of this function.
     Func(u32),
-    /// The call by this type through this slot.
+    /// A call by this type through this slot.
     Slot { ty: u32, slot: u32 },
 }
 
@@ -57,7 +57,7 @@ impl Calls<'_> {
     }
 }
 
-// Appends what stands in place of a call.
+// Appends what replaces a call.
 #[tactic(auto, using(crate::proofs::Trampolining::push_two))]
 fn put_target(body: &mut Items<Instr>, table: u32, target: Target) -> Result<(), NoMemory>
     requires few { (ty slot : ℕ) → target ≡ targets.Slot ty slot → slot < 2 ^ 31 }
@@ -72,7 +72,7 @@ fn put_target(body: &mut Items<Instr>, table: u32, target: Target) -> Result<(),
     }
 }
 
-// Appends what stands in place of the instruction.
+// Appends what replaces the instruction; the code inside it stays as it is.
 fn put_instr(body: &mut Items<Instr>, instr: Instr, calls: &Calls<'_>) -> Result<(), NoMemory>
     requires few { FewSlots calls.now }
     ensures { OnOk result (body.new ≡ body.old ++ replacing.code_here (replacing.code_of_call calls.now) instr) }
@@ -83,7 +83,8 @@ fn put_instr(body: &mut Items<Instr>, instr: Instr, calls: &Calls<'_>) -> Result
     }
 }
 
-// Appends what stands in place of the instructions, which are taken out of their places.
+// Appends what replaces the instructions, which are moved out of `from`; the code inside them stays
+// as it is.
 fn put_each(
     body: &mut Items<Instr>,
     from: &mut Items<Instr>,
@@ -101,7 +102,7 @@ fn put_each(
     Ok(())
 }
 
-// Puts what replaces them in place of the calls from this place on, but not in blocks.
+// Replaces the calls from place `at` on, but not those inside blocks.
 fn spread_from(body: &mut Items<Instr>, at: usize, calls: &Calls<'_>) -> Result<(), NoMemory>
     requires few { FewSlots calls.now }
     requires there { at ≤ length body.old }
@@ -111,7 +112,8 @@ fn spread_from(body: &mut Items<Instr>, at: usize, calls: &Calls<'_>) -> Result<
     put_each(body, &mut rest, calls)
 }
 
-// Lets a call name the function of the module's own that it is of. Whether it is a call through a slot, which stays.
+// Sets the index of a direct call to the index of its function in this module. Returns whether the
+// call has to go through a slot instead; such a call is left as it is.
 fn settle_call(func: &mut u32, calls: &Calls<'_>) -> bool
     requires few { FewSlots calls.now }
     ensures settled { func.new ≡ replacing.settled_call calls.now func.old }
@@ -126,7 +128,8 @@ fn settle_call(func: &mut u32, calls: &Calls<'_>) -> bool
     }
 }
 
-// Puts what replaces them in place of the calls in the instruction, unless it is a call through a slot itself, which stays: whether it is one.
+// Replaces the calls inside the instruction, and treats a call as `settle_call` does; returns
+// whether the instruction is a call that has to go through a slot.
 #[cycle(replace)]
 fn settle(alloc: Global, instr: &mut Instr, calls: &Calls<'_>) -> Result<bool, NoMemory>
     requires few { FewSlots calls.now }
@@ -146,7 +149,7 @@ fn settle(alloc: Global, instr: &mut Instr, calls: &Calls<'_>) -> Result<bool, N
     Ok(false)
 }
 
-// The earlier of the two places, where the second counts.
+// Returns the earlier of both places, or `first` if `counts` is false.
 fn earlier(first: usize, at: usize, counts: bool) -> usize
     ensures first { result ≤ first }
     ensures at { counts ≡ true → result ≤ at }
@@ -154,7 +157,8 @@ fn earlier(first: usize, at: usize, counts: bool) -> usize
     if counts && at < first { at } else { first }
 }
 
-/// Puts what replaces them in place of calls of functions that move, in blocks as well. Nothing is copied, and code before the first call through a slot stays where it is.
+/// Replaces the calls of moved functions, in blocks as well. Instructions are moved, not copied,
+/// and those before the first call through a slot stay in place.
 #[cycle(replace)]
 pub(crate) fn replace_calls(
     alloc: Global,

@@ -1,4 +1,4 @@
-// What is too much, as far as that is told before anything is built.
+// The counts that are tested before anything is built.
 
 ghost use Rattle.std.specs.Prelude.{◌≡◌, ◌+◌, ◌<◌, ◌^◌, length, nat_lt};
 ghost use Rattle.wasm_tree.specs.Limits.{limit};
@@ -7,14 +7,14 @@ ghost use Rattle.split_slots.specs.Surveyed.{first_counts};
 
 use wasm_tree::{Module, Which};
 
-// Whether there are more than there may be.
+// Returns whether `count` is above the limit.
 fn is_above(count: usize, which: Which) -> bool
     ensures { result ≡ nat_lt (limit which) count }
 {
     count > which.limit() as usize
 }
 
-// Whether more functions are left than there may be, where of so many defined functions no more are left out than move.
+// Returns whether more functions than the limit stay if `moved` of `funcs` go.
 fn leaves_too_many(funcs: usize, moved: usize) -> bool
     requires few { moved < 2 ^ 32 }
     ensures { result ≡ nat_lt (limit MostFunctions + moved) funcs }
@@ -22,7 +22,9 @@ fn leaves_too_many(funcs: usize, moved: usize) -> bool
     funcs > Which::Functions.limit() as usize + moved
 }
 
-/// The first count of the primary module that is above its limit, of its types, imports and functions. Behind these a u32 counts all that both modules have.
+/// Returns the first of the counts of types, imports and functions of the primary module that is
+/// above its limit. Trampolines are not counted; the counts of the finished module are tested
+/// again.
 pub(crate) fn first_counts(module: &Module, moved: usize) -> Option<Which>
     requires imports { length «module».now.imports < 2 ^ 32 }
     requires few { moved < 2 ^ 32 }

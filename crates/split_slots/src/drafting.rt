@@ -1,4 +1,4 @@
-// Both modules of a split, in the indices of the module that is split.
+// Drafts: both modules of a split, still in the indices of the input module.
 
 ghost use Rattle.std.specs.Prelude.{◌≡◌, ◌+◌, ◌∷◌, ◌<◌, ◌≤◌, ◌^◌, [], length, map as each, None, IfOk, OnOk};
 ghost use Rattle.std.specs.List.Sorted.{IsStrictlyIncreasing};
@@ -25,21 +25,20 @@ use std::alloc::Global;
 use wasm_bytes::{Items, NoMemory};
 use wasm_tree::{Export, Func, FuncType, Import, Module};
 
-/// A module in the indices of the one that is split, and where each of these goes.
+/// A module in the indices of the input module, and the remap to its own indices.
 #[derive(Drop)]
 pub(crate) struct Draft {
     pub(crate) tree: Module,
     pub(crate) map: Remap,
 }
 
-/// Both modules so.
 #[derive(Drop)]
 pub(crate) struct Drafts {
     pub(crate) primary: Draft,
     pub(crate) secondary: Draft,
 }
 
-/// What the secondary module has beside its functions, and where each index goes.
+/// The types and the imports of the secondary module, and its remap.
 #[derive(Drop)]
 pub(crate) struct Frame {
     pub(crate) types: Items<FuncType>,
@@ -47,7 +46,7 @@ pub(crate) struct Frame {
     pub(crate) map: Remap,
 }
 
-// What the secondary module has beside its functions.
+// Makes the types, the imports and the remap of the secondary module.
 fn frame_of(
     alloc: Global,
     module: &Module,
@@ -71,7 +70,7 @@ fn frame_of(
     })
 }
 
-// The secondary module of these functions.
+// Makes the draft of the secondary module that defines the functions `own`.
 fn secondary_draft(
     alloc: Global,
     frame: Frame,
@@ -99,7 +98,8 @@ fn secondary_draft(
     })
 }
 
-// The secondary module, and where its indices go. What is left of the module is the primary one.
+// Makes `tree` the primary module, still in the indices of the input module, and returns the draft
+// of the secondary module.
 fn parted(
     alloc: Global,
     tree: &mut Module,
@@ -133,7 +133,8 @@ fn parted(
     secondary_draft(alloc, frame, own, &calls)
 }
 
-/// Both modules, in the indices of the module that is split, and where these go. The functions that move are moved.
+/// Returns the drafts of both modules. The definitions of the moved functions are moved, not
+/// copied.
 pub(crate) fn drafted(
     alloc: Global,
     module: Module,

@@ -81,7 +81,8 @@ fn add_defined(all: &mut Items<ImportDesc>, module: &Module, space: Space) -> Re
     }
 }
 
-/// What the module has in an index space, as an import would describe it.
+/// Returns the functions, tables, memories or globals of the module, each as an import would
+/// describe it, and nothing for types and segments.
 pub(crate) fn entities(
     alloc: Global,
     module: &Module,

@@ -1,4 +1,4 @@
-// What the primary module exports for the secondary one.
+// The exports that the primary module has for the secondary one.
 
 ghost use Rattle.std.specs.Prelude.{◌≡◌, ◌++◌, ◌∷◌, ◌<◌, ◌≤◌, ◌^◌, [], cond, false, get_or, length, string_bytes, IfOk, OnOk};
 ghost use Rattle.base_lists.specs.Places.{places};
@@ -11,7 +11,6 @@ use std::alloc::{AllocError, Global};
 use wasm_bytes::{Items, Name, NoMemory};
 use wasm_tree::{Export, ExportDesc, Space};
 
-// f, t, m or g.
 fn kind_letter(space: Space) -> &'static str
     ensures { result.now ≡ spec.kind_letter space }
 {
@@ -33,7 +32,8 @@ fn shared_text(alloc: Global, prefix: &str, space: Space, index: u32) -> Result<
     Ok(text)
 }
 
-/// The name of what a secondary module imports: the prefix, a letter for the kind, and the index.
+/// Returns the name under which a secondary module imports an entity: the prefix, a letter for its
+/// kind, and its index in decimal.
 pub(crate) fn name_from_primary(
     alloc: Global,
     prefix: &Name,
@@ -54,7 +54,7 @@ fn slots_text(alloc: Global, prefix: &str) -> Result<String, AllocError>
     Ok(text)
 }
 
-/// The name of the slot table.
+/// Returns the name under which the slot table is exported.
 pub(crate) fn slots_name(alloc: Global, prefix: &Name) -> Result<Name, NoMemory>
     ensures { IfOk result (λ name. name ≡ spec.slots_name prefix.now) }
 {
@@ -62,7 +62,7 @@ pub(crate) fn slots_name(alloc: Global, prefix: &Name) -> Result<Name, NoMemory>
     Name::from_text(alloc, text.as_str())
 }
 
-// What is exported of an index space, by its index.
+// Returns what is exported for an index of the space; types and segments are never exported.
 fn desc_of(space: Space, index: u32) -> ExportDesc
     ensures { result ≡ desc_of space index }
 {
@@ -76,7 +76,7 @@ fn desc_of(space: Space, index: u32) -> ExportDesc
     }
 }
 
-// Adds an export of the entity at an index, if it is marked.
+// Adds an export of the entity at index `at`, if it is marked.
 fn add_one(
     alloc: Global,
     exports: &mut Items<Export>,
@@ -98,7 +98,7 @@ fn add_one(
     Ok(())
 }
 
-// Adds an export of each entity of the space that is marked.
+// Adds an export of each marked entity of the space.
 fn add_named(
     alloc: Global,
     exports: &mut Items<Export>,
@@ -115,7 +115,8 @@ fn add_named(
     Ok(())
 }
 
-/// What the primary module exports for secondary ones, in the indices of the module that is split: what they name, by these marks, and last the slot table.
+/// Returns what the primary module exports for secondary ones, in the indices of the input module:
+/// what is marked, and last the slot table.
 pub(crate) fn added_exports(
     alloc: Global,
     prefix: &Name,

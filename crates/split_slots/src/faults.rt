@@ -1,4 +1,4 @@
-// What is taken already, and what is too much.
+// Tests for a taken namespace and for too many parameters.
 
 ghost use Rattle.std.specs.Prelude.{◌≡◌, ◌≤◌, ◌^◌, [], length, map, nat_lt, option_and_then, slice_get, sum};
 ghost use Rattle.std.specs.Option.{option_map_or};
@@ -16,7 +16,7 @@ fn has_namespace(import: &Import, namespace: &str) -> bool
     import.module.as_str() == namespace
 }
 
-/// The first import of this namespace.
+/// Returns the place of the first import from `namespace`.
 pub(crate) fn namespace_taken(imports: &[Import], namespace: &Name) -> Option<u32>
     requires { length imports.now ≤ 2 ^ 32 }
     ensures { result ≡ first_place (λ i. bytes_eq i.«module» namespace.now) imports.now 0 }
@@ -30,7 +30,7 @@ pub(crate) fn namespace_taken(imports: &[Import], namespace: &Name) -> Option<u3
     None
 }
 
-/// How many parameters a function has.
+/// Returns how many parameters a function has, and 0 if the function or its type does not exist.
 pub(crate) fn param_count(types: &[FuncType], func_types: &[u32], func: u32) -> usize
     ensures { result ≡ length (option_map_or (λ t. t.params) (option_and_then (slice_get types.now) (slice_get func_types.now func)) []) }
 {
@@ -43,7 +43,7 @@ pub(crate) fn param_count(types: &[FuncType], func_types: &[u32], func: u32) -> 
     }
 }
 
-/// Whether functions that move have more parameters together than there may be.
+/// Returns whether the moved functions together have more parameters than the limit on trampolines.
 pub(crate) fn too_many_params(types: &[FuncType], func_types: &[u32], moved: &[u32]) -> bool
     ensures { result ≡ nat_lt (limit Trampolines) (sum (map (λ func. length (option_map_or (λ t. t.params) (option_and_then (slice_get types.now) (slice_get func_types.now func)) [])) moved.now)) }
 {

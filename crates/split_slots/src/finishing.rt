@@ -1,4 +1,4 @@
-// Each module of a split with its own indices.
+// Gives each module of a split its own indices.
 
 ghost use Rattle.std.specs.Prelude.{◌≡◌, ◌⊎◌, ◌<◌, ◌^◌, length, option_map, None, Some, IfOk, IfErr, IsOk, IsTrue};
 ghost use Rattle.wasm_tree.specs.Spaces.{funcs_of};
@@ -14,7 +14,7 @@ use std::alloc::Global;
 use wasm_bytes::NoMemory;
 use wasm_tree::Module;
 
-// Renumbers a module where it stands, and declares its references.
+// Renumbers the module in place and declares its references.
 fn renumbered(alloc: Global, module: Module, map: &Remap) -> Result<Module, NoMemory>
     requires fits { IsTrue (fits_tree map.now «module») }
     requires few { length (funcs_of (renumbered_tree map.now «module»)) < 2 ^ 32 }
@@ -26,7 +26,8 @@ fn renumbered(alloc: Global, module: Module, map: &Remap) -> Result<Module, NoMe
     Ok(tree)
 }
 
-/// The module with its own indices, and its references declared; or of what it has too much.
+/// Renumbers the module, declares its references and tests its counts. The error is `TooMany` with
+/// the first count above its limit, or `NoMemory`.
 pub(crate) fn finished(alloc: Global, module: Module, map: &Remap) -> Result<Module, SplitFault>
     requires fits { IsTrue (fits_tree map.now «module») }
     requires few { length (funcs_of (renumbered_tree map.now «module»)) < 2 ^ 32 }

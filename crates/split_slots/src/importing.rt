@@ -17,7 +17,7 @@ use std::alloc::Global;
 use wasm_bytes::{Items, NoMemory};
 use wasm_tree::{Import, ImportDesc, Module, Space};
 
-// The import of the entity at an index, as it is described.
+// Returns the import of the entity at an index.
 fn shared_import(
     alloc: Global,
     names: &SplitNames,
@@ -34,7 +34,7 @@ fn shared_import(
     })
 }
 
-// Adds an import of the entity at an index, if it is among these.
+// Adds an import of the entity at index `at`, if there is one.
 fn add_one(
     alloc: Global,
     imports: &mut Items<Import>,
@@ -52,7 +52,7 @@ fn add_one(
     }
 }
 
-// Adds an import of each of these entities that is marked.
+// Adds an import of each marked entity.
 fn add_marked(
     alloc: Global,
     imports: &mut Items<Import>,
@@ -72,7 +72,7 @@ fn add_marked(
     Ok(())
 }
 
-// Adds an import of each entity of the space that is marked.
+// Adds an import of each marked entity of the space.
 fn add_shared(
     alloc: Global,
     imports: &mut Items<Import>,
@@ -88,7 +88,7 @@ fn add_shared(
     add_marked(alloc, imports, names, space, all.as_slice(), marks)
 }
 
-// The import of the slot table, with so many slots.
+// Returns the import of the slot table, which has `count` slots.
 fn slots_import(alloc: Global, names: &SplitNames, count: u32) -> Result<Import, NoMemory>
     ensures { IfOk result (λ import. import ≡ record { «module» = names.now.import_namespace; field = spec.slots_name names.now.export_prefix; desc = IsTable (slots.slot_table_type count) }) }
 {
@@ -99,8 +99,10 @@ fn slots_import(alloc: Global, names: &SplitNames, count: u32) -> Result<Import,
     })
 }
 
-/// What the secondary module imports from the primary one, in the order of its kinds: what it names, by these marks, and behind the tables the slot table, with so
-/// many slots (WebAssembly Core 2.0, section 2.5.11). Each has the name of the primary module's export. The only refusal is want of memory.
+/// Returns what the secondary module imports from the primary one: the marked functions, the marked
+/// tables, the slot table with `count` slots, the marked memories and the marked globals
+/// (WebAssembly Core 2.0, section 2.5.11). Each import has the name of the primary module's export.
+/// The only error is `NoMemory`.
 pub(crate) fn secondary_imports(
     alloc: Global,
     names: &SplitNames,

@@ -1,4 +1,4 @@
-// What is left of a module that is split.
+// What stays in the primary module, and what is added to it.
 
 ghost use Rattle.std.specs.Prelude.{◌≡◌, ◌+◌, ◌++◌, ◌∷◌, ◌<◌, ◌≤◌, ◌^◌, [], drop, length, IfOk, OnOk};
 ghost use Rattle.std.specs.List.Sorted.{IsStrictlyIncreasing};
@@ -25,7 +25,9 @@ use std::mem;
 use wasm_bytes::{Items, Name, NoMemory};
 use wasm_tree::{Export, Func, FuncType, Module};
 
-// Parts the defined functions, of which the first has this index: those that are marked are left, and those that move are given.
+// Divides the defined functions, which begin at index `first`, and returns the moved ones. `funcs`
+// keeps what `left` marks: trampolines in place of moved functions, and the other functions with
+// their calls replaced.
 fn part(
     alloc: Global,
     funcs: &mut Items<Func>,
@@ -47,7 +49,8 @@ fn part(
     Ok(own)
 }
 
-// Adds the placeholders, the slot table, the exports and the segment that puts the placeholders into the slots, where each function has its type.
+// Adds the placeholders, the slot table, the exports, and the segment that puts the placeholders
+// into the slots; `types` has the type index of each function.
 fn add_parts(
     alloc: Global,
     tree: &mut Module,
@@ -73,7 +76,8 @@ fn add_parts(
     tree.elems.keep(segment)
 }
 
-/// Takes out the functions that move, which it gives, and adds what calls them through their slots.
+/// Makes `tree` the primary module, still in the indices of the input module, and returns the
+/// definitions of the moved functions.
 pub(crate) fn part_module(
     alloc: Global,
     tree: &mut Module,

@@ -1,4 +1,5 @@
-//! Splitting a module in two: functions move to a secondary module, and the primary one calls them through the slots of a table that it has for them.
+//! Splits a module in two: some functions move to a secondary module, and the primary module calls
+//! them through the slots of a table that the split adds.
 #![tactic(auto)]
 
 mod calls;

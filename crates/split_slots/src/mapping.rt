@@ -17,7 +17,8 @@ fn is_left(slots: &[Option<u32>], needed: &[bool], func: u32) -> bool
     slot_at(slots, func).is_none() || is_marked(needed, func)
 }
 
-/// For each function whether the primary module has one in its place: all but those that have a slot and that nothing but a call names.
+/// Returns for each function whether the primary module has it or a trampoline in its place: it has
+/// neither for a moved function that is not marked in `needed`.
 #[tactic(auto, using(crate::proofs::Trampolining::counted_more))]
 pub(crate) fn left_marks(
     alloc: Global,
@@ -34,7 +35,7 @@ pub(crate) fn left_marks(
     Ok(all)
 }
 
-// Appends the places, each behind so many others.
+// Appends the places, each greater by `count`.
 fn add_behind(all: &mut Items<u32>, places: &[u32], count: u32) -> Result<(), NoMemory>
     requires few { (i place : ℕ) → slice_get places.now i ≡ Some place → count + place < 2 ^ 32 }
     ensures { OnOk result (all.new ≡ all.old ++ map (λ place. count + place) places.now) }
@@ -45,7 +46,7 @@ fn add_behind(all: &mut Items<u32>, places: &[u32], count: u32) -> Result<(), No
     Ok(())
 }
 
-// The same of the places from one on.
+// The same for the places from index `from` on.
 #[tactic(auto, using(crate::proofs::PlacesBehind::rest_is))]
 fn add_behind_from(
     all: &mut Items<u32>,
@@ -60,7 +61,9 @@ fn add_behind_from(
     add_behind(all, &places[from..], count)
 }
 
-/// Where each function goes: the placeholders, so many, come between what is imported and what is defined.
+/// Returns the new index of each function, and then of each of the `count` placeholders, which come
+/// between the imported and the defined functions. A function without a mark is left out of the
+/// primary module.
 pub(crate) fn primary_funcs_map(
     alloc: Global,
     imported: u32,

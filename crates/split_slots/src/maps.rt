@@ -1,4 +1,4 @@
-// Where each index goes in either module.
+// The remaps of both modules.
 
 ghost use Rattle.std.specs.Prelude.{◌≡◌, ◌+◌, ◌++◌, ◌<◌, ◌≤◌, ◌^◌, length, IfOk};
 ghost use Rattle.base_lists.specs.Places as spec;
@@ -15,7 +15,7 @@ use std::alloc::Global;
 use wasm_bytes::{Items, NoMemory};
 use wasm_tree::{FuncType, Module};
 
-// So many numbers in a row, from 0 on.
+// Returns the first `count` numbers, from 0 on.
 fn numbers(alloc: Global, count: usize) -> Result<Items<u32>, NoMemory>
     requires { count ≤ 2 ^ 32 }
     ensures { IfOk result (λ all. all ≡ spec.numbers 0 count) }
@@ -25,8 +25,9 @@ fn numbers(alloc: Global, count: usize) -> Result<Items<u32>, NoMemory>
     Ok(all)
 }
 
-/// Where each index goes in the primary module: functions as `primary_funcs_map` says, for these marks of what is left and so many placeholders, all else where it is
-/// (WebAssembly Core 2.0, section 2.5.1). The slot table stands behind the other tables. The only refusal is want of memory.
+/// Returns the remap of the primary module: functions go where `primary_funcs_map` says, and all
+/// else keeps its index (WebAssembly Core 2.0, section 2.5.1). The slot table comes after the other
+/// tables. The only error is `NoMemory`.
 pub(crate) fn primary_map(
     alloc: Global,
     module: &Module,
@@ -64,7 +65,8 @@ fn marked_count(marks: &[bool]) -> u32
     count
 }
 
-// What is marked goes to its place among the marked, and so many others come behind.
+// Returns the new place of each entity among the marked ones, and the places of `more` others after
+// these.
 fn marked_and_more(alloc: Global, marks: &[bool], more: u32) -> Result<Items<u32>, NoMemory>
     requires marks { length marks.now < 2 ^ 32 }
     requires few { length marks.now + more ≤ 2 ^ 32 }
@@ -75,8 +77,9 @@ fn marked_and_more(alloc: Global, marks: &[bool], more: u32) -> Result<Items<u32
     Ok(all)
 }
 
-/// Where each index goes in the secondary module: what is marked to its place among the marked, its own functions, so many, behind the imported ones, and the slot
-/// table behind the imported tables (WebAssembly Core 2.0, section 2.5.1). The only refusal is want of memory.
+/// Returns the remap of the secondary module (WebAssembly Core 2.0, section 2.5.1): a marked entity
+/// goes to its place among the marked ones, `own` functions come after the imported functions, and
+/// the slot table comes after the imported tables. The only error is `NoMemory`.
 pub(crate) fn secondary_map(
     alloc: Global,
     types: &[FuncType],

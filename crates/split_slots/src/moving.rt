@@ -1,4 +1,4 @@
-// Trampolines, which stand in place of functions that move.
+// Trampolines.
 
 ghost use Rattle.std.specs.Prelude.{◌≡◌, ◌++◌, ◌<◌, ◌≤◌, ◌^◌, length, map, pos, IfOk, OnOk};
 ghost use Rattle.base_lists.specs.Places.{numbers};
@@ -9,7 +9,7 @@ use std::alloc::Global;
 use wasm_bytes::{Items, NoMemory};
 use wasm_tree::{Instr, ValType};
 
-// Appends a `local.get` of each of so many parameters.
+// Appends a `local.get` for each parameter.
 fn add_gets(body: &mut Items<Instr>, params: usize) -> Result<(), NoMemory>
     requires { params ≤ 2 ^ 32 }
     ensures { OnOk result (body.new ≡ body.old ++ map IsLocalGet (numbers 0 params)) }
@@ -20,7 +20,7 @@ fn add_gets(body: &mut Items<Instr>, params: usize) -> Result<(), NoMemory>
     Ok(())
 }
 
-// Appends the call by this type through this slot.
+// Appends a call by type `ty` through a slot of the table.
 #[tactic(auto, using(crate::proofs::Trampolining::push_two))]
 fn add_slot_call(body: &mut Items<Instr>, ty: u32, table: u32, slot: u32) -> Result<(), NoMemory>
     requires slot { slot < 2 ^ 31 }
@@ -30,7 +30,7 @@ fn add_slot_call(body: &mut Items<Instr>, ty: u32, table: u32, slot: u32) -> Res
     body.keep(Instr::CallIndirect { ty, table })
 }
 
-/// A body that passes its parameters on to the function in the slot.
+/// Returns the body of a trampoline: it passes its parameters on to the function in the slot.
 pub(crate) fn trampoline_body(
     alloc: Global,
     params: &[ValType],

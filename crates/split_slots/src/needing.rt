@@ -1,4 +1,4 @@
-// Of which functions that move a trampoline is needed.
+// Which moved functions need a trampoline.
 
 ghost use Rattle.std.specs.Prelude.{◌≡◌, ◌++◌, [], false, filter, length, slice_get, unwrap_or, IfOk};
 ghost use Rattle.std.specs.List.{cons_option};
@@ -22,7 +22,8 @@ fn mark_start(marks: &mut Vec<bool>, start: Option<u32>)
     }
 }
 
-/// For each function whether anything outside the bodies names it.
+/// Returns for each function whether an element segment, the initialiser of a global, an export or
+/// the start names it.
 pub(crate) fn needed_marks(alloc: Global, module: &Module) -> Result<Vec<bool>, AllocError>
     ensures { IfOk result (λ marks. marks.items ≡ named_from (refs_of «module».now ++ cons_option «module».now.start []) 0 (length (funcs_of «module».now))) }
 {
@@ -31,14 +32,14 @@ pub(crate) fn needed_marks(alloc: Global, module: &Module) -> Result<Vec<bool>, 
     Ok(marks)
 }
 
-/// Whether the function is marked.
+/// Returns whether a function is marked; a function without an entry in `marks` is not.
 pub(crate) fn is_marked(marks: &[bool], func: u32) -> bool
     ensures { result ≡ unwrap_or (slice_get marks.now func) false }
 {
     marks.get(func as usize).copied().unwrap_or(false)
 }
 
-// Those of the functions that are marked.
+// Returns those of `funcs` that are marked, in their order.
 fn marked_among(alloc: Global, funcs: &[u32], marks: &[bool]) -> Result<Items<u32>, NoMemory>
     ensures { IfOk result (λ all. all ≡ filter (λ func. unwrap_or (slice_get marks.now func) false) funcs.now) }
 {
@@ -51,15 +52,19 @@ fn marked_among(alloc: Global, funcs: &[u32], marks: &[bool]) -> Result<Items<u3
     Ok(all)
 }
 
-/// The functions that move and of which the primary module has a trampoline, in ascending order: those that an export, the start, an item of an element segment, the
-/// initialiser of a global, or a `ref.func` in any body of the module names (WebAssembly Core 2.0, section 2.5). Others are only called, and through their slots.
-/// The only refusal is want of memory.
+/// Returns the moved functions for which the primary module has a trampoline, in ascending order.
+///
+/// These are the functions of `plan.moved` that an export, the start, an item of an element
+/// segment, the initialiser of a global, or a `ref.func` in any body of `input` names (WebAssembly
+/// Core 2.0, section 2.5). Nothing but a call names any other moved function. The only error is
+/// `NoMemory`.
 pub fn needed(alloc: Global, input: &Valid, plan: &Plan) -> Result<Items<u32>, NoMemory>
     requires plan { IsPlan input.now plan.now }
     ensures needed { IfOk result (λ all. all ≡ needed_among input.now plan.now.moved) }
     ensures ascend { IfOk result IsStrictlyIncreasing }
 {
-    // What `ref.func` names in a body of a valid module, something outside the bodies names too.
+    // A function that `ref.func` names in a body of a valid module is also named outside the
+    // bodies.
     valid_where_items_hold();
     let marks = needed_marks(alloc, input.module())?;
     let all = marked_among(alloc, plan.moved.as_slice(), &marks)?;

@@ -1,4 +1,4 @@
-// The secondary module, still in the indices of the module that is split.
+// The secondary module, still in the indices of the input module.
 
 ghost use Rattle.std.specs.Prelude.{◌≡◌, ◌∷◌, ◌+◌, ◌≤◌, ◌^◌, [], length, map, None, IfOk, OnOk};
 ghost use Rattle.base_lists.specs.Places.{numbers};
@@ -19,7 +19,7 @@ fn replace_in(alloc: Global, func: &mut Func, calls: &Calls<'_>) -> Result<(), N
     replace_calls(alloc, &mut func.body, calls)
 }
 
-/// In each of the functions that moved, what stands in place of its calls.
+/// Replaces the calls in each of the functions.
 pub(crate) fn replace_in_each(
     alloc: Global,
     own: &mut Items<Func>,
@@ -36,7 +36,8 @@ pub(crate) fn replace_in_each(
     Ok(())
 }
 
-/// The module of these functions, which it puts into the first slots.
+/// Returns the module that defines the functions, with a segment that puts them into the first
+/// slots; `base` is the index of the first of them.
 pub(crate) fn secondary_tree(
     alloc: Global,
     types: Items<FuncType>,

@@ -1,4 +1,5 @@
-// What becomes of the defined functions: those that move are taken out, and trampolines stand in their places; the others call them through their slots.
+// Divides the defined functions: each moved function is taken out and leaves a trampoline, and the
+// others call the moved ones through their slots.
 
 ghost use Rattle.std.specs.Prelude.{◌≡◌, ◌+◌, ◌++◌, ◌∷◌, ◌<◌, ◌≤◌, ◌^◌, ℕ, [], cond, is_some, length, slice_get, Some, OnOk, IfOk};
 ghost use Rattle.std.specs.Option.{option_map_or};
@@ -23,7 +24,7 @@ fn params_at(types: &[FuncType], ty: u32) -> &[ValType]
     }
 }
 
-// Takes the function out. A trampoline stands in its place.
+// Takes the function out and leaves a trampoline in its place.
 fn move_out(
     alloc: Global,
     func: &mut Func,
@@ -44,7 +45,7 @@ fn move_out(
     })
 }
 
-// What becomes of one function, with its slot if it moves.
+// If the function has a slot, moves it to `own` and leaves a trampoline; else replaces its calls.
 fn part_one(
     alloc: Global,
     func: &mut Func,
@@ -68,7 +69,8 @@ fn part_one(
     }
 }
 
-/// What becomes of all of them, of which the first has this index. Gives those that move.
+/// Divides the defined functions, of which the first has the index `first`: returns those that have
+/// slots, unchanged, leaves a trampoline for each, and replaces the calls in the others.
 pub(crate) fn part_funcs(
     alloc: Global,
     funcs: &mut Items<Func>,

@@ -1,4 +1,4 @@
-// Placeholders, and the slots that they stand in.
+// Placeholders, the slot table, and the segments that fill its slots.
 
 ghost use Rattle.std.specs.Prelude.{◌≡◌, ◌+◌, ◌++◌, ◌∷◌, ◌<◌, ◌≤◌, ◌^◌, [], decimal, length, map, slice_index, Some, IfOk, OnOk};
 ghost use Rattle.base_lists.specs.Places.{numbers};
@@ -13,7 +13,7 @@ use std::alloc::Global;
 use wasm_bytes::{Items, Name, NoMemory};
 use wasm_tree::{ConstExpr, ElemMode, ElemSeg, Import, ImportDesc, Limits, RefType, TableType};
 
-/// A table with so many slots.
+/// Returns the type of a table with exactly `count` slots.
 pub(crate) fn slot_table_type(count: u32) -> TableType
     ensures { result ≡ spec.slot_table_type count }
 {
@@ -26,7 +26,7 @@ pub(crate) fn slot_table_type(count: u32) -> TableType
     }
 }
 
-// References to so many functions from one on.
+// Returns references to `count` functions, of which the first has the index `base`.
 #[tactic(auto, using(crate::proofs::Trampolining::numbered_more))]
 fn refs_from(alloc: Global, base: u32, count: usize) -> Result<Items<ConstExpr>, NoMemory>
     requires { base + count ≤ 2 ^ 32 }
@@ -39,7 +39,7 @@ fn refs_from(alloc: Global, base: u32, count: usize) -> Result<Items<ConstExpr>,
     Ok(all)
 }
 
-/// The segment that puts so many functions, from one on, into the first slots.
+/// Returns the segment that puts `count` functions, from index `base` on, into the first slots.
 pub(crate) fn slot_segment(
     alloc: Global,
     table: u32,
@@ -59,7 +59,7 @@ pub(crate) fn slot_segment(
     })
 }
 
-/// The import of the placeholder of a slot.
+/// Returns the import of the placeholder of a slot.
 pub(crate) fn placeholder(
     alloc: Global,
     namespace: &Name,
@@ -75,7 +75,7 @@ pub(crate) fn placeholder(
     })
 }
 
-// Adds the import of the placeholder of this slot, for the function that moves there.
+// Adds the import of the placeholder of this slot, with the type of the function that moves there.
 fn add_placeholder(
     alloc: Global,
     imports: &mut Items<Import>,

@@ -1,4 +1,4 @@
-// Why a module is not split, as far as that is told before anything is built.
+// The faults of a split that are reported before anything is built.
 
 ghost use Rattle.std.specs.Prelude.{◌≡◌, ◌⊎◌, ◌<◌, ◌^◌, Some, length, IfErr, IsOk};
 ghost use Rattle.wasm_tree.specs.Bounds.{IsBounded};
@@ -17,7 +17,8 @@ use split_spec::{SplitFault, SplitNames};
 use std::alloc::Global;
 use wasm_tree::{Export, Module, Which};
 
-// The first of what is too much: the parameters of the functions that move, then a count of the primary module.
+// Returns the first quantity that is above its limit: the parameters of the moved functions, then
+// the counts that `first_counts` tests.
 fn first_too_many(module: &Module, types: &[u32], moved: &[u32]) -> Option<Which>
     requires types { types.now ≡ funcs_of «module».now }
     requires imports { length «module».now.imports < 2 ^ 32 }
@@ -30,7 +31,8 @@ fn first_too_many(module: &Module, types: &[u32], moved: &[u32]) -> Option<Which
     first_counts(module, moved.len())
 }
 
-/// The first fault that is told before anything is built. Where there is none, a u32 counts all that both modules have.
+/// Refuses a split for the first fault, if it can be found before anything is built. After `Ok` the
+/// functions of the module and the slots together are fewer than 2^31.
 pub(crate) fn refuse(
     alloc: Global,
     module: &Module,

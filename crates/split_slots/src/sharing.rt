@@ -1,4 +1,4 @@
-// What functions name, except functions that move and that they only call.
+// What functions name, leaving out calls of functions that move.
 
 ghost use Rattle.std.specs.Prelude.{◌≡◌, ◌≤◌, ◌<◌, ◌-◌, ◌&&◌, ◌∷◌, [], ℕ, List, Option, true, false, length, nat_eq, replicate, slice_get, slice_index, IfOk};
 ghost use Rattle.std.specs.List.{cons_option, list_any};
@@ -14,7 +14,7 @@ use std::alloc::{AllocError, Global};
 use wasm_tree::{Instr, Module, Operand, Operands, Space, operands_pass_layer_by_layer};
 use wasm_valid::mark;
 
-/// Marks of what is named, one for each entity of an index space.
+/// A mark for each function, table, memory and global: whether it is named.
 #[derive(Drop)]
 pub(crate) struct Marks {
     pub(crate) funcs: Vec<bool>,
@@ -35,7 +35,7 @@ fn mark_at(marks: &mut Marks, space: Space, index: u32)
     }
 }
 
-// Marks what the operand names, unless it is a call of a function that moves.
+// Marks what the operand names, unless it is the operand of a `call` of a moved function.
 fn note(marks: &mut Marks, operand: Operand, slots: &[Option<u32>])
     ensures { Notes (λ s i. named_by slots.now s i operand) marks.old marks.new }
 {
@@ -75,7 +75,7 @@ fn note_inside(marks: &mut Marks, instr: &Instr, slots: &[Option<u32>])
     }
 }
 
-// Whether it is one of the most frequent instructions that name nothing.
+// Returns `true` only if the instruction names nothing; it knows the most frequent such ones.
 fn names_nothing(instr: &Instr) -> bool
     ensures { result ≡ true → (slots : List (Option ℕ)) → (space : Spaces) → (index : ℕ) → body_names slots (instr.now ∷ []) space index ≡ false }
 {
@@ -98,7 +98,7 @@ fn note_instr(marks: &mut Marks, instr: &Instr, slots: &[Option<u32>])
     note_inside(marks, instr, slots);
 }
 
-/// Marks what the code names.
+/// Marks what the code names, leaving out calls of functions that move.
 #[cycle(named)]
 pub(crate) fn note_body(marks: &mut Marks, body: &[Instr], slots: &[Option<u32>])
     ensures { Notes (body_names slots.now body.now) marks.old marks.new }
@@ -119,7 +119,8 @@ fn no_marks(alloc: Global, module: &Module) -> Result<Marks, AllocError>
     })
 }
 
-// Marks what the function at this place of some names, where so many functions are imported.
+// Marks what the function at place `at` of `own` names; `first` is the number of imported
+// functions.
 fn note_func(
     marks: &mut Marks,
     module: &Module,
@@ -137,7 +138,7 @@ fn note_func(
     }
 }
 
-/// What functions that move name of each index space.
+/// Returns marks of what the functions `own` name, leaving out calls of functions that have slots.
 pub(crate) fn named_marks(
     alloc: Global,
     module: &Module,

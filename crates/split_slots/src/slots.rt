@@ -15,7 +15,7 @@ fn no_slots(alloc: Global, count: usize) -> Result<Vec<Option<u32>>, AllocError>
     vec![in alloc; None; count]
 }
 
-// The function at this place of those that move has the place as its slot.
+// Enters `slot` as the slot of the function `moved[slot]`.
 fn put_slot(slots: &mut Vec<Option<u32>>, moved: &[u32], slot: usize)
     requires there { slot < length moved.now }
     requires few { slot < 2 ^ 32 }
@@ -26,7 +26,7 @@ fn put_slot(slots: &mut Vec<Option<u32>>, moved: &[u32], slot: usize)
     }
 }
 
-/// For each of so many functions its slot, if it moves.
+/// Returns for each of `count` functions its slot, or `None` if it does not move.
 pub(crate) fn slots_of(
     alloc: Global,
     count: usize,
@@ -44,7 +44,7 @@ pub(crate) fn slots_of(
     Ok(slots)
 }
 
-/// The slot of a function, if it moves.
+/// Returns the slot of a function, or `None` if it does not move.
 pub(crate) fn slot_at(slots: &[Option<u32>], func: u32) -> Option<u32>
     ensures { result ≡ slot_at slots.now func }
 {

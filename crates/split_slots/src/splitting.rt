@@ -1,4 +1,4 @@
-// Splitting a module.
+// The public call `split`: survey, refusals, drafts, both finished modules.
 
 ghost use Rattle.std.specs.Prelude.{◌≡◌, ◌⊎◌, Err, None, Some, option_map, IfErr, IfOk, IsOk};
 ghost use Rattle.std.specs.List.Sorted.{IsStrictlyIncreasing};
@@ -34,13 +34,13 @@ use wasm_valid::{Valid, valid_where_items_hold};
 /// The two modules of a split.
 #[derive(Drop)]
 pub struct Pair {
-    /// The module that is instantiated first, with placeholders for the functions that moved.
+    /// The primary module. It is instantiated first, with placeholders in the slots.
     pub primary: Valid,
-    /// The module that puts these functions into their slots.
+    /// The secondary module. Its instantiation puts the moved functions into their slots.
     pub secondary: Valid,
 }
 
-// A module with its own indices, or of what it has too much.
+// Renumbers a draft, declares its references and tests its counts.
 fn finish(alloc: Global, draft: Draft) -> Result<Valid, SplitFault>
     requires { CanFinish draft }
     ensures value { IfOk result (λ valid. valid ≡ made draft) }
@@ -51,7 +51,7 @@ fn finish(alloc: Global, draft: Draft) -> Result<Valid, SplitFault>
     Ok(Valid::known(tree))
 }
 
-// Both modules, of which the primary one has its own indices already; or of what the secondary one has too much.
+// Finishes the secondary module, when the primary module is finished already.
 fn finish_second(alloc: Global, primary: Valid, draft: Draft) -> Result<Pair, SplitFault>
     requires { CanFinish draft }
     ensures primary { IfOk result (λ pair. pair.primary ≡ primary) }
@@ -63,7 +63,8 @@ fn finish_second(alloc: Global, primary: Valid, draft: Draft) -> Result<Pair, Sp
     Ok(Pair { primary, secondary })
 }
 
-// Both modules with their own indices, or of what the first that has too much of something has too much.
+// Finishes both modules; the error is that of the primary module, else that of the secondary
+// module.
 fn finish_both(alloc: Global, drafts: Drafts) -> Result<Pair, SplitFault>
     requires primary { CanFinish drafts.primary }
     requires secondary { CanFinish drafts.secondary }
@@ -77,7 +78,7 @@ fn finish_both(alloc: Global, drafts: Drafts) -> Result<Pair, SplitFault>
     finish_second(alloc, primary, secondary)
 }
 
-// The exports that are added, where no fault is told before anything is built; or the first such fault.
+// Returns the exports to add, or the first fault that is reported before anything is built.
 fn exports_added(
     alloc: Global,
     module: &Module,
@@ -100,7 +101,8 @@ fn exports_added(
     Ok(added)
 }
 
-// Both modules in the indices of the module that is split, by what is known of it; or the first fault that is told before anything is built.
+// Drafts both modules from `survey`, or returns the first fault that is reported before anything is
+// built.
 fn drafts_by(
     alloc: Global,
     module: Module,
@@ -121,7 +123,7 @@ fn drafts_by(
     Ok(drafts)
 }
 
-// The same by its survey, which is made first.
+// Surveys the module, then works as `drafts_by`.
 fn drafts_of(
     alloc: Global,
     module: Module,
@@ -140,7 +142,7 @@ fn drafts_of(
     drafts_by(alloc, module, moved, &survey, names)
 }
 
-// Both modules, or the first fault.
+// Makes both modules, or returns the first fault.
 fn pair_of(
     alloc: Global,
     module: Module,
@@ -168,20 +170,29 @@ fn pair_of(
     finish_both(alloc, drafts)
 }
 
-/// The two modules of a split.
+/// Splits a module by a plan into a primary and a secondary module.
 ///
-/// Functions of the plan that move get slots, by the order of the plan. The primary module keeps all else: its other functions call these through their slots, and where
-/// anything but a call names one, a trampoline stands in its place. Its slots hold imports of the placeholder namespace. The secondary module has the functions that move,
-/// imports from the primary one, under names with the prefix, what they name, and puts them into their slots when it is instantiated. The definitions are those of
-/// `split_spec` (WebAssembly Core 2.0, sections 2.5 and 4.5.4). Functions that move are moved, and calls are replaced where they stand: nothing else is copied but types.
+/// The slot of a function in `plan.moved` is its place in that list. The primary module keeps
+/// everything else, calls the moved functions through their slots, and has a trampoline for each
+/// moved function that anything but a call names. At first its slots hold functions that it imports
+/// from the placeholder namespace. The secondary module defines the moved functions, imports what
+/// they name from the primary module, under names that begin with the export prefix, and puts them
+/// into their slots when it is instantiated (WebAssembly Core 2.0, sections 2.5 and 4.5.4). Both
+/// are what `split_spec` defines (`primary`, `secondary`). No body is copied.
 ///
-/// What an embedder that uses the exports of the input sees of the two modules is what it sees of the input, in every environment, where a loader instantiates the secondary
-/// module at the first call of a placeholder and answers each call of one by what is then in its slot (`same`, which says in how many steps); and there this instantiation
-/// links and never traps (`loads`).
+/// Through the exports that `input` has, both modules under a loader are observationally equivalent
+/// to `input`, in every environment (`equivalent`, which has the bounds on steps). The loader
+/// instantiates the secondary module at the first call of a placeholder, and answers each call of a
+/// placeholder by the function that is then in its slot. Wherever in a run it loads the secondary
+/// module, that module links and none of its segments traps (`loads`).
 ///
-/// `NamespaceTaken` comes exactly where an import of the input has the namespace of the placeholders; else `PrefixTaken` exactly where an export has the name of one that
-/// is added; else `TooMany` exactly where the parameters of the functions that move are more than trampolines may have together, or a count of the primary module is above
-/// its limit, or one of the secondary module (`fault`, `first`, `none`). `NoMemory` is want of memory, and says nothing of the input, which is given up in each case.
+/// The error is the first of these faults, and there is an error exactly if there is such a fault,
+/// unless memory runs out (`fault`, `first`, `none`): `NamespaceTaken`, if an import of `input` has
+/// the placeholder namespace; `PrefixTaken`, if an export of `input` has the name of an added
+/// export; `TooMany`, if the moved functions have more parameters together than the limit on
+/// trampolines, or a count of the primary module is above its limit, or one of the secondary
+/// module. `NoMemory` means that memory ran out, and says nothing of `input`. `input` is consumed
+/// in each case.
 pub fn split(
     alloc: Global,
     input: Valid,

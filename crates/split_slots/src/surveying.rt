@@ -1,4 +1,4 @@
-// What is known of a module that is split, before it is taken apart.
+// What the split looks up in the input module before it changes anything.
 
 ghost use Rattle.std.specs.Prelude.{◌≡◌, IfOk};
 ghost use Rattle.std.specs.List.Sorted.{IsStrictlyIncreasing};
@@ -17,20 +17,20 @@ use wasm_bytes::{Items, NoMemory};
 use wasm_tree::Module;
 use wasm_valid::valid_where_items_hold;
 
-/// What is known of a module that is split.
+/// What is known of the input module.
 #[derive(Drop)]
 pub(crate) struct Survey {
-    /// The type of each function, as a place in the types.
+    /// The type index of each function.
     pub(crate) types: Items<u32>,
-    /// The slot of each function that moves.
+    /// For each function its slot, or `None` if it does not move.
     pub(crate) slots: Vec<Option<u32>>,
-    /// Whether the primary module has a function in place of each.
+    /// For each function, whether the primary module has it or a trampoline in its place.
     pub(crate) left: Items<bool>,
-    /// What the functions that move name.
+    /// What the moved functions name, leaving out calls of moved functions.
     pub(crate) marks: Marks,
 }
 
-/// What is known of the module, of which these functions move.
+/// Surveys the module for the split that moves the functions of `moved`.
 pub(crate) fn surveyed(alloc: Global, module: &Module, moved: &[u32]) -> Result<Survey, NoMemory>
     requires valid { IsValid «module».now }
     requires bounded { IsBounded «module».now }

@@ -1,4 +1,4 @@
-// Which name of the exports that are added the module has already.
+// Which name of an added export the module already has.
 
 ghost use Rattle.std.specs.Prelude.{◌≡◌, ℕ, List, Some, cond, find, is_some, map, IfOk, OnOk};
 ghost use Rattle.std.specs.HashMap.{get_by};
@@ -10,7 +10,6 @@ use std::collections::HashMap;
 use wasm_bytes::{Name, NoMemory};
 use wasm_tree::Export;
 
-// Notes a name.
 fn note<'a>(taken: &mut HashMap<&'a str, ()>, name: &'a str) -> Result<(), AllocError>
     ensures { OnOk result ((q : List ℕ) → get_by (λ k. bytes_eq q k.now) taken.new ≡ cond (bytes_eq name.now q) (Some tt) (get_by (λ k. bytes_eq q k.now) taken.old)) }
 {
@@ -18,7 +17,7 @@ fn note<'a>(taken: &mut HashMap<&'a str, ()>, name: &'a str) -> Result<(), Alloc
     Ok(())
 }
 
-// The names of the exports.
+// Returns the set of the names of the exports.
 fn export_names<'a>(
     alloc: Global,
     exports: &'a [Export],
@@ -32,8 +31,8 @@ fn export_names<'a>(
     Ok(taken)
 }
 
-/// The first name of the exports that are added that one of the module's exports has (WebAssembly Core 2.0, section 2.5.10), in linear time. The only refusal is
-/// want of memory.
+/// Returns the first name of an added export that an export of the module has, or `None`
+/// (WebAssembly Core 2.0, section 2.5.10). It takes linear time. The only error is `NoMemory`.
 pub(crate) fn prefix_taken(
     alloc: Global,
     exports: &[Export],

@@ -1,4 +1,4 @@
-// The types of a module, and of each function its place among them.
+// The types of a module, and the type index of each function.
 
 ghost use Rattle.std.specs.Prelude.{◌≡◌, ◌++◌, [], map, IfOk, OnOk};
 ghost use Rattle.std.specs.List.{cons_option};
@@ -35,7 +35,7 @@ fn add_defined(all: &mut Items<u32>, funcs: &[Func]) -> Result<(), NoMemory>
     Ok(())
 }
 
-/// The type of each function.
+/// Returns the type index of each function in the function index space.
 pub(crate) fn func_types(alloc: Global, module: &Module) -> Result<Items<u32>, NoMemory>
     ensures { IfOk result (λ all. all ≡ funcs_of «module».now) }
 {
@@ -45,7 +45,6 @@ pub(crate) fn func_types(alloc: Global, module: &Module) -> Result<Items<u32>, N
     Ok(all)
 }
 
-/// The same types.
 pub(crate) fn copy_types(alloc: Global, types: &[FuncType]) -> Result<Items<FuncType>, NoMemory>
     ensures { IfOk result (λ all. all ≡ types.now) }
 {

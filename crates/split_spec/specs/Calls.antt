@@ -1,11 +1,13 @@
--- Code in which other code stands in place of each `call`, in blocks as well. A map of indices alone would not do: `call` and `ref.func` of one function may go to
--- two places, and a call may become two instructions.
+-- Code in which other code replaces each `call`, in blocks as well. Renumbering alone would not do:
+-- a `call` and a `ref.func` of one function may need different indices, and a call may become two
+-- instructions.
 use Rattle.std.specs.Prelude.{ℕ, List, [], ◌∷◌}
 use Rattle.std.specs.List.{flat_map}
 use Rattle.wasm_tree_spec.specs.Prelude.{Instr, fold-Instr, Block, Loop, If, Unreachable, Nop, Br, BrIf, BrTable, Return, CallIndirect, Drop, Select, SelectTyped, LocalGet, LocalSet, LocalTee, GlobalGet, GlobalSet, TableGet, TableSet, Load, Store, MemorySize, MemoryGrow, I32Const, I64Const, Un, Bin, RefNull, RefIsNull, RefFunc, MemoryInit, DataDrop, MemoryCopy, MemoryFill, TableInit, ElemDrop, TableCopy, TableGrow, TableSize, TableFill}
 use Rattle.wasm_tree.specs.declared.instr.Instr.TheOpen.{Instr-F}
 
--- what replaces an instruction, where that is known for each instruction inside it and of a call by its function
+-- what replaces an instruction, given what replaces each instruction inside it, and what `code`
+-- has in place of a call of each function
 abbrev pub calls_step : (ℕ → List Instr) → Instr-F (List Instr) → List Instr
 calls_step code (Instr-F.Block ty body) = Block ty (flat_map (λ is. is) body) ∷ []
 calls_step code (Instr-F.Loop ty body) = Loop ty (flat_map (λ is. is) body) ∷ []
@@ -54,6 +56,6 @@ calls_step code (Instr-F.TableFill table) = TableFill table ∷ []
 abbrev pub calls_in : (ℕ → List Instr) → Instr → List Instr
 calls_in code = fold-Instr (List Instr) (calls_step code)
 
--- the code with what stands in place of each call
+-- the code with each call replaced
 abbrev pub with_calls : (ℕ → List Instr) → List Instr → List Instr
 with_calls code = flat_map (calls_in code)

@@ -1,4 +1,4 @@
--- Names of split modules, passed on from one place. Declares nothing.
+-- Passes on the names of this crate from one place. Declares nothing.
 pub use Rattle.split_spec.specs.Calls.{calls_in, calls_step, with_calls}
 pub use Rattle.split_spec.specs.Faults.{moved_params, namespace_taken, prefix_taken, split_fault, too_many}
 pub use Rattle.split_spec.specs.FromPrimary.{entities, exports_for_secondary, from_primary, imports_from_primary, is_from_primary, is_named_from_primary, marks_from_primary, name_from_primary, slots_name}

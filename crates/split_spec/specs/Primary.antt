@@ -1,5 +1,6 @@
--- The primary module: it keeps what the module has but for the functions that move, and calls these through the slots. The slots hold placeholders, until a
--- secondary module puts its functions there (WebAssembly Core 2.0, section 2.5).
+-- The primary module: it keeps everything but the moved functions, and calls these through the
+-- slots. The slots hold placeholders until a secondary module puts its functions there (WebAssembly
+-- Core 2.0, section 2.5).
 use Rattle.std.specs.Prelude.{ℕ, suc, ◌+◌, Bool, ◌||◌, not, List, [], ◌∷◌, ◌++◌, drop, map, length, decimal, Option, Some, None}
 use Rattle.base_lists.specs.Places.{numbers}
 use Rattle.base_kept.specs.Kept.{kept, new_places}
@@ -16,33 +17,38 @@ use Rattle.split_spec.specs.FromPrimary.{from_primary, exports_for_secondary, sl
 
 -- ---- functions ----
 
--- the function with the calls of its body through slots, or the trampoline that stands in place of one with a slot
+-- a function without a slot has its calls of moved functions go through the slots; a function with
+-- a slot becomes a trampoline
 abbrev pub primary_func : Module → (moved : List ℕ) → (slot : Option ℕ) → (func : ℕ) → Func → Func
 primary_func m moved None func f = record f { body = with_calls (call_through_slot m moved) f.body }
 primary_func m moved (Some slot) func f = record f { locals = []; body = trampoline_body m func slot }
 
--- the same of the defined functions from this index on
+-- the same for the defined functions from this index on
 abbrev pub primary_funcs : Module → (moved : List ℕ) → (first : ℕ) → List Func → List Func
 primary_funcs m moved func [] = []
 primary_funcs m moved func (f ∷ fs) = primary_func m moved (place_among moved func) func f ∷ primary_funcs m moved (suc func) fs
 
--- whether the primary module has a function in place of this one: it has none of a function that moves and of which no trampoline is needed
+-- whether the primary module has this function or a trampoline in its place; it has neither for a
+-- moved function that needs no trampoline
 abbrev pub is_left : Module → (moved : List ℕ) → ℕ → Bool
 is_left m moved func = not (is_among moved func) || is_needed m func
 
+-- the same for each function of the module
 abbrev pub left_marks : Module → (moved : List ℕ) → List Bool
 left_marks m moved = map (is_left m moved) (numbers 0 (length (funcs_of m)))
 
 -- ---- placeholders ----
 
--- for each of these functions an import, from this slot on: its field is the slot in decimal, and its namespace that of the slot
+-- one import for each of these functions, from this slot on: its module name is the namespace of
+-- the slot, its field is the slot in decimal, and its type is that of the function
 abbrev pub placeholder_imports : (namespace : ℕ → List ℕ) → Module → (slot : ℕ) → List ℕ → List Import
 placeholder_imports namespace m slot [] = []
 placeholder_imports namespace m slot (func ∷ funcs) = record { «module» = namespace slot; field = decimal slot; desc = im.Func (type_index m func) } ∷ placeholder_imports namespace m (suc slot) funcs
 
 -- ---- exports ----
 
--- what secondary modules import: each kind in ascending order, and last the slot table
+-- what secondary modules import: of each kind the entities in `from_primary`, in ascending order,
+-- and last the slot table
 abbrev pub added_exports : (prefix : List ℕ) → Module → (moved : List ℕ) → List Export
 added_exports prefix m moved =
     exports_for_secondary prefix Functions ex.Func (from_primary m moved moved Functions)
@@ -53,7 +59,7 @@ added_exports prefix m moved =
 
 -- ---- the module ----
 
--- what it has, still in the indices of the module that is split
+-- the primary module, still in the indices of the input module
 abbrev pub primary_tree : (namespace : ℕ → List ℕ) → (prefix : List ℕ) → Module → (moved : List ℕ) → Module
 primary_tree namespace prefix m moved =
     record m {
@@ -64,15 +70,16 @@ primary_tree namespace prefix m moved =
       elems = m.elems ++ slot_segment (slot_table m) 0 (in_slots m (length moved)) ∷ [];
     }
 
--- where each function goes: the placeholders come between what is imported and what is defined. The entry of a function that is left out means nothing, since only
--- calls name it, and other code stands in their place.
+-- The new index of each function, and then of each placeholder: the placeholders come between the
+-- imported and the defined functions. The entry of a function that is left out means nothing,
+-- because only calls name it, and other code replaces these.
 abbrev pub primary_funcs_map : Module → (moved : List ℕ) → List ℕ
 primary_funcs_map m moved =
     numbers 0 (length (imported_funcs m.imports))
     ++ (map (λ place. length moved + place) (drop (length (imported_funcs m.imports)) (new_places (left_marks m moved)))
     ++ numbers (length (imported_funcs m.imports)) (length moved))
 
--- all else goes where it is
+-- the remap of the primary module: everything but functions keeps its index
 abbrev pub primary_map : Module → (moved : List ℕ) → Remap
 primary_map m moved = record {
   types = numbers 0 (length m.types);
@@ -84,10 +91,11 @@ primary_map m moved = record {
   datas = numbers 0 (length m.datas);
 }
 
--- for any list of functions that move, in the order of their slots, where each slot's placeholder has a namespace
+-- the primary module for any list of moved functions, in the order of their slots; `namespace`
+-- gives the namespace of each slot's placeholder
 unfoldable pub primary_with : (namespace : ℕ → List ℕ) → (prefix : List ℕ) → Module → (moved : List ℕ) → Module
 primary_with namespace prefix m moved = declared (renumbered_tree (primary_map m moved) (primary_tree namespace prefix m moved))
 
--- where all have the same
+-- the same with one namespace for all placeholders
 abbrev pub primary : SplitNames → Module → (moved : List ℕ) → Module
 primary names m moved = primary_with (λ slot. names.placeholder_namespace) names.export_prefix m moved

@@ -1,5 +1,6 @@
--- A secondary module: it defines functions that move, imports from the primary module what they name, and puts them into their slots when it is instantiated
--- (WebAssembly Core 2.0, sections 2.5 and 4.5.4).
+-- A secondary module: it defines moved functions, imports from the primary module what they name,
+-- and puts them into their slots when it is instantiated (WebAssembly Core 2.0, sections 2.5 and
+-- 4.5.4).
 use Rattle.std.specs.Prelude.{◌≡◌, ℕ, ◌+◌, List, [], ◌∷◌, ◌++◌, map, length, Option, Some, None}
 use Rattle.base_lists.specs.Places.{numbers}
 use Rattle.base_kept.specs.Kept.{new_places}
@@ -12,7 +13,8 @@ use Rattle.split_spec.specs.Calls.{with_calls}
 use Rattle.split_spec.specs.Slots.{defined_at, place_among, slot_table, in_slots, slot_table_type, slot_segment, call_through_slot}
 use Rattle.split_spec.specs.FromPrimary.{from_primary, imports_from_primary, marks_from_primary, slots_name}
 
--- The functions of one module out of all that move: they have the slots from `before` on.
+-- The functions `own` of one secondary module are consecutive in `moved`, and their slots begin at
+-- `before`.
 pub record HasSlots (moved own : List ℕ) (before : ℕ) : Type 0 where
   pub earlier : List ℕ
   pub later : List ℕ
@@ -21,15 +23,17 @@ pub record HasSlots (moved own : List ℕ) (before : ℕ) : Type 0 where
 
 -- ---- functions ----
 
--- what replaces a call of a function with this place among the module's own, if it has one: of one of them the call of that one, of another that moves the call through its
--- slot, of one that does not move the call as it is
+-- what replaces a call: a direct call, if the function has a place among the module's own; a call
+-- through its slot, if it is another moved function; else the same call
 abbrev pub secondary_call_by_place : Module → (moved : List ℕ) → Option ℕ → ℕ → List Instr
 secondary_call_by_place m moved (Some place) func = Call (length (funcs_of m) + place) ∷ []
 secondary_call_by_place m moved None func = call_through_slot m moved func
 
+-- the same by the place of the function in `own`
 abbrev pub secondary_call : Module → (moved own : List ℕ) → ℕ → List Instr
 secondary_call m moved own func = secondary_call_by_place m moved (place_among own func) func
 
+-- a moved function with its calls replaced
 abbrev pub secondary_func : Module → (moved own : List ℕ) → Func → Func
 secondary_func m moved own f = record f { body = with_calls (secondary_call m moved own) f.body }
 
@@ -46,7 +50,7 @@ secondary_imports names m moved own =
 
 -- ---- the module ----
 
--- what it has, still in the indices of the module that is split
+-- the secondary module, still in the indices of the input module
 abbrev pub secondary_tree : SplitNames → Module → (moved own : List ℕ) → (before : ℕ) → Module
 secondary_tree names m moved own before = record {
   types = m.types;
@@ -61,8 +65,9 @@ secondary_tree names m moved own before = record {
   datas = [];
 }
 
--- where each index goes: what is imported to its place among the imports of its kind, the own functions behind the imported ones, and the slot table behind the
--- other tables; functions that move name no segments
+-- The new index of each entity: an imported one goes to its place among the imports of its kind,
+-- the own functions come after the imported ones, and the slot table after the other tables. Moved
+-- functions name no segments.
 abbrev pub secondary_map : Module → (moved own : List ℕ) → Remap
 secondary_map m moved own = record {
   types = numbers 0 (length m.types);
@@ -74,10 +79,10 @@ secondary_map m moved own = record {
   datas = [];
 }
 
--- for some of the functions that move, which have the slots from `before` on (HasSlots)
+-- the secondary module of the functions `own`, whose slots begin at `before` (HasSlots)
 unfoldable pub secondary_with : SplitNames → Module → (moved own : List ℕ) → (before : ℕ) → Module
 secondary_with names m moved own before = declared (renumbered_tree (secondary_map m moved own) (secondary_tree names m moved own before))
 
--- with all of them
+-- the secondary module of all moved functions
 abbrev pub secondary : SplitNames → Module → (moved : List ℕ) → Module
 secondary names m moved = secondary_with names m moved moved 0

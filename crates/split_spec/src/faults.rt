@@ -1,4 +1,4 @@
-// Why a module is not split.
+// The faults of a split.
 
 ghost use Rattle.std.specs.Prelude.{◌≡◌};
 ghost use Rattle.split_spec.specs.declared.faults.SplitFault.TheVariants.{NoMemory as OutOfMemory};
@@ -7,16 +7,17 @@ use std::alloc::AllocError;
 use wasm_bytes::{Name, NoMemory};
 use wasm_tree::Which;
 
-/// Why a module is not split. The first that is so is told.
+/// Why a module is not split. Of the first three faults, the first in this order is reported.
 #[derive(Drop)]
 pub enum SplitFault {
-    /// This import of the module has the module name of the placeholders; the first such.
+    /// The place of the first import whose module name is the placeholder namespace.
     NamespaceTaken { import: u32 },
-    /// The module has an export of this name, which the primary module needs for the secondary one; the first such of those that are added.
+    /// The first name of an added export that an export of the module already has.
     PrefixTaken { name: Name },
-    /// The functions that move have too many parameters together, or the primary module has too many of something, or else the secondary module.
+    /// The first quantity above its limit: the parameters of all moved functions together
+    /// (`Trampolines`), then the counts of the primary module, then those of the secondary module.
     TooMany { which: Which },
-    /// Want of memory, which says nothing of the module.
+    /// Memory ran out; this says nothing of the module.
     NoMemory,
 }
 

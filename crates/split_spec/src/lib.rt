@@ -1,4 +1,5 @@
-//! The two modules of a split: definitions alone, with the names that are added and the faults; and small modules of which both are computed.
+//! Defines the two modules of a split, the names that it adds, and its faults. `proofs/Rows`
+//! computes both modules of small splits.
 #![tactic(auto)]
 
 mod faults;

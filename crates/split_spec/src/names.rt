@@ -5,8 +5,8 @@ use wasm_bytes::Name;
 pub struct SplitNames {
     /// The module name under which the secondary module imports from the primary one.
     pub import_namespace: Name,
-    /// The module name of the placeholders, which the primary module imports.
+    /// The module name under which the primary module imports the placeholders.
     pub placeholder_namespace: Name,
-    /// What the name of each export begins with that the primary module has for the secondary one.
+    /// The prefix of the names of the exports that the primary module has for the secondary one.
     pub export_prefix: Name,
 }
