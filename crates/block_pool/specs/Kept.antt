@@ -1,13 +1,15 @@
--- How a pool keeps its blocks: the bytes of each that was ever taken, whether it is live, and the numbers of those that are not.
+-- How a pool keeps its blocks: the bytes of each block that was ever taken, whether it is live, and
+-- the numbers of the blocks that are not.
 use Rattle.std.specs.Prelude.{◌≡◌, ℕ, ◌+◌, ◌<◌, List, [], ◌∷◌, length, Bool, false, Option, Some, None, is_some, cond, count_by, slice_index, slice_index_or}
 
--- the bytes of each block that is live
+-- The bytes of each live block.
 abbrev pub live_blocks : List Bool → List (List ℕ) → List (Option (List ℕ))
 live_blocks [] bs = []
 live_blocks (l ∷ ls) [] = []
 live_blocks (l ∷ ls) (b ∷ bs) = cond l (Some b) None ∷ live_blocks ls bs
 
--- a flag for each block; the free numbers are those of blocks that are not live, each once, and of all of these
+-- There is a flag for each block, and the free numbers are those of all blocks that are not live,
+-- each once.
 pub record IsKept (live : List Bool) (blocks : List (List ℕ)) (free : List ℕ) : Type 0 where
   pub many : length live ≡ length blocks
   pub within : (i : ℕ) → i < length free → slice_index free i < length blocks

@@ -1,4 +1,4 @@
--- What the table of blocks and the pool mean together.
+-- What the table of blocks and the pool represent together.
 use Rattle.std.specs.Prelude.{◌≡◌, ◌⊎◌, ℕ, ◌+◌, ◌*◌, ◌/◌, ◌%◌, ◌^◌, ◌≤◌, List, [], length, ◌<◌, map, Bool, true, false, Option, Some, None, is_some, unwrap_or, count_by, slice_index, slice_index_or, slice_set, Contains, vec_capacity, if◌then◌else◌}
 use Rattle.base_lists.specs.Places.{numbers}
 use Rattle.block_pool.specs.Blocks.{Blocks, held, IsLive, used}
@@ -7,26 +7,26 @@ use Rattle.block_pool.specs.declared.table.Slot.{Slot}
 use Rattle.block_pool.specs.declared.table.Slot.TheVariants.{Absent, Kept, New, Changed}
 use Rattle.block_pool.specs.declared.table.Table.{Table}
 
--- the block of the pool that has the bytes as they are now
+-- The block of the pool that has the present bytes.
 abbrev pub present : Slot → Option ℕ
 present Absent = None
 present (Kept b) = Some b
 present (New b) = Some b
 present (Changed b older) = Some b
 
--- the one that has them as they were at the mark
+-- The block of the pool that has the bytes as they were at the mark.
 abbrev pub before : Slot → Option ℕ
 before Absent = None
 before (Kept b) = Some b
 before (New b) = None
 before (Changed b older) = Some older
 
--- the one that is kept for the mark alone
+-- The block of the pool that is kept only for the mark.
 abbrev pub older : Slot → Option ℕ
 older (Changed b old) = Some old
 older _ = None
 
--- written since the mark
+-- Whether the block was written since the mark.
 abbrev pub is_changed : Slot → Bool
 is_changed (New b) = true
 is_changed (Changed b older) = true
@@ -41,7 +41,7 @@ has_older s = is_some (older s)
 abbrev pub slot_at : List Slot → ℕ → Slot
 slot_at slots k = slice_index_or slots k Absent
 
--- a byte of a block; zero where there is no block
+-- A byte of a block; zero if there is no block.
 abbrev pub byte_in : Blocks → Option ℕ → ℕ → ℕ
 byte_in pool None offset = 0
 byte_in pool (Some b) offset = slice_index (unwrap_or (held pool b) []) offset
@@ -50,10 +50,11 @@ module _ (pool : Blocks) (slots : List Slot) (which : Slot → Option ℕ) where
   abbrev pub byte_at : ℕ → ℕ
   byte_at at = byte_in pool (which (slot_at slots (at / 4096))) (at % 4096)
 
-  -- so many bytes, each in the block that the table names for it
+  -- The contents of `size` bytes, each from the block that the table names for it.
   abbrev pub contents : ℕ → Contents
   contents size = record { bytes = map byte_at (numbers 0 size); written = map (λ s. is_some (which s)) slots }
 
+-- The memory that a table represents, as contracts see it.
 abbrev pub pages_of : Table → Pages
 pages_of t = record {
   now = contents t.pool t.slots.items present t.size;
@@ -63,17 +64,18 @@ pages_of t = record {
   held = used t.pool;
 }
 
--- the slot names the block
+-- The slot names the block.
 abbrev pub Names : Slot → ℕ → Type 0
 Names s b = (present s ≡ Some b) ⊎ (older s ≡ Some b)
 
--- each block that the table names is live, and named once
+-- Each block that the table names is live and is named once.
 pub record Owns (pool : Blocks) (slots : List Slot) : Type 0 where
   pub live : (k b : ℕ) → Names (slot_at slots k) b → IsLive pool b
   pub once : (j k b : ℕ) → Names (slot_at slots j) b → Names (slot_at slots k) b → j ≡ k
   pub apart : (k b : ℕ) → present (slot_at slots k) ≡ Some b → older (slot_at slots k) ≡ Some b → ⊥
 
--- what is so of every table: the blocks that it names are its own, the counts are true, and the list names each block that was written since the mark
+-- The invariant of a table: the blocks that it names are its own, its counts are right, and
+-- `changed` lists each block that was written since the mark.
 pub record IsSound (t : Table) : Type 0 where
   pub size : t.size ≤ 2 ^ 32
   pub slots : length t.slots.items ≡ blocks_of t.size
@@ -89,37 +91,39 @@ pub record IsSound (t : Table) : Type 0 where
   pub capacity : t.most ≤ vec_capacity t.changed
   pub unmarked : t.marked ≡ false → t.changed.items ≡ []
 
--- the block counts as written from then on, and its bytes are as they were
+-- The block counts as written, and its bytes are unchanged.
 pub record Claims (old new : Table) (block : ℕ) : Type 0 where
   pub bytes : (pages_of new).now.bytes ≡ (pages_of old).now.bytes
   pub written : (pages_of new).now.written ≡ slice_set (pages_of old).now.written block true
   pub mark : (pages_of new).mark ≡ (pages_of old).mark
   pub blocks : (pages_of new).blocks ≡ (pages_of old).blocks
 
--- what stays of a table while it is written to
+-- What writing does not change in a table.
 pub record IsFixed (old new : Table) : Type 0 where
   pub size : new.size ≡ old.size
   pub most : new.most ≡ old.most
   pub marked : new.marked ≡ old.marked
   pub slots : length new.slots.items ≡ length old.slots.items
 
--- a block that was written since the mark is as it was at the mark
+-- A block that was written since the mark is taken back: the contents of the mark are unchanged,
+-- and one block fewer is listed.
 pub record TakesBack (old new : Table) : Type 0 where
   pub mark : (pages_of new).mark ≡ (pages_of old).mark
   pub blocks : (pages_of new).blocks ≡ (pages_of old).blocks
   pub fewer : length new.changed.items + 1 ≡ length old.changed.items
 
--- it stays as it is now
+-- A block that was written since the mark is kept: the present contents are unchanged, and one
+-- block fewer is listed.
 pub record Settles (old new : Table) : Type 0 where
   pub now : (pages_of new).now ≡ (pages_of old).now
   pub blocks : (pages_of new).blocks ≡ (pages_of old).blocks
   pub fewer : length new.changed.items + 1 ≡ length old.changed.items
 
--- these are the bytes of a block of the memory
+-- These are the bytes of a block of the memory.
 pub record IsBlock (t : Table) (number : ℕ) (bytes : List ℕ) : Type 0 where
   pub whole : length bytes ≡ 4096
   pub same : (i : ℕ) → i < 4096 → 4096 * number + i < t.size → slice_index bytes i ≡ slice_index (pages_of t).now.bytes (4096 * number + i)
 
--- a block of the memory has zero bytes alone
+-- A block of the memory has only zero bytes.
 abbrev pub IsZeroBlock : Table → ℕ → Type 0
 IsZeroBlock t number = (i : ℕ) → i < 4096 → 4096 * number + i < t.size → slice_index (pages_of t).now.bytes (4096 * number + i) ≡ 0

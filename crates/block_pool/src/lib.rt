@@ -1,4 +1,5 @@
-//! The memory under an evaluator: a pool of blocks of 4,096 bytes, and a memory over it that can take back what it wrote.
+//! A pool of blocks of 4,096 bytes, and a memory over it that can take back what was written since
+//! a mark. An evaluation uses it as the memory of its module.
 #![tactic(auto)]
 
 mod numbers;

@@ -1,7 +1,7 @@
 ghost use Rattle.std.specs.Prelude.{◌≡◌, ◌≢◌, ◌+◌, ◌^◌, ◌<◌, ◌≤◌, ℕ, length, take, None, Some, slice_index, IfSome, IfNone, IsTrue};
 ghost use Rattle.block_pool.specs.Pages.{IsWidth, IsNextNonzero, IsZeroTo, little, little_bytes};
 
-// The number that 1, 2, 4 or 8 bytes spell, the lowest first.
+// Returns the number that 1, 2, 4 or 8 bytes encode in little-endian order.
 #[inline(always)]
 pub(crate) fn number(bytes: &[u8]) -> u64
     requires { IsWidth (length bytes.now) }
@@ -17,7 +17,7 @@ pub(crate) fn number(bytes: &[u8]) -> u64
     }
 }
 
-// Whether eight bytes from a place on are there and zero.
+// Returns whether there are eight bytes from `at` on and all are zero.
 fn is_zero_word(bytes: &[u8], at: usize) -> bool
     requires { at ≤ length bytes.now }
     ensures inside { IsTrue result → at + 8 ≤ length bytes.now }
@@ -29,7 +29,7 @@ fn is_zero_word(bytes: &[u8], at: usize) -> bool
     number(&bytes[at..at + 8]) == 0
 }
 
-// The first byte that is not zero, by words of eight bytes as far as they are zero.
+// Finds the first nonzero byte; as long as bytes are zero, it reads eight at a time.
 pub(crate) fn first_nonzero(bytes: &[u8]) -> Option<usize>
     ensures some { IfSome result (λ at. IsNextNonzero bytes.now 0 at) }
     ensures none { IfNone result (IsZeroTo bytes.now 0 (length bytes.now)) }

@@ -9,13 +9,15 @@ use std::alloc::Global;
 use std::marker::Model;
 use wasm_bytes::NoMemory;
 
-/// More blocks would have been written than may be.
+/// The error of a write after which more blocks would be written than may be.
 #[derive(Clone, Copy, Debug, PartialEq, Eq)]
 pub struct Full;
 
-/// A memory of bytes over a pool of blocks of 4,096 bytes. It takes a block from the pool when that part of the memory is first written, and it can take back what was written since a mark.
+/// A memory of bytes over a pool of blocks of 4,096 bytes. A block is taken from the pool when that
+/// part of the memory is first written, and what was written since a mark can be taken back.
 ///
-/// Contracts see its bytes, which blocks were written, and both as they were at the mark. No call but `new` takes memory.
+/// Contracts see its bytes, which blocks were written, and both as they were at the mark. Only
+/// `new` allocates memory.
 #[derive(Drop)]
 pub struct Paged {
     table: Table,
@@ -32,7 +34,7 @@ impl Model for Paged {
     ghost invariant = { λ p. IsSound p.table };
 }
 
-// One slot for each block of the memory.
+// Allocates one slot for each block of the memory.
 fn slots(alloc: Global, count: usize) -> Result<Vec<Slot>, NoMemory>
     ensures { IfOk result (λ slots. slots.items ≡ replicate count Absent) }
 {
@@ -43,9 +45,13 @@ fn slots(alloc: Global, count: usize) -> Result<Vec<Slot>, NoMemory>
 }
 
 impl Paged {
-    /// A memory of `size` zero bytes of which at most `most` blocks may be written. The pool needs two spare blocks for each of these, one of them for the bytes of the mark. For want of memory the pool is given up; where the numbers of its blocks may pass 2^32 the answer is `NoMemory` too.
+    /// Returns a memory of `size` zero bytes, of which at most `most` blocks may be written. The
+    /// pool must have no live block, and two spare blocks for each that may be written; one of the
+    /// two keeps the bytes of the mark. The error is `NoMemory`, if memory runs out or a block of
+    /// the pool may have a number of 2^32 or more; the pool is dropped then.
     ///
-    /// Besides the pool it takes 12 bytes for each block of the memory and 4 for each block that may be written.
+    /// Besides the pool, the memory takes 12 bytes for each of its blocks and 4 for each block that
+    /// may be written.
     pub fn new(alloc: Global, pool: Pool, size: u64, most: u32) -> Result<Paged, NoMemory>
         requires size { size ≤ 2 ^ 32 }
         requires room { 2 * most ≤ pool.spare }
@@ -73,14 +79,15 @@ impl Paged {
         }
     }
 
-    /// The number of bytes.
+    /// Returns the number of bytes.
     pub fn size(&self) -> u64
         ensures { result ≡ size self.now }
     {
         self.table.size as u64
     }
 
-    /// The number that `width` bytes spell, the lowest first (WebAssembly Core 2.0, section 4.4.7).
+    /// Returns the number that the `width` bytes from `at` on encode in little-endian order
+    /// (WebAssembly Core 2.0, section 4.4.7).
     pub fn load(&self, at: u64, width: u32) -> u64
         requires width { IsWidth width }
         requires inside { at + width ≤ size self.now }
@@ -90,7 +97,8 @@ impl Paged {
         self.table.load(at as usize, width as usize)
     }
 
-    /// Writes the `width` lowest bytes of a number, the lowest first. `Full` comes exactly where more blocks than may be would then have been written, and nothing changes.
+    /// Writes the `width` lowest bytes of `value` from `at` on, in little-endian order. Returns
+    /// `Full` exactly if more blocks would be written than may be; then nothing changes.
     pub fn store(&mut self, at: u64, width: u32, value: u64) -> Result<(), Full>
         requires width { IsWidth width }
         requires inside { at + width ≤ size self.old }
@@ -109,7 +117,8 @@ impl Paged {
         Ok(())
     }
 
-    /// Writes the byte `count` times (memory.fill of Core 2.0, section 4.4.7). `Full` as in `store`.
+    /// Writes `byte` `count` times, from `at` on (memory.fill of Core 2.0, section 4.4.7). Returns
+    /// `Full` as `store` does.
     pub fn fill(&mut self, at: u64, byte: u8, count: u64) -> Result<(), Full>
         requires inside { at + count ≤ size self.old }
         ensures ok { OnOk result (Writes self.old self.new at (replicate count byte)) }
@@ -125,7 +134,8 @@ impl Paged {
         Ok(())
     }
 
-    /// Writes the bytes that stand at `from` to `to` (memory.copy of Core 2.0, section 4.4.7). The two may overlap. `Full` as in `store`.
+    /// Copies the `count` bytes from `from` on to `to`; the two ranges may overlap (memory.copy of
+    /// Core 2.0, section 4.4.7). Returns `Full` as `store` does.
     pub fn copy(&mut self, to: u64, from: u64, count: u64) -> Result<(), Full>
         requires inside { to + count ≤ size self.old }
         requires source { from + count ≤ size self.old }
@@ -143,7 +153,8 @@ impl Paged {
         Ok(())
     }
 
-    /// Writes these bytes (memory.init of Core 2.0, section 4.4.7). `Full` as in `store`.
+    /// Writes `bytes` from `at` on (memory.init of Core 2.0, section 4.4.7). Returns `Full` as
+    /// `store` does.
     pub fn write(&mut self, at: u64, bytes: &[u8]) -> Result<(), Full>
         requires inside { at + length bytes.now ≤ size self.old }
         ensures ok { OnOk result (Writes self.old self.new at bytes.now) }
@@ -158,7 +169,8 @@ impl Paged {
         Ok(())
     }
 
-    /// The least place from `from` on whose byte is not zero, and none exactly where there is none. It reads no block that was never written.
+    /// Returns the place of the first nonzero byte at `from` or later; `None` exactly if there is
+    /// none. Blocks that were never written are not read.
     pub fn next_nonzero(&self, from: u64) -> Option<u64>
         ensures some { IfSome result (λ at. IsNextNonzero self.now.now.bytes from at) }
         ensures none { IsNone result ↔ IsZeroFrom self.now.now.bytes from }
@@ -169,7 +181,7 @@ impl Paged {
         }
     }
 
-    /// Sets a mark. What is written from then on can be taken back.
+    /// Sets a mark: what is written from then on can be taken back. There must be no mark yet.
     pub fn mark(&mut self)
         requires { IsNone self.old.mark }
         ensures { self.new ≡ record self.old { mark = Some self.old.now } }
@@ -177,7 +189,8 @@ impl Paged {
         self.table.marked = true;
     }
 
-    /// Brings back the bytes and the written blocks of the mark, and clears it. It costs by the blocks that were written since the mark.
+    /// Restores the bytes and the written blocks of the mark, and clears the mark. The cost is
+    /// proportional to the blocks that were written since the mark.
     pub fn rollback(&mut self)
         requires { IsSome self.old.mark }
         ensures { RollsBack self.old self.new }
@@ -185,7 +198,8 @@ impl Paged {
         self.table.rollback();
     }
 
-    /// Keeps what was written since the mark, and clears it. It costs by the blocks that were written since.
+    /// Keeps what was written since the mark, and clears the mark. The cost is proportional to the
+    /// blocks that were written since the mark.
     pub fn commit(&mut self)
         requires { IsSome self.old.mark }
         ensures { Commits self.old self.new }
@@ -193,7 +207,7 @@ impl Paged {
         self.table.commit();
     }
 
-    /// The number of blocks that were written.
+    /// Returns the number of blocks that were written.
     pub fn blocks_written(&self) -> u32
         ensures value { result ≡ written_count self.now.now }
         ensures most { result ≤ self.now.most }
@@ -201,7 +215,8 @@ impl Paged {
         self.table.written
     }
 
-    /// The number of used blocks of the pool: with a mark, those of the bytes of the mark too.
+    /// Returns the number of used blocks of the pool; if a mark is set, they include those that
+    /// keep its bytes.
     pub fn blocks_held(&self) -> u32
         ensures value { result ≡ self.now.held }
         ensures unmarked { IsNone self.now.mark → result ≡ written_count self.now.now }
@@ -210,7 +225,7 @@ impl Paged {
         self.table.pool.used() as u32
     }
 
-    /// The pool, with every block given back.
+    /// Returns the pool, with all its blocks given back.
     pub fn into_pool(self) -> Pool
         ensures used { used result ≡ 0 }
         ensures spare { result.spare ≡ self.blocks }

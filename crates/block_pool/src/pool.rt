@@ -7,16 +7,17 @@ use std::alloc::Global;
 use std::marker::Model;
 use wasm_bytes::NoMemory;
 
-/// The bytes of a block.
+/// The number of bytes of a block.
 pub const BLOCK_BYTES: usize = 4096;
 
-/// A block of a pool, by its number.
+/// A block of a pool, identified by its number.
 #[derive(Clone, Copy)]
 pub struct BlockId {
     pub(crate) number: usize,
 }
 
-/// A region of blocks of 4,096 bytes. A block is live from `take` to `give`; contracts see the bytes of each live block, and how many blocks are spare.
+/// A pool of blocks of 4,096 bytes. A block is live from `take` to `give`. Contracts see the bytes
+/// of each live block, and how many blocks are spare.
 #[derive(Drop)]
 pub struct Pool {
     // The bytes of each block that was ever taken.
@@ -25,7 +26,7 @@ pub struct Pool {
     live: Vec<bool>,
     // The numbers of those that are not.
     free: Vec<usize>,
-    // As many blocks were asked for: the live ones and the spare ones.
+    // The number of blocks that were reserved: the live and the spare ones.
     room: usize,
 }
 
@@ -48,7 +49,7 @@ impl Model for Pool {
 impl Pool {
     ghost use Rattle.block_pool.specs.Lending.{LendsBlock};
 
-    /// A pool without blocks. It takes no memory.
+    /// Returns a pool without blocks. It takes no memory.
     pub fn new(alloc: Global) -> Pool
         ensures none_live { result.slots ≡ [] }
         ensures none_spare { result.spare ≡ 0 }
@@ -62,7 +63,9 @@ impl Pool {
         }
     }
 
-    /// Makes at least `count` blocks spare, where there are fewer. For want of memory the live and the spare blocks stay as they were; only the bound on the numbers of blocks (`numbers`) may have risen. A block that becomes spare is not touched.
+    /// Reserves memory until at least `count` blocks are spare, without touching it. If memory runs
+    /// out, the live and the spare blocks are unchanged, and only the bound on the numbers of
+    /// blocks (`numbers`) may have risen.
     pub fn reserve(&mut self, count: usize) -> Result<(), NoMemory>
         ensures slots { self.new.slots ≡ self.old.slots }
         ensures ok { OnOk result (self.new.spare ≡ max self.old.spare count) }
@@ -81,7 +84,7 @@ impl Pool {
         Ok(())
     }
 
-    // Takes a spare block, and fills it with these bytes.
+    // Takes a spare block and fills it with these bytes.
     #[inline(always)]
     fn put(&mut self, bytes: [u8; 4096]) -> BlockId
         requires { 0 < self.old.spare }
@@ -103,7 +106,7 @@ impl Pool {
         BlockId { number }
     }
 
-    /// Takes a spare block, and fills it with zero bytes. It takes no memory.
+    /// Takes a spare block and fills it with zero bytes. It allocates no memory.
     pub fn take(&mut self) -> BlockId
         requires { 0 < self.old.spare }
         ensures fresh { held self.old result.number ≡ None }
@@ -116,7 +119,7 @@ impl Pool {
         self.put([0; 4096])
     }
 
-    /// Takes a spare block, and fills it with the bytes of a live one.
+    /// Takes a spare block and fills it with the bytes of a live one.
     pub(crate) fn copy_of(&mut self, block: &BlockId) -> BlockId
         requires live { IsLive self.old block.now.number }
         requires spare { 0 < self.old.spare }
@@ -131,7 +134,7 @@ impl Pool {
         self.put(bytes)
     }
 
-    /// Gives a live block back: it is spare from then on.
+    /// Gives a live block back, which makes it spare.
     pub fn give(&mut self, block: BlockId)
         requires { IsLive self.old block.number }
         ensures gone { Changes self.old self.new block.number None }
@@ -143,7 +146,7 @@ impl Pool {
         self.free.push_reserved(block.number);
     }
 
-    /// The bytes of a live block.
+    /// Returns the bytes of a live block.
     pub fn bytes(&self, block: &BlockId) -> &[u8]
         requires { IsLive self.now block.now.number }
         ensures bytes { held self.now block.now.number ≡ Some result.now }
@@ -152,7 +155,7 @@ impl Pool {
         &self.blocks[block.number]
     }
 
-    /// The bytes of a live block, to be changed. Other blocks stay.
+    /// Returns the bytes of a live block for writing. Other blocks are unchanged.
     pub fn bytes_mut(&mut self, block: &BlockId) -> &mut [u8]
         requires { IsLive self.old block.now.number }
         ensures* writes_back { sem 𝓛 (LendsBlock self.entry block.now.number result) }
@@ -163,7 +166,6 @@ impl Pool {
         self.blocks[block.number].as_mut_slice()
     }
 
-    /// Gives every live block back.
     pub(crate) fn give_all(&mut self)
         ensures none_live { self.new.slots ≡ [] }
         ensures spare { self.new.spare ≡ used self.old + self.old.spare }
@@ -174,14 +176,14 @@ impl Pool {
         self.free.clear();
     }
 
-    /// A number that those of all blocks stay below.
+    /// Returns a number that is greater than the number of each block.
     pub(crate) fn numbers(&self) -> usize
         ensures { result ≡ self.now.numbers }
     {
         self.room
     }
 
-    /// Writes bytes to a part of a live block. Other blocks stay.
+    /// Writes bytes to a part of a live block. Other blocks are unchanged.
     #[inline(always)]
     pub(crate) fn write(&mut self, block: &BlockId, offset: usize, bytes: &[u8])
         requires live { IsLive self.old block.now.number }
@@ -191,7 +193,7 @@ impl Pool {
         self.bytes_mut(block)[offset..offset + bytes.len()].copy_from_slice(bytes);
     }
 
-    /// Writes the same byte to each place of a part of a live block. Other blocks stay.
+    /// Writes `byte` `count` times to a part of a live block. Other blocks are unchanged.
     pub(crate) fn fill(&mut self, block: &BlockId, offset: usize, byte: u8, count: usize)
         requires live { IsLive self.old block.now.number }
         requires within { offset + count ≤ 4096 }
@@ -200,7 +202,8 @@ impl Pool {
         self.bytes_mut(block)[offset..offset + count].fill(byte);
     }
 
-    /// Writes the lowest bytes of a number to a part of a live block, the lowest first. Other blocks stay.
+    /// Writes the `width` lowest bytes of a number to a part of a live block, in little-endian
+    /// order. Other blocks are unchanged.
     #[inline(always)]
     pub(crate) fn write_number(&mut self, block: &BlockId, offset: usize, width: usize, value: u64)
         requires live { IsLive self.old block.now.number }
@@ -209,7 +212,7 @@ impl Pool {
         ensures wrote { WritesPart self.old self.new block.now.number offset (little_bytes width value) }
     {
         let bytes = value.to_le_bytes();
-        // Each arm writes as many bytes as its width says, which the compiler then knows.
+        // Each arm has a constant width, so that the compiler knows how many bytes it writes.
         match width {
             8 => self.write(block, offset, &bytes),
             4 => self.write(block, offset, &bytes[..4]),
@@ -218,14 +221,14 @@ impl Pool {
         }
     }
 
-    /// The number of live blocks.
+    /// Returns the number of live blocks.
     pub fn used(&self) -> usize
         ensures { result ≡ used self.now }
     {
         self.blocks.len() - self.free.len()
     }
 
-    /// The number of blocks that can be taken.
+    /// Returns the number of blocks that can be taken.
     pub fn spare(&self) -> usize
         ensures { result ≡ self.now.spare }
     {

@@ -7,11 +7,11 @@ use crate::numbers::{first_nonzero, number};
 use crate::pool::BLOCK_BYTES;
 use crate::table::{Table, block};
 
-// So many bytes are copied through a small buffer, since a buffer of a block costs more than they do.
+// Copies of up to this many bytes use a small buffer; a buffer of a whole block costs more.
 const SMALL_COPY: usize = 64;
 
 impl Table {
-    // The bytes of a block that was written.
+    // Returns the bytes of a block, if it was written.
     fn bytes_of(&self, number: usize) -> Option<&[u8]>
         requires sound { IsSound self.now }
         requires inside { number < length self.now.slots.items }
@@ -24,7 +24,7 @@ impl Table {
         }
     }
 
-    // How many blocks a write to the block adds to those that were written.
+    // Returns how many written blocks a write to the block adds: 0 or 1.
     fn added(&self, number: usize) -> u32
         requires { number < length self.now.slots.items }
         ensures { result ≡ (if is_present (slot_at self.now.slots.items number) then 0 else 1) }
@@ -35,7 +35,7 @@ impl Table {
         }
     }
 
-    // Whether so many bytes from a place on can be written.
+    // Returns whether `count` bytes from `at` on can be written.
     pub(crate) fn has_room(&self, at: usize, count: usize) -> bool
         requires sound { IsSound self.now }
         requires inside { at + count ≤ self.now.size }
@@ -51,7 +51,6 @@ impl Table {
         total <= self.most
     }
 
-    // Reads from within a block.
     fn read_in_block(&self, number: usize, offset: usize, out: &mut [u8])
         requires sound { IsSound self.now }
         requires within { offset + length out.old ≤ 4096 }
@@ -65,7 +64,7 @@ impl Table {
         }
     }
 
-    // Reads what lies in at most two blocks.
+    // Reads bytes of at most two blocks.
     fn read(&self, at: usize, out: &mut [u8])
         requires sound { IsSound self.now }
         requires some { 0 < length out.old }
@@ -83,7 +82,7 @@ impl Table {
         }
     }
 
-    // What may lie in two blocks.
+    // Loads a number whose bytes may be in two blocks.
     #[inline(never)]
     fn load_across(&self, at: usize, width: usize) -> u64
         requires sound { IsSound self.now }
@@ -115,7 +114,6 @@ impl Table {
         self.load_across(at, width)
     }
 
-    // Writes bytes of one block.
     fn write_within(&mut self, at: usize, bytes: &[u8])
         requires sound { IsSound self.old }
         requires some { 0 < length bytes.now }
@@ -129,7 +127,6 @@ impl Table {
         self.write_in_block(at / 4096, at % 4096, bytes);
     }
 
-    // Writes block by block.
     pub(crate) fn put(&mut self, at: usize, bytes: &[u8])
         requires sound { IsSound self.old }
         requires inside { at + length bytes.now ≤ self.old.size }
@@ -146,7 +143,8 @@ impl Table {
         }
     }
 
-    // Writes a number to a block that is not ready for it, or to two blocks. False where there is no room, and nothing changes.
+    // Writes a number to a block that is not ready for it, or to two blocks. Returns false and
+    // changes nothing if there is no room.
     #[inline(never)]
     pub(crate) fn store_anew(&mut self, at: usize, width: usize, value: u64) -> bool
         requires sound { IsSound self.old }
@@ -165,7 +163,6 @@ impl Table {
         true
     }
 
-    // Writes a byte so many times within one block.
     fn fill_within(&mut self, at: usize, byte: u8, count: usize)
         requires sound { IsSound self.old }
         requires some { 0 < count }
@@ -196,7 +193,7 @@ impl Table {
         }
     }
 
-    // Copies as many bytes as the buffer has, through it, to within a block.
+    // Copies as many bytes as the buffer has, through the buffer, to one block.
     fn copy_through(&mut self, to: usize, from: usize, buffer: &mut [u8])
         requires sound { IsSound self.old }
         requires some { 0 < length buffer.old }
@@ -212,7 +209,6 @@ impl Table {
         self.write_within(to, buffer);
     }
 
-    // Copies to within a block.
     fn copy_in_block(&mut self, to: usize, from: usize, count: usize)
         requires sound { IsSound self.old }
         requires some { 0 < count }
@@ -231,7 +227,7 @@ impl Table {
         }
     }
 
-    // From the first byte on: no byte is written before it is read.
+    // Copies from the first byte on, so that no source byte is overwritten before it is read.
     fn copy_forward(&mut self, to: usize, from: usize, count: usize)
         requires sound { IsSound self.old }
         requires order { to ≤ from }
@@ -249,7 +245,7 @@ impl Table {
         }
     }
 
-    // From the last byte back.
+    // Copies from the last byte back, for the same reason.
     fn copy_backward(&mut self, to: usize, from: usize, count: usize)
         requires sound { IsSound self.old }
         requires order { from < to }
@@ -282,7 +278,7 @@ impl Table {
         }
     }
 
-    // The first byte from a place on to the end of its block that is not zero.
+    // Finds the first nonzero byte from `at` to the end of its block.
     fn nonzero_in_block(&self, at: usize) -> Option<usize>
         requires sound { IsSound self.now }
         requires inside { at < self.now.size }
@@ -302,7 +298,7 @@ impl Table {
         }
     }
 
-    // Passes over blocks that were never written.
+    // Finds the first nonzero byte, and skips blocks that were never written.
     pub(crate) fn next_nonzero(&self, from: usize) -> Option<usize>
         requires sound { IsSound self.now }
         ensures some { IfSome result (λ at. IsNextNonzero (pages_of self.now).now.bytes from at) }

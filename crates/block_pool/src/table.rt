@@ -6,12 +6,12 @@ ghost use Rattle.block_pool.specs.Table.{IsSound, IsFixed, Claims, TakesBack, Se
 
 use crate::pool::{BLOCK_BYTES, BlockId, Pool};
 
-/// What the table knows of a block of the memory. The numbers are those of the pool's blocks.
+/// What the table knows of a block of the memory. The numbers are those of blocks of the pool.
 #[derive(Clone, Copy)]
 pub(crate) enum Slot {
     /// It was never written: its bytes are zero.
     Absent,
-    /// It was written. Where a mark is set, it was not written since.
+    /// It was written, but not since the mark, if one is set.
     Kept(u32),
     /// It was written since the mark, and never before.
     New(u32),
@@ -20,7 +20,7 @@ pub(crate) enum Slot {
 }
 
 impl Slot {
-    // The block of the pool that has the bytes as they are now.
+    // Returns the block of the pool that has the present bytes.
     pub(crate) fn present(self) -> Option<u32>
         ensures { result ≡ present self }
     {
@@ -33,12 +33,12 @@ impl Slot {
     }
 }
 
-/// A memory as the table of its blocks over a pool.
+/// A memory, as the table of its blocks in a pool.
 #[derive(Drop)]
 pub(crate) struct Table {
     pub(crate) pool: Pool,
     pub(crate) slots: Vec<Slot>,
-    // The numbers of the blocks that were written since the mark. The room for them is taken at the beginning.
+    // The numbers of the blocks that were written since the mark, in memory that `new` allocated.
     pub(crate) changed: Vec<u32>,
     pub(crate) written: u32,
     pub(crate) most: u32,
@@ -78,7 +78,7 @@ impl Table {
         block
     }
 
-    // Keeps the bytes of the mark, and goes on with a copy.
+    // Keeps the bytes of the mark, and makes a copy for writing.
     fn set_aside(&mut self, number: usize, older: u32) -> BlockId
         requires sound { IsSound self.old }
         requires inside { number < length self.old.slots.items }
@@ -99,7 +99,8 @@ impl Table {
         copy
     }
 
-    // The block of the pool to which the bytes of a block may be written, so that those of the mark stay.
+    // Returns a block of the pool to which bytes of the block may be written while those of the
+    // mark stay.
     pub(crate) fn own(&mut self, number: usize) -> BlockId
         requires sound { IsSound self.old }
         requires inside { number < length self.old.slots.items }
@@ -124,7 +125,7 @@ impl Table {
         }
     }
 
-    // The block of the pool to which the bytes of a block may be written as the table is.
+    // Returns the block that `own` returns, if `own` does not have to change the table for it.
     #[inline(always)]
     fn ready(&self, number: usize) -> Option<u32>
         requires { number < length self.now.slots.items }
@@ -141,7 +142,8 @@ impl Table {
         self.slots[number].present()
     }
 
-    // Writes a number within a block that is ready for it. False where it is not, and nothing changes.
+    // Writes a number within one block that is ready for it; otherwise returns false and changes
+    // nothing.
     #[inline(always)]
     pub(crate) fn store_ready(&mut self, at: usize, width: usize, value: u64) -> bool
         requires sound { IsSound self.old }
@@ -165,7 +167,7 @@ impl Table {
         }
     }
 
-    // Writes bytes within one block.
+    // Writes bytes of one block.
     pub(crate) fn write_in_block(&mut self, number: usize, offset: usize, bytes: &[u8])
         requires sound { IsSound self.old }
         requires some { 0 < length bytes.now }
@@ -180,7 +182,7 @@ impl Table {
         self.pool.write(&block, offset, bytes);
     }
 
-    // Takes back what was written to the block that was written last for the first time since the mark.
+    // Takes back what was written to the last block of `changed`.
     fn take_back(&mut self)
         requires sound { IsSound self.old }
         requires marked { self.old.marked ≡ true }
@@ -206,7 +208,7 @@ impl Table {
         }
     }
 
-    // Keeps what was written to that block, and lets its older bytes go.
+    // Keeps what was written to the last block of `changed`, and gives up its older bytes.
     fn settle(&mut self)
         requires sound { IsSound self.old }
         requires marked { self.old.marked ≡ true }
@@ -228,7 +230,6 @@ impl Table {
         }
     }
 
-    /// Takes back what was written since the mark.
     pub(crate) fn rollback(&mut self)
         requires sound { IsSound self.old }
         requires marked { self.old.marked ≡ true }
@@ -241,7 +242,6 @@ impl Table {
         self.marked = false;
     }
 
-    /// Keeps what was written since the mark.
     pub(crate) fn commit(&mut self)
         requires sound { IsSound self.old }
         requires marked { self.old.marked ≡ true }

@@ -1,4 +1,4 @@
--- That the snapshot of a module behaves as the module of which constructors are evaluated.
+-- The laws that the snapshot of a module behaves as the module whose constructors are evaluated.
 use Rattle.std.specs.Prelude.{[], ◌≡◌, ℕ, ◌+◌, List, IsTrue}
 use Rattle.wasm_tree_spec.specs.Prelude.{Module}
 use Rattle.wasm_valid.specs.Prelude.{IsValid}
@@ -9,27 +9,31 @@ use Rattle.eval_snapshot_spec.specs.After.{IsAfter}
 use Rattle.eval_snapshot_spec.specs.Snapshot.{snapshot}
 use Rattle.eval_behaves_proof.specs.Worlds.{events_evaluated}
 
--- In every environment that links the module, whatever is seen in n steps after its evaluated constructors is seen of the other in n, and the other way round.
+-- In each environment that links `m`, each trace of `m` after its evaluated constructors is a
+-- prefix of the trace of `other` in as many steps, and the other way round.
 abbrev pub ObservationallyEquivalent : Module → (evaluated kept : List Text) → Module → Type 0
 ObservationallyEquivalent m evaluated kept other = Same (λ env. IsTrue (links env (alone m))) (events_evaluated m evaluated kept) (events (alone other)) (λ n. n) (λ n. n)
 
--- So it is with the snapshot in a state that tells what stands after these constructors, where tables of the module have fewer than 2 ^ 32 slots and its data segments hold bytes.
+-- The snapshot of a valid module is observationally equivalent to the module after its evaluated
+-- constructors, if the state has what these leave, the tables of the module have fewer than 2 ^ 32
+-- slots, and its data segments hold bytes.
 abbrev pub SnapshotEquivalent : Type 0
 SnapshotEquivalent = (m : Module) (evaluated kept : List Text) (s : State) → IsValid m → BeginsInRange m → IsAfter m evaluated s → ObservationallyEquivalent m evaluated kept (snapshot m s evaluated kept)
 
--- where no constructor is evaluated, the module itself
+-- If no constructor is evaluated, the module itself is observationally equivalent to the module
+-- after its evaluated constructors.
 abbrev pub NoneIsEquivalent : Type 0
 NoneIsEquivalent = (m : Module) (kept : List Text) → ObservationallyEquivalent m [] kept m
 
 -- ---- runs ----
 
--- equal modules, names, environments, moves and numbers of steps give equal events
+-- Equal modules, names, environments, moves and numbers of steps give equal traces.
 abbrev pub EvaluatedRunsAreDetermined : Type 0
 EvaluatedRunsAreDetermined =
     (m o : Module) (evaluated constructors kept names : List Text) (d e : Environment) (ms ns : List Move) (n k : ℕ) →
     m ≡ o → evaluated ≡ constructors → kept ≡ names → d ≡ e → ms ≡ ns → n ≡ k → events_evaluated m evaluated kept d ms n ≡ events_evaluated o constructors names e ns k
 
--- the events of fewer steps are a prefix of those of more
+-- The trace of fewer steps is a prefix of that of more.
 abbrev pub ShorterEvaluatedRunsArePrefixes : Type 0
 ShorterEvaluatedRunsArePrefixes =
     (m : Module) (evaluated kept : List Text) (env : Environment) (moves : List Move) (n k : ℕ) → IsPrefix (events_evaluated m evaluated kept env moves n) (events_evaluated m evaluated kept env moves (n + k))

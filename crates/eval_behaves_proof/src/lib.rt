@@ -1,5 +1,6 @@
-//! What is seen of the snapshot of a module is what is seen of the module after its evaluated constructors. Small modules are computed in `proofs/SmallRuns`, wrong
-//! snapshots in `proofs/WrongSnapshots`.
+//! Laws that the snapshot of a module is observationally equivalent to the module after its
+//! evaluated constructors. Small modules are computed in `proofs/SmallRuns`, and wrong snapshots in
+//! `proofs/WrongSnapshots`.
 #![tactic(auto)]
 
 ghost use Rattle.eval_behaves_proof.specs.Addresses.{QuietRunsAreTheMachines, QuietStartsAreTheMachines};
@@ -17,16 +18,21 @@ use wasm_tree::operands_pass_layer_by_layer;
 use wasm_valid::valid_where_items_hold;
 use world_simulation::related_instances_have_equal_traces;
 
-/// A run of a module after its evaluated constructors is determined by the module, the names of the constructors and of those that are kept, the environment, the embedder's
-/// moves and the number of steps (`determined`); and what is seen in fewer steps comes first in what is seen in more (`prefixes`).
+/// States that a run of a module after its evaluated constructors is determined by the module, the
+/// names of the constructors, the kept names, the environment, the embedder's moves and the number
+/// of steps (`determined`), and that the trace of fewer steps is a prefix of that of more
+/// (`prefixes`).
 pub fn evaluated_runs_are_determined()
     ensures determined { EvaluatedRunsAreDetermined }
     ensures prefixes { ShorterEvaluatedRunsArePrefixes }
 {}
 
-/// A quiet evaluation is the machine's, in every environment that links the module (WebAssembly Core 2.0, sections 4.5.4 and 4.5.5): there the instantiation, with one function
-/// more, the start and the calls of the constructors come to their ends too, no segment traps, and what they leave is related to what the quiet run leaves, but for what is unknown
-/// (`machines`). Where no constructor is named, so it is of the instantiation of the module itself and its start (`starts`).
+/// States that a quiet evaluation of exported functions of a valid module, at least one,
+/// corresponds to a run of the machine in each environment that links the module (WebAssembly Core
+/// 2.0, sections 4.5.4 and 4.5.5): there the instantiation, with one additional function, the start
+/// and the calls of the constructors end too, no segment traps, and the store that they leave is
+/// related to that of the quiet run, except for what is unknown (`machines`). If no constructor is
+/// named, this holds for the instantiation of the module itself and its start (`starts`).
 pub fn quiet_runs_are_the_machines()
     ensures machines { QuietRunsAreTheMachines }
     ensures starts { QuietStartsAreTheMachines }
@@ -38,9 +44,11 @@ pub fn quiet_runs_are_the_machines()
     quiet_runs_end();
 }
 
-/// In every environment that links a valid module, whatever an embedder sees in some steps after its evaluated constructors it sees of its snapshot in as many, and the other way
-/// round (WebAssembly Core 2.0, sections 4.5.4 and 4.5.5): where the state of the snapshot tells what stands after these constructors, tables of the module have fewer than 2^32 slots, and
-/// its data segments hold bytes (`equivalent`). Where no constructor is evaluated the module is as it was (`none`).
+/// States that, in each environment that links a valid module, the module after its evaluated
+/// constructors and its snapshot have the same trace in as many steps (WebAssembly Core 2.0,
+/// sections 4.5.4 and 4.5.5), if the state of the snapshot has what these constructors leave,
+/// tables of the module have fewer than 2^32 slots, and its data segments hold bytes
+/// (`equivalent`). If no constructor is evaluated, the module itself has this trace (`none`).
 pub fn snapshot_equivalent()
     ensures equivalent { SnapshotEquivalent }
     ensures none { NoneIsEquivalent }

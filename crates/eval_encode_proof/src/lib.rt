@@ -1,4 +1,5 @@
-//! The numbers of the snapshot of a module are in the ranges of their types, as those of the module are.
+//! Laws that the numbers of a snapshot are in the ranges of their types, as those of the module
+//! are.
 #![tactic(auto)]
 
 ghost use Rattle.std.specs.Prelude.{Bool, List, ℕ, IsTrue};
@@ -20,9 +21,12 @@ use wasm_tree::operands_pass_layer_by_layer;
 use wasm_valid::valid_where_items_hold;
 use wasm_write_proof::encoded_operands_are_in_range;
 
-/// Where a valid module has its numbers in range, its names in UTF-8 and bytes in its data segments, its snapshot in the state after evaluated constructors has its numbers in range and its names in
-/// UTF-8, if it is valid, has at most one memory and a u32 can count what it has (`range`): so that an `i32.const` (WebAssembly Core 2.0, section 5.4.7) has each value of a global and each offset of
-/// what the memory holds. And its bodies name no memory but memory 0 (`memory`).
+/// States that the snapshot of a valid module after evaluated constructors has its numbers in range
+/// and its names in UTF-8, if the module has, its data segments hold bytes, its tables have fewer
+/// than 2^32 slots, and the snapshot is valid, has at most one memory and is bounded (`range`). So
+/// each i32 value of a global, and each offset in the memory, can be that of an `i32.const`
+/// (WebAssembly Core 2.0, section 5.4.7). The bodies of such a snapshot name no memory but memory 0
+/// (`memory`).
 pub fn snapshots_are_in_range()
     ensures range { (m : Module) (s : State) (evaluated kept : List Text) → IsValid m → InRange m → BeginsInRange m → IsAfter m evaluated s
         → IsValid (snapshot m s evaluated kept) → IsSingle (snapshot m s evaluated kept) → IsBounded (snapshot m s evaluated kept) → InRange (snapshot m s evaluated kept) }
@@ -35,7 +39,8 @@ pub fn snapshots_are_in_range()
     encoded_operands_are_in_range();
 }
 
-/// A tree that bytes spell has bytes in its data segments, and in its tables so many slots as an i32 can say (sections 5.5.7 and 5.5.14).
+/// States that a tree that bytes encode has bytes in its data segments and fewer than 2^32 slots in
+/// its tables (sections 5.5.7 and 5.5.14).
 pub fn encoded_trees_begin_in_range()
     ensures { (bytes : List ℕ) (m : Module) (many : Bool) → IsBytes bytes → Spells bytes m many → BeginsInRange m }
 {}

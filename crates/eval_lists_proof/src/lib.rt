@@ -1,9 +1,12 @@
-//! That the evaluation of a list of constructors goes on from its state with the call of one more, as laws.
+//! Laws that the evaluation of a list of constructors continues with the call of one more.
 #![tactic(auto)]
 
 ghost use Rattle.eval_lists_proof.specs.Lists.{AddedAreEvaluated, EvaluatedAreAdded, NoneIsTheInstantiation};
 
-/// From the state after the quiet run of a list (WebAssembly Core 2.0, sections 4.5.4 and 4.5.5), the call of one more function that comes to its end leaves the state after the quiet run of the list with this function added, and no other way leads there. The quiet run of the empty list is that of the instantiation and the start.
+/// States that, in the state after the quiet run of a list (WebAssembly Core 2.0, sections 4.5.4
+/// and 4.5.5), a call of one more function that finishes leaves the state after the quiet run of
+/// the list with this function appended (`added`), and that each quiet run of the longer list is of
+/// this form (`parted`). The run of the empty list is the instantiation and the start (`none`).
 pub fn lists_are_evaluated_in_order()
     ensures added { AddedAreEvaluated }
     ensures parted { EvaluatedAreAdded }

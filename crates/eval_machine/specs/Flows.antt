@@ -1,4 +1,4 @@
--- What the code of a level comes to, by quiet steps, whatever levels and frames it is in.
+-- What the quiet steps of the code of a level lead to, for any levels and frames around it.
 use Rattle.std.specs.Prelude.{◌≡◌, ℕ, suc, ◌+◌, ◌-◌, ◌/◌, List, [], ◌∷◌, length, Bool, cond, Option, Some, None, slice_get, nat_lt, nat_le}
 use Rattle.wasm_tree_spec.specs.Prelude.{ValType, FuncType, Instr, Module}
 use Rattle.wasm_meaning.specs.Prelude.{Outcome, Gives, bind, onto, Val, Func, Code, Own, Placeholder, Level, Frame, Entry, Running, Body, Act, pop_typed, branch, open_level, give, enter, perform}
@@ -17,7 +17,8 @@ use Rattle.eval_machine.specs.Kept.{state_in}
 
 -- ---- a level in its frame ----
 
--- where in its frame a level stands: what it gives and a branch to it takes, the levels outside, and the results of the frame
+-- The place of a level in its frame: how many values it gives, how many a branch to it takes, the
+-- code of its label, the levels around it, and the results of the frame.
 pub record Place : Type 0 where
   pub gives : ℕ
   pub takes : ℕ
@@ -37,17 +38,18 @@ body_at r code p = record { locals = r.locals; values = r.operands; rest = code;
 abbrev pub running : Module → Registers → List Instr → Place → List Entry → Stage
 running m r code p es = Going (state_in m r.kept) (Running (frame_at m r code p) ∷ es)
 
--- the frames and labels that are open
+-- The number of frames and labels that are open.
 abbrev pub depth : Place → List Entry → ℕ
 depth p es = suc (length p.outer) + stack_depth es
 
 -- ---- how it is left ----
 
--- what comes of what the code did last; a trap is a stop
+-- The stage after the act `o` of the level; a trap is a stop.
 abbrev pub acted : Module → Registers → Place → List Entry → Outcome Act → Stage
 acted m r p es o = came_to (state_in m r.kept) (bind o (perform (state_in m r.kept).store (frame_at m r [] p) es))
 
--- A branch and a return are carried out where they are caught; until then the machine has not moved.
+-- The stage after the code of a level was left. For a branch or a return it is the stage after the
+-- jump, which the interpreter makes only in the level or frame that catches it.
 abbrev pub outcome : Module → Flow → Registers → Place → List Entry → Stage
 outcome m flow.Fell r p es = running m r [] p es
 outcome m (flow.Branch n) r p es = acted m r p es (branch (body_at r [] p) n)
@@ -59,14 +61,14 @@ after m next.On o r rest p es = running m r rest p es
 after m next.Again o r rest p es = running m r (o ∷ rest) p es
 after m (next.Out f) o r rest p es = outcome m f r p es
 
--- the code runs to its end, or to what leaves it
+-- The code runs to its end, or until something leaves it.
 abbrev pub RunsCode : Module → List Instr → (depth : ℕ) → Registers → Flow → Registers → Type 0
 RunsCode m code d old f new = (p : Place) (es : List Entry) → depth p es ≡ d → ComesTo m (running m old code p es) (outcome m f new p es)
 
 abbrev pub RunsInstr : Module → Instr → (depth : ℕ) → Registers → Next → Registers → Type 0
 RunsInstr m o d old n new = (rest : List Instr) (p : Place) (es : List Entry) → depth p es ≡ d → ComesTo m (running m old (o ∷ rest) p es) (after m n o new rest p es)
 
--- ---- a block, loop or if, whose turn is spent ----
+-- ---- a block, loop or if, when the turn of its instruction is spent ----
 
 abbrev pub opened_tests : Registers → Place → List Entry → Outcome (List Val × List Val) → Stage → Stage
 opened_tests r p es taken t = tried (test (gives_nothing taken) why.Trap r.kept.turns ∷ test (nat_le MOST_DEPTH (depth p es)) why.Depth r.kept.turns ∷ []) t
@@ -74,7 +76,7 @@ opened_tests r p es taken t = tried (test (gives_nothing taken) why.Trap r.kept.
 abbrev pub opened : Module → Registers → (params : List ValType) → (gives takes : ℕ) → (body back rest : List Instr) → Place → List Entry → Stage
 opened m r params gives takes body back rest p es = opened_tests r p es (pop_typed params r.operands) (acted m r p es (open_level (body_at r rest p) r.operands params gives takes body back))
 
--- the label's code, which for a loop is the loop again
+-- The code of the label, which for a loop is the loop itself.
 abbrev pub back_of : Instr → (again : Bool) → List Instr
 back_of o again = cond again (o ∷ []) []
 
@@ -84,7 +86,7 @@ opened_by m r b o rest p es = opened m r b.params.now b.gives b.takes b.body.now
 abbrev pub RunsOpened : Module → Opening → (depth : ℕ) → Registers → Next → Registers → Type 0
 RunsOpened m b d old n new = (o : Instr) (rest : List Instr) (p : Place) (es : List Entry) → depth p es ≡ d → ComesTo m (opened_by m old b o rest p es) (after m n o new rest p es)
 
--- ---- a frame, whose instruction's one turn is spent, or which the host opens ----
+-- ---- a frame that a call (whose own turn is spent) or the embedder opens ----
 
 abbrev pub frame_tests : Registers → (locals depth : ℕ) → Stage → Stage
 frame_tests r locals d t = tried (test (nat_lt r.kept.turns (locals / 64)) why.Steps r.kept.turns ∷ test (nat_le MOST_DEPTH d) why.Depth (r.kept.turns - locals / 64) ∷ []) t
@@ -94,17 +96,17 @@ entered m r ty args locals body es =
     let s = state_in m r.kept in
     frame_tests r (length locals) (stack_depth es) (came_to (record s { turns = r.kept.turns - length locals / 64 }) (Gives (enter s.store (Code ty (own_inst m) locals body) args es)))
 
--- the results go to whoever waits for them
+-- The stage after the results `vs` of a frame are given to the entry that waits for them.
 abbrev pub given : Module → Registers → List Val → List Entry → Stage
 given m r vs es = let s = state_in m r.kept in came_to s (give s.store vs es)
 
--- the frame runs to its end and its results alone are left, or something stops it
+-- The frame runs to its end and leaves its results as the only operands, or something stops it.
 abbrev pub RunsFrame : Module → FuncType → (args : List Val) → (locals : List ValType) → (body : List Instr) → (depth : ℕ) → Registers → Option Stop → Registers → Type 0
 RunsFrame m ty args locals body d old None new =
     (vs : List Val) × (new.operands ≡ onto vs []) × ((es : List Entry) → stack_depth es ≡ d → ComesTo m (entered m old ty args locals body es) (given m new vs es))
 RunsFrame m ty args locals body d old (Some x) new = (es : List Entry) → stack_depth es ≡ d → ComesTo m (entered m old ty args locals body es) (Stopped x new.kept.turns)
 
--- ---- a call, whose instruction's one turn is spent ----
+-- ---- a call, when its own turn is spent ----
 
 abbrev pub called_code : Module → Registers → FuncType → (locals : List ValType) → (body : List Instr) → List Instr → Place → List Entry → Stage
 called_code m r t locals body rest p es =

@@ -1,4 +1,4 @@
--- Names of the machine, passed on from one place. Declares nothing.
+-- This module re-exports names of the machine and declares nothing.
 pub use Rattle.eval_machine.specs.Begun.{CopiesItems, FillsTables, IsFilled, IsInstantiated, PoursDatas, StartsAs, elems_end, is_within, item_slot, refs_in}
 pub use Rattle.eval_machine.specs.Calls.{CallEnds, IsLeft, IsReady, StopsCall}
 pub use Rattle.eval_machine.specs.Flows.{Place, body_at, called, depth, frame_at, running}

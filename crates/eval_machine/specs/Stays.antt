@@ -1,10 +1,10 @@
--- What of a machine no call changes while it is under way, and what no instruction changes.
+-- What no instruction changes in a machine, and no call while it is under way.
 use Rattle.std.specs.Prelude.{◌≡◌, ◌≤◌, length, map, Option, Some, None}
 use Rattle.block_pool.specs.Pages.{Pages, size}
 use Rattle.eval_machine.specs.declared.kept.Kept.{Kept}
 use Rattle.eval_machine.specs.Held.{is_of_import}
 
--- the size, the mark and how much may be written
+-- The size, the number of blocks, the most that may be written and the mark are unchanged.
 pub record PagesStay (old new : Pages) : Type 0 where
   pub size : size new ≡ size old
   pub blocks : length new.now.written ≡ length old.now.written
@@ -16,7 +16,9 @@ MemoryStays None None = Unit {0}
 MemoryStays (Some p) (Some q) = PagesStay p q
 MemoryStays _ _ = ⊥
 
--- places and types, the mark of the memory, and no turns come back
+-- The slots, the import counts, the number of data segments, the types of globals, which of them
+-- are imported, and the size and the mark of the memory are unchanged. The turns that are left do
+-- not increase.
 pub record Stays (old new : Kept) : Type 0 where
   pub slots : new.slots ≡ old.slots
   pub imports : new.imports ≡ old.imports

@@ -1,4 +1,4 @@
-// Instructions on the memory and on data segments.
+// Instructions on memories and data segments (WebAssembly Core 2.0, section 4.4.7).
 
 ghost use Rattle.std.specs.Prelude.{◌≡◌, ◌^◌, ◌<◌, List, None, Some, IfOk, IfSome, IsNone};
 ghost use Rattle.wasm_tree.specs.declared.instr.Instr.TheVariants as i;
@@ -24,7 +24,6 @@ use wasm_bytes::{Items, NoMemory};
 use wasm_num::{Num, UnOp, apply1};
 use wasm_tree::{LoadOp, MemArg, Module, StoreOp};
 
-// How many bytes a load reads.
 #[tactic(auto, unfolding(wasm_meaning::specs::Access::load_width))]
 fn width_of(op: LoadOp) -> u32
     ensures value { result ≡ load_width op }
@@ -47,7 +46,8 @@ fn value(n: Num) -> Value
     }
 }
 
-// The value that a load without a sign makes of the number that its bytes spell.
+// Returns the number that the bytes of a load encode, as a value of the type that the load gives,
+// without sign extension.
 #[tactic(auto, unfolding(wasm_meaning::specs::Access::load_width, wasm_meaning::specs::Access::load_to))]
 fn plain_value(op: LoadOp, number: u64) -> Value
     requires { number < 256 ^ load_width op }
@@ -69,7 +69,7 @@ fn plain_value(op: LoadOp, number: u64) -> Value
     }
 }
 
-// The value that a load makes of the number that its bytes spell.
+// Returns the value of a load, for the number that its bytes encode.
 #[tactic(auto, unfolding(wasm_meaning::specs::Access::load_width, wasm_meaning::specs::Access::load_to, wasm_num::specs::Operations::un_from, wasm_num::specs::Operations::un_to, wasm_num::specs::Operations::un_value))]
 fn value_of(op: LoadOp, number: u64) -> Value
     requires { number < 256 ^ load_width op }
@@ -91,7 +91,6 @@ fn value_of(op: LoadOp, number: u64) -> Value
     }
 }
 
-// How many bytes a store writes.
 fn written_by(op: StoreOp) -> u32
     ensures value { result ≡ store_width op }
     ensures width { IsWidth result }
@@ -104,7 +103,7 @@ fn written_by(op: StoreOp) -> u32
     }
 }
 
-// The number that a store writes of a value, if it has its type.
+// Returns the number that a store writes, if the value has the type that the store takes.
 #[tactic(auto, unfolding(wasm_meaning::specs::Access::store_from))]
 fn number_of(op: StoreOp, value: Value) -> Option<u64>
     ensures { result ≡ num_of (store_from op) (val_of value) }
@@ -122,7 +121,6 @@ fn number_of(op: StoreOp, value: Value) -> Option<u64>
 }
 
 impl Kept {
-    /// A load (WebAssembly Core 2.0, section 4.4.7).
     pub(crate) fn load(
         &self,
         input: &Module,
@@ -154,7 +152,6 @@ impl Kept {
         Ok(None)
     }
 
-    /// A store (section 4.4.7).
     pub(crate) fn store(
         &mut self,
         input: &Module,
@@ -193,7 +190,6 @@ impl Kept {
         )
     }
 
-    /// `memory.size` (section 4.4.7).
     pub(crate) fn memory_size(
         &self,
         input: &Module,
@@ -215,7 +211,6 @@ impl Kept {
         }
     }
 
-    /// `memory.fill` (section 4.4.7).
     pub(crate) fn memory_fill(
         &mut self,
         input: &Module,
@@ -247,7 +242,6 @@ impl Kept {
         )
     }
 
-    /// `memory.copy` (section 4.4.7).
     pub(crate) fn memory_copy(
         &mut self,
         input: &Module,
@@ -284,7 +278,7 @@ impl Kept {
         copy(paged, &mut self.turns, range.to, range.from, range.count)
     }
 
-    /// `memory.init` (section 4.4.7); a segment that was dropped has no bytes.
+    /// Executes `memory.init`; a dropped segment has no bytes.
     pub(crate) fn memory_init(
         &mut self,
         input: &Module,
@@ -319,7 +313,6 @@ impl Kept {
         init(paged, &mut self.turns, range.to, taken)
     }
 
-    /// `data.drop` (section 4.4.7).
     pub(crate) fn data_drop(&mut self, input: &Module, segment: u32) -> Option<Stop>
         requires fits { Fits input.now self.old }
         ensures begins { (vs : List Val) → BeginsWith input.now (i.DataDrop segment) self.old vs result self.new vs }
@@ -335,7 +328,7 @@ impl Kept {
     }
 }
 
-// Two places and a length.
+// The operands of a bulk memory instruction.
 #[derive(Drop)]
 struct Range {
     to: u32,
@@ -343,7 +336,7 @@ struct Range {
     count: u32,
 }
 
-// Takes off three numbers, the length on top.
+// Pops three i32s, of which the length is on top.
 fn pop_range(operands: &mut Operands) -> Option<Range>
     ensures some { IfSome result (λ r. pop_three operands.old ≡ Gives ((r.to, r.from, r.count), operands.new)) }
     ensures none { IsNone result → pop_three operands.old ≡ IllTyped }
@@ -354,7 +347,7 @@ fn pop_range(operands: &mut Operands) -> Option<Range>
     Some(Range { to, from, count })
 }
 
-// The bytes of a data segment, of which a dropped one has none.
+// Returns the bytes of a data segment; a dropped one has none.
 #[tactic(auto, using(crate::proofs::InitSteps::no_segment, crate::proofs::InitSteps::no_flag, crate::proofs::InitSteps::no_bytes_left, crate::proofs::InitSteps::bytes_there))]
 fn bytes_of<'a>(dropped: &Items<bool>, input: &'a Module, segment: u32) -> Option<&'a [u8]>
     ensures some { IfSome result (λ bytes. bytes_in (datas_in input.now.datas dropped.now) segment ≡ Some bytes.now) }

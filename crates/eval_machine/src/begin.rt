@@ -1,4 +1,4 @@
-// The instructions by themselves (WebAssembly Core 2.0, section 4.4).
+// What each instruction does by itself (WebAssembly Core 2.0, section 4.4).
 
 ghost use Rattle.std.specs.Prelude.{◌≡◌, true, IfOk};
 ghost use Rattle.wasm_tree.specs.declared.instr.Instr.{out-Instr};
@@ -27,7 +27,7 @@ fn stopped<'a>(stop: Stop) -> Act<'a>
     Act::Leaves(Flow::Stopped(stop))
 }
 
-// A block, loop or if with these parameters that gives so many values.
+// Opens a block, loop or if with these parameters, which gives `gives` values.
 fn opened<'a>(params: &'a [ValType], gives: usize, body: &'a Items<Instr>, again: bool) -> Act<'a>
     ensures { OpensWith params.now gives body.now again result }
 {
@@ -41,7 +41,7 @@ fn opened<'a>(params: &'a [ValType], gives: usize, body: &'a Items<Instr>, again
     })
 }
 
-// The block, loop or if of a type, if the module has the type.
+// Opens a block, loop or if of this type; the act is a trap if the module does not have the type.
 #[tactic(auto, using(crate::proofs::Openings::opens_empty, crate::proofs::Openings::opens_value, crate::proofs::Openings::opens_index))]
 fn opening<'a>(input: &'a Module, ty: BlockType, body: &'a Items<Instr>, again: bool) -> Act<'a>
     ensures { Opens input.now ty body.now again result }
@@ -57,7 +57,8 @@ fn opening<'a>(input: &'a Module, ty: BlockType, body: &'a Items<Instr>, again: 
 }
 
 impl Registers {
-    // The function that a call through a table reaches: one that is imported stops the evaluation before its type is looked at.
+    // Returns the act of a call that finds `func` in a table. An imported function stops the
+    // evaluation before its type is looked at.
     fn reached<'a>(&self, input: &Module, ty: u32, func: u32) -> Act<'a>
         requires valid { IsValid input.now }
         requires fits { Fits input.now self.now.kept }
@@ -85,7 +86,7 @@ impl Registers {
         stopped(Stop::Trap)
     }
 
-    // `call_indirect` (section 4.4.8).
+    // Executes `call_indirect` up to the call itself.
     fn call_indirect<'a>(&mut self, input: &Module, ty: u32, table: u32) -> Act<'a>
         requires valid { IsValid input.now }
         requires fits { Fits input.now self.old.kept }
@@ -111,7 +112,7 @@ impl Registers {
         }
     }
 
-    // The instructions that stay in their level.
+    // Executes an instruction that stays in its level.
     fn simple(&mut self, input: &Module, instr: &Instr) -> Result<Option<Stop>, NoMemory>
         requires valid { IsValid input.now }
         requires fits { Fits input.now self.old.kept }
@@ -149,7 +150,7 @@ impl Registers {
         }
     }
 
-    /// An instruction, whose one turn is spent.
+    /// Executes an instruction whose own turn is spent, and returns what remains to be done.
     pub(crate) fn begin<'a>(
         &mut self,
         input: &'a Module,
@@ -189,7 +190,6 @@ impl Registers {
     }
 }
 
-// The function to which a value refers, if it refers to one.
 fn referred(value: Value) -> Option<u32>
     ensures { result ≡ func_of (val_of value) }
 {
@@ -199,7 +199,6 @@ fn referred(value: Value) -> Option<u32>
     }
 }
 
-// Whether two types are one.
 fn is_same(ty: &FuncType, other: &FuncType) -> bool
     ensures { result ≡ same_func_type ty.now other.now }
 {

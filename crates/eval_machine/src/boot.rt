@@ -1,5 +1,3 @@
-// What an instantiation does to the memory that a module defines (WebAssembly Core 2.0, section 4.5.4).
-
 ghost use Rattle.std.specs.Prelude.{◌≡◌, ◌<◌, ◌≤◌, ℕ, IfOk, IsNone, Some, false, true, length, replicate, slice_get, slice_set};
 ghost use Rattle.wasm_tree.specs.Spaces.{imported_memories, memories_of};
 ghost use Rattle.eval_machine.specs.Begun.{InstantiatesTo, PoursByMode, PoursData, PoursDatas};
@@ -15,7 +13,7 @@ use wasm_bytes::{Items, NoMemory};
 use wasm_tree::{ConstExpr, DataMode, DataSeg, Module};
 use wasm_valid::{Valid, valid_where_items_hold};
 
-// Writes the bytes of a data segment that is active for this memory, of which so many are imported, and this offset.
+// Writes the bytes of a data segment that is active for memory `index` at `offset`.
 #[tactic(auto, using(crate::proofs::Poured::memory_unknown, crate::proofs::Poured::another_memory, crate::proofs::Poured::no_memory, crate::proofs::Poured::no_place))]
 fn pour(
     memory: &mut Option<Paged>,
@@ -55,7 +53,6 @@ fn pour(
     }
 }
 
-// Notes a segment as dropped.
 fn drop_at(dropped: &mut Items<bool>, at: usize)
     requires { at < length dropped.old }
     ensures { dropped.new ≡ slice_set dropped.old at true }
@@ -66,7 +63,7 @@ fn drop_at(dropped: &mut Items<bool>, at: usize)
     }
 }
 
-// Writes a data segment, if it is active, and drops it.
+// Writes a data segment and drops it, if it is active.
 fn pour_if_active(
     memory: &mut Option<Paged>,
     dropped: &mut Items<bool>,
@@ -105,7 +102,7 @@ fn pour_if_active(
     }
 }
 
-// Writes the active data segments, one after the other; or this stops one.
+// Writes the active data segments in order, until something stops one.
 fn pour_all(
     memory: &mut Option<Paged>,
     dropped: &mut Items<bool>,
@@ -132,7 +129,8 @@ fn pour_all(
     None
 }
 
-/// The instantiation of a valid module without its start (WebAssembly Core 2.0, section 4.5.4): what the machine then keeps, or the stop.
+/// Instantiates a valid module without running its start (WebAssembly Core 2.0, section 4.5.4), and
+/// returns what the machine keeps then, or the stop.
 pub(crate) fn instantiate(alloc: Global, input: &Valid) -> Result<Result<Kept, Stop>, NoMemory>
     ensures { IfOk result (InstantiatesTo input.now) }
 {

@@ -1,4 +1,5 @@
-// Calls that the host makes, of the start and of constructors (WebAssembly Core 2.0, section 4.5.5).
+// Calls that the embedder makes, of the start and of constructors (WebAssembly Core 2.0, section
+// 4.5.5).
 
 ghost use Rattle.std.specs.Prelude.{◌≡◌, IfOk, IsSome};
 ghost use Rattle.wasm_tree.specs.Spaces.{type_of_func};
@@ -18,7 +19,7 @@ use wasm_bytes::NoMemory;
 use wasm_tree::{FuncType, Module};
 use wasm_valid::valid_where_items_hold;
 
-// Whether a function of this type takes no arguments and gives no results.
+// Returns whether a function of this type has no parameters and no results.
 fn is_bare(ty: &FuncType) -> bool
     ensures { result ≡ takes_and_gives_nothing ty.now }
 {
@@ -26,7 +27,7 @@ fn is_bare(ty: &FuncType) -> bool
 }
 
 impl Registers {
-    /// The host calls a function, without arguments.
+    /// Calls a function for the embedder, without arguments.
     pub(crate) fn call(
         &mut self,
         alloc: Global,

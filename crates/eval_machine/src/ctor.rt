@@ -1,4 +1,4 @@
-// What a constructor that stops leaves as it was.
+// How the state before a constructor is kept, and restored if the constructor is stopped.
 
 ghost use Rattle.std.specs.Prelude.{◌≡◌, IfOk};
 ghost use Rattle.eval_machine.specs.Marks.{AreMarked, IsMarked, KeepsMarked, RollsMarked};
@@ -10,7 +10,6 @@ use std::alloc::Global;
 use wasm_bytes::{Items, NoMemory};
 
 impl Kept {
-    /// A copy of the flags of dropped segments.
     pub(crate) fn copy_dropped(&self, alloc: Global) -> Result<Items<bool>, NoMemory>
         ensures { IfOk result (λ flags. flags ≡ self.now.dropped) }
     {
@@ -29,7 +28,7 @@ impl Kept {
         }
     }
 
-    /// Keeps what was written since the mark.
+    /// Gives up the mark and keeps what was written since.
     pub(crate) fn commit(&mut self)
         requires { IsMarked self.old.memory }
         ensures rest { self.new ≡ record self.old { memory = self.new.memory } }
@@ -41,7 +40,7 @@ impl Kept {
         }
     }
 
-    /// Brings back the memory of the mark, and these globals and flags.
+    /// Takes the memory back to the mark, and puts back these globals and flags.
     pub(crate) fn put_back(&mut self, globals: Globals, dropped: Items<bool>)
         requires { IsMarked self.old.memory }
         ensures rest { self.new ≡ record self.old { memory = self.new.memory; globals = globals; dropped = dropped } }

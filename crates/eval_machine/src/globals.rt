@@ -1,5 +1,3 @@
-// The globals of a machine.
-
 ghost use Rattle.std.specs.Prelude.{◌≡◌, IfOk, IsSome, List, slice_get};
 ghost use Rattle.eval_machine.specs.Held.{Meets, constant_of, global_written, read_of};
 
@@ -13,15 +11,16 @@ use wasm_tree::{ConstExpr, GlobalType};
 /// What is known of a global.
 #[derive(Clone, Copy, Debug, PartialEq, Eq)]
 pub enum Standing {
-    /// It is imported, and nothing is known of it.
+    /// The global is imported, and its value is unknown.
     Imported,
-    /// Its initialiser reads an import, and nobody has set it.
+    /// The initialiser reads an imported global, and the global has not been set: its value is
+    /// unknown.
     Unset,
-    /// Its value.
+    /// The value is known.
     Known,
 }
 
-/// A global: where nothing is known of it, its value is a zero or null that is not read.
+/// A global. If nothing is known of it, `value` is a zero or null that is not read.
 #[derive(Clone, Copy, Debug, PartialEq, Eq)]
 pub struct GlobalSlot {
     pub ty: GlobalType,
@@ -29,7 +28,7 @@ pub struct GlobalSlot {
     pub standing: Standing,
 }
 
-/// The globals of a module, by their indices.
+/// The globals of a module, by index.
 #[derive(Drop)]
 pub struct Globals {
     items: Items<GlobalSlot>,
@@ -45,14 +44,12 @@ impl Model for Globals {
 }
 
 impl Globals {
-    /// These globals.
     pub(crate) fn of(items: Items<GlobalSlot>) -> Globals
         ensures { result ≡ items }
     {
         Globals { items }
     }
 
-    /// A copy of them.
     pub(crate) fn copy(&self, alloc: Global) -> Result<Globals, NoMemory>
         ensures { IfOk result (λ globals. globals ≡ self.now) }
     {
@@ -60,7 +57,8 @@ impl Globals {
         Ok(Globals { items })
     }
 
-    /// `global.get` (WebAssembly Core 2.0, section 4.4.5): its value, or the stop.
+    /// Executes `global.get` (WebAssembly Core 2.0, section 4.4.5). Returns the value, the stop
+    /// `Unknown` if it is not known, or `Trap` if there is no such global.
     pub fn get(&self, global: u32) -> Result<Value, Stop>
         ensures { result ≡ read_of (slice_get self.now global) }
     {
@@ -75,7 +73,8 @@ impl Globals {
         }
     }
 
-    /// The value of a global as a constant (section 3.3.10); none exactly where it is unknown or not there.
+    /// Returns the value of a global as a constant expression (section 3.3.10); `None` exactly if
+    /// it is unknown or there is no such global.
     pub fn constant(&self, global: u32) -> Option<ConstExpr>
         ensures { result ≡ constant_of (slice_get self.now global) }
     {
@@ -85,7 +84,10 @@ impl Globals {
         }
     }
 
-    /// `global.set` (section 4.4.5) of a value, if there is one on top: from then on the global is known.
+    /// Executes `global.set` (section 4.4.5) with the value that was on top, if there was one. The
+    /// global is known from then on. The stop is `Unknown` for an imported global, and `Trap` if
+    /// there is no such global or no value, or if the global is immutable or has another type.
+    /// After a stop the globals are unchanged.
     pub fn set(&mut self, global: u32, value: Option<Value>) -> Option<Stop>
         ensures set { Meets (global_written self.old global value (slice_get self.old global)) result self.new }
         ensures same { IsSome result → self.new ≡ self.old }

@@ -1,4 +1,5 @@
-// The globals, the memory and the segments of a module before anything is copied (WebAssembly Core 2.0, section 4.5.3).
+// The globals, memory and data segments of a module before any segment is copied (WebAssembly Core
+// 2.0, section 4.5.3).
 
 ghost use Rattle.std.specs.Prelude.{◌≡◌, ◌+◌, ◌*◌, ◌≤◌, ◌++◌, ℕ, Some, cond, false, IfOk, length, map, min, replicate, slice_get};
 ghost use Rattle.base_lists.specs.Options.{all_there};
@@ -25,7 +26,6 @@ use std::alloc::Global;
 use wasm_bytes::{Items, NoMemory};
 use wasm_tree::{ConstExpr, GlobalDef, GlobalType, Module};
 
-/// How many functions, tables and memories are imported.
 pub(crate) fn import_counts(input: &Module) -> ImportCounts
     ensures { result ≡ counts_of input.now }
 {
@@ -36,7 +36,8 @@ pub(crate) fn import_counts(input: &Module) -> ImportCounts
     }
 }
 
-// The value of an initialiser; a `global.get`, whose value is unknown, has the zero or null of its type.
+// Returns the value of an initialiser. The value of a `global.get` is unknown, so it is replaced by
+// the zero or null of the type.
 fn initial_value(def: GlobalDef) -> Value
     ensures { (m : Module) → const_type m def.init ≡ Some def.ty.ty → value_in m def.init ≡ Some (val_of result) }
 {
@@ -49,7 +50,6 @@ fn initial_value(def: GlobalDef) -> Value
     }
 }
 
-// What is known of a global that is defined.
 fn initial_standing(init: ConstExpr) -> Standing
     ensures { result ≡ standing_of init }
 {
@@ -59,7 +59,6 @@ fn initial_standing(init: ConstExpr) -> Standing
     }
 }
 
-// A global that is defined.
 fn defined_slot(def: &GlobalDef) -> GlobalSlot
     ensures ty { result.ty ≡ def.now.ty }
     ensures standing { result.standing ≡ standing_of def.now.init }
@@ -72,7 +71,6 @@ fn defined_slot(def: &GlobalDef) -> GlobalSlot
     }
 }
 
-// A global that is imported, of which nothing is known.
 fn imported_slot(ty: GlobalType) -> GlobalSlot
     ensures ty { result.ty ≡ ty }
     ensures standing { result.standing ≡ Imported }
@@ -85,7 +83,6 @@ fn imported_slot(ty: GlobalType) -> GlobalSlot
     }
 }
 
-// The globals that the module defines.
 fn defined_slots(alloc: Global, input: &Module) -> Result<Items<GlobalSlot>, NoMemory>
     requires { (n : ℕ) (g : GlobalDef) → slice_get input.now.globals n ≡ Some g → const_type input.now g.init ≡ Some g.ty.ty }
     ensures globals { IfOk result (λ gs. all_there (global_with (value_in input.now)) input.now.globals ≡ Some (map global_of gs)) }
@@ -99,7 +96,6 @@ fn defined_slots(alloc: Global, input: &Module) -> Result<Items<GlobalSlot>, NoM
     Ok(slots)
 }
 
-// The globals that are imported.
 fn imported_slots(alloc: Global, input: &Module) -> Result<Items<GlobalSlot>, NoMemory>
     ensures globals { IfOk result (λ gs. map global_of gs ≡ (imported_store input.now).globals) }
     ensures standings { IfOk result (λ gs. map (λ g. g.standing) gs ≡ map (λ t. Imported) (imported_globals input.now.imports)) }
@@ -115,7 +111,8 @@ fn imported_slots(alloc: Global, input: &Module) -> Result<Items<GlobalSlot>, No
     Ok(slots)
 }
 
-/// The globals of a valid module, of which an imported one and one whose initialiser reads it are not known.
+/// Returns the globals of a valid module. Imported globals, and globals whose initialiser reads
+/// one, are unknown.
 pub(crate) fn first_globals(alloc: Global, input: &Module) -> Result<Globals, NoMemory>
     requires { (n : ℕ) (g : GlobalDef) → slice_get input.now.globals n ≡ Some g → const_type input.now g.init ≡ Some g.ty.ty }
     ensures { IfOk result (λ gs. AreFirst input.now gs) }
@@ -126,7 +123,7 @@ pub(crate) fn first_globals(alloc: Global, input: &Module) -> Result<Globals, No
     Ok(Globals::of(slots))
 }
 
-// How many blocks may be written of a memory of so many pages.
+// Returns how many blocks of a memory of `pages` pages may be written.
 fn most_blocks(pages: u32) -> u32
     requires { pages ≤ 65536 }
     ensures { result ≡ min MOST_BLOCKS (16 * pages) }
@@ -138,7 +135,8 @@ fn most_blocks(pages: u32) -> u32
     blocks
 }
 
-/// The pages of the memory that the module defines, if it defines one: zero bytes, of which the blocks may be written that an evaluation may write.
+/// Returns the pages of the memory that the module defines, if it defines one: zero bytes, and room
+/// for as many written blocks as an evaluation may write.
 pub(crate) fn blank_memory(alloc: Global, input: &Module) -> Result<Option<Paged>, NoMemory>
     requires { LimitsFew input.now.mems }
     ensures { IfOk result (λ p. IsBlank input.now.mems p) }
@@ -149,13 +147,12 @@ pub(crate) fn blank_memory(alloc: Global, input: &Module) -> Result<Option<Paged
     let size = 65536 * u64::from(limits.min);
     let most = most_blocks(limits.min);
     let mut pool = Pool::new(alloc);
-    // a block that is written while a mark is set keeps the one before it
+    // A block that is written while a mark is set keeps its old version in a second block.
     pool.reserve(2 * most as usize)?;
     let paged = Paged::new(alloc, pool, size, most)?;
     Ok(Some(paged))
 }
 
-/// Of each data segment that it is not dropped.
 pub(crate) fn none_dropped(alloc: Global, count: usize) -> Result<Items<bool>, NoMemory>
     ensures { IfOk result (λ flags. flags ≡ replicate count false) }
 {

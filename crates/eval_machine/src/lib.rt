@@ -1,4 +1,7 @@
-//! The machine that evaluates a module: its instantiation, of whose imports only the functions' types are known, its start, and calls of functions without parameters and results (WebAssembly Core 2.0, sections 4.4 and 4.5). It stops exactly where the quiet run of eval_spec does, and else comes to its end and its state; what is read of a machine is told of that state.
+//! The machine that evaluates a module: it instantiates it, runs its start, and calls functions
+//! without parameters and results (WebAssembly Core 2.0, sections 4.4 and 4.5). Of imports it knows
+//! only the types of functions. Unless memory runs out, it stops exactly when the quiet run of
+//! eval_spec stops, and otherwise ends in the same state.
 #![tactic(auto)]
 
 mod access;

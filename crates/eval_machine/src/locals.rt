@@ -1,5 +1,3 @@
-// The locals of a frame.
-
 ghost use Rattle.std.specs.Prelude.{◌≡◌, ◌-◌, ◌/◌, ◌<◌, ◌≤◌, List, [], ◌++◌, length, map, IfSome, IsSome, IsNone, OnOk, None, Some, slice_get};
 ghost use Rattle.wasm_meaning.specs.Outcomes.{copies};
 ghost use Rattle.wasm_meaning.specs.State.{Val};
@@ -13,7 +11,7 @@ use std::marker::Model;
 use wasm_bytes::{Items, NoMemory};
 use wasm_tree::{LocalGroup, ValType};
 
-/// The locals of a frame, its arguments first.
+/// The locals of a frame; the arguments come first.
 #[derive(Drop)]
 pub struct Locals {
     items: Items<Value>,
@@ -26,7 +24,7 @@ impl Model for Locals {
 }
 
 impl Locals {
-    /// No locals. They take no memory.
+    /// Returns no locals. They take no memory.
     pub fn new(alloc: Global) -> Locals
         ensures { result ≡ [] }
     {
@@ -35,14 +33,14 @@ impl Locals {
         }
     }
 
-    /// The arguments as locals.
+    /// Returns the arguments as locals.
     pub fn of(items: Items<Value>) -> Locals
         ensures { result ≡ map val_of items }
     {
         Locals { items }
     }
 
-    /// Appends locals of one type, with the values that they have at first.
+    /// Appends `count` locals of type `ty` with the default value of the type.
     pub fn declare(&mut self, count: u32, ty: ValType) -> Result<(), NoMemory>
         ensures { OnOk result (self.new ≡ self.old ++ zeros (copies count ty)) }
     {
@@ -62,7 +60,7 @@ impl Locals {
         Ok(())
     }
 
-    /// The local at a place, if it is there.
+    /// Returns the value of a local, if the local exists.
     pub fn get(&self, local: u32) -> Option<Value>
         ensures some { IfSome result (λ value. slice_get self.now local ≡ Some (val_of value)) }
         ensures none { IsNone result → slice_get self.now local ≡ None }
@@ -73,7 +71,8 @@ impl Locals {
         }
     }
 
-    /// Sets a local to a value of its type (WebAssembly Core 2.0, section 4.4.5).
+    /// Sets a local (WebAssembly Core 2.0, section 4.4.5). Returns the stop `Trap` if it does not
+    /// exist or the value does not have its type.
     pub fn set(&mut self, local: u32, value: Value) -> Option<Stop>
         ensures { Comes (local_written self.old local (val_of value)) result self.new }
     {
@@ -90,7 +89,7 @@ impl Locals {
     }
 }
 
-/// The turns that are left once a frame with these locals is opened; none where there are too few.
+/// Returns the turns that are left after a frame with these locals is opened; `None` if too few.
 pub(crate) fn turns_after(groups: &[LocalGroup], turns: u32) -> Option<u32>
     ensures some { IfSome result (λ left. left ≡ turns - length (declared groups.now) / 64) }
     ensures enough { IsSome result → length (declared groups.now) / 64 ≤ turns }

@@ -24,7 +24,9 @@ use wasm_bytes::NoMemory;
 use wasm_tree::ConstExpr;
 use wasm_valid::{Valid, valid_where_items_hold};
 
-/// A machine, with what it keeps from call to call, which is what contracts see of it. What is read of it is told of the state that it makes together with a module that it fits.
+/// A machine that evaluates a module. Contracts see what it keeps from call to call. Together with
+/// a module that it fits, it represents a state (`state_in`), and what is read of the machine is
+/// read of that state.
 #[derive(Drop)]
 pub struct Machine {
     alloc: Global,
@@ -39,28 +41,32 @@ impl Model for Machine {
     ghost view = { λ m. m.registers.kept };
 }
 
-/// The end of a module's instantiation with its start.
+/// How the instantiation of a module with its start ended.
 #[derive(Drop)]
 pub enum Booted {
-    /// A machine that fits the module, with the state after both.
+    /// A machine that fits the module, in the state after both.
     Ready(Machine),
-    /// Why one of them stopped.
+    /// The instantiation or the start was stopped.
     Stopped(Stop),
 }
 
-/// How the run of a constructor ended.
+/// How the call of a constructor ended.
 #[derive(Clone, Copy, Debug, PartialEq, Eq)]
 pub enum Ran {
     /// It returned.
     Done,
-    /// Why it stopped.
+    /// It was stopped.
     Stopped(Stop),
 }
 
 impl Machine {
-    /// Instantiates a valid module, of whose imports only the functions' types are known, and runs its start (WebAssembly Core 2.0, sections 4.5.4 and 4.5.5), with as many turns as an evaluation has. Element segments come first, then data segments, then the start.
+    /// Instantiates a valid module and runs its start, with the turns of a whole evaluation
+    /// (WebAssembly Core 2.0, sections 4.5.4 and 4.5.5). Of imports only the types of functions are
+    /// known. Element segments are copied first, then data segments; then the start runs.
     ///
-    /// It is stopped by the first thing in the run that an evaluation does not do, which `Stop` names: the call of an import, `memory.grow`, a write to a table, a use of something unknown, a trap, and want of turns, depth or blocks of memory; and where the module has several memories. It is `Err` for want of memory alone; the pool of the pages has two blocks for each that may be written, so that no later call asks for more pages.
+    /// Returns `Booted::Stopped` at the first thing that stops an evaluation (see `Stop`); a module
+    /// with several memories is stopped at once. The error is `NoMemory`. The pool gets two blocks
+    /// for each block that may be written, so that later calls need no more blocks.
     pub fn boot(alloc: Global, input: &Valid) -> Result<Booted, NoMemory>
         ensures ready { IfOk result (IfReady (IsReady input.now)) }
         ensures stopped { IfOk result (IfNotReady (StopsBoot input.now)) }
@@ -87,9 +93,13 @@ impl Machine {
         }
     }
 
-    /// Runs a constructor, a function without parameters and results (WebAssembly Core 2.0, section 4.5.5), from the state that the machine has and with the turns that are left. Any other function stops with `Stop::Signature`. The machine is one that fits the module, as `boot` and this call leave it.
+    /// Calls a constructor, a function without parameters and results (WebAssembly Core 2.0,
+    /// section 4.5.5), in the present state and with the turns that are left. Any other function is
+    /// stopped with `Stop::Signature`. The machine must fit the module (`rests`), as `boot` and
+    /// this call leave it, and `func` must be a function of the module. The error is `NoMemory`.
     ///
-    /// Where it is stopped, and for want of memory, globals, memory, dropped segments and the set of written blocks are as before; the turns that were spent stay spent.
+    /// After a stop or an error, globals, memory, dropped segments and written blocks are as
+    /// before; turns that were spent stay spent.
     pub fn run_ctor(&mut self, input: &Valid, func: u32) -> Result<Ran, NoMemory>
         requires rests { Rests input.now self.old }
         requires there { func < length (funcs_of input.now) }
@@ -121,14 +131,14 @@ impl Machine {
         }
     }
 
-    /// The value of a global; none exactly where it is unknown.
+    /// Returns the value of a global; `None` exactly if it is unknown or there is no such global.
     pub fn global_value(&self, global: u32) -> Option<ConstExpr>
         ensures { (m : Module) → Fits m self.now → result ≡ value_of_global m (state_in m self.now) global }
     {
         self.registers.kept.globals.constant(global)
     }
 
-    /// The number of bytes of the memory that the module defines; 0 where it defines none.
+    /// Returns the number of bytes of the memory that the module defines; 0 if it defines none.
     pub fn memory_size(&self) -> u64
         ensures inside { (at : ℕ) → at < result → IsInside at self.now.memory }
         ensures size { (m : Module) → Fits m self.now → result ≡ length (memory_bytes m (state_in m self.now)) }
@@ -139,7 +149,7 @@ impl Machine {
         }
     }
 
-    /// The byte of the memory that the module defines at a place of it.
+    /// Returns the byte at `at` in the memory that the module defines, which must have such a byte.
     pub fn byte(&self, at: u64) -> u8
         requires { IsInside at self.now.memory }
         ensures { (m : Module) → Fits m self.now → Some result ≡ slice_get (memory_bytes m (state_in m self.now)) at }
@@ -150,7 +160,8 @@ impl Machine {
         }
     }
 
-    /// The least place from `from` on whose byte is not zero, in the memory that the module defines; none exactly where there is none, or no such memory.
+    /// Returns the place of the first nonzero byte at `from` or later in the memory that the module
+    /// defines; `None` exactly if there is no such byte or no such memory.
     pub fn next_nonzero(&self, from: u64) -> Option<u64>
         ensures some { (m : Module) → Fits m self.now → IfSome result (λ at. IsNextNonzero (memory_bytes m (state_in m self.now)) from at) }
         ensures none { (m : Module) → Fits m self.now → IsNone result ↔ IsZeroFrom (memory_bytes m (state_in m self.now)) from }
@@ -161,7 +172,8 @@ impl Machine {
         }
     }
 
-    /// The pages of the memory that the module defines; none exactly where it defines none. No mark is set in them.
+    /// Returns the pages of the memory that the module defines; `None` exactly if it defines none.
+    /// Between calls no mark is set in them.
     pub fn memory(&self) -> Option<&Paged>
         ensures none { (m : Module) → Fits m self.now → IsNone result ↔ (m.mems ≡ []) }
         ensures bytes { (m : Module) → Fits m self.now → IfSome result (λ p. p.now.now.bytes ≡ memory_bytes m (state_in m self.now)) }
@@ -171,7 +183,7 @@ impl Machine {
         self.registers.kept.memory.as_ref()
     }
 
-    /// Whether a data segment is dropped.
+    /// Returns whether a data segment is dropped; `false` if there is no such segment.
     pub fn dropped(&self, segment: u32) -> bool
         ensures { (m : Module) → Fits m self.now → result ≡ is_dropped (state_in m self.now) segment }
     {

@@ -9,7 +9,8 @@ ghost use Rattle.eval_machine.specs.Written.{HoldsMost, Wrote, bounds_tests, tol
 use block_pool::Paged;
 use eval_spec::Stop;
 
-// Spends the turns that so many bytes take, where they lie inside and the turns suffice.
+// Spends the turns that writing `count` bytes takes, if they are in bounds and enough turns are
+// left.
 fn spend(paged: &Paged, turns: &mut u32, place: u32, count: u32) -> Option<Stop>
     ensures { (result, turns.new) ≡ told_of (first_held (bounds_tests turns.old (size paged.now) place count)) (turns.old - count / 64) }
 {
@@ -24,7 +25,7 @@ fn spend(paged: &Paged, turns: &mut u32, place: u32, count: u32) -> Option<Stop>
     None
 }
 
-/// `memory.fill`: the byte `count` times from a place on.
+/// Executes `memory.fill`: writes `byte` to `count` bytes from `place` on.
 #[tactic(auto, using(crate::proofs::Stays::pages_stay, crate::proofs::Stays::writes_stay, crate::proofs::Writes::told_memory))]
 pub(crate) fn fill(
     paged: &mut Paged,
@@ -47,7 +48,8 @@ pub(crate) fn fill(
     }
 }
 
-/// `memory.copy`: the bytes that stand at `from`, where those are inside.
+/// Executes `memory.copy`: copies `count` bytes from `from` to `place`. The source must be in
+/// bounds.
 #[tactic(auto, using(crate::proofs::Stays::pages_stay, crate::proofs::Stays::writes_stay, crate::proofs::Writes::told_memory))]
 pub(crate) fn copy(
     paged: &mut Paged,
@@ -71,7 +73,7 @@ pub(crate) fn copy(
     }
 }
 
-/// `memory.init`: these bytes of a segment.
+/// Executes `memory.init`: writes these bytes of a segment from `place` on.
 #[tactic(auto, using(crate::proofs::Stays::pages_stay, crate::proofs::Stays::writes_stay, crate::proofs::Writes::told_memory))]
 pub(crate) fn init(paged: &mut Paged, turns: &mut u32, place: u32, bytes: &[u8]) -> Option<Stop>
     requires most { HoldsMost paged.old }
@@ -89,7 +91,7 @@ pub(crate) fn init(paged: &mut Paged, turns: &mut u32, place: u32, bytes: &[u8])
     }
 }
 
-/// A store of the `width` lowest bytes of a number at a place, which takes no turns.
+/// Stores the `width` lowest bytes of a number at `place`; this takes no turns.
 #[tactic(auto, using(crate::proofs::Stays::pages_stay, crate::proofs::Stays::writes_stay, crate::proofs::Writes::told_store))]
 pub(crate) fn store(
     paged: &mut Paged,

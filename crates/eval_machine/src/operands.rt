@@ -16,7 +16,8 @@ use wasm_bytes::{Items, NoMemory};
 use wasm_num::{BinOp, Num, UnOp, apply1, apply2};
 use wasm_tree::ValType;
 
-/// The operands of a body, block, loop or if; contracts see the last first.
+/// The operands of a body, block, loop or if. Contracts see them as a list whose first element is
+/// on top.
 #[derive(Drop)]
 pub struct Operands {
     items: Items<Value>,
@@ -29,7 +30,7 @@ impl Model for Operands {
 }
 
 impl Operands {
-    /// No operands. They take no memory.
+    /// Returns no operands. They take no memory.
     pub fn new(alloc: Global) -> Operands
         ensures { result ≡ [] }
     {
@@ -38,21 +39,20 @@ impl Operands {
         }
     }
 
-    /// Puts a value on top.
+    /// Pushes a value.
     pub fn push(&mut self, value: Value) -> Result<(), NoMemory>
         ensures { OnOk result (self.new ≡ val_of value ∷ self.old) }
     {
         self.items.keep(value)
     }
 
-    /// Takes off the value on top, if there is one.
+    /// Pops the value on top, if there is one.
     pub fn pop(&mut self) -> Option<Value>
         ensures { MatchOption result ((self.old ≡ []) × (self.new ≡ [])) (λ value. self.old ≡ val_of value ∷ self.new) }
     {
         self.items.pop()
     }
 
-    // Puts a number on top.
     fn push_num(&mut self, n: Num) -> Result<(), NoMemory>
         ensures { OnOk result (self.new ≡ number_of n ∷ self.old) }
     {
@@ -62,7 +62,6 @@ impl Operands {
         }
     }
 
-    // Takes off a number of a width, if one is on top.
     fn pop_num(&mut self, wide: bool) -> Option<Num>
         ensures some { IfSome result (λ n. popped_num (width_of wide) self.old ≡ Gives (value_of n, self.new)) }
         ensures width { IfSome result (λ n. width_of_number n ≡ width_of wide) }
@@ -75,7 +74,7 @@ impl Operands {
         }
     }
 
-    /// Takes off an i32, if one is on top.
+    /// Pops an i32, if one is on top.
     pub fn pop_narrow(&mut self) -> Option<u32>
         ensures some { IfSome result (λ n. popped_num W32 self.old ≡ Gives (n, self.new)) }
         ensures none { IsNone result → popped_num W32 self.old ≡ IllTyped }
@@ -86,7 +85,7 @@ impl Operands {
         }
     }
 
-    /// An operation of one number (WebAssembly Core 2.0, section 4.4.1).
+    /// Executes an operation on one number (WebAssembly Core 2.0, section 4.4.1).
     #[tactic(auto, using(crate::proofs::Numbers::unary_gives, crate::proofs::Numbers::unary_short))]
     pub fn unary(&mut self, op: UnOp) -> Result<Option<Stop>, NoMemory>
         ensures { IfOk result (λ stop. Comes (unary op self.old) stop self.new) }
@@ -98,7 +97,7 @@ impl Operands {
         Ok(None)
     }
 
-    /// An operation of two numbers (section 4.4.1).
+    /// Executes an operation on two numbers (section 4.4.1).
     #[tactic(auto, using(crate::proofs::Numbers::binary_gives, crate::proofs::Numbers::binary_traps, crate::proofs::Numbers::binary_short, crate::proofs::Numbers::binary_one))]
     pub fn binary(&mut self, op: BinOp) -> Result<Option<Stop>, NoMemory>
         ensures { IfOk result (λ stop. Comes (binary op self.old) stop self.new) }
@@ -119,7 +118,7 @@ impl Operands {
         }
     }
 
-    /// `ref.is_null` (section 4.4.2).
+    /// Executes `ref.is_null` (section 4.4.2).
     pub fn is_null(&mut self) -> Result<Option<Stop>, NoMemory>
         ensures { IfOk result (λ stop. Comes (ref_is_null self.old) stop self.new) }
     {
@@ -131,7 +130,7 @@ impl Operands {
         Ok(None)
     }
 
-    /// `drop` (section 4.4.4).
+    /// Executes `drop` (section 4.4.4).
     pub fn drop_one(&mut self) -> Option<Stop>
         ensures { Comes (dropped self.old) result self.new }
     {
@@ -141,7 +140,7 @@ impl Operands {
         }
     }
 
-    // `select` among two values of a type, with the number that chooses (section 4.4.4).
+    // Executes a `select` between two values of type `ty`; `which` chooses.
     fn choose(&mut self, ty: ValType, which: u32, upper: Value) -> Result<Option<Stop>, NoMemory>
         ensures { IfOk result (λ stop. Comes (select_of ty (narrow_of which ∷ val_of upper ∷ self.old)) stop self.new) }
     {
@@ -162,7 +161,7 @@ impl Operands {
         Ok(None)
     }
 
-    /// `select` without types (section 4.4.4).
+    /// Executes `select` without types (section 4.4.4).
     #[tactic(auto, using(crate::proofs::Chosen::any_is, crate::proofs::Chosen::any_no_number))]
     pub fn select(&mut self) -> Result<Option<Stop>, NoMemory>
         ensures { IfOk result (λ stop. Comes (select_any self.old) stop self.new) }
@@ -182,7 +181,7 @@ impl Operands {
         }
     }
 
-    /// `select` with types, of which there is one (section 4.4.4).
+    /// Executes `select` with types, of which there must be exactly one (section 4.4.4).
     pub fn select_typed(&mut self, types: &[ValType]) -> Result<Option<Stop>, NoMemory>
         ensures { IfOk result (λ stop. Comes (select_typed types.now self.old) stop self.new) }
     {
@@ -198,7 +197,8 @@ impl Operands {
         Ok(self.choose(*ty, which, upper)?)
     }
 
-    /// Takes off so many from the top, if they are there.
+    /// Takes the `count` operands on top, if there are as many; otherwise returns `None` and
+    /// changes nothing.
     pub fn take_top(&mut self, count: usize) -> Result<Option<Operands>, NoMemory>
         ensures { IfOk result (λ taken. TakesTop count self.old taken self.new) }
     {
@@ -210,14 +210,15 @@ impl Operands {
         Ok(Some(Operands { items }))
     }
 
-    /// Puts all of these on top.
+    /// Pushes all of `values`, in their order.
     pub fn put_back(&mut self, mut values: Operands) -> Result<(), NoMemory>
         ensures { OnOk result (self.new ≡ values ++ self.old) }
     {
         self.items.append(&mut values.items)
     }
 
-    /// Takes off the arguments of these types, the last on top, in the order of the types.
+    /// Takes the arguments of these types, the last of which is on top, and returns them in the
+    /// order of the types. Returns `None` if the operands on top do not have these types.
     pub fn take_typed(&mut self, types: &[ValType]) -> Result<Option<Items<Value>>, NoMemory>
         ensures { IfOk result (λ taken. TakesTyped types.now self.old taken self.new) }
     {
@@ -232,7 +233,7 @@ impl Operands {
         Ok(Some(values))
     }
 
-    /// The same, as the operands of a level.
+    /// Does the same as `take_typed`, but returns the arguments as operands of a level.
     pub fn take_level(&mut self, types: &[ValType]) -> Result<Option<Operands>, NoMemory>
         ensures { IfOk result (λ taken. TakesLevel types.now self.old taken self.new) }
     {
@@ -243,7 +244,6 @@ impl Operands {
     }
 }
 
-// Whether each value has its type.
 fn have_types(values: &[Value], types: &[ValType]) -> bool
     requires { length values.now ≡ length types.now }
     ensures { result ≡ are_typed types.now (map val_of values.now) }

@@ -1,4 +1,4 @@
-// The widths of operands.
+// Which numeric operations take i64 operands.
 
 ghost use Rattle.std.specs.Prelude.{◌≡◌};
 ghost use Rattle.wasm_num.specs.Operations.{un_from, bin_from};
@@ -6,7 +6,6 @@ ghost use Rattle.eval_machine.specs.Held.{width_of};
 
 use wasm_num::{BinOp, UnOp};
 
-// Whether the operation is of an i64.
 #[tactic(auto, unfolding(wasm_num::specs::Operations::un_from))]
 pub(crate) fn is_unary_wide(op: UnOp) -> bool
     ensures { width_of result ≡ un_from op }
@@ -31,7 +30,6 @@ pub(crate) fn is_unary_wide(op: UnOp) -> bool
     }
 }
 
-// Whether the operation is of two i64s.
 #[tactic(auto, unfolding(wasm_num::specs::Operations::bin_from))]
 pub(crate) fn is_binary_wide(op: BinOp) -> bool
     ensures { width_of result ≡ bin_from op }

@@ -1,4 +1,4 @@
-// Instructions on operands and locals alone.
+// Instructions that use only operands and locals (WebAssembly Core 2.0, section 4.4).
 
 ghost use Rattle.std.specs.Prelude.{◌≡◌, ◌∷◌, true, None, IfOk};
 ghost use Rattle.wasm_tree.specs.declared.instr.Instr.{out-Instr};
@@ -13,7 +13,6 @@ use eval_spec::Stop;
 use wasm_bytes::NoMemory;
 use wasm_tree::{Instr, ValType};
 
-// Puts a value on top.
 fn put(operands: &mut Operands, value: Value) -> Result<Option<Stop>, NoMemory>
     ensures { IfOk result (λ stop. (stop ≡ None) × (operands.new ≡ val_of value ∷ operands.old)) }
 {
@@ -21,7 +20,6 @@ fn put(operands: &mut Operands, value: Value) -> Result<Option<Stop>, NoMemory>
     Ok(None)
 }
 
-// `local.get` (WebAssembly Core 2.0, section 4.4.5).
 fn local_get(operands: &mut Operands, locals: &Locals, local: u32) -> Result<Option<Stop>, NoMemory>
     ensures { IfOk result (λ stop. Comes (with_entry locals.now local (λ value. Gives (value ∷ operands.old))) stop operands.new) }
 {
@@ -34,7 +32,7 @@ fn local_get(operands: &mut Operands, locals: &Locals, local: u32) -> Result<Opt
     }
 }
 
-// `local.set` and `local.tee` (section 4.4.5), which leaves the value.
+// Executes `local.set` or, if `tee`, `local.tee`, which leaves the value on top.
 fn local_set(
     operands: &mut Operands,
     locals: &mut Locals,
@@ -52,7 +50,7 @@ fn local_set(
     Ok(locals.set(local, value))
 }
 
-/// What an instruction on operands and locals alone does; of any other nothing is promised.
+/// Executes an instruction that uses only operands and locals; for any other nothing is promised.
 pub(crate) fn plain(
     operands: &mut Operands,
     locals: &mut Locals,

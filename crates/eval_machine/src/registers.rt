@@ -1,4 +1,4 @@
-// What a call that is under way reads and writes, and how its code is left.
+// What a call under way reads and writes, and how its code is left.
 
 use crate::kept::Kept;
 use crate::locals::Locals;
@@ -6,7 +6,8 @@ use crate::operands::Operands;
 use eval_spec::Stop;
 use wasm_tree::{Instr, ValType};
 
-/// What the machine keeps, with the operands of the innermost level and the locals of the topmost frame.
+/// What the machine keeps, with the operands of the innermost level and the locals of the topmost
+/// frame.
 #[derive(Drop)]
 pub struct Registers {
     pub kept: Kept,
@@ -17,41 +18,41 @@ pub struct Registers {
 /// How the code of a level was left.
 #[derive(Clone, Copy, Debug, PartialEq, Eq)]
 pub enum Flow {
-    /// It came to its end.
+    /// It ran to its end.
     Fell,
-    /// A branch to the label of this number, counted from the level itself.
+    /// A branch to the label with this number, counted from the level itself.
     Branch(u32),
-    /// The function returns.
+    /// A return from the function.
     Return,
-    /// Something stops the evaluation.
+    /// A stop of the evaluation.
     Stopped(Stop),
 }
 
-/// Where the code goes on after an instruction.
+/// Where the code continues after an instruction.
 #[derive(Clone, Copy, Debug, PartialEq, Eq)]
 pub enum Next {
     On,
-    /// With the same instruction, which is a loop.
+    /// At the same instruction, which is a loop.
     Again,
     Out(Flow),
 }
 
-/// A block, loop or if that is to be opened.
+/// A block, loop or if to open.
 #[derive(Drop)]
 pub struct Opening<'a> {
     pub params: &'a [ValType],
-    /// How many values it gives at its end, and how many a branch to it takes.
+    /// The number of values that it gives at its end, and the number that a branch to it takes.
     pub gives: usize,
     pub takes: usize,
     pub body: &'a [Instr],
-    /// Whether a branch to it begins it again.
+    /// Whether a branch to it begins it again, as in a loop.
     pub again: bool,
 }
 
-/// What an instruction comes to by itself.
+/// What remains to be done after an instruction was executed by itself.
 #[derive(Drop)]
 pub enum Act<'a> {
-    /// It stays in its level and goes on.
+    /// It stays in its level, and the next instruction follows.
     Goes,
     Leaves(Flow),
     Opens(Opening<'a>),

@@ -1,4 +1,5 @@
-// The interpreter: it recurses over blocks and frames, no deeper than the limit, and allocates the operands and locals of a level or frame alone.
+// The interpreter. It recurses over blocks and frames up to `MOST_DEPTH`, and allocates only the
+// operands and locals of a level or frame.
 
 ghost use Rattle.std.specs.Prelude.{◌≡◌, ◌<◌, ◌≤◌, [], Ok, IfOk};
 ghost use Rattle.wasm_valid.specs.Validity.{IsValid};
@@ -162,7 +163,7 @@ impl Registers {
         }
     }
 
-    // The arguments are the locals, and there are no operands.
+    // Runs a frame whose arguments are the locals; there are no operands.
     #[cycle(run)]
     pub(crate) fn run_frame(
         &mut self,

@@ -1,5 +1,3 @@
-// The slots of tables.
-
 ghost use Rattle.std.specs.Prelude.{◌≡◌, ◌<◌, ◌+◌, ◌&&◌, ℕ, None, Some, cond, length, nat_eq, IfOk, OnOk};
 ghost use Rattle.wasm_num.specs.Operations.{wrapped};
 ghost use Rattle.wasm_tree.specs.Spaces.{imported_tables};
@@ -16,18 +14,19 @@ use std::marker::Model;
 use wasm_bytes::NoMemory;
 use wasm_tree::{ConstExpr, ElemMode, ElemSeg, Module, RefType, TableType};
 
-/// What stands in a slot of a table.
+/// What is in a slot of a table.
 #[derive(Clone, Copy, Debug, PartialEq, Eq)]
 pub enum Slot {
-    /// Nothing is known of it: it was filled from a global that is imported.
+    /// Nothing is known of it, because it was filled from an imported global.
     Unknown,
-    /// A reference.
+    /// It holds a reference.
     Known(Value),
-    /// There is no such slot.
+    /// It does not exist.
     Outside,
 }
 
-/// The slots to which active element segments were copied, by table and place. Every other slot is null and takes no room.
+/// The slots to which active element segments were copied, by table and place. Every other slot is
+/// null and takes no memory.
 #[derive(Drop)]
 pub struct Slots {
     filled: HashMap<u64, Slot>,
@@ -49,7 +48,7 @@ fn key(table: u32, place: u32) -> u64
 }
 
 impl Slots {
-    /// No slots. They take no memory.
+    /// Returns an empty set of slots. It takes no memory.
     pub fn new(alloc: Global) -> Slots
         ensures { (table place : ℕ) → filled_at result table place ≡ None }
     {
@@ -58,14 +57,14 @@ impl Slots {
         }
     }
 
-    /// What was copied to a slot, if something was.
+    /// Returns what was copied to a slot, if something was.
     pub fn get(&self, table: u32, place: u32) -> Option<Slot>
         ensures { result ≡ filled_at self.now table place }
     {
         self.filled.get(&key(table, place)).copied()
     }
 
-    /// Copies to a slot, over what stands there.
+    /// Replaces what is in a slot by `slot`.
     pub fn set(&mut self, table: u32, place: u32, slot: Slot) -> Result<(), NoMemory>
         ensures { OnOk result ((t p : ℕ) → p < 4294967296 → filled_at self.new t p ≡ cond (nat_eq table t && nat_eq place p) (Some slot) (filled_at self.old t p)) }
     {
@@ -74,7 +73,6 @@ impl Slots {
     }
 }
 
-/// The null of a type of references.
 pub(crate) fn null(ty: RefType) -> Value
     ensures { result ≡ null_of ty }
 {
@@ -84,7 +82,7 @@ pub(crate) fn null(ty: RefType) -> Value
     }
 }
 
-// A slot of a table of this type to which no segment was copied.
+// Returns what is in a slot of a table of this type to which no segment was copied.
 fn null_slot(table: Option<TableType>, place: u32) -> Slot
     ensures { result ≡ null_in table place }
 {
@@ -94,7 +92,7 @@ fn null_slot(table: Option<TableType>, place: u32) -> Slot
     }
 }
 
-// The type of a table that the module defines, of which so many are imported.
+// Returns the type of a table that the module defines; `imported` counts the imported tables.
 fn defined_table(input: &Module, imported: usize, table: u32) -> Option<TableType>
     requires { imported ≡ length (imported_tables input.now.imports) }
     ensures { result ≡ defined_table input.now table }
@@ -107,7 +105,7 @@ fn defined_table(input: &Module, imported: usize, table: u32) -> Option<TableTyp
 }
 
 impl Kept {
-    /// What stands in a slot of a table; an imported table has none.
+    /// Returns what is in a slot of a table; an imported table has no slots.
     pub fn slot(&self, input: &Module, table: u32, place: u32) -> Slot
         requires { Fits input.now self.now }
         ensures { IsSlot (base_of input.now) table place result }
@@ -118,7 +116,8 @@ impl Kept {
         }
     }
 
-    /// How many slots a table has; none of an imported table is there.
+    /// Returns the number of slots of a table: 0 for an imported one, `None` if there is no such
+    /// table.
     pub fn slot_count(&self, input: &Module, table: u32) -> Option<u32>
         requires { Fits input.now self.now }
         ensures { result ≡ slot_count (base_of input.now) table }
@@ -135,7 +134,7 @@ impl Kept {
 
 // ---- active element segments (WebAssembly Core 2.0, section 4.5.4) ----
 
-/// The place that an offset of type i32 is.
+/// Returns the place that an i32 offset denotes.
 #[tactic(auto, unfolding(wasm_num::specs::Operations::wrapped))]
 pub(crate) fn unsigned(value: i32) -> u32
     ensures { result ≡ wrapped 32 value }
@@ -143,7 +142,6 @@ pub(crate) fn unsigned(value: i32) -> u32
     value.cast_unsigned()
 }
 
-// What an item of a segment leaves in a slot.
 fn item_slot(item: ConstExpr) -> Slot
     ensures { result ≡ item_slot item }
 {
@@ -155,7 +153,6 @@ fn item_slot(item: ConstExpr) -> Slot
 }
 
 impl Slots {
-    // Copies items to a table from a place on.
     fn copy_items(&mut self, table: u32, place: u32, items: &[ConstExpr]) -> Result<(), NoMemory>
         requires { place + length items.now < 4294967296 }
         ensures { OnOk result (CopiesItems self.old self.new table place items.now) }
@@ -218,7 +215,7 @@ impl Slots {
         }
     }
 
-    /// Copies the active element segments of a module, of whose tables so many are imported, one after the other; or this stops one.
+    /// Copies the active element segments of a module in order, until something stops one.
     pub(crate) fn fill(&mut self, input: &Module, imported: usize) -> Result<Option<Stop>, NoMemory>
         requires counted { imported ≡ length (imported_tables input.now.imports) }
         requires empty { (t p : ℕ) → filled_at self.old t p ≡ None }

@@ -1,4 +1,5 @@
-// Instructions on globals, functions and tables.
+// Instructions on globals, functions and tables (WebAssembly Core 2.0, sections 4.4.2, 4.4.5,
+// 4.4.6).
 
 ghost use Rattle.std.specs.Prelude.{◌≡◌, ◌<◌, ◌↔◌, IfOk, IsTrue, length};
 ghost use Rattle.wasm_tree.specs.declared.instr.Instr.TheVariants as i;
@@ -16,7 +17,6 @@ use wasm_bytes::NoMemory;
 use wasm_tree::Module;
 
 impl Kept {
-    /// `global.get` (WebAssembly Core 2.0, section 4.4.5).
     pub(crate) fn global_get(
         &self,
         input: &Module,
@@ -35,7 +35,6 @@ impl Kept {
         }
     }
 
-    /// `global.set` (section 4.4.5).
     pub(crate) fn global_set(
         &mut self,
         input: &Module,
@@ -50,7 +49,6 @@ impl Kept {
         self.globals.set(global, value)
     }
 
-    // Whether the index is a function's.
     fn is_func(&self, input: &Module, func: u32) -> bool
         requires fits { Fits input.now self.now }
         ensures { IsTrue result ↔ (func < length (funcs_of input.now)) }
@@ -59,7 +57,6 @@ impl Kept {
         func < self.imports.funcs || func - self.imports.funcs < input.funcs.len()
     }
 
-    /// `ref.func` (section 4.4.2).
     pub(crate) fn ref_func(
         &self,
         input: &Module,
@@ -76,7 +73,6 @@ impl Kept {
         Ok(None)
     }
 
-    /// `table.get` (section 4.4.6).
     pub(crate) fn table_get(
         &self,
         input: &Module,
@@ -105,7 +101,6 @@ impl Kept {
         }
     }
 
-    /// `table.size` (section 4.4.6).
     pub(crate) fn table_size(
         &self,
         input: &Module,

@@ -1,4 +1,4 @@
-// Values of a run.
+// The values of an evaluation.
 
 ghost use Rattle.std.specs.Prelude.{◌≡◌, Some};
 ghost use Rattle.wasm_tree.specs.SameTypes.{same_type};
@@ -10,19 +10,20 @@ ghost use Rattle.eval_machine.specs.Held.{val_of};
 
 use wasm_tree::{ConstExpr, RefType, ValType};
 
-/// A value of a run (WebAssembly Core 2.0, section 4.2.1). No value that comes from an import is read, so that a reference to something of the embedder is null.
+/// A value of an evaluation (WebAssembly Core 2.0, section 4.2.1). No value that comes from an
+/// import is read, so an external reference is always null.
 #[derive(Clone, Copy, Debug, PartialEq, Eq)]
 pub enum Value {
     I32(u32),
     I64(u64),
-    /// A function by its index, or null.
+    /// A reference to the function with this index, or null.
     Func(Option<u32>),
-    /// The null of the embedder's references.
+    /// The null external reference.
     Extern,
 }
 
 impl Value {
-    /// The type of the value.
+    /// Returns the type of the value.
     pub fn ty(&self) -> ValType
         ensures { result ≡ type_of (val_of self.now) }
     {
@@ -34,7 +35,7 @@ impl Value {
         }
     }
 
-    /// Whether the value has the type.
+    /// Returns whether the value has the type `ty`.
     pub fn has_type(&self, ty: ValType) -> bool
         ensures { result ≡ same_type ty (type_of (val_of self.now)) }
     {
@@ -47,7 +48,7 @@ impl Value {
         }
     }
 
-    /// Whether it is a number's.
+    /// Returns whether the value is a number.
     pub fn is_number(&self) -> bool
         ensures { result ≡ is_number (type_of (val_of self.now)) }
     {
@@ -57,7 +58,7 @@ impl Value {
         }
     }
 
-    /// The value that a local of this type has at first (section 4.2.1).
+    /// Returns the default value of a type (section 4.2.1).
     pub fn zero(ty: ValType) -> Value
         ensures { val_of result ≡ zero_of ty }
     {
@@ -69,7 +70,7 @@ impl Value {
         }
     }
 
-    /// The number of a constant of type i32.
+    /// Returns the value of an i32 constant.
     #[tactic(auto, unfolding(wasm_num::specs::Operations::wrapped))]
     pub fn narrow(value: i32) -> Value
         ensures { val_of result ≡ Num W32 (wrapped 32 value) }
@@ -77,7 +78,7 @@ impl Value {
         Value::I32(value.cast_unsigned())
     }
 
-    /// The number of a constant of type i64.
+    /// Returns the value of an i64 constant.
     #[tactic(auto, unfolding(wasm_num::specs::Operations::wrapped))]
     pub fn wide(value: i64) -> Value
         ensures { val_of result ≡ Num W64 (wrapped 64 value) }
@@ -85,7 +86,7 @@ impl Value {
         Value::I64(value.cast_unsigned())
     }
 
-    /// The constant expression of the value (section 3.3.10).
+    /// Returns the constant expression of the value (section 3.3.10).
     #[tactic(auto, unfolding(wasm_num::specs::Operations::signed))]
     pub fn constant(&self) -> ConstExpr
         ensures { constant (val_of self.now) ≡ Some result }

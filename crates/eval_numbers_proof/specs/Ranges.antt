@@ -1,4 +1,5 @@
--- Numbers in the ranges of their types, in the states of an evaluation, and no references of the embedder's (WebAssembly Core 2.0, sections 2.2.1, 2.2.2 and 4.2.1).
+-- Numbers in the ranges of their types, and no non-null external references, in the states of an
+-- evaluation (WebAssembly Core 2.0, sections 2.2.1, 2.2.2 and 4.2.1).
 use Rattle.std.specs.Prelude.{◌≡◌, ℕ, ◌^◌, ◌<◌, ◌≤◌, List, length, Some, None, slice_get}
 use Rattle.base_lists.specs.Every.{Every}
 use Rattle.wasm_tree_spec.specs.Prelude.{TableType, DataSeg, Module}
@@ -7,18 +8,18 @@ use Rattle.wasm_num.specs.Operations.{bits_of}
 use Rattle.wasm_meaning.specs.Prelude.{RefVal, FuncRef, ExternRef, Val, Num, Ref, Memory, Global, Store}
 use Rattle.eval_spec.specs.Prelude.{State, Finished, evaluated_within}
 
--- an i32 is below 2 ^ 32, and an i64 below 2 ^ 64
+-- An i32 is below 2 ^ 32, and an i64 below 2 ^ 64.
 abbrev pub ValInRange : Val → Type 0
 ValInRange (Num w n) = n < 2 ^ bits_of w
 ValInRange (Ref r) = Unit {0}
 
--- null, or a function: nothing of the embedder's
+-- The reference is null or a function.
 abbrev pub IsNullOrFunction : RefVal → Type 0
 IsNullOrFunction (FuncRef f) = Unit {0}
 IsNullOrFunction (ExternRef None) = Unit {0}
 IsNullOrFunction (ExternRef (Some n)) = ⊥
 
--- a value that a constant expression can give: a number in its range, null, or a function
+-- The value is one that a constant expression can have: a number in its range, null, or a function.
 abbrev pub IsExpressible : Val → Type 0
 IsExpressible (Num w n) = n < 2 ^ bits_of w
 IsExpressible (Ref r) = IsNullOrFunction r
@@ -26,25 +27,27 @@ IsExpressible (Ref r) = IsNullOrFunction r
 abbrev pub IsByte : ℕ → Type 0
 IsByte n = n < 256
 
--- What a state takes from the module: how many slots tables have, which an i32 can say, and the bytes of data segments. (Of the numbers in code nothing is asked:
--- a constant is taken modulo 2 ^ 32 or 2 ^ 64.)
+-- What a state takes from the module is in range: tables have fewer than 2 ^ 32 slots, and data
+-- segments hold bytes. (Numbers in code need no condition: a constant is taken modulo 2 ^ 32 or 2 ^
+-- 64.)
 pub record BeginsInRange (m : Module) : Type 0 where
   pub tables : Every (λ (t : TableType). t.limits.min < 2 ^ 32) m.tables
   pub datas : Every (λ (d : DataSeg). Every IsByte d.bytes) m.datas
 
--- the value of each global is in the range of its type
+-- The value of each global is in the range of its type.
 abbrev pub GlobalsAreInRange : Store → Type 0
 GlobalsAreInRange s = (n : ℕ) (g : Global) → slice_get s.globals n ≡ Some g → ValInRange g.value
 
--- and none is a reference of the embedder's, which came from outside
+-- The value of each global is expressible.
 abbrev pub GlobalsAreExpressible : Store → Type 0
 GlobalsAreExpressible s = (n : ℕ) (g : Global) → slice_get s.globals n ≡ Some g → IsExpressible g.value
 
--- memories hold bytes, of which an i32 can name each
+-- Each memory holds numbers below 256, at most 2 ^ 32 of them.
 abbrev pub MemoriesAreInRange : Store → Type 0
 MemoriesAreInRange s = (n : ℕ) (x : Memory) → slice_get s.mems n ≡ Some x → Every IsByte x.bytes × (length x.bytes ≤ 2 ^ 32)
 
--- So it is after the instantiation of a valid module with its start, and after any calls.
+-- These three hold after the instantiation of a valid module with its start, and after any calls,
+-- if the module begins in range.
 abbrev pub EvaluatedGlobalsAreInRange : Type 0
 EvaluatedGlobalsAreInRange = (m : Module) → IsValid m → BeginsInRange m → (turns : ℕ) (funcs : List ℕ) (s : State) → evaluated_within m turns funcs ≡ Finished s → GlobalsAreInRange s.store
 

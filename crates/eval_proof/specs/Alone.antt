@@ -1,4 +1,4 @@
--- What a quiet step leaves as it is in another store, over which the machine makes it too.
+-- What a quiet step leaves unchanged in another store, over which the machine makes it too.
 use Rattle.std.specs.Prelude.{◌≡◌, ℕ, true, List, [], slice_get, Bool}
 use Rattle.wasm_tree_spec.specs.Prelude.{Space, Memories, Globals, DataSegments, Module}
 use Rattle.wasm_meaning.specs.Prelude.{Gives, Store, Entry, Ran, step}
@@ -6,7 +6,8 @@ use Rattle.index_remap.specs.Prelude.{Pairing, ListRel, EntryRel, is_among, pass
 use Rattle.eval_spec.specs.Prelude.{State, Going, quiet_step, own_inst}
 use Rattle.eval_proof.specs.Known.{RelatesAllButImports, FramesOf}
 
--- functions, tables and element segments; memories and data segments to which nothing is related; and globals to which only what is unknown is related
+-- Functions, tables and element segments are unchanged, and so are memories and data segments to
+-- which nothing is related, and globals to which only unknown ones are related.
 pub record LeavesAlone (R : Pairing) (u : Unknowns) (before after : Store) : Type 0 where
   pub funcs : after.funcs ≡ before.funcs
   pub tables : after.tables ≡ before.tables
@@ -15,7 +16,8 @@ pub record LeavesAlone (R : Pairing) (u : Unknowns) (before after : Store) : Typ
   pub globals : (b : ℕ) → ((a : ℕ) → R.of Globals a b → is_among u.globals a ≡ true) → slice_get after.globals b ≡ slice_get before.globals b
   pub datas : (b : ℕ) → ((a : ℕ) → ¬ R.of DataSegments a b) → slice_get after.datas b ≡ slice_get before.datas b
 
--- A quiet step leaves alone, in any store over which related entries step, what is not related and what is unknown after it.
+-- A quiet step leaves unchanged, in any store over which related entries step, what is not related
+-- and what is unknown after the step.
 abbrev pub QuietStepsPreserveUnrelated : Type 0
 QuietStepsPreserveUnrelated =
     (m : Module) (of named : Space → ℕ → ℕ → Bool) → RelatesAllButImports m of named → (s r : State) (es gs : List Entry) → FramesOf (own_inst m) es → quiet_step m s es ≡ Going r gs →

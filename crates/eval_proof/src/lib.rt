@@ -1,4 +1,5 @@
-//! Laws of the quiet run: it ends, with what its steps lead to; how many constructors it evaluates; its steps are the machine's, whatever stands outside.
+//! Laws of the quiet run: it ends, in the stage to which its steps lead; how many constructors it
+//! evaluates; its steps are steps of the machine, whatever is outside the module.
 #![tactic(auto)]
 
 ghost use Rattle.eval_proof.specs.Alone.{QuietStepsPreserveUnrelated};
@@ -11,31 +12,37 @@ ghost use Rattle.eval_proof.specs.Laws.{CountedAreQuiet, EndsAreReached, Evaluat
 use index_remap::steps_agree_off_unknown_places;
 use wasm_meaning::steps_write_only_touched_places;
 
-/// A quiet run ends after as many steps as it may take, with what its steps lead to and nothing else.
+/// States that a quiet run ends within the steps that `run_end` makes (`ends`), in the stage to
+/// which its steps lead (`reached`) and in no other (`determined`).
 pub fn quiet_runs_end()
     ensures ends { RunsEnd }
     ensures reached { EndsAreReached }
     ensures determined { QuietEndsAreUnique }
 {}
 
-/// The number of constructors that are evaluated is the greatest length of a quiet prefix of the list, where the instantiation is quiet.
+/// States that the number of evaluated constructors is the length of the longest quiet prefix of
+/// the list, if nothing stops the instantiation and the start.
 pub fn counted_constructors_are_the_longest_quiet_prefix()
     ensures quiet { CountedAreQuiet }
     ensures greatest { QuietAreCounted }
 {}
 
-/// Quiet steps that go on are steps of the machine (WebAssembly Core 2.0, section 4.4) which read no unknown place and name, of what is imported, functions alone.
+/// States that quiet steps that go on are steps of the machine (WebAssembly Core 2.0, section 4.4)
+/// that read no unknown place and name, of imports, only functions (`known`), and the same of whole
+/// calls (`calls`).
 pub fn quiet_steps_are_known()
     ensures known { QuietStepsAreKnown }
     ensures calls { QuietCallsAreKnown }
 {}
 
-/// With a greater budget of turns an evaluation does the same and leaves as many turns more, unless it stops for want of turns.
+/// States that with more turns an evaluation ends in the same way and leaves as many more turns,
+/// unless it stops because turns run out.
 pub fn evaluation_is_monotone_in_the_budget()
     ensures monotone { EvaluationIsMonotoneInTheBudget }
 {}
 
-/// An evaluation ends, quietly exactly where nothing stops it; where something stops the instantiation, no constructor is counted.
+/// States that an evaluation ends, and that it is quiet exactly if nothing stops it; if something
+/// stops the instantiation or the start, no constructor is counted.
 pub fn evaluations_end()
     ensures ends { EvaluationsEnd }
     ensures quiet { QuietWhereNothingStops }
@@ -43,20 +50,25 @@ pub fn evaluations_end()
     ensures none { NoneCountedBefore }
 {}
 
-/// An instantiation that nothing stops is the machine's (WebAssembly Core 2.0, section 4.5.4), over a store in which imports hold nothing.
+/// States that an instantiation that nothing stops is one by the machine (WebAssembly Core 2.0,
+/// section 4.5.4), over a store in which imports hold nothing.
 pub fn quiet_instantiations_are_instantiations()
     ensures instantiations { InstantiationsAreTheMachines }
 {}
 
-/// A quiet step leaves alone, in any store over which the machine makes it too, what is not related to what the module defines, and what is unknown afterwards.
+/// States that a quiet step, in any store over which the machine makes it too, leaves functions,
+/// tables and element segments unchanged, and also what nothing in its own store is related to, and
+/// globals that are unknown afterwards.
 pub fn quiet_steps_preserve_what_is_unrelated()
     ensures preserved { QuietStepsPreserveUnrelated }
 {
     steps_write_only_touched_places();
 }
 
-/// A quiet call leads the same call over any store that is related to its own, where nothing need be known of imported tables, memories and globals, nor of what is
-/// unknown: in as many steps, to a store that is related but for what is still unknown, and in which all else is as it was.
+/// States that a quiet call leads the same call over any related store to an end, if the relation
+/// is one-to-one except for functions. The store there is related except for what is still unknown,
+/// and all else in it is unchanged. Nothing need be known of imported tables, memories and globals,
+/// nor of what is unknown.
 pub fn quiet_calls_simulate()
     ensures simulate { QuietCallsSimulate }
 {

@@ -1,4 +1,5 @@
-//! That in the states of an evaluation the values of globals have their types, and those that refer to functions refer to functions that are there, as laws.
+//! Laws that, in the states of an evaluation, the values of globals have their types and refer to
+//! no functions but those of the module.
 #![tactic(auto)]
 
 ghost use Rattle.eval_references_proof.specs.References.{CallsKeepRefs, CallsKeepTypes, EvaluatedGlobalsAreTyped, EvaluatedRefsAreThere};
@@ -6,7 +7,9 @@ ghost use Rattle.eval_references_proof.specs.References.{CallsKeepRefs, CallsKee
 use index_remap::steps_agree;
 use wasm_meaning::steps_write_only_touched_places;
 
-/// In each state to which an evaluation of a valid module comes (WebAssembly Core 2.0, sections 4.5.4 and 4.5.5), each function to which the value of a global refers is one of the module, imported or defined.
+/// States that, in each state in which an evaluation of a valid module finishes (WebAssembly Core
+/// 2.0, sections 4.5.4 and 4.5.5), each function to which a global refers is one of the module,
+/// imported or defined.
 pub fn evaluated_references_are_there()
     ensures there { EvaluatedRefsAreThere }
 {
@@ -14,7 +17,7 @@ pub fn evaluated_references_are_there()
     steps_write_only_touched_places();
 }
 
-/// In each such state the value of each global has the type of the global.
+/// States that in each such state the value of each global has the type of the global.
 pub fn evaluated_globals_are_typed()
     ensures typed { EvaluatedGlobalsAreTyped }
 {
@@ -22,7 +25,9 @@ pub fn evaluated_globals_are_typed()
     steps_write_only_touched_places();
 }
 
-/// Both stay so in a call that comes to its end: types from any state, and references from one with functions, tables and element segments as the instantiation leaves them.
+/// States that a call that finishes preserves both: types in any state, and references, for a valid
+/// module, in a state with typed globals that has the parts (`HasPartsOf`) of the state that the
+/// instantiation leaves.
 pub fn calls_keep_values_of_globals()
     ensures references { CallsKeepRefs }
     ensures types { CallsKeepTypes }

@@ -1,4 +1,4 @@
--- What a snapshot gives: the module, or why there is none.
+-- What `snapshot` returns: the module, or why there is none.
 use Rattle.std.specs.Prelude.{◌≡◌, List, length, Option, Some, None, Result, Ok, Err}
 use Rattle.wasm_tree_spec.specs.Prelude.{Which, Module}
 use Rattle.wasm_tree.specs.declared.which.Which.TheVariants as which
@@ -9,17 +9,19 @@ use Rattle.eval_snapshot_spec.specs.Snapshot.{snapshot, too_much}
 use Rattle.eval_snapshot.specs.declared.faults.SnapshotFault.{SnapshotFault}
 use Rattle.eval_snapshot.specs.declared.faults.SnapshotFault.TheVariants.{TooMany}
 
+-- The fault if a count is too great, and otherwise the module.
 abbrev pub outcome : Option Which → Module → Result Module SnapshotFault
 outcome (Some which) m = Err (TooMany which)
 outcome None m = Ok m
 
--- what it gives, want of memory left aside
+-- What `snapshot` returns, unless memory runs out.
 abbrev pub snapshot_of : Module → State → (evaluated kept : List Text) → Result Module SnapshotFault
 snapshot_of m s evaluated kept = outcome (too_much m s evaluated kept) (snapshot m s evaluated kept)
 
+-- `snapshot` returns this.
 abbrev pub SnapshotGives : Module → State → (evaluated kept : List Text) → Result Module SnapshotFault → Type 0
 SnapshotGives m s evaluated kept result = snapshot_of m s evaluated kept ≡ result
 
--- the first count above its limit, of types, imports and functions
+-- The first of the counts of types, imports and functions that is above its limit.
 abbrev pub first_counts : Module → Option Which
 first_counts m = or_above (length m.types) which.Types (or_above (length m.imports) which.Imports (or_above (length m.funcs) which.Functions None))

@@ -1,4 +1,4 @@
-// What a memory holds, as active data segments. Bytes that were never written are not read.
+// The contents of a memory as active data segments. Blocks that were never written are not read.
 
 ghost use Rattle.std.specs.Prelude.{◌≡◌, ◌+◌, ◌++◌, ◌<◌, ◌≤◌, ◌^◌, ◌-◌, length, IfOk, OnOk};
 ghost use Rattle.block_pool.specs.Pages.{part, size};
@@ -10,10 +10,11 @@ use std::alloc::Global;
 use wasm_bytes::{Items, NoMemory};
 use wasm_tree::{ConstExpr, DataMode, DataSeg};
 
-// As many zero bytes between two others part them.
+// Two nonzero bytes with only zero bytes between them are in different segments exactly if they are
+// further apart than this.
 const PARTING: u64 = 256;
 
-// The place of the last byte of the segment that begins at a place.
+// Returns the place of the last byte of the segment that begins at `first`.
 fn stretch_end(paged: &Paged, first: u64) -> u64
     requires inside { first < size paged.now }
     requires small { size paged.now ≤ 2 ^ 32 }
@@ -29,7 +30,6 @@ fn stretch_end(paged: &Paged, first: u64) -> u64
     last
 }
 
-// So many bytes from a place on.
 fn bytes_at(alloc: Global, paged: &Paged, first: u64, count: u64) -> Result<Items<u8>, NoMemory>
     requires inside { first + count ≤ size paged.now }
     requires small { size paged.now ≤ 2 ^ 32 }
@@ -42,7 +42,6 @@ fn bytes_at(alloc: Global, paged: &Paged, first: u64, count: u64) -> Result<Item
     Ok(bytes)
 }
 
-// The segment from one place to another.
 #[tactic(auto, unfolding(wasm_num::specs::Operations::signed))]
 fn segment(
     alloc: Global,
@@ -64,7 +63,7 @@ fn segment(
     })
 }
 
-/// Appends what a memory of this index holds, as active segments in ascending order.
+/// Appends the contents of the memory with index `memory`, as active segments in ascending order.
 pub(crate) fn add_contents(
     alloc: Global,
     segments: &mut Items<DataSeg>,

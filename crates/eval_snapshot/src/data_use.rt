@@ -1,11 +1,9 @@
-// Code that names data segments.
-
 ghost use Rattle.std.specs.Prelude.{◌≡◌};
 ghost use Rattle.wasm_tree.specs.DataUse as spec;
 
 use wasm_tree::{Func, Instr};
 
-// Whether the instruction names a data segment, or one inside it does.
+// Returns whether the instruction, or one inside it, names a data segment.
 #[cycle(uses)]
 fn uses_data_in(instr: &Instr) -> bool
     ensures { result ≡ spec.uses_data_in instr.now }
@@ -31,7 +29,7 @@ fn uses_data(body: &[Instr]) -> bool
     false
 }
 
-/// Whether a body has `memory.init` or `data.drop`.
+/// Returns whether a body has `memory.init` or `data.drop`.
 pub(crate) fn any_uses_data(funcs: &[Func]) -> bool
     ensures { result ≡ spec.any_uses_data funcs.now }
 {

@@ -1,4 +1,4 @@
-// The exports that are left.
+// The exports of a snapshot.
 
 ghost use Rattle.std.specs.Prelude.{◌≡◌, ◌≤◌, List, length, map as each, IfOk, OnOk};
 ghost use Rattle.std.specs.List.{list_any, filter_map};
@@ -13,7 +13,7 @@ use std::collections::BTreeMap;
 use wasm_bytes::{Items, NoMemory};
 use wasm_tree::{Export, ExportDesc};
 
-// Whether the export of this name stays for the empty function.
+// Returns whether the export with this name stays and denotes the empty function.
 fn keeps_export(names: &BTreeMap<&str, bool>, name: &str) -> bool
     ensures { (evaluated kept : List Text) → HasEvaluated evaluated kept names.now → result ≡ is_kept evaluated kept name.now }
 {
@@ -23,7 +23,7 @@ fn keeps_export(names: &BTreeMap<&str, bool>, name: &str) -> bool
     }
 }
 
-/// Whether an export stays for the empty function.
+/// Returns whether an export stays and denotes the empty function.
 pub(crate) fn any_kept(exports: &[Export], names: &BTreeMap<&str, bool>) -> bool
     ensures { (evaluated kept : List Text) → HasEvaluated evaluated kept names.now → result ≡ list_any (λ e. is_kept evaluated kept e.name) exports.now }
 {
@@ -35,7 +35,8 @@ pub(crate) fn any_kept(exports: &[Export], names: &BTreeMap<&str, bool>) -> bool
     false
 }
 
-// Lets the export of an evaluated constructor denote the empty function. Whether it stays.
+// Makes the export of an evaluated constructor denote the empty function; returns whether the
+// export stays.
 fn redirect(export: &mut Export, names: &BTreeMap<&str, bool>, empty: u32) -> bool
     ensures redirected { (evaluated kept : List Text) → HasEvaluated evaluated kept names.now → export.new ≡ redirected evaluated empty export.old }
     ensures stays { (evaluated kept : List Text) → HasEvaluated evaluated kept names.now → result ≡ stays evaluated kept export.old }
@@ -49,7 +50,7 @@ fn redirect(export: &mut Export, names: &BTreeMap<&str, bool>, empty: u32) -> bo
     }
 }
 
-// So it is with all of them.
+// Does the same as `redirect` for all exports.
 fn redirect_all(
     alloc: Global,
     exports: &mut Items<Export>,
@@ -69,7 +70,7 @@ fn redirect_all(
     Ok(marks)
 }
 
-/// The exports that are left, where the empty function has this index.
+/// Returns the exports that stay; `empty` is the index of the empty function.
 pub(crate) fn exports_left(
     alloc: Global,
     exports: Items<Export>,

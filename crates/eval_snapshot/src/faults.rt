@@ -1,16 +1,15 @@
-// Why there is no snapshot.
-
 ghost use Rattle.std.specs.Prelude.{◌≡◌};
 ghost use Rattle.eval_snapshot.specs.declared.faults.SnapshotFault.TheVariants.{NoMemory as OutOfMemory};
 
 use wasm_bytes::NoMemory;
 use wasm_tree::Which;
 
-/// Why there is no module in the state that evaluated constructors left.
+/// Why no snapshot was made.
 #[derive(Drop)]
 pub enum SnapshotFault {
-    /// It would have more of something than a module may have.
+    /// The module would have more of something than a module may have.
     TooMany { which: Which },
+    /// Memory ran out.
     NoMemory,
 }
 

@@ -1,4 +1,4 @@
-// The globals and the data segments that are left.
+// The globals and the data segments of a snapshot.
 
 ghost use Rattle.std.specs.Prelude.{◌≡◌, ◌+◌, ◌≤◌, ◌<◌, ◌^◌, length};
 ghost use Rattle.wasm_tree.specs.declared.module.Module.{Module};
@@ -11,7 +11,8 @@ use std::alloc::Global;
 use wasm_bytes::Items;
 use wasm_tree::{DataMode, DataSeg, GlobalDef};
 
-/// Lets each defined global begin with its value, as far as it is known; so many are imported before them.
+/// Makes the value of each defined global its initialiser, if the value is known; `imported`
+/// globals come before the defined ones.
 pub(crate) fn initialise_globals(globals: &mut Items<GlobalDef>, machine: &Machine, imported: u32)
     requires few { imported + length globals.old ≤ 2 ^ 32 }
     ensures { (m : Module) → Fits m machine.now → globals.new ≡ globals_left m (state_in m machine.now) imported globals.old }
@@ -40,7 +41,7 @@ fn empty_segment(alloc: Global, segment: &mut DataSeg, dropped: bool)
     }
 }
 
-/// Empties each segment but those that are passive and not dropped.
+/// Empties all segments, except passive ones that are not dropped.
 pub(crate) fn empty_segments(alloc: Global, segments: &mut Items<DataSeg>, machine: &Machine)
     requires few { length segments.old < 2 ^ 32 }
     ensures { (m : Module) → Fits m machine.now → segments.new ≡ segments_left (state_in m machine.now) 0 segments.old }

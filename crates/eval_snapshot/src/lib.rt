@@ -1,4 +1,5 @@
-//! The snapshot of a module after evaluated constructors, from what is read of the machine that evaluated them.
+//! Makes the snapshot of a module after evaluated constructors, from the machine that evaluated
+//! them.
 #![tactic(auto)]
 
 mod contents;

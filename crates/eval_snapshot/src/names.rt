@@ -1,4 +1,4 @@
-// What becomes of exports, looked up by name.
+// Which exports stay, by name.
 
 ghost use Rattle.std.specs.Prelude.{◌≡◌, IfOk};
 ghost use Rattle.std.specs.BTreeMap.{get_by};
@@ -10,14 +10,14 @@ use std::alloc::Global;
 use std::collections::BTreeMap;
 use wasm_bytes::{Name, NoMemory};
 
-/// What is found under a name.
+/// Returns what is in the map under a name.
 pub(crate) fn found(names: &BTreeMap<&str, bool>, name: &str) -> Option<bool>
     ensures { result ≡ get_by (λ k. slice_cmp nat_cmp name.now k.now) names.now }
 {
     names.get(name).copied()
 }
 
-// These names, to look them up.
+// Returns a map of these names, for look-up.
 fn looked_up<'a>(alloc: Global, names: &'a [Name]) -> Result<BTreeMap<&'a str, bool>, NoMemory>
     ensures { IfOk result (HasNames names.now) }
 {
@@ -28,7 +28,7 @@ fn looked_up<'a>(alloc: Global, names: &'a [Name]) -> Result<BTreeMap<&'a str, b
     Ok(all)
 }
 
-/// For the name of each evaluated constructor whether its export is kept.
+/// Returns, for the name of each evaluated constructor, whether its export is kept.
 pub(crate) fn evaluated_names<'a>(
     alloc: Global,
     evaluated: &'a [Name],

@@ -1,5 +1,3 @@
-// The snapshot of a module.
-
 ghost use Rattle.std.specs.Prelude.{◌≡◌, ◌⊎◌, ◌<◌, ◌^◌, Some, Ok, Err, IfOk, IfErr};
 ghost use Rattle.wasm_tree.specs.Bounds.{IsBounded};
 ghost use Rattle.wasm_valid.specs.Validity.{IsValid};
@@ -25,7 +23,8 @@ use wasm_bytes::{Items, Name};
 use wasm_tree::{Module, Which};
 use wasm_valid::Valid;
 
-// The first count that is above its limit, of types, imports and functions. Behind these a u32 can count the functions.
+// Returns the first of the counts of types, imports and functions that is above its limit. If none
+// is, a u32 can count the functions.
 fn first_counts(module: &Module) -> Option<Which>
     ensures { result ≡ first_counts_of «module».now }
 {
@@ -41,7 +40,7 @@ fn first_counts(module: &Module) -> Option<Which>
     None
 }
 
-// The module with the state that these constructors left, or what there is too much of.
+// Returns the module with the state that these constructors left, or the fault.
 fn declared_tree(
     alloc: Global,
     from: Module,
@@ -63,7 +62,7 @@ fn declared_tree(
     Ok(tree)
 }
 
-// The same, or the module as it is where no constructor was evaluated.
+// Returns the same as `declared_tree`, or the module unchanged if no constructor was evaluated.
 fn tree_after(
     alloc: Global,
     from: Module,
@@ -83,17 +82,25 @@ fn tree_after(
     declared_tree(alloc, from, machine, evaluated, kept)
 }
 
-/// The module that begins in the state which evaluated constructors left, as the machine that evaluated them tells it.
+/// Returns the snapshot of `input`: the module that begins in the state that the `evaluated`
+/// constructors left in `machine`. If no constructor was evaluated, it is `input` unchanged, with
+/// its start.
 ///
-/// Each defined global has its value as a constant; one whose value is unknown keeps its initialiser. What the memory holds that the module defines becomes active
-/// data segments, in which fewer than 256 zero bytes stand in a row. Where a body has `memory.init` or `data.drop`, the old segments come first, each at its place: a
-/// passive one that was not dropped stays, every other becomes passive and empty; elsewhere they are left out. The start is removed, and so is the export of each
-/// evaluated constructor, unless its name is to be kept: then it denotes one function more, the last one, with an empty body and the first type that takes and
-/// gives nothing. Functions that `ref.func` names in a body and that nothing else declares any more are declared last (WebAssembly Core 2.0, sections 2.5 and 3.4.10).
-/// Where no constructor was evaluated it is the module as it is, with its start.
+/// Each defined global is initialised with its value; if the value is unknown, the global keeps its
+/// initialiser. The contents of the memory that the module defines become active data segments, in
+/// which fewer than 256 zero bytes are in a row. If a body has `memory.init` or `data.drop`, the
+/// old segments come first, at their indices: a passive one that was not dropped stays, and every
+/// other becomes passive and empty. If no body does, they are left out. The start is removed. The
+/// export of an evaluated constructor is removed too, unless its name is in `kept`: then it denotes
+/// an additional function, the last one, with an empty body and the first type without parameters
+/// and results. Functions that a `ref.func` in a body names and that nothing else declares any more
+/// are declared by an additional element segment, the last one (WebAssembly Core 2.0, sections 2.5
+/// and 3.4.10).
 ///
-/// `TooMany` comes exactly where a count of this module is above its limit, with the first such count in the order types, imports, functions, tables, memories,
-/// globals, exports, element segments and data segments. `NoMemory` is want of memory, and says nothing of the module. The input is given up in each case.
+/// If memory runs out, the error is `NoMemory`, which says nothing about the snapshot. Otherwise
+/// the error is `TooMany` exactly if a count of the snapshot is above its limit; it has the first
+/// such count in the order types, imports, functions, tables, memories, globals, exports, element
+/// segments, data segments.
 pub fn snapshot(
     alloc: Global,
     input: Valid,
@@ -104,7 +111,8 @@ pub fn snapshot(
     requires fits { Fits input machine.now }
     requires after { IsAfter input evaluated.now (state_in input machine.now) }
     ensures tree { IfOk result (λ valid. SnapshotGives input (state_in input machine.now) evaluated.now kept.now (Ok valid)) }
-    // What an embedder sees of it, in each environment that links the input, is what it sees of the input after these constructors.
+    // In each environment that links the input, an embedder sees of the result what it sees of the
+    // input after these constructors.
     ensures behaves { IfOk result (λ valid. BeginsInRange input → ObservationallyEquivalent input evaluated.now kept.now valid) }
     ensures fault { IfErr result (λ f. (f ≡ OutOfMemory) ⊎ SnapshotGives input (state_in input machine.now) evaluated.now kept.now (Err f)) }
 {

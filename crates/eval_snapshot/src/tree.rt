@@ -1,4 +1,4 @@
-// The module with the state that evaluated constructors left, of which references are yet to be declared.
+// The snapshot of a module, before references are declared.
 
 ghost use Rattle.std.specs.Prelude.{◌≡◌, ◌++◌, ◌<◌, ◌^◌, List, IfOk, OnOk, length, unwrap_or};
 ghost use Rattle.std.specs.List.{filter_map};
@@ -24,7 +24,7 @@ use wasm_bytes::{Items, Name, NoMemory};
 use wasm_tree::{Export, Func, FuncType, Module};
 use wasm_valid::valid_where_items_hold;
 
-// The least type that takes and gives nothing, and 0 where none does.
+// Returns the index of the first type without parameters and results, or 0 if there is none.
 fn empty_type(types: &[FuncType]) -> u32
     requires { length types.now < 2 ^ 32 }
     ensures { result ≡ unwrap_or (first_place takes_and_gives_nothing types.now 0) 0 }
@@ -37,7 +37,7 @@ fn empty_type(types: &[FuncType]) -> u32
     0
 }
 
-// Leaves the old segments where a body names one.
+// Keeps the old segments, emptied as in `empty_segments`, if a body names a data segment.
 fn leave_segments(alloc: Global, tree: &mut Module, machine: &Machine)
     requires fits { Fits tree.old machine.now }
     requires few { length tree.old.datas < 2 ^ 32 }
@@ -50,7 +50,8 @@ fn leave_segments(alloc: Global, tree: &mut Module, machine: &Machine)
     }
 }
 
-// The same, and behind them what the memory holds that the module defines.
+// Does the same as `leave_segments`, and then appends the contents of the memory that the module
+// defines.
 fn put_segments(alloc: Global, tree: &mut Module, machine: &Machine) -> Result<(), NoMemory>
     requires fits { Fits tree.old machine.now }
     requires valid { IsValid tree.old }
@@ -66,7 +67,7 @@ fn put_segments(alloc: Global, tree: &mut Module, machine: &Machine) -> Result<(
     Ok(())
 }
 
-// Adds the empty function where an export stays for it.
+// Adds the empty function if an export stays for it.
 fn add_empty(alloc: Global, tree: &mut Module, names: &BTreeMap<&str, bool>) -> Result<(), NoMemory>
     requires few { length tree.old.types < 2 ^ 32 }
     ensures { (evaluated kept : List Text) → HasEvaluated evaluated kept names.now → OnOk result (tree.new ≡ record tree.old { funcs = tree.old.funcs ++ added_funcs tree.old evaluated kept }) }
@@ -82,7 +83,7 @@ fn add_empty(alloc: Global, tree: &mut Module, names: &BTreeMap<&str, bool>) -> 
     Ok(())
 }
 
-// Leaves the exports that are left, where the empty function has this index.
+// Removes and redirects exports; `empty` is the index of the empty function.
 fn leave_exports(
     alloc: Global,
     exports: &mut Items<Export>,
@@ -96,7 +97,7 @@ fn leave_exports(
     Ok(())
 }
 
-// Puts into a module the state that constructors of these names left.
+// Puts the state that the evaluated constructors left into the module.
 fn put_state(
     alloc: Global,
     tree: &mut Module,
@@ -118,7 +119,7 @@ fn put_state(
     Ok(())
 }
 
-/// The module with the state that these constructors left.
+/// Returns the module with the state that these constructors left, before references are declared.
 pub(crate) fn tree(
     alloc: Global,
     from: Module,

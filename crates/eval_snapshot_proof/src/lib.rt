@@ -1,4 +1,4 @@
-//! That the snapshot of a valid module is valid, as a law.
+//! The law that the snapshot of a valid module is valid.
 #![tactic(auto)]
 
 ghost use Rattle.std.specs.Prelude.{◌≡◌, List, None};
@@ -15,8 +15,10 @@ use module_limits::counts_are_within_where_none_is_over;
 use wasm_tree::operands_pass_layer_by_layer;
 use wasm_valid::valid_where_items_hold;
 
-/// The snapshot of a valid module in a state that suits it is valid (`valid`, WebAssembly Core 2.0, section 3.4). It has at most one memory where the module has
-/// (`single`), and a u32 can count what it has where none of its counts is above its limit (`bounded`).
+/// States that the snapshot of a valid module, in a state that suits it, is valid (`valid`,
+/// WebAssembly Core 2.0, section 3.4) and, if the module is bounded and none of the snapshot's
+/// counts is above its limit, bounded (`bounded`); both require a type for the empty function, if a
+/// constructor was evaluated. It has at most one memory if the module has (`single`).
 pub fn snapshots_are_valid()
     ensures valid { (m : Module) (s : State) (evaluated kept : List Text) → IsValid m → Suits m s → HasEmptyTypeFor m evaluated → IsValid (snapshot m s evaluated kept) }
     ensures single { (m : Module) (s : State) (evaluated kept : List Text) → IsSingle m → IsSingle (snapshot m s evaluated kept) }

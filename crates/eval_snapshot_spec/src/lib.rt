@@ -1,2 +1,3 @@
-//! The module with the state that evaluated constructors leave: definitions alone, in `specs/`, and small modules of which it is computed.
+//! The snapshot of a module: definitions (in `specs/`) of the module with the state that evaluated
+//! constructors leave, and small modules for which it is computed.
 #![tactic(auto)]

@@ -1,4 +1,5 @@
--- The instantiation of a module of whose imports only the functions' types are known (WebAssembly Core 2.0, section 4.5.4), and its start.
+-- The instantiation of a module of whose imports only the types of functions are known, and its
+-- start (WebAssembly Core 2.0, section 4.5.4).
 use Rattle.std.specs.Prelude.{ℕ, ◌+◌, ◌-◌, ◌*◌, List, [], ◌∷◌, ◌++◌, map, length, Bool, true, false, ◌&&◌, ◌||◌, cond, Option, Some, None, slice_get, nat_eq, nat_lt, nat_le, unwrap_or}
 use Rattle.std.specs.List.{filter, filter_map}
 use Rattle.base_lists.specs.Options.{◌>>=◌}
@@ -18,7 +19,7 @@ use Rattle.eval_spec.specs.Quiet.{call_end}
 
 -- ---- allocation (section 4.5.3) ----
 
--- each index is an address
+-- The instance of the module, in which each index is its own address.
 abbrev pub own_inst : Module → Inst
 own_inst m = record {
   types = m.types;
@@ -30,11 +31,12 @@ own_inst m = record {
   datas = numbers 0 (length m.datas);
 }
 
--- an imported function is one of the environment's own, of this type
+-- An imported function, as a function of the environment's own with this type.
 abbrev pub imported_func : Module → Import → Option Func
 imported_func m i = func_of i.desc >>= λ ty. slice_get m.types ty >>= λ t. Some (Own (pair_of i) t)
 
--- imported tables and memories hold nothing, and imported globals a zero or null that is not read
+-- The store of the imports: tables and memories hold nothing, and globals a zero or null that is
+-- not read.
 abbrev pub imported_store : Module → Store
 imported_store m = record {
   funcs = filter_map (imported_func m) m.imports;
@@ -45,7 +47,8 @@ imported_store m = record {
   datas = [];
 }
 
--- the value of a constant expression; a `global.get`, whose value is unknown, has that which replaces it
+-- The value of a constant expression. A `global.get`, whose value is unknown, has the zero or null
+-- that is in the store of the imports.
 abbrev pub value_in : Module → ConstExpr → Option Val
 value_in m expr = const_value (imported_store m).globals (own_inst m) expr
 
@@ -55,12 +58,14 @@ abbrev pub reads_global : ConstExpr → Bool
 reads_global (const.Global x) = true
 reads_global _ = false
 
--- the items of element segments, counted from a segment on, that are a `global.get`
+-- The items of element segments that are a `global.get`, as pairs of segment and item; the segments
+-- are counted from `n` on.
 abbrev pub unknown_items : ℕ → List ElemSeg → List (ℕ × ℕ)
 unknown_items n [] = []
 unknown_items n (e ∷ es) = map (λ k. (n, k)) (places reads_global e.items 0) ++ unknown_items (n + 1) es
 
--- and the defined globals whose initialiser is one
+-- What is unknown at first: the defined globals whose initialiser is a `global.get`, and the items
+-- of element segments that are one.
 abbrev pub unknown_at_first : Module → Unknowns
 unknown_at_first m = record {
   globals = places (λ g. reads_global g.init) m.globals (length (imported_globals m.imports));
@@ -68,28 +73,29 @@ unknown_at_first m = record {
   items = unknown_items 0 m.elems;
 }
 
--- no block of the memory that the module defines
+-- At first no block of the memory that the module defines is written.
 abbrev pub none_written : List Limits → List Bool
 none_written [] = []
 none_written (l ∷ ls) = (blank (65536 * l.min)).written
 
--- (A valid module has a store.)
+-- The state before any segment is copied, which each valid module has.
 abbrev pub state_at_first : Module → (turns : ℕ) → Option State
 state_at_first m turns =
     store_with (value_in m) m (own_inst m) >>= λ defined. Some (record { store = joined_stores (imported_store m) defined; unknown = unknown_at_first m; written = none_written m.mems; turns = turns })
 
 -- ---- active segments (section 4.5.4) ----
 
--- the place to which an offset leads
+-- The place that an offset denotes.
 abbrev pub place_in : Module → ConstExpr → ℕ
 place_in m offset = unwrap_or (value_in m offset >>= num_of W32) 0
 
--- all slots of tables, by table, counted from one on
+-- All slots of tables, as pairs of table and place; the tables are counted from `n` on.
 abbrev pub slots_from : ℕ → List Table → List (ℕ × ℕ)
 slots_from n [] = []
 slots_from n (t ∷ ts) = map (λ k. (n, k)) (numbers 0 (length t.slots)) ++ slots_from (n + 1) ts
 
--- a segment's items were copied into a table: a slot to which one came is unknown where the item is, and any other where it was
+-- Whether a slot is unknown after the items of a segment were copied into a table: a slot with one
+-- of the items is unknown if the item is, and any other slot if it was before.
 abbrev pub is_unknown_slot : Unknowns → (segment table place count : ℕ) → ℕ × ℕ → Bool
 is_unknown_slot u segment table place count x =
     cond (nat_eq x.0 table && (nat_le place x.1 && nat_lt x.1 (place + count))) (is_place_among u.items segment (x.1 - place)) (is_place_among u.slots x.0 x.1)
@@ -97,7 +103,8 @@ is_unknown_slot u segment table place count x =
 abbrev pub copied_slots : State → (segment table place count : ℕ) → Unknowns
 copied_slots s segment table place count = record s.unknown { slots = filter (is_unknown_slot s.unknown segment table place count) (slots_from 0 s.store.tables) }
 
--- an active segment's offset is unknown, or the table or memory to which it is copied
+-- The tests before an active element segment is copied: its offset is unknown or its table is
+-- imported, or the copy traps.
 abbrev pub elem_tests : Module → State → (table : ℕ) → ConstExpr → Filled → List Test
 elem_tests m s table offset filled = test (reads_global offset || is_imported m Tables table) why.Unknown s.turns ∷ test filled.trapped why.Trap s.turns ∷ []
 
@@ -109,9 +116,13 @@ abbrev pub with_elem_mode : Module → State → PlacedSegment ElemSeg → ElemM
 with_elem_mode m s task (elem.Active table offset) = elem_filled m s task table offset (run_elem_with (value_in m) s.store task task.segment.mode)
 with_elem_mode m s task _ = Finished s
 
+-- The stage after an element segment: an active one is copied and dropped, unless something stops
+-- it; any other changes nothing.
 abbrev pub with_elem : Module → State → PlacedSegment ElemSeg → Stage
 with_elem m s task = with_elem_mode m s task task.segment.mode
 
+-- The tests before an active data segment is copied: its offset is unknown or its memory is
+-- imported, the copy traps, or more blocks would be written than may be.
 abbrev pub data_tests : Module → State → (memory : ℕ) → ConstExpr → Filled → Outcome Touched → List Test
 data_tests m s memory offset filled touched =
     test (reads_global offset || is_imported m Memories memory) why.Unknown s.turns ∷ test filled.trapped why.Trap s.turns ∷ test (writes_too_many s.written touched) why.Memory s.turns ∷ []
@@ -124,17 +135,20 @@ with_data_mode m s task (data'.Active memory offset) =
     data_filled m s memory offset (run_data_with (value_in m) s.store task task.segment.mode) (Gives (Bytes memory (place_in m offset) (length task.segment.bytes)))
 with_data_mode m s task data'.Passive = Finished s
 
+-- The stage after a data segment: an active one is copied and dropped, unless something stops it; a
+-- passive one changes nothing.
 abbrev pub with_data : Module → State → PlacedSegment DataSeg → Stage
 with_data m s task = with_data_mode m s task task.segment.mode
 
--- one after the other, until something stops one
+-- Applies `f` to the elements in order, until something stops one.
 abbrev pub in_order : {A : Type 0} → (State → A → Stage) → Stage → List A → Stage
 in_order f (Finished s) (x ∷ xs) = in_order f (f s x) xs
 in_order f t _ = t
 
 -- ---- instantiation ----
 
--- all active element segments, then all active data segments; they cost no turns
+-- The stage after all active element segments, and then all active data segments, are copied; they
+-- take no turns.
 abbrev pub with_segments : Module → State → Stage
 with_segments m s = in_order (with_data m) (in_order (with_elem m) (Finished s) (segments_in 0 (own_inst m) (own_inst m).elems m.elems)) (segments_in 0 (own_inst m) (own_inst m).datas m.datas)
 
@@ -142,7 +156,8 @@ abbrev pub filled_from : Module → (turns : ℕ) → Option State → Stage
 filled_from m turns (Some s) = with_segments m s
 filled_from m turns None = Stopped why.Trap turns
 
--- a module with several memories stops before all else
+-- The stage after the instantiation without the start. A module with several memories is stopped at
+-- once.
 abbrev pub instantiated : Module → (turns : ℕ) → Stage
 instantiated m turns = cond (nat_lt 1 (length (memories_of m))) (Stopped why.Memory turns) (filled_from m turns (state_at_first m turns))
 
@@ -150,6 +165,6 @@ abbrev pub after_start : Module → Stage → Option ℕ → Stage
 after_start m (Finished s) (Some func) = call_end m s func
 after_start m t _ = t
 
--- the instantiation with the start
+-- The stage after the instantiation and the start.
 abbrev pub booted : Module → (turns : ℕ) → Stage
 booted m turns = after_start m (instantiated m turns) m.start

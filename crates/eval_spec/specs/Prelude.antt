@@ -1,4 +1,4 @@
--- Names of evaluation, passed on from one place. Declares nothing.
+-- This module re-exports names of evaluation and declares nothing.
 pub use Rattle.eval_spec.specs.Evaluation.{called_in_order, calls_finished, done_count, evaluated, evaluated_within, state_at_end, stopped_by}
 pub use Rattle.eval_spec.specs.Instantiation.{after_start, booted, copied_slots, data_tests, elem_tests, filled_from, imported_func, imported_store, in_order, instantiated, none_written, own_inst, place_in, reads_global, slots_from, state_at_first, unknown_at_first, unknown_items, value_in, with_data, with_data_mode, with_elem, with_elem_mode, with_segments}
 pub use Rattle.eval_spec.specs.Quiet.{ComesTo, after_steps, call_end, came_to, here, host_call, host_opened, host_opened_if_there, on, quiet_step, run_end, spent, spent_at, weight}

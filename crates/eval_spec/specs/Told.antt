@@ -1,4 +1,5 @@
--- What is told of a state: the value of a global, a byte and the size of the memory, and whether a segment is dropped.
+-- What can be read of a state: the value of a global, the bytes of the memory, and whether a data
+-- segment is dropped.
 use Rattle.std.specs.Prelude.{ℕ, List, [], length, Bool, false, cond, ◌||◌, Option, Some, None, slice_get, unwrap_or}
 use Rattle.base_lists.specs.Options.{◌>>=◌}
 use Rattle.wasm_tree_spec.specs.Prelude.{Globals, ConstExpr, Module, imported_memories}
@@ -10,7 +11,8 @@ use Rattle.index_remap.specs.Prelude.{is_among}
 use Rattle.eval_spec.specs.State.{State}
 use Rattle.eval_spec.specs.Stops.{is_imported}
 
--- the constant expression of a value (section 3.3.10). A number of the embedder's own has none; no value that comes from an import is read, so that an evaluation comes to no such number.
+-- The constant expression of a value (section 3.3.10). A non-null external reference has none, but
+-- an evaluation has no such reference, because it reads no value from an import.
 abbrev pub constant_ref : RefVal → Option ConstExpr
 constant_ref (FuncRef (Some func)) = Some (const.Func func)
 constant_ref (FuncRef None) = Some (const.Null reft.Func)
@@ -25,15 +27,15 @@ constant (Ref r) = constant_ref r
 abbrev pub is_unknown_global : Module → State → ℕ → Bool
 is_unknown_global m s global = is_imported m Globals global || is_among s.unknown.globals global
 
--- the value of a global, and none where it is unknown
+-- The value of a global; `None` if it is unknown or there is no such global.
 abbrev pub value_of_global : Module → State → ℕ → Option ConstExpr
 value_of_global m s global = cond (is_unknown_global m s global) None (slice_get s.store.globals global >>= λ g. constant g.value)
 
--- the memory that the module defines, if it defines one; it comes after those that are imported
+-- The memory that the module defines, if it defines one; it comes after the imported ones.
 abbrev pub defined_memory : Module → State → Option Memory
 defined_memory m s = slice_get s.store.mems (length (imported_memories m.imports))
 
--- its bytes; their number is its size
+-- The bytes of that memory; their number is its size.
 abbrev pub memory_bytes : Module → State → List ℕ
 memory_bytes m s = unwrap_or (defined_memory m s >>= λ memory. Some memory.bytes) []
 

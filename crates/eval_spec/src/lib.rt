@@ -1,4 +1,5 @@
-//! What evaluating the constructors of a module comes to: definitions alone, in `specs/`, of what stops a run and when, over the machine of wasm_meaning.
+//! The evaluation of a module's constructors, as definitions over the machine of wasm_meaning (in
+//! `specs/`): its steps, what stops it, and the state in which it ends.
 #![tactic(auto)]
 
 mod limits;

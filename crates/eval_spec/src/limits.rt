@@ -1,8 +1,8 @@
-// How much an evaluation may take.
+// The limits of an evaluation.
 
-/// The turns of one evaluation: the start and all constructors together.
+/// The most turns of one evaluation, for the start and all constructors together.
 pub const MOST_TURNS: u32 = 50_000_000;
-/// The frames and labels that are open at once.
+/// The most frames and labels that may be open at once.
 pub const MOST_DEPTH: u32 = 1_000;
-/// The distinct blocks of 4,096 bytes of the memory that are written.
+/// The most distinct blocks of 4,096 bytes of the memory that may be written.
 pub const MOST_BLOCKS: u32 = 16_384;

@@ -1,25 +1,26 @@
-// Why an evaluation stops.
-
 /// Why the evaluation of a module's instantiation, start or constructor stops.
 #[derive(Clone, Copy, Debug, PartialEq, Eq)]
 pub enum Stop {
-    /// An imported function is called, directly or through a table; through a table also where the types differ.
+    /// An imported function is called, directly or, even if its type is not the expected one,
+    /// through a table.
     Import,
-    /// `memory.grow`.
+    /// The next instruction is `memory.grow`.
     Grow,
-    /// `table.set`, `table.grow`, `table.fill`, `table.copy`, `table.init` or `elem.drop`.
+    /// The next instruction is `table.set`, `table.grow`, `table.fill`, `table.copy`, `table.init`
+    /// or `elem.drop`.
     TableWrite,
-    /// An imported global, table or memory is used; a global or a slot of which nothing is known is read or called; an active segment has such an offset, or goes to an
-    /// imported table or memory.
+    /// An imported global, table or memory is used, or an unknown global or slot is read (or the
+    /// slot is called); or an active segment has an unknown offset or goes to an imported table or
+    /// memory.
     Unknown,
-    /// A trap of WebAssembly Core 2.0, section 4.4 or 4.5.4, or a step to which no rule applies.
+    /// A trap (WebAssembly Core 2.0, section 4.4 or 4.5.4), or a step to which no rule applies.
     Trap,
     /// The constructor has a parameter or a result.
     Signature,
-    /// The turns that are left do not suffice.
+    /// Too few turns are left.
     Steps,
-    /// One more frame or label would be opened than there may be.
+    /// One more frame or label would be open than may be.
     Depth,
-    /// The module has several memories, or one more block would be written than there may be.
+    /// The module has several memories, or one more block would be written than may be.
     Memory,
 }

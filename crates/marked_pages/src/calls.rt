@@ -6,22 +6,22 @@ use block_pool::{Full, Paged, Pool};
 use std::alloc::Global;
 use wasm_bytes::NoMemory;
 
-/// The bytes of the memory: 64 MiB.
+/// The size of the memory: 64 MiB.
 pub(crate) const SIZE: u64 = 67_108_864;
 
-/// The blocks that may be written: all.
+/// The most blocks that may be written: all.
 pub(crate) const MOST: u32 = 16_384;
 
 /// A call that is repeated.
 #[derive(Clone, Copy)]
 pub(crate) enum Call {
-    /// None: the loop alone.
+    /// No call, to measure the loop alone.
     Nothing,
-    /// A load of eight bytes, in one of eight blocks, which were written.
+    /// A load of eight bytes from one of eight blocks that were written.
     Load,
-    /// A store of eight bytes, in one of eight blocks.
+    /// A store of eight bytes to one of eight blocks.
     Store,
-    /// A store of eight bytes, each time in the next block.
+    /// A store of eight bytes, each time to the next block.
     StoreOn,
     /// A fill of 65,536 bytes.
     Fill,
@@ -31,13 +31,13 @@ pub(crate) enum Call {
     Copy,
     /// A copy of 16 bytes.
     CopySmall,
-    /// A search of the whole memory, which was never written.
+    /// A search for a nonzero byte in the whole memory, which was never written.
     NextNonzero,
-    /// A store in each of so many blocks, a mark, and such stores again.
+    /// `COUNT` stores, each to the next block, a mark, and the same stores again.
     Mark,
-    /// The same, and then all is taken back.
+    /// The same, and then a rollback.
     Rollback,
-    /// The same, and then all is kept.
+    /// The same, and then a commit.
     Commit,
 }
 
@@ -79,7 +79,7 @@ fn memory(alloc: Global, bytes: u64, most: u32) -> Result<Paged, NoMemory>
     Paged::new(alloc, pool, bytes, most)
 }
 
-// Each call stands in a function that is called, as it would be in a large program.
+// Loads, stores, fills and copies are in functions that are not inlined, as in a large program.
 #[inline(never)]
 fn load(memory: &Paged, turn: u64) -> u64
     requires { size memory.now ≡ SIZE }
@@ -155,7 +155,8 @@ fn repeat(memory: &mut Paged, call: Call, count: u64) -> Result<u64, Full>
     Ok(told)
 }
 
-// What the calls gave, in one number. None for want of memory or room.
+// Makes the calls and returns their combined results or, after a mark, how many blocks are held.
+// Returns `None` if memory or room runs out.
 pub(crate) fn answer(alloc: Global, call: Call, count: u64) -> Option<u64> {
     let mut memory = memory(alloc, SIZE, MOST).ok()?;
     if matches!(call, Call::Load) {

@@ -1,4 +1,5 @@
-//! Repeats a call of a memory of marked pages, so that its machine instructions can be counted: `marked_pages CALL COUNT`.
+//! `marked_pages CALL COUNT` repeats a call of a block_pool memory, so that its machine
+//! instructions can be counted.
 #![tactic(auto)]
 
 mod calls;
@@ -8,7 +9,6 @@ use std::alloc::Global;
 use std::process::ExitCode;
 use std::{env, io};
 
-// The words after the program's name.
 fn words_of(rt: &HostRuntime, alloc: Global) -> io::Result<Vec<String>> {
     let mut words = Vec::new(alloc);
     for word in env::args(rt)?.skip(1) {
@@ -17,7 +17,6 @@ fn words_of(rt: &HostRuntime, alloc: Global) -> io::Result<Vec<String>> {
     Ok(words)
 }
 
-// What two words ask for.
 fn asked(words: &[String]) -> Option<(Call, u64)> {
     match words {
         [call, count] => Some((

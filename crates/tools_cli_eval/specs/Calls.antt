@@ -6,7 +6,9 @@ use Rattle.eval_machine.specs.declared.kept.Kept.{Kept}
 use Rattle.eval_machine.specs.Prelude.{state_in}
 use Rattle.tools_cli_eval.specs.declared.running.Calls.{Calls}
 
--- They came so far, and the machine has the state that the last call left which came to its end; the turns of one that was stopped are spent.
+-- `calls` reports how many of these functions were evaluated and what stopped the next one. The
+-- machine has the state that the evaluated ones left, except for the turns that remain: the call
+-- that was stopped has spent some too.
 pub record HaveEnded (m : Module) (funcs : List ℕ) (calls : Calls) (k : Kept) : Type 0 where
   pub few : calls.count ≤ length funcs
   pub count : calls.count ≡ done_count m funcs

@@ -1,4 +1,5 @@
--- What the evaluation of listed constructors comes to: a module, how many were evaluated and what ended it; or why there is no module.
+-- The result of evaluating listed constructors: a module, how many constructors were evaluated and
+-- what ended the evaluation; or why there is no module.
 use Rattle.std.specs.Prelude.{◌≡◌, ◌≤◌, List, length, [], Option, Some, None, option_map}
 use Rattle.std.specs.Option.{option_or}
 use Rattle.wasm_tree_spec.specs.Prelude.{Module}
@@ -13,19 +14,23 @@ use Rattle.tools_cli_eval.specs.declared.evaluation.EvalFault.{EvalFault}
 use Rattle.tools_cli_eval.specs.declared.evaluation.EvalFault.TheVariants.{NoSuchExport, TooMany}
 use Rattle.tools_cli_eval.specs.declared.evaluation.Evaluation.{Evaluation}
 
--- by what stops the instantiation with the start, or else the calls
+-- The ending, from what stopped the instantiation with the start, or else the calls.
 abbrev pub ended : (instantiation calls : Option Stop) → Ending
 ended (Some stop) calls = Instantiation stop
 ended None (Some stop) = Constructor stop
 ended None None = Complete
 
+-- The ending of the evaluation of the constructors with these names.
 abbrev pub ending_of : Module → List Text → Ending
 ending_of m names = ended (stopped_by m []) (stopped_by m (funcs_named m names))
 
--- The first listed name that is no exported function's; or else the first count of the module that is too great.
+-- The first listed name under which no function is exported; or else the first count of the module
+-- after the evaluation that is above its limit.
 abbrev pub fault_of : Module → (names kept : List Text) → Option EvalFault
 fault_of m names kept = option_or (option_map NoSuchExport (first_missing m names)) (option_map TooMany (over_limit (evaluated_tree m names kept)))
 
+-- `e` is the evaluation of the listed constructors of `m`, of which those in `kept` keep their
+-- exports.
 pub record IsEvaluation (m : Module) (names kept : List Text) (e : Evaluation) : Type 0 where
   pub none : fault_of m names kept ≡ None
   pub tree : e.«module» ≡ evaluated_tree m names kept

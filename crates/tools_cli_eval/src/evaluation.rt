@@ -23,12 +23,12 @@ use wasm_bytes::{Items, Name, NoMemory};
 use wasm_tree::Which;
 use wasm_valid::Valid;
 
-/// Why there is no module after an evaluation.
+/// Why an evaluation gives no module.
 #[derive(Drop)]
 pub enum EvalFault {
-    /// No function is exported under a listed name.
+    /// No function is exported under this listed name.
     NoSuchExport { name: Name },
-    /// The module would have more of something than a module may have.
+    /// A count of the module after the evaluation is above its limit.
     TooMany { which: Which },
     NoMemory,
 }
@@ -41,28 +41,28 @@ impl From<NoMemory> for EvalFault {
     }
 }
 
-/// What an evaluation ended with.
+/// How an evaluation ended.
 #[derive(Clone, Copy, Debug, PartialEq, Eq)]
 pub enum Ending {
     /// Each listed constructor was evaluated.
     Complete,
-    /// This stopped the instantiation or the start, and no constructor was called.
+    /// The instantiation or the start was stopped, and no constructor was called.
     Instantiation(Stop),
-    /// This stopped the first constructor that was not evaluated.
+    /// The first constructor that was not evaluated was stopped.
     Constructor(Stop),
 }
 
-/// What an evaluation came to.
+/// The result of an evaluation.
 #[derive(Drop)]
 pub struct Evaluation {
-    /// The module after the constructors that were evaluated; where none was, it is the module as it was.
+    /// The module after the evaluated constructors. If none was evaluated, it is the module itself.
     pub module: Valid,
     /// How many of the listed constructors were evaluated.
     pub count: usize,
     pub ending: Ending,
 }
 
-// The ending of calls of which one is stopped so, or none.
+// The ending if the instantiation was not stopped.
 fn ending_of_calls(stopped: Option<Stop>) -> Ending
     ensures { result ≡ ended None stopped }
 {
@@ -72,7 +72,7 @@ fn ending_of_calls(stopped: Option<Stop>) -> Ending
     }
 }
 
-// The module as it is, where something stopped the instantiation or the start.
+// The result if the instantiation or the start was stopped: the module itself.
 fn unevaluated(input: Valid, stop: Stop) -> Result<Evaluation, EvalFault>
     requires { StopsBoot input stop }
     ensures evaluated { (names kept : List Text) → first_missing input names ≡ None → IfOk result (IsEvaluation input names kept) }
@@ -88,7 +88,7 @@ fn unevaluated(input: Valid, stop: Stop) -> Result<Evaluation, EvalFault>
     })
 }
 
-// The module in the state that the machine has after so many constructors.
+// The module in the machine's state after the first `count` constructors.
 fn module_after(
     alloc: Global,
     input: Valid,
@@ -112,7 +112,8 @@ fn module_after(
     }
 }
 
-// Evaluates constructors, which are these functions, on a machine on which the module is instantiated.
+// Evaluates constructors on a machine that has instantiated the module; `funcs` are their
+// functions.
 fn evaluate_on(
     alloc: Global,
     machine: &mut Machine,
@@ -137,7 +138,7 @@ fn evaluate_on(
     })
 }
 
-// Evaluates constructors, which are these functions.
+// Evaluates constructors; `funcs` are their functions.
 fn evaluate_funcs(
     alloc: Global,
     input: Valid,
@@ -160,12 +161,16 @@ fn evaluate_funcs(
     }
 }
 
-/// Evaluates the constructors that exports of a module name: after the instantiation and the start they are called in order, until something stops one
-/// (WebAssembly Core 2.0, sections 4.5.4 and 4.5.5; what does is said by `Stop`). The module then begins in the state which those left that were evaluated: see `snapshot`.
-/// The names are distinct or not; a name to keep that is none of an evaluated constructor has no effect. The input is given up on a fault.
+/// Evaluates constructors, the exported functions of a module that `ctors` names. After the
+/// instantiation and the start they are called in order until something stops one, as `Stop`
+/// describes (WebAssembly Core 2.0, sections 4.5.4 and 4.5.5). The module that is returned begins
+/// in the state that the evaluated constructors left (`snapshot`). The names in `ctors` need not be
+/// distinct. A name in `kept` that is not that of an evaluated constructor has no effect. The input
+/// is consumed on a fault too.
 ///
-/// `NoSuchExport` comes exactly where a listed name is that of no exported function, with the first. Else `TooMany` comes exactly where a count of the module after the
-/// evaluation is above its limit. `NoMemory` is want of memory, and says nothing of the module.
+/// Unless memory runs out (`NoMemory`), the fault is `NoSuchExport` exactly if a name in `ctors` is
+/// not that of an exported function, with the first such name, and otherwise `TooMany` exactly if a
+/// count of the module after the evaluation is above its limit.
 pub fn evaluate(
     alloc: Global,
     input: Valid,

@@ -1,4 +1,5 @@
-//! The evaluation of constructors that exports of a module name, and the module after it: over the machine of eval_machine and the snapshot of eval_snapshot.
+//! The evaluation of constructors that are named by their exports, and the module after it. It uses
+//! the machine of eval_machine and the snapshot of eval_snapshot.
 #![tactic(auto)]
 
 mod evaluation;

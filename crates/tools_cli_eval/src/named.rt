@@ -1,5 +1,3 @@
-// The functions under listed names.
-
 ghost use Rattle.std.specs.Prelude.{◌≡◌, ◌≤◌, ◌⊎◌, List, None, Some, IfErr, IfOk, IsOk, length, take};
 ghost use Rattle.wasm_tree.specs.declared.module.Export.{Export as Exported};
 ghost use Rattle.wasm_valid.specs.Validity.{IsValid};
@@ -15,7 +13,8 @@ use wasm_bytes::{Items, Name, NoMemory};
 use wasm_tree::{Export, ExportDesc, Module};
 use wasm_valid::valid_where_items_hold;
 
-// What each name is exported as, from the last export to the first, so that the first that bears a name counts.
+// The export of each name. The loop goes from the last export to the first, so that the first with
+// a name counts.
 fn exports_named<'a>(
     alloc: Global,
     exports: &'a [Export],
@@ -40,7 +39,8 @@ fn func_named(table: &BTreeMap<&str, ExportDesc>, name: &str) -> Option<u32>
     }
 }
 
-/// The functions that are exported under these names, in order; or the first name under which none is.
+/// Returns the functions that are exported under these names, in order. The fault names the first
+/// under which none is; memory may run out instead.
 pub(crate) fn funcs_named(
     alloc: Global,
     module: &Module,
@@ -66,7 +66,7 @@ pub(crate) fn funcs_named(
     Ok(funcs)
 }
 
-/// The first names, as many as are asked for.
+/// Returns the first `count` names.
 pub(crate) fn first_names(
     alloc: Global,
     names: &[Name],

@@ -1,5 +1,3 @@
-// Calls of constructors, one after the other.
-
 ghost use Rattle.std.specs.Prelude.{IfOk};
 ghost use Rattle.eval_machine.specs.Calls.{IsReady};
 ghost use Rattle.eval_machine.specs.Kept.{Rests};
@@ -12,12 +10,12 @@ use eval_spec::Stop;
 use wasm_bytes::NoMemory;
 use wasm_valid::Valid;
 
-/// How far calls came.
+/// How far a sequence of calls came.
 #[derive(Clone, Copy, Debug, PartialEq, Eq)]
 pub struct Calls {
-    /// How many came to their ends.
+    /// How many calls came to their ends.
     pub count: usize,
-    /// What stopped the next one.
+    /// What stopped the next call, if something did.
     pub stopped: Option<Stop>,
 }
 
