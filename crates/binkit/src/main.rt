@@ -7,7 +7,7 @@ use std::{env, io};
 use tool_io::{HostFiles, HostSink};
 use tools_cli::{Status, run};
 
-// The words after the program's name.
+// The arguments after the program's name.
 fn words_of(rt: &HostRuntime, alloc: Global) -> io::Result<Vec<String>> {
     let mut words = Vec::new(alloc);
     for word in env::args(rt)?.skip(1) {

@@ -1,5 +1,5 @@
-// The real files and standard streams. They tell no contents, and one count serves every name and both kinds: it rises at
-// each error.
+// The real files and standard streams. Contracts do not know their contents. Files have one count
+// of faults, for all names and for reads and writes together; each error raises it.
 ghost use Rattle.std.specs.Prelude.{◌≡◌, ◌≤◌, None, IsErr};
 ghost use Rattle.tool_io.specs.FilesAndSinks.{NoneFell, Rose};
 
@@ -11,7 +11,7 @@ use std::rt::Files as FileAccess;
 
 const PIECE: usize = 4096;
 
-/// Files of the system, reached through the runtime's file access. They tell no contents.
+/// Files of the system, through the runtime's file access. Their contents are not known.
 #[derive(Drop)]
 pub struct HostFiles<R> {
     access: R,
@@ -19,7 +19,7 @@ pub struct HostFiles<R> {
 }
 
 impl<R: FileAccess> HostFiles<R> {
-    /// Files over what the runtime hands to `main`, with no fault so far.
+    /// Returns files over what the runtime hands to `main`, with no fault so far.
     pub fn new(access: R) -> HostFiles<R>
         ensures { result.faults ≡ 0 }
     {
@@ -27,7 +27,7 @@ impl<R: FileAccess> HostFiles<R> {
     }
 }
 
-// What an error of the system comes to.
+// The fault for an error of the system.
 fn fault_of(error: &io::Error) -> IoFault {
     match error.kind() {
         ErrorKind::OutOfMemory => IoFault::NoMemory,
@@ -35,7 +35,7 @@ fn fault_of(error: &io::Error) -> IoFault {
     }
 }
 
-// The first `most` bytes of a file. The loop ends once they came or the file ended.
+// Reads the first `most` bytes of a file. The loop ends when these are read or the file ends.
 fn read_first<R: FileAccess>(
     access: &R,
     alloc: Global,
@@ -64,7 +64,7 @@ fn read_first<R: FileAccess>(
     Ok(bytes)
 }
 
-// Writes all of the bytes. A writer that takes nothing of what is left has failed.
+// Writes all of the bytes. It is a failure if the writer accepts none of those that are left.
 fn write_all<W: Write>(writer: &mut W, bytes: &[u8]) -> Result<(), IoFault> {
     let mut done = 0;
     'pieces: while done < bytes.len() {
@@ -77,8 +77,8 @@ fn write_all<W: Write>(writer: &mut W, bytes: &[u8]) -> Result<(), IoFault> {
     Ok(())
 }
 
-// Puts all of the bytes into a new file of this name. Once the file is there, what it held is gone, so every error is a
-// failure then.
+// Writes all of the bytes to a new file of this name. Once the file is created, its old contents
+// are gone, so each later error is a failure.
 fn write_file<R: FileAccess>(access: &R, name: &str, bytes: &[u8]) -> Result<(), IoFault> {
     match fs::create(access, name) {
         Ok(mut file) => match write_all(&mut file, bytes) {
@@ -99,7 +99,7 @@ impl<R: FileAccess> Files for HostFiles<R> {
     fn read(&mut self, alloc: Global, name: &str, most: usize) -> Result<Vec<u8>, IoFault>
         ensures reads { NoneFell (λ _. self.old.faults) (λ _. self.new.faults) }
         ensures writes { NoneFell (λ _. self.old.faults) (λ _. self.new.faults) }
-        // also where memory ran out
+        // also if memory ran out
         ensures cause { IsErr result → Rose self.old.faults self.new.faults }
     {
         let read = read_first(&self.access, alloc, name, most);
@@ -112,7 +112,7 @@ impl<R: FileAccess> Files for HostFiles<R> {
     fn write(&mut self, name: &str, bytes: &[u8]) -> Result<(), IoFault>
         ensures reads { NoneFell (λ _. self.old.faults) (λ _. self.new.faults) }
         ensures writes { NoneFell (λ _. self.old.faults) (λ _. self.new.faults) }
-        // also where memory ran out
+        // also if memory ran out
         ensures cause { IsErr result → Rose self.old.faults self.new.faults }
     {
         let written = write_file(&self.access, name, bytes);
@@ -123,7 +123,7 @@ impl<R: FileAccess> Files for HostFiles<R> {
     }
 }
 
-/// A standard stream, or any other writer of the system. It tells no bytes.
+/// A standard stream, or any other writer of the system. Its bytes are not known.
 #[derive(Drop)]
 pub struct HostSink<W> {
     stream: W,
@@ -131,7 +131,7 @@ pub struct HostSink<W> {
 }
 
 impl<W: Write> HostSink<W> {
-    /// A sink over a stream that the runtime hands to `main`, with no fault so far.
+    /// Returns a sink over a stream that the runtime hands to `main`, with no fault so far.
     pub fn new(stream: W) -> HostSink<W>
         ensures { result.faults ≡ 0 }
     {
@@ -146,7 +146,7 @@ impl<W: Write> Sink for HostSink<W> {
 
     fn put(&mut self, piece: &[u8]) -> Result<(), IoFault>
         ensures later { self.old.faults ≤ self.new.faults }
-        // also where memory ran out
+        // also if memory ran out
         ensures cause { IsErr result → Rose self.old.faults self.new.faults }
     {
         let put = write_all(&mut self.stream, piece);

@@ -1,4 +1,4 @@
-//! The outside of a program: files and sinks as traits, in memory and of the host.
+//! Files and sinks of a program: traits, with implementations in memory and over the host.
 #![tactic(auto)]
 
 mod host;

@@ -10,9 +10,9 @@ use std::collections::VecDeque;
 use std::marker::Model;
 use wasm_bytes::NoMemory;
 
-/// Files in memory, which tell their contents. Calls of `read` and `write` are numbered together,
-/// from 1, and fail exactly at chosen numbers; `read` fails also at a missing name. One count of
-/// faults serves every name, and reads and writes together.
+/// Files in memory, whose contents are known. Calls of `read` and `write` are numbered together,
+/// from 1. A call with a chosen number does not succeed; any other call is `Failed` only if it is a
+/// read of a missing name. One count of faults serves every name, and reads and writes together.
 #[derive(Drop)]
 pub struct MemFiles {
     alloc: Global,
@@ -41,7 +41,7 @@ fn newest<'a>(log: &'a VecDeque<(String, Vec<u8>)>, name: &str) -> Option<&'a (S
 }
 
 impl MemFiles {
-    /// No files, no calls, and none that is to fail.
+    /// Returns a map without files, with no calls so far and no chosen numbers.
     pub fn new(alloc: Global) -> MemFiles
         ensures { result ≡ record { contents = empty; calls = 0; faults = 0; failing = [] } }
     {
@@ -54,7 +54,8 @@ impl MemFiles {
         }
     }
 
-    /// Sets the bytes of a name, which counts as no call. `NoMemory` leaves the files as they were.
+    /// Sets the bytes of a name. This does not count as a call. After `NoMemory` the files are
+    /// unchanged.
     pub fn add(&mut self, name: &str, bytes: &[u8]) -> Result<(), NoMemory>
         ensures ok { OnOk result (self.new ≡ record self.old { contents = insert self.old.contents name.now bytes.now }) }
         ensures err { OnErr result (self.new ≡ self.old) }
@@ -71,7 +72,7 @@ impl MemFiles {
         }
     }
 
-    /// Makes the `read` or `write` of this number fail. `NoMemory` leaves the files as they were.
+    /// Makes the `read` or `write` of this number fail. After `NoMemory` the files are unchanged.
     pub fn fail_at(&mut self, call: u64) -> Result<(), NoMemory>
         ensures ok { OnOk result (self.new ≡ record self.old { failing = self.old.failing ++ call ∷ [] }) }
         ensures err { OnErr result (self.new ≡ self.old) }
@@ -82,7 +83,7 @@ impl MemFiles {
         }
     }
 
-    /// The bytes of a name, or none exactly where the name is not there.
+    /// Returns the bytes of a name, or `None` exactly if the name is missing.
     pub fn contents(&self, name: &str) -> Option<&[u8]>
         ensures { option_map (λ b. b.now) result ≡ get self.now.contents name.now }
     {
@@ -92,7 +93,7 @@ impl MemFiles {
         }
     }
 
-    // Counts a call, and says whether it is to fail.
+    // Counts a call, and returns whether it fails.
     fn count(&mut self) -> bool
         ensures counted { self.new ≡ called self.old }
         ensures fails { result ≡ next_fails self.old }
@@ -101,7 +102,6 @@ impl MemFiles {
         self.failing.contains(&self.calls)
     }
 
-    // Counts a fault.
     fn fail(&mut self)
         ensures counted { self.new ≡ record self.old { faults = one_more self.old.faults } }
         ensures later { self.old.faults ≤ self.new.faults }
@@ -123,7 +123,7 @@ impl Files for MemFiles {
         ensures reads { NoneFell (λ _. self.old.faults) (λ _. self.new.faults) }
         ensures writes { NoneFell (λ _. self.old.faults) (λ _. self.new.faults) }
         ensures cause { IsErrOf result IoFault.Failed → Rose self.old.faults self.new.faults }
-        // exactly at the listed numbers and at a missing name
+        // exactly at the chosen numbers and if the name is missing
         ensures fails { IsErrOf result IoFault.Failed ↔ IsTrue (next_fails self.old || is_missing self.old name.now) }
         ensures fault { IsErrOf result IoFault.Failed → self.new ≡ faulted self.old }
         ensures ok { OnOk result (self.new ≡ called self.old) }
@@ -150,7 +150,7 @@ impl Files for MemFiles {
         ensures reads { NoneFell (λ _. self.old.faults) (λ _. self.new.faults) }
         ensures writes { NoneFell (λ _. self.old.faults) (λ _. self.new.faults) }
         ensures cause { IsErrOf result IoFault.Failed → Rose self.old.faults self.new.faults }
-        // exactly at the listed numbers, and with the first half left
+        // only at the chosen numbers, and the first half is written
         ensures fails { IsErrOf result IoFault.Failed → IsTrue (next_fails self.old) }
         ensures half { IsErrOf result IoFault.Failed → self.new ≡ holding (faulted self.old) name.now (first_half bytes.now) }
         ensures succeeds { OnOk result (next_fails self.old ≡ false) }
@@ -170,8 +170,8 @@ impl Files for MemFiles {
     }
 }
 
-/// A sink in memory, which tells its bytes. Its calls of `put` are numbered from 1, and fail exactly
-/// at chosen numbers.
+/// A sink in memory, whose bytes are known. Its calls of `put` are numbered from 1. A call with a
+/// chosen number does not succeed, and no other call is `Failed`.
 #[derive(Drop)]
 pub struct MemSink {
     bytes: Vec<u8>,
@@ -189,7 +189,7 @@ impl Model for MemSink {
 }
 
 impl MemSink {
-    /// No bytes, no calls, and none that is to fail.
+    /// Returns a sink without bytes, with no calls so far and no chosen numbers.
     pub fn new(alloc: Global) -> MemSink
         ensures { result ≡ record { bytes = []; calls = 0; faults = 0; failing = [] } }
     {
@@ -201,7 +201,7 @@ impl MemSink {
         }
     }
 
-    /// Makes the `put` of this number fail. `NoMemory` leaves the sink as it was.
+    /// Makes the `put` of this number fail. After `NoMemory` the sink is unchanged.
     pub fn fail_at(&mut self, call: u64) -> Result<(), NoMemory>
         ensures ok { OnOk result (self.new ≡ record self.old { failing = self.old.failing ++ call ∷ [] }) }
         ensures err { OnErr result (self.new ≡ self.old) }
@@ -212,7 +212,7 @@ impl MemSink {
         }
     }
 
-    /// The bytes so far.
+    /// Returns the bytes so far.
     pub fn text(&self) -> &[u8]
         ensures { result.now ≡ self.now.bytes }
     {
@@ -230,7 +230,7 @@ impl Sink for MemSink {
         ensures prefix { Becomes (Some self.old.bytes) (Some self.new.bytes) (AppendsPrefix piece.now) }
         ensures later { self.old.faults ≤ self.new.faults }
         ensures cause { IsErrOf result IoFault.Failed → Rose self.old.faults self.new.faults }
-        // exactly at the listed numbers, and with the first half appended
+        // only at the chosen numbers, and the first half is appended
         ensures fails { IsErrOf result IoFault.Failed → IsTrue (next_put_fails self.old) }
         ensures half { IsErrOf result IoFault.Failed → self.new ≡ gained_at_fault self.old (first_half piece.now) }
         ensures succeeds { OnOk result (next_put_fails self.old ≡ false) }

@@ -1,32 +1,32 @@
-// Files and sinks, by what they hold, where they tell it, and by how often they have failed.
+// Files and sinks, by what they hold, if that is known, and by how often they have failed.
 ghost use Rattle.std.specs.Prelude.{◌≡◌, ◌≤◌, ℕ, List, ◌++◌, Option, Some, IfOk, IfSome, OnOk, IsErrOf};
 ghost use Rattle.std.specs.FinMap.{insert};
 ghost use Rattle.tool_io.specs.FilesAndSinks.{Contents, Rose, NoneFell, Becomes, first_bytes, IsUnchangedOrCut, AppendsPrefix};
 
 use std::alloc::Global;
 
-/// Why a call of `Files` or `Sink` is refused.
+/// Why a call of `Files` or `Sink` does not succeed.
 #[derive(Clone, Copy, Debug, PartialEq, Eq)]
 pub enum IoFault {
-    /// The file or the stream failed, and its count of faults rose in this call.
+    /// The file or the stream failed, and the call raised its count of faults.
     Failed,
-    /// There was no memory for the call.
+    /// Memory ran out.
     NoMemory,
 }
 
-/// A map from names to bytes, which may tell its contents. For each name it counts the faults of
-/// reading and those of writing; no call lowers a count.
+/// A map from names to bytes, whose contents may be known. For each name it has a count of the
+/// faults of reading and one of writing. No call lowers a count.
 pub trait Files {
-    /// The bytes of each name, where they are told.
+    /// The bytes of each name, if they are known.
     ghost contents: { Self → Option Contents };
 
-    /// How often a read of a name has failed.
+    /// How often reading a name has failed.
     ghost read_faults: { Self → List ℕ → ℕ };
 
-    /// How often a write of a name has failed.
+    /// How often writing a name has failed.
     ghost write_faults: { Self → List ℕ → ℕ };
 
-    /// Gives the first `most` bytes of a file. A missing name fails. No call of it changes a file.
+    /// Returns the first `most` bytes of a file. Fails if the name is missing. It changes no file.
     fn read(&mut self, alloc: Global, name: &str, most: usize) -> Result<Vec<u8>, IoFault>
         ensures stays { contents self.new ≡ contents self.old }
         ensures bytes { IfOk result (λ v. IfSome (contents self.old) (λ files. first_bytes files name.now most ≡ Some v.items)) }
@@ -34,8 +34,8 @@ pub trait Files {
         ensures writes { NoneFell (write_faults self.old) (write_faults self.new) }
         ensures cause { IsErrOf result IoFault.Failed → Rose (read_faults self.old name.now) (read_faults self.new name.now) };
 
-    /// Sets the bytes of a name. After `Failed` the name holds what it held or a prefix of the
-    /// bytes, after `NoMemory` what it held. Other names stay.
+    /// Sets the bytes of a name. After `Failed` the name holds its old contents or a prefix of
+    /// `bytes`, and after `NoMemory` its old contents. Other names are unchanged.
     fn write(&mut self, name: &str, bytes: &[u8]) -> Result<(), IoFault>
         ensures written { OnOk result (Becomes (contents self.old) (contents self.new) (λ old new. new ≡ insert old name.now bytes.now)) }
         ensures failed { IsErrOf result IoFault.Failed → Becomes (contents self.old) (contents self.new) (IsUnchangedOrCut name.now bytes.now) }
@@ -45,15 +45,15 @@ pub trait Files {
         ensures cause { IsErrOf result IoFault.Failed → Rose (write_faults self.old name.now) (write_faults self.new name.now) };
 }
 
-/// Bytes that only grow, which may be told. It counts its faults, and no call lowers the count.
+/// Bytes that only grow, and that may be known. It counts its faults, and no call lowers the count.
 pub trait Sink {
-    /// The bytes so far, where they are told.
+    /// The bytes so far, if they are known.
     ghost bytes: { Self → Option (List ℕ) };
 
-    /// How often a put has failed.
+    /// How often a `put` has failed.
     ghost faults: { Self → ℕ };
 
-    /// Appends a piece. After a refusal a prefix of the piece is appended.
+    /// Appends a piece. After an error a prefix of the piece is appended.
     fn put(&mut self, piece: &[u8]) -> Result<(), IoFault>
         ensures appended { OnOk result (Becomes (bytes self.old) (bytes self.new) (λ old new. new ≡ old ++ piece.now)) }
         ensures prefix { Becomes (bytes self.old) (bytes self.new) (AppendsPrefix piece.now) }

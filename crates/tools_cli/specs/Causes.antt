@@ -1,4 +1,4 @@
--- When each stop of a command comes.
+-- What holds if a command stops, for each reason (`Stop`).
 use Rattle.std.specs.Prelude.{◌≡◌, ◌⊎◌, ℕ, ◌+◌, ◌-◌, ◌≤◌, ltb, false, if◌then◌else◌, List, [], ◌∷◌, length, map, Contains, Option, Some, None, Err, IfSome, string_bytes}
 use Rattle.std.specs.FinMap.{get}
 use Rattle.tool_io.specs.FilesAndSinks.{Contents, Rose, Becomes, AppendsPrefix}
@@ -30,22 +30,25 @@ use Rattle.tools_cli.specs.Stop.{refusal_text}
 use Rattle.tools_cli.specs.declared.stop.Stop.{Stop}
 use Rattle.tools_cli.specs.declared.stop.Stop.TheVariants.{Refused, CannotRead, CannotWrite, CannotPrint, NoMemory}
 
--- The names after a first one, whose turn comes where the first is there and within what may still be read.
+-- The names whose turn comes after a first file: none if that file is missing or longer than
+-- `left`.
 abbrev pub turns_after : ℕ → Option Text → (ℕ → List Text) → List Text
 turns_after left None rest = []
 turns_after left (Some bytes) rest = if ltb left (length bytes) then [] else rest (left - length bytes)
 
--- The names whose turn comes.
+-- The names whose turn comes if `left` bytes may be read: all up to and including the first file
+-- that is missing or too long.
 abbrev pub turns : List Text → Contents → ℕ → List Text
 turns [] files left = []
 turns (name ∷ names) files left = name ∷ turns_after left (get files name) (turns names files)
 
--- Reading the file has failed, and its turn had come.
+-- The file is one of `names`, its count of faults has risen, and, if the contents are known, its
+-- turn had come (`turns`).
 abbrev pub FailsAtItsTurn : Option Contents → (Text → ℕ) → (Text → ℕ) → List Text → ℕ → Text → Type 0
 FailsAtItsTurn held before now names most file =
     Contains names file × Rose (before file) (now file) × IfSome held (λ files. Contains (turns names files most) file)
 
--- Why reading the files of these names in order stops.
+-- What holds if reading the files `names` in order, at most `most` bytes together, stops.
 abbrev pub StopsGathering : Option Contents → (Text → ℕ) → (Text → ℕ) → List Text → ℕ → Stop → Type 0
 StopsGathering held before now names most (Refused refusal) =
     IfSome held (λ files. (name : Text) × (gathered names files most ≡ TooLong name) × (refusal_text refusal ≡ over_limit name InputBytes))
@@ -53,48 +56,49 @@ StopsGathering held before now names most (CannotRead file) = FailsAtItsTurn hel
 StopsGathering held before now names most NoMemory = Unit {0}
 StopsGathering held before now names most _ = ⊥
 
--- How many bytes the inputs have together.
+-- The number of bytes of all these files together.
 abbrev pub total : List Entry → ℕ
 total [] = 0
 total (e ∷ es) = length e.1 + total es
 
--- Why work stops that only refuses: with a text of which this is so, or for want of memory.
+-- The work stops with a refusal whose text satisfies `IsText`, or because memory ran out.
 abbrev pub StopsWith : (Text → Type 0) → Stop → Type 0
 StopsWith IsText (Refused refusal) = IsText (refusal_text refusal)
 StopsWith IsText NoMemory = Unit {0}
 StopsWith IsText _ = ⊥
 
--- Why validating a tree is refused.
+-- The text reports the first invalid item of the module in this file.
 abbrev pub InvalidText : Text → Module → Text → Type 0
 InvalidText file tree text = (item : Invalid) × IsFirstInvalid tree false item × (text ≡ invalid_text file item)
 
--- Why merging these parts is refused.
+-- The text reports why these parts do not link or, if they link, why they cannot be joined.
 abbrev pub MergeFails : MergeTask → List Part → Text → Type 0
 MergeFails merge parts text =
     ((fault : LinkFault) × (link_fault parts (many_of (Merge merge)) ≡ Some fault) × (link_text (source_files merge) fault ≡ Some text))
     ⊎ ((fault : JoinFault) × (link_fault parts (many_of (Merge merge)) ≡ None) × Joins parts merge.mode (Err fault) × (join_text fault ≡ Some text))
 
--- Why a text of this file is no graph.
+-- `says` reports why `text`, the contents of this file, is not a graph file.
 abbrev pub GraphFails : Text → Text → Text → Type 0
 GraphFails file text says = (fault : GraphFault) × (graph_result text ≡ Err fault) × (graph_text file fault ≡ Some says)
 
--- Why sweeping a module by these marks is refused.
+-- `says` reports why sweeping the module by these marks is refused.
 abbrev pub SweepFails : Marks → Module → Text → Type 0
 SweepFails marks tree says = (fault : SweepFault) × Sweeps marks tree (Err fault) × (sweep_text fault ≡ Some says)
 
--- Why there is no plan for a split of this module by these names of its functions.
+-- `says` reports the first fault of the names that the split lists, in a module whose functions
+-- have the names `names`.
 abbrev pub PlanFails : SplitTask → Module → List FuncName → Text → Type 0
 PlanFails split tree names says = (fault : PlanFault) × (words_fault split tree names ≡ Some fault) × (plan_text fault ≡ Some says)
 
--- Why a module is not split so that these functions move.
+-- `says` reports why the module cannot be split so that the functions `moved` move.
 abbrev pub SplitFails : SplitTask → Module → (moved : List ℕ) → Text → Type 0
 SplitFails split tree moved says = (fault : SplitFault) × (split_fault split.names tree moved ≡ Some fault) × (split_text split.file fault ≡ Some says)
 
--- Why the constructors of this module are not evaluated.
+-- `says` reports why the constructors of this module are not evaluated.
 abbrev pub EvalFails : CtorEvalTask → Module → Text → Type 0
 EvalFails eval tree says = (fault : EvalFault) × (fault_of tree eval.ctors eval.kept ≡ Some fault) × (eval_text fault ≡ Some says)
 
--- No list of the tree has more entries than its limit.
+-- None of these lists of the module has more entries than its limit. (Exports are not among them.)
 pub record IsWithinLimits (m : Module) : Type 0 where
   pub types : length m.types ≤ limit Types
   pub imports : length m.imports ≤ limit Imports
@@ -105,54 +109,55 @@ pub record IsWithinLimits (m : Module) : Type 0 where
   pub elems : length m.elems ≤ limit ElementSegments
   pub datas : length m.datas ≤ limit DataSegments
 
--- Why reading the inputs of a task and deciding over them stops.
+-- What holds if reading the inputs of a task, or deciding over them, stops.
 abbrev pub StopsPreparing : Option Contents → (Text → ℕ) → (Text → ℕ) → Task → Stop → Type 0
 StopsPreparing held before now task (Refused refusal) = IfSome held (λ files. TaskJob task files (job.Refused (refusal_text refusal)))
 StopsPreparing held before now task (CannotRead file) = (refused_before task ≡ None) × FailsAtItsTurn held before now (inputs_of task) most_input file.now
 StopsPreparing held before now task NoMemory = Unit {0}
 StopsPreparing held before now task _ = ⊥
 
--- The files of these names may hold these texts: they do, where they tell what they hold.
+-- The files `names` hold `texts`, if the contents are known.
 abbrev pub MayHold : Option Contents → List Text → List Text → Type 0
 MayHold held names texts = IfSome held (λ files. map (get files) names ≡ map Some texts)
 
--- The task may write a file of this name. Where the files do not tell the other texts that it reads, these may be any.
+-- The task may write a file of this name, given the contents of the files that it reads besides its
+-- modules (some contents, if they are not known).
 abbrev pub MayWrite : Task → Option Contents → Text → Type 0
 MayWrite task held name = (texts : List Text) × MayHold held (texts_of task) texts × Contains (outputs_of task texts) name
 
--- Each of the names is of a file that the task may write.
+-- The task may write each of the files `names`.
 abbrev pub AreOutputs : Task → Option Contents → List Text → Type 0
 AreOutputs task held names = (name : Text) → Contains names name → MayWrite task held name
 
--- There are no lines, unless the task may print some.
+-- A task that may not print has no lines.
 abbrev pub PrintsAsAllowed : Task → Text → Type 0
 PrintsAsAllowed task lines = may_print task ≡ false → lines ≡ []
 
--- All of these were written, where this is told.
+-- All these writes were made, if the contents are known.
 abbrev pub AllWritten : List Entry → Option Contents → Option Contents → Type 0
 AllWritten writes old new = Becomes old new (λ a b. b ≡ made writes a)
 
--- Nothing, or after this a prefix of the lines.
+-- The output is unchanged, or `this` holds and a prefix of `lines` was appended to the output.
 abbrev pub PrintsAfter : Text → Type 0 → Text → Text → Type 0
 PrintsAfter lines this before after = (after ≡ before) ⊎ (AppendsPrefix lines before after × this)
 
--- Writing one of these files, which has this name, has failed.
+-- `name` is one of the names written, and its count of write faults has risen.
 abbrev pub FailsAtOne : (Text → ℕ) → (Text → ℕ) → List Entry → Text → Type 0
 FailsAtOne before now writes name = Contains (written_names writes) name × Rose (before name) (now name)
 
--- Why writing these files in order stops.
+-- What holds if making these writes in order stops.
 abbrev pub StopsWriting : (Text → ℕ) → (Text → ℕ) → List Entry → Stop → Type 0
 StopsWriting before now writes (CannotWrite name) = FailsAtOne before now writes (string_bytes name)
 StopsWriting before now writes NoMemory = Unit {0}
 StopsWriting before now writes _ = ⊥
 
--- Why putting the lines stops.
+-- What holds if printing lines stops.
 abbrev pub StopsPrinting : ℕ → ℕ → Stop → Type 0
 StopsPrinting before now CannotPrint = Rose before now
 StopsPrinting before now NoMemory = Unit {0}
 StopsPrinting before now _ = ⊥
 
--- Why writing the outputs and putting the lines stops: lines are put only where all is written.
+-- What holds if making the writes, and after all of them printing the lines, stops.
 abbrev pub StopsFinishing : (Text → ℕ) → (Text → ℕ) → ℕ → ℕ → Option Contents → Option Contents → List Entry → Stop → Type 0
 StopsFinishing before now put_before put_now old new writes (CannotWrite name) = FailsAtOne before now writes (string_bytes name)
 StopsFinishing before now put_before put_now old new writes CannotPrint = Rose put_before put_now × AllWritten writes old new

@@ -1,4 +1,4 @@
--- What the types of the code denote.
+-- What the types of the code denote in the definitions.
 use Rattle.std.specs.Prelude.{List, map, option_map, string_bytes}
 use Rattle.tools_cli.specs.CommandLine.{Text}
 use Rattle.tools_cli.specs.CommandLine as words
@@ -19,7 +19,7 @@ use Rattle.tools_cli.specs.Job as job
 use Rattle.tools_cli.specs.declared.gather.Input.{Input}
 use Rattle.tools_cli.specs.declared.perform.Write.{Write}
 
--- The task of a command line.
+-- The tasks of commands.
 abbrev pub merge_value : MergeTask → words.MergeTask
 merge_value merge = record { sources = source_values merge.sources.items; output = merge.output.now; mode = merge.mode }
 
@@ -45,7 +45,7 @@ task_value (task.Split split) = words.Split (split_value split)
 task_value (task.CtorEval eval) = words.CtorEval (ctor_eval_value eval)
 task_value (task.Sample sample) = words.Sample (sample_value sample)
 
--- The name and the bytes of a file that was read.
+-- Files that were read, with their names, and then their bytes alone.
 abbrev pub input_entry : Input → Entry
 input_entry input = (input.name.now, input.bytes.items)
 
@@ -55,7 +55,7 @@ input_entries inputs = map input_entry inputs
 abbrev pub input_texts : List Input → List Text
 input_texts inputs = map (λ i. i.bytes.items) inputs
 
--- What was decided.
+-- Outputs, and what a command has decided.
 abbrev pub output_value : Output → job.Output
 output_value output = record { name = string_bytes output.name; tree = output.tree; custom = output.custom.items }
 
@@ -65,7 +65,7 @@ output_values outputs = map output_value outputs
 abbrev pub decision_value : Decision → job.Decision
 decision_value decision = job.Makes (output_values decision.outputs.items) decision.lines.items
 
--- The name and the bytes of a file that is to be written.
+-- Files to be written.
 abbrev pub write_entry : Write → Entry
 write_entry write = (string_bytes write.name, write.bytes.items)
 

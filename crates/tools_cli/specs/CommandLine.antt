@@ -1,4 +1,4 @@
--- The words of a command line, and the task that they ask for.
+-- The task that the arguments of a command line ask for.
 use Rattle.std.specs.Prelude.{ℕ, Bool, true, false, if◌then◌else◌, List, [], ◌∷◌, ◌++◌, map, Option, Some, None, option_map, option_and_then, bytes_eq, codes}
 use Rattle.std.specs.List.{cons_option}
 use Rattle.tools_cli_words.specs.Words.{Arguments, output_option, said_together, only, only_value, value_if_any, value_or, listed_words}
@@ -13,52 +13,56 @@ use Rattle.merge_names.specs.declared.mode.Mode.TheVariants as mode
 use Rattle.split_spec.specs.declared.names.SplitNames.{SplitNames}
 use Rattle.tools_cli.specs.declared.split.SplitWords.{SplitWords}
 
--- Where a part of a merge comes from: its file, and its name.
+-- A part of a merge: the file that holds it, and its name.
 pub record Source : Type 0 where
   pub file : Text
   pub name : Text
 
--- What a merge is to do: the parts of these sources are merged, in order, and the output is written; the mode says what becomes of an export whose
--- name came before.
+-- What `merge` is to do: merge the parts in order and write the result to `output`. `mode` decides
+-- what becomes of an export whose name an earlier export has.
 pub record MergeTask : Type 0 where
   pub sources : List Source
   pub output : Text
   pub mode : Mode
 
--- What a metadce is to do: the module of this file is swept of what is not reached, by the graph that the graph file holds, and the output is written.
+-- What `metadce` is to do: remove from the module in `file` what is not reached through the graph
+-- in `graph_file`, and write what is left to `output`.
 pub record MetadceTask : Type 0 where
   pub file : Text
   pub graph_file : Text
   pub output : Text
 
--- Where the two modules of a split are written.
+-- The output files of a split.
 pub record SplitOutputs : Type 0 where
   pub primary : Text
   pub secondary : Text
 
--- What a split is to do: of the module of this file, the functions that the words name move to the secondary module, and both modules are written. The names
--- are those that a split adds to them.
+-- What `split` is to do: split the module in `file` so that the functions which `words` selects
+-- move to the secondary module, and write both modules. `names` are the names that a split adds to
+-- them.
 pub record SplitTask : Type 0 where
   pub file : Text
   pub outputs : SplitOutputs
   pub words : SplitWords
   pub names : SplitNames
 
--- What an evaluation of constructors is to do: the module of this file is evaluated with the exported functions of these names, and the output is written. The exports
--- of those that are evaluated stay where their names are to be kept.
+-- What `ctor-eval` is to do: evaluate the exported functions `ctors` of the module in `file`, and
+-- write the module after them to `output`. An evaluated constructor keeps its export only if its
+-- name is in `kept`.
 pub record CtorEvalTask : Type 0 where
   pub file : Text
   pub ctors : List Text
   pub kept : List Text
   pub output : Text
 
--- What a sample is to do: two modules of so many functions each are made from the seed and merged, and where there is an output, what they are merged into is written.
+-- What `sample` is to do: make two modules of `count` functions each from the seed, merge them and,
+-- if there is an `output`, write the merged module to it.
 pub record SampleTask : Type 0 where
   pub seed : ℕ
   pub count : ℕ
   pub output : Option Text
 
--- What a command is to do: a case for each command.
+-- What a command is to do, with a case for each command.
 pub data Task : Type 0 where
   Merge : MergeTask → Task
   Metadce : MetadceTask → Task
@@ -68,22 +72,22 @@ pub data Task : Type 0 where
 
 -- ---- merge ----
 
--- Plain words as pairs FILE NAME; none where a file has no name.
+-- The positional arguments as pairs FILE NAME; `None` if the last FILE has no NAME.
 abbrev pub sources_of : List Text → Option (List Source)
 sources_of [] = Some []
 sources_of (file ∷ []) = None
 sources_of (file ∷ name ∷ rest) = option_map (λ sources. record { file = file; name = name } ∷ sources) (sources_of rest)
 
--- At least one source, with names apart.
+-- The sources, if there is at least one and their names are distinct.
 abbrev pub some_apart : List Source → Option (List Source)
 some_apart [] = None
 some_apart (source ∷ sources) = if are_apart (map (λ s. s.name) (source ∷ sources)) then Some (source ∷ sources) else None
 
--- The mode that a flag gives.
+-- The mode that a flag selects.
 abbrev pub flag_mode : Text → Option Mode
 flag_mode flag = if bytes_eq flag rename_flag then Some mode.Rename else (if bytes_eq flag skip_flag then Some mode.Skip else None)
 
--- At most one flag, which gives the mode.
+-- The mode that the flags select, if there is at most one. Without a flag it is `Refuse`.
 abbrev pub merge_mode : List Text → Option Mode
 merge_mode [] = Some mode.Refuse
 merge_mode (flag ∷ []) = flag_mode flag
@@ -93,6 +97,8 @@ abbrev pub make_merge : Option (List Source) → Option Text → Option Mode →
 make_merge (Some sources) (Some output) (Some mode) = Some (Merge (record { sources = sources; output = output; mode = mode }))
 make_merge _ _ _ = None
 
+-- The task of `merge`: pairs FILE NAME, at least one, with distinct names, and an output are
+-- required; there is at most one flag.
 abbrev pub merge_of_arguments : Arguments → Option Task
 merge_of_arguments arguments = make_merge (option_and_then some_apart (sources_of arguments.plain)) (only_value (output_option) arguments) (merge_mode arguments.flags)
 
@@ -102,18 +108,18 @@ abbrev pub make_metadce : Option Text → Option Text → Option Text → Option
 make_metadce (Some file) (Some graph_file) (Some output) = Some (Metadce (record { file = file; graph_file = graph_file; output = output }))
 make_metadce _ _ _ = None
 
--- One plain word, the file, and both options.
+-- The task of `metadce`: one positional argument, the file, and both options are required.
 abbrev pub metadce_of_arguments : Arguments → Option Task
 metadce_of_arguments arguments = make_metadce (only arguments.plain) (only_value (codes "--graph-file") arguments) (only_value (output_option) arguments)
 
 -- ---- split ----
 
--- Two outputs that differ.
+-- Both outputs, if their names differ.
 abbrev pub make_outputs : (primary secondary : Option Text) → Option SplitOutputs
 make_outputs (Some primary) (Some secondary) = if bytes_eq primary secondary then None else Some (record { primary = primary; secondary = secondary })
 make_outputs _ _ = None
 
--- Words to split, words to keep, or both.
+-- The lists of functions to move and of functions to keep. At least one of them is required.
 abbrev pub make_words : (split keep : Option (Option Text)) → Option SplitWords
 make_words (Some None) (Some None) = None
 make_words (Some split) (Some keep) = Some (record { split = option_map listed_words split; keep = option_map listed_words keep })
@@ -130,7 +136,7 @@ outputs_said arguments = make_outputs (only_value (codes "--primary-output") arg
 abbrev pub words_said : Arguments → Option SplitWords
 words_said arguments = make_words (value_if_any (codes "--split-funcs") arguments) (value_if_any (codes "--keep-funcs") arguments)
 
--- Each of the names may be absent and has a text for that.
+-- The names that a split adds. Each of the three options may be absent and has a default.
 abbrev pub names_said : Arguments → Option SplitNames
 names_said arguments =
     make_names (value_or (codes "--import-namespace") (codes "primary") arguments) (value_or (codes "--placeholder-namespace") (codes "placeholder") arguments) (value_or (codes "--export-prefix") (codes "%") arguments)
@@ -139,17 +145,18 @@ abbrev pub make_split : Option Text → Option SplitOutputs → Option SplitWord
 make_split (Some file) (Some outputs) (Some words) (Some names) = Some (Split (record { file = file; outputs = outputs; words = words; names = names }))
 make_split _ _ _ _ = None
 
--- One plain word, the file, both outputs, words and the names.
+-- The task of `split`: one positional argument, the file, both outputs and one or both lists are
+-- required.
 abbrev pub split_of_arguments : Arguments → Option Task
 split_of_arguments arguments = make_split (only arguments.plain) (outputs_said arguments) (words_said arguments) (names_said arguments)
 
 -- ---- ctor-eval ----
 
--- The words of a list that differ.
+-- The entries of a list, if they are distinct.
 abbrev pub words_apart : Text → Option (List Text)
 words_apart text = if are_apart (listed_words text) then Some (listed_words text) else None
 
--- The words of a list that may be absent.
+-- The entries of a list; none if the list is absent.
 abbrev pub words_if_any : Option Text → List Text
 words_if_any None = []
 words_if_any (Some text) = listed_words text
@@ -158,14 +165,15 @@ abbrev pub make_ctor_eval : Option Text → (ctors : Option (List Text)) → (ke
 make_ctor_eval (Some file) (Some ctors) (Some kept) (Some output) = Some (CtorEval (record { file = file; ctors = ctors; kept = words_if_any kept; output = output }))
 make_ctor_eval _ _ _ _ = None
 
--- One plain word, the file, names of constructors that differ, and the output; names to keep may be absent.
+-- The task of `ctor-eval`: one positional argument, the file, distinct constructors and an output
+-- are required; names to keep may be absent.
 abbrev pub ctor_eval_of_arguments : Arguments → Option Task
 ctor_eval_of_arguments arguments =
     make_ctor_eval (only arguments.plain) (option_and_then words_apart (only_value (codes "--ctors") arguments)) (value_if_any (codes "--kept-exports") arguments) (only_value (output_option) arguments)
 
 -- ---- sample ----
 
--- The seed, from 0 to 2^31 - 1, and how many functions each of the two modules has, from 1 to 100000.
+-- The seed, from 0 to 2^31 - 1, and then the number of functions of each module, from 1 to 100000.
 abbrev pub seed_in : Text → Option ℕ
 seed_in text = number_within 0 2147483647 text
 
@@ -176,14 +184,15 @@ abbrev pub make_sample : (plain : List Text) (seed count : Option ℕ) (output :
 make_sample [] (Some seed) (Some count) (Some output) = Some (Sample (record { seed = seed; count = count; output = output }))
 make_sample _ _ _ _ = None
 
--- No plain word, and both numbers; an output may be absent.
+-- The task of `sample`: both numbers are required, the output may be absent, and there are no
+-- positional arguments.
 abbrev pub sample_of_arguments : Arguments → Option Task
 sample_of_arguments arguments =
     make_sample arguments.plain (option_and_then seed_in (only_value (codes "--seed") arguments)) (option_and_then count_in (only_value (codes "--count") arguments)) (value_if_any (output_option) arguments)
 
 -- ---- all commands ----
 
--- The task of the words after `merge`, of those after `metadce`, of those after `split`, of those after `ctor-eval` and of those after `sample`.
+-- For each command, the task of the arguments after its name.
 abbrev pub merge_of : List Text → Option Task
 merge_of words = option_and_then merge_of_arguments (said_together merge_vocabulary words)
 
@@ -199,7 +208,7 @@ ctor_eval_of words = option_and_then ctor_eval_of_arguments (said_together ctor_
 abbrev pub sample_of : List Text → Option Task
 sample_of words = option_and_then sample_of_arguments (said_together sample_vocabulary words)
 
--- The task of a command line, or none.
+-- The task that a command line asks for, or `None`.
 unfoldable pub task_of : List Text → Option Task
 task_of [] = None
 task_of (word ∷ rest) =
@@ -209,7 +218,7 @@ task_of (word ∷ rest) =
     else (if bytes_eq word (codes "ctor-eval") then ctor_eval_of rest
     else (if bytes_eq word (codes "sample") then sample_of rest else None))))
 
--- The tool that a first word names.
+-- The tool that the first argument of a command line names.
 abbrev pub tool_named : Text → Option Tool
 tool_named word =
     if bytes_eq word (codes "merge") then Some tool.Merge
@@ -223,12 +232,12 @@ abbrev pub tool_in : List Text → Option Tool
 tool_in [] = None
 tool_in (word ∷ _) = tool_named word
 
--- What a command line says to the tool that its first word names.
+-- The arguments after the first one, parsed for the tool that the first one names, or `None`.
 abbrev pub said_to_tool : List Text → Option Arguments
 said_to_tool [] = None
 said_to_tool (word ∷ rest) = option_and_then (λ t. said_together (vocabulary_of t) rest) (tool_named word)
 
--- The task of a tool by what is said to it, or none.
+-- The task that arguments, once they are parsed, ask of a tool, or `None`.
 abbrev pub task_of_arguments : Tool → Arguments → Option Task
 task_of_arguments tool.Merge arguments = merge_of_arguments arguments
 task_of_arguments tool.Metadce arguments = metadce_of_arguments arguments
@@ -242,7 +251,7 @@ task_of_arguments tool.Sample arguments = sample_of_arguments arguments
 abbrev pub source_files : MergeTask → List Text
 source_files merge = map (λ s. s.file) merge.sources
 
--- Whether the modules that a task reads and writes may have several memories.
+-- Whether the modules that a task reads and writes may have several memories: false for each task.
 abbrev pub many_of : Task → Bool
 many_of (Merge merge) = false
 many_of (Metadce metadce) = false
@@ -258,7 +267,7 @@ modules_of (Split split) = split.file ∷ []
 modules_of (CtorEval eval) = eval.file ∷ []
 modules_of (Sample sample) = []
 
--- The files that it reads as other texts, in order.
+-- The files that a task reads besides its modules, in order.
 abbrev pub texts_of : Task → List Text
 texts_of (Merge merge) = []
 texts_of (Metadce metadce) = metadce.graph_file ∷ []
@@ -270,7 +279,8 @@ texts_of (Sample sample) = []
 abbrev pub inputs_of : Task → List Text
 inputs_of task = modules_of task ++ texts_of task
 
--- The files that a task may write, where these are the other texts that it reads, which may name some.
+-- The files that a task may write, in the order of writing. `texts` are the contents of the files
+-- `texts_of`; no output depends on them.
 abbrev pub outputs_of : Task → (texts : List Text) → List Text
 outputs_of (Merge merge) texts = merge.output ∷ []
 outputs_of (Metadce metadce) texts = metadce.output ∷ []
@@ -286,10 +296,11 @@ may_print (Split split) = true
 may_print (CtorEval eval) = true
 may_print (Sample sample) = true
 
--- The line that is put where a command line asks for no task: that of its command, or that of all where the first word is no command.
+-- The usage line that names all commands.
 abbrev pub all_usage : Text
 all_usage = codes "usage: binkit merge|split|metadce|ctor-eval|sample\n"
 
+-- The usage line of the command that the first argument names, or that of all commands.
 abbrev pub usage_line : List Text → Text
 usage_line [] = all_usage
 usage_line (word ∷ _) =

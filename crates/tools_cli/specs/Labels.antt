@@ -1,4 +1,4 @@
--- What a table holds of a function.
+-- The name that a table has for a function, if any.
 use Rattle.std.specs.Prelude.{ℕ, Option, option_map}
 use Rattle.std.specs.Borrow.{Bor}
 use Rattle.std.specs.Ordering.{nat_cmp}

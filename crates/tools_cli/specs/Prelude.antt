@@ -1,4 +1,4 @@
--- Names of the program, passed on from one place. Declares nothing.
+-- Names that other modules use, passed on from one place. Declares nothing.
 pub use Rattle.tools_cli.specs.Causes.{IsWithinLimits, PrintsAsAllowed, StopsWith, total}
 pub use Rattle.tools_cli.specs.Command.{decision_value, input_entries, input_entry, input_texts, merge_value, names_of, output_values, split_value, task_value, write_entries}
 pub use Rattle.tools_cli.specs.CommandLine.{CtorEval, CtorEvalTask, Merge, MergeTask, Metadce, MetadceTask, Sample, SampleTask, Source, Split, SplitTask, Task, Text, are_apart, inputs_of, many_of, modules_of, source_files, task_of, texts_of}

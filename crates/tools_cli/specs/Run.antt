@@ -11,69 +11,74 @@ use Rattle.tools_cli.specs.declared.stop.Status.TheVariants as status
 use Rattle.tools_cli.specs.declared.stop.Stop.{Stop}
 use Rattle.tools_cli.specs.declared.stop.Stop.TheVariants as stop
 
--- The job is done, and this is so of its writes and its lines.
+-- The job of these arguments over these files is done, and `P` holds of its writes and its lines.
 abbrev pub JobIsDone : List Text → Contents → (List Entry → Text → Type 0) → Type 0
 JobIsDone words files P = (writes : List Entry) × (lines : Text) × HasJob words files (Done writes lines) × P writes lines
 
--- It is as it was, where this is told.
+-- The value is known before and after and is unchanged, or it is not known at either time.
 abbrev pub IsSame : {A : Type 0} → Option A → Option A → Type 0
 IsSame old new = Becomes old new (λ a b. b ≡ a)
 
--- This text was gained, where this is told.
+-- The sink gained this text, if its bytes are known.
 abbrev pub Gains : Text → Option Text → Option Text → Type 0
 Gains text old new = Becomes old new (λ a b. b ≡ a ++ text)
 
--- The files are as they were; or the job is done and some first writes of it are made, with at most the next name holding its old contents or
--- a prefix of its bytes.
+-- The files are unchanged; or the job is done and some first writes are made, of which the next may
+-- be cut short (`IsCut`).
 abbrev pub ChangesByTheJob : List Text → Contents → Contents → Type 0
 ChangesByTheJob words old new =
     (new ≡ old) ⊎ JobIsDone words old (λ writes lines. IsCut writes old new)
 
--- The output is as it was; or the job is done, all its writes are made, and a prefix of its lines was gained.
+-- The output is unchanged; or the job is done, all its writes are made, and a prefix of its lines
+-- was appended to the output.
 abbrev pub PrintsForTheJob : List Text → Contents → Option Contents → Text → Text → Type 0
 PrintsForTheJob words old new before after =
     (after ≡ before) ⊎ JobIsDone words old (λ writes lines. (new ≡ Some (made writes old)) × AppendsPrefix lines before after)
 
--- The job is done: all its writes are made, and its lines are gained.
+-- The job is done: all its writes are made, and its lines were printed.
 abbrev pub EndsDone : List Text → Contents → Option Contents → Option Text → Option Text → Type 0
 EndsDone words old new before after =
     JobIsDone words old (λ writes lines. (new ≡ Some (made writes old)) × Gains lines before after)
 
--- The job is refused, and the refusal's line is gained.
+-- The job is refused, and the line of the refusal was printed.
 abbrev pub EndsRefused : List Text → Contents → Option Text → Option Text → Type 0
 EndsRefused words old before after = (text : Text) × HasJob words old (Refused text) × Gains (stop_line text) before after
 
--- A file that the command reads could not be read, and its turn had come; the task is not refused before any file is read.
+-- A file that the command reads could not be read at its turn (`FailsAtItsTurn`), and the task was
+-- not refused before any file was read.
 abbrev pub FailsToRead : List Text → Option Contents → (Text → ℕ) → (Text → ℕ) → Text → Type 0
 FailsToRead words held before now name =
     (task : Task) × (task_of words ≡ Some task) × (refused_before task ≡ None) × FailsAtItsTurn held before now (inputs_of task) most_input name
 
--- A file that the command may write could not be written, and the job is done and writes it.
+-- A file that the command may write could not be written. If the contents of the files are known,
+-- the job is done and writes this file.
 abbrev pub FailsToWrite : List Text → Option Contents → (Text → ℕ) → (Text → ℕ) → Text → Type 0
 FailsToWrite words held before now name =
     (task : Task) × (task_of words ≡ Some task) × MayWrite task held name × Rose (before name) (now name)
     × IfSome held (λ files. JobIsDone words files (λ writes lines. Contains (written_names writes) name))
 
--- Standard output could not be written, and the job is done: all its writes are made.
+-- Standard output could not be written. If the contents of the files are known, the job is done and
+-- all its writes are made.
 abbrev pub FailsToPrint : List Text → Option Contents → Option Contents → ℕ → ℕ → Type 0
 FailsToPrint words held new before now =
     Rose before now × IfSome held (λ files. JobIsDone words files (λ writes lines. new ≡ Some (made writes files)))
 
--- The words ask for no task that may print lines.
+-- The arguments ask for no task that may print lines.
 abbrev pub PrintsNothing : List Text → Type 0
 PrintsNothing words = (task : Task) → task_of words ≡ Some task → may_print task ≡ false
 
--- The status of a job that no fault of the outside meets.
+-- The status of a job if no file and no stream fails. A job whose file is missing has none.
 abbrev pub StatusOfJob : Job → Status → Type 0
 StatusOfJob Usage s = s ≡ status.Usage
 StatusOfJob Missing s = ⊥
 StatusOfJob (Refused text) s = s ≡ status.Refused
 StatusOfJob (Done writes lines) s = s ≡ status.Done
 
+-- The arguments have a job over these files, and this is its status.
 abbrev pub HasStatus : List Text → Contents → Status → Type 0
 HasStatus words files s = (job : Job) × HasJob words files job × StatusOfJob job s
 
--- The files and the standard output of a run, before or after it.
+-- The files and standard output, with their counts of faults, before or after a run.
 pub record HostState : Type 0 where
   pub files : Option Contents
   pub reads : Text → ℕ
@@ -81,13 +86,13 @@ pub record HostState : Type 0 where
   pub out : Option Text
   pub out_faults : ℕ
 
--- The work stops because the words ask for no task, or for want of memory.
+-- The work stops with a usage line or because memory ran out.
 abbrev pub IsUsage : Result (Unit {0}) Stop → Type 0
 IsUsage (Err (stop.Usage line)) = Unit {0}
 IsUsage (Err stop.NoMemory) = Unit {0}
 IsUsage _ = ⊥
 
--- Why the work stops.
+-- What holds if the work stops, for each reason.
 abbrev pub StopsWork : List Text → HostState → HostState → Stop → Type 0
 StopsWork words old new (stop.Usage line) = (task_of words ≡ None) × (line.now ≡ usage_line words) × IsSame old.files new.files × IsSame old.out new.out
 StopsWork words old new (stop.Refused refusal) =
@@ -97,7 +102,7 @@ StopsWork words old new (stop.CannotWrite name) = FailsToWrite words old.files o
 StopsWork words old new stop.CannotPrint = FailsToPrint words old.files new.files old.out_faults new.out_faults
 StopsWork words old new stop.NoMemory = Unit {0}
 
--- One of the four causes of a fault of the outside, and what is said of it.
+-- A file or stream failed. Unless it was standard error, a line there says which.
 abbrev pub HasOutsideCause : List Text → HostState → HostState → Option Text → Option Text → ℕ → ℕ → Type 0
 HasOutsideCause words old new err err' before now =
     Rose before now
@@ -105,7 +110,7 @@ HasOutsideCause words old new err err' before now =
     ⊎ (((name : Text) × FailsToWrite words old.files old.writes new.writes name × Gains (stop_line (cannot_write name)) err err')
     ⊎ (FailsToPrint words old.files new.files old.out_faults new.out_faults × Gains (stop_line cannot_print) err err')))
 
--- A count has risen.
+-- A count of faults has risen.
 abbrev pub SomeRose : HostState → HostState → ℕ → ℕ → Type 0
 SomeRose old new before now =
     ((name : Text) × Rose (old.reads name) (new.reads name))

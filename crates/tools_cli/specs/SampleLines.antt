@@ -4,8 +4,8 @@ use Rattle.wasm_tree_spec.specs.Prelude.{Module}
 use Rattle.wasm_write_spec.specs.Plain.{plain}
 use Rattle.tools_cli.specs.CommandLine.{Text, SampleTask}
 
--- The seed and the count; how many parts are merged; and of what they are merged into, how many functions it defines, how many exports it has, and how many bytes its
--- canonical encoding has.
+-- The seed and the count; the number of parts; and, of the merged module, how many functions it
+-- defines, how many exports it has, and how many bytes its canonical encoding has.
 abbrev pub sample_lines : SampleTask → Module → Text
 sample_lines sample tree =
     codes "sample seed " ++ (decimal sample.seed ++ (codes " count " ++ (decimal sample.count ++ (codes "\nparts 2\nfunctions " ++ (decimal (length tree.funcs)

@@ -1,10 +1,10 @@
--- What the sources of a merge denote in the code.
+-- The sources of a merge, as values of the definitions.
 use Rattle.std.specs.Prelude.{List, map}
 use Rattle.tools_cli.specs.CommandLine.{Text}
 use Rattle.tools_cli.specs.CommandLine as words
 use Rattle.tools_cli.specs.declared.merge.Source.{Source}
 
--- The sources of a merge, and their names.
+-- A source and the sources of a merge; then their files and their names.
 abbrev pub source_value : Source → words.Source
 source_value source = record { file = source.file.now; name = source.name.now }
 

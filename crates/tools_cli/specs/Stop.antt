@@ -1,4 +1,4 @@
--- How a command ends, and what is said of it.
+-- How a command ends, and what it prints on standard error.
 use Rattle.std.specs.Prelude.{◌≡◌, ◌⊎◌, ℕ, ◌++◌, List, Option, Some, codes, string_bytes}
 use Rattle.tool_io.specs.FilesAndSinks.{Becomes, Rose, AppendsPrefix}
 use Rattle.tools_cli.specs.CommandLine.{Text, usage_line}
@@ -19,7 +19,7 @@ use Rattle.merge_spec.specs.declared.faults.JoinFault.{JoinFault}
 use Rattle.tools_cli.specs.declared.stop.Stop.{Stop}
 use Rattle.tools_cli.specs.declared.stop.Stop.TheVariants.{Usage, Refused, CannotRead, CannotWrite, CannotPrint, NoMemory}
 
--- The exit code of a status.
+-- The exit status of the program.
 abbrev pub code_of : Status → ℕ
 code_of status.Done = 0
 code_of status.Refused = 1
@@ -27,7 +27,7 @@ code_of status.Usage = 2
 code_of status.Outside = 3
 code_of status.NoMemory = 4
 
--- The line of a text on standard error.
+-- The line on standard error that has this text.
 abbrev pub stop_line : Text → Text
 stop_line text = codes "binkit: " ++ (text ++ codes "\n")
 
@@ -43,7 +43,7 @@ cannot_print = codes "cannot write standard output"
 abbrev pub no_memory : Text
 no_memory = codes "no memory"
 
--- The lines that may be put on standard error.
+-- The lines that may be printed on standard error.
 pub data IsLine : Text → Type 0 where
   usage : (words : List Text) → IsLine (usage_line words)
   fault_line : (file text : Text) (fault : ReadFault) → fault_text file fault ≡ Some text → IsLine (stop_line text)
@@ -61,7 +61,7 @@ pub data IsLine : Text → Type 0 where
   cannot_print_line : IsLine (stop_line cannot_print)
   no_memory_line : IsLine (stop_line no_memory)
 
--- A prefix of one of these lines was gained.
+-- A prefix of one of these lines was printed.
 abbrev pub Says : Text → Text → Type 0
 Says old new = (line : Text) × IsLine line × AppendsPrefix line old new
 
@@ -101,7 +101,7 @@ refusal_text (NamespaceTaken file import) = namespace_taken file.now import.numb
 refusal_text (PrefixTaken name) = prefix_taken name
 refusal_text (NoSuchExport name) = no_exported_function name
 
--- What is put on standard error.
+-- The line on standard error for a stop.
 abbrev pub line_of : Stop → Text
 line_of (Usage line) = line.now
 line_of (Refused refusal) = stop_line (refusal_text refusal)
@@ -110,7 +110,8 @@ line_of (CannotWrite file) = stop_line (cannot_write (string_bytes file))
 line_of CannotPrint = stop_line cannot_print
 line_of NoMemory = stop_line no_memory
 
--- A stop is told in full and gives its status; or a put has failed; or memory ran out.
+-- The result is the status of the stop, and its whole line was printed; or the result is `Outside`,
+-- because printing failed; or it is `NoMemory`.
 abbrev pub Reports : Stop → Option Text → Option Text → ℕ → ℕ → Status → Type 0
 Reports stop old new before now result =
     ((result ≡ status_of stop) × Becomes old new (λ a b. b ≡ a ++ line_of stop))

@@ -1,4 +1,4 @@
--- The texts of refusals, without what stands before and behind them.
+-- The texts of refusals, without the `binkit: ` before and the end of line after them.
 use Rattle.std.specs.Prelude.{ℕ, ◌++◌, List, Option, Some, None, option_map, slice_get, codes, decimal}
 use Rattle.wasm_tree_spec.specs.Prelude.{Which}
 use Rattle.wasm_tree.specs.declared.which.Which.TheVariants as which
@@ -117,7 +117,7 @@ prefix_taken name = codes "export " ++ (name ++ codes " is taken")
 abbrev pub no_exported_function : Text → Text
 no_exported_function name = codes "no exported function " ++ name
 
--- The text of a fault of a file. Want of memory is no fault of it.
+-- The text of a fault of a file. Running out of memory has none.
 abbrev pub fault_text : Text → ReadFault → Option Text
 fault_text file NotModule = Some (not_module file)
 fault_text file (Malformed section) = Some (malformed file section)
@@ -127,7 +127,7 @@ fault_text file (Unsupported section (Some func)) = Some (unsupported_body file 
 fault_text file (Limit which) = Some (over_limit file which)
 fault_text file NoMemory = None
 
--- The name of a kind of items, and a space.
+-- The name of a kind of items, followed by a space.
 abbrev pub kind_text : ItemKind → Text
 kind_text kind.Import = codes "import "
 kind_text kind.Memories = codes "memories "
@@ -141,11 +141,11 @@ kind_text kind.Elem = codes "elem "
 kind_text kind.Segment = codes "data "
 kind_text kind.Body = codes "body "
 
--- The text of the first invalid item.
+-- The text of the first invalid item of a file's module.
 abbrev pub invalid_text : Text → Invalid → Text
 invalid_text file item = file ++ (codes ": invalid " ++ (kind_text item.kind ++ decimal item.index))
 
--- The text of a fault of linking parts that come from these files. Want of memory is no fault of them.
+-- The text of a fault of linking parts that come from these files. Running out of memory has none.
 abbrev pub link_text : List Text → LinkFault → Option Text
 link_text files (ImportMismatch part import) = option_map (λ file. import_mismatch file import) (slice_get files part)
 link_text files (ImportCycle part import) = option_map (λ file. import_cycle file import) (slice_get files part)
@@ -173,7 +173,7 @@ abbrev pub sweep_text : SweepFault → Option Text
 sweep_text (sweep.TooMany which) = Some (too_many which)
 sweep_text sweep.NoMemory = None
 
--- The text of a fault of the words of a split.
+-- The text of a fault of the names that a split lists.
 abbrev pub plan_text : PlanFault → Option Text
 plan_text (plan.NoSuchFunction name) = Some (no_function name)
 plan_text (plan.AmbiguousFunction name) = Some (several_functions name)

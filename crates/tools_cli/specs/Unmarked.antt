@@ -6,11 +6,11 @@ use Rattle.std.specs.Cmp.Lexicographic.{slice_cmp}
 use Rattle.dce_graph.specs.declared.graph.Node.{Node}
 use Rattle.tools_cli_words.specs.Words.{Text}
 
--- a name among others that ascend
+-- An ascending list of names, with this name in its place.
 abbrev pub with_name : List Text → Text → List Text
 with_name = insert_key (slice_cmp nat_cmp)
 
--- these names, and then those of the nodes that have no mark
+-- `names` and the names of the nodes that have no mark, each once.
 abbrev pub unmarked_from : List Text → List Node → List Bool → List Text
 unmarked_from names [] marks = names
 unmarked_from names (node ∷ nodes) [] = unmarked_from (with_name names node.name) nodes []

@@ -1,4 +1,4 @@
--- What is told of the nodes of a graph that are not reached.
+-- The lines that report nodes of a graph that are not reached.
 use Rattle.std.specs.Prelude.{◌≡◌, ◌↔◌, ℕ, List, ◌++◌, flat_map, Contains, Some, slice_get, codes}
 use Rattle.std.specs.Ordering.{nat_cmp}
 use Rattle.std.specs.Cmp.Lexicographic.{slice_cmp}
@@ -10,16 +10,16 @@ use Rattle.dce_graph.specs.declared.point.Point.TheVariants as point
 use Rattle.dce_graph.specs.Prelude.{IsReached}
 use Rattle.tools_cli_words.specs.Words.{Text}
 
--- A node of this name is there, and no path from a root leads to it.
+-- The graph has a node of this name that no path from a root reaches.
 abbrev pub IsUnused : Graph → Module → Text → Type 0
 IsUnused graph tree name = (place : ℕ) × (node : Node) × (slice_get graph.nodes place ≡ Some node) × (node.name ≡ name) × (IsReached graph tree (point.Node place) → ⊥)
 
--- The names of the nodes that are not reached, all of them and no others, in ascending order of their bytes.
+-- The names of exactly the nodes that are not reached, in ascending order of their bytes.
 pub record AreUnused (graph : Graph) (tree : Module) (names : List Text) : Type 0 where
   pub exactly : (name : Text) → Contains names name ↔ IsUnused graph tree name
   pub ascending : IsStrictlySortedBy (slice_cmp nat_cmp) names
 
--- The line that tells of a name, and those of names, one after another.
+-- The line that reports a name, and then the lines of several.
 abbrev pub unused_line : Text → Text
 unused_line name = codes "unused: " ++ (name ++ codes "\n")
 

@@ -1,4 +1,4 @@
-// The task that the words of a command line ask for.
+// The task that the arguments of a command line ask for.
 ghost use Rattle.std.specs.Prelude.{◌≡◌, ◌<◌, ◌≤◌, ◌^◌, true, map, option_map, option_and_then, string_bytes, IfOk, IfSome};
 ghost use Rattle.tools_cli_words.specs.Words.{listed_words};
 ghost use Rattle.tools_cli.specs.CommandLine.{task_of, task_of_arguments, tool_named, tool_in, said_to_tool, merge_of_arguments, metadce_of_arguments, split_of_arguments, outputs_said, words_said, names_said, ctor_eval_of_arguments, words_apart, words_if_any, sample_of_arguments, seed_in, count_in, sources_of, some_apart, are_apart, flag_mode, merge_mode, usage_line};
@@ -19,10 +19,10 @@ use std::collections::BTreeMap;
 use tools_cli_words::{Arguments, Tool, cut, listed_words, read_arguments};
 use wasm_bytes::{Items, Name, NoMemory};
 
-// The option of a command with one output.
+// The output option of each command that has one output.
 const OUTPUT_OPTION: &str = "--output";
 
-// Plain words as pairs of a file and a name; none where a file has no name.
+// Pairs positional arguments as a file and a name; returns `None` if the last file has no name.
 fn pair<'a>(alloc: Global, plain: &[&'a str]) -> Result<Option<Vec<Source<'a>>>, NoMemory>
     ensures { IfOk result (λ sources. option_map (λ s. source_values s.items) sources ≡ sources_of (names_of plain.now)) }
 {
@@ -36,7 +36,7 @@ fn pair<'a>(alloc: Global, plain: &[&'a str]) -> Result<Option<Vec<Source<'a>>>,
     Ok(Some(sources))
 }
 
-// No two of the words are equal.
+// Whether no two of the words are equal.
 fn are_apart(alloc: Global, words: &[&str]) -> Result<bool, NoMemory>
     ensures { IfOk result (λ apart. apart ≡ are_apart (names_of words.now)) }
 {
@@ -50,7 +50,6 @@ fn are_apart(alloc: Global, words: &[&str]) -> Result<bool, NoMemory>
     Ok(true)
 }
 
-// The names of sources.
 fn source_names<'a>(alloc: Global, sources: &[Source<'a>]) -> Result<Vec<&'a str>, NoMemory>
     ensures { IfOk result (λ names. names_of names.items ≡ source_names sources.now) }
 {
@@ -61,7 +60,7 @@ fn source_names<'a>(alloc: Global, sources: &[Source<'a>]) -> Result<Vec<&'a str
     Ok(names)
 }
 
-// The sources that plain words name, if they are at least one and have names apart.
+// Returns the sources, if there is at least one and their names are distinct.
 fn some_apart<'a>(alloc: Global, plain: &[&'a str]) -> Result<Option<Vec<Source<'a>>>, NoMemory>
     ensures sources { IfOk result (λ sources. option_map (λ s. source_values s.items) sources ≡ option_and_then some_apart (sources_of (names_of plain.now))) }
     ensures apart { IfOk result (λ sources. IfSome sources (λ s. are_apart (source_names s.items) ≡ true)) }
@@ -80,7 +79,7 @@ fn some_apart<'a>(alloc: Global, plain: &[&'a str]) -> Result<Option<Vec<Source<
     }
 }
 
-// The mode that a flag gives.
+// The mode that a flag selects.
 fn flag_mode(flag: &str) -> Option<Mode>
     ensures { result ≡ flag_mode flag.now }
 {
@@ -93,7 +92,7 @@ fn flag_mode(flag: &str) -> Option<Mode>
     None
 }
 
-// The mode, if at most one flag is there.
+// Returns the mode, if there is at most one flag.
 fn merge_mode(flags: &[&str]) -> Option<Mode>
     ensures { result ≡ merge_mode (names_of flags.now) }
 {
@@ -104,7 +103,7 @@ fn merge_mode(flags: &[&str]) -> Option<Mode>
     }
 }
 
-// The merge of what is said, or none.
+// Returns the task of `merge`, or `None`.
 fn merge_of_arguments<'a>(
     alloc: Global,
     arguments: &'a Arguments,
@@ -128,7 +127,7 @@ fn merge_of_arguments<'a>(
     })))
 }
 
-// The metadce of what is said, or none.
+// Returns the task of `metadce`, or `None`.
 fn metadce_of_arguments<'a>(arguments: &'a Arguments) -> Option<Task<'a>>
     ensures { option_map task_value result ≡ metadce_of_arguments (arguments_value arguments.now) }
 {
@@ -142,7 +141,7 @@ fn metadce_of_arguments<'a>(arguments: &'a Arguments) -> Option<Task<'a>>
     }))
 }
 
-// Two outputs that differ, or none.
+// Returns both outputs of a split, if they are given and differ.
 fn outputs_said<'a>(arguments: &'a Arguments) -> Option<SplitOutputs<'a>>
     ensures { option_map outputs_value result ≡ outputs_said (arguments_value arguments.now) }
 {
@@ -154,7 +153,7 @@ fn outputs_said<'a>(arguments: &'a Arguments) -> Option<SplitOutputs<'a>>
     Some(SplitOutputs { primary, secondary })
 }
 
-// The words of a list, if there is one.
+// Returns the entries of a list, if there is one.
 fn words_in(alloc: Global, list: Option<&str>) -> Result<Option<Items<Name>>, NoMemory>
     ensures { IfOk result (λ words. words ≡ option_map listed_words (option_map (λ text. text.now) list.entry)) }
 {
@@ -164,7 +163,7 @@ fn words_in(alloc: Global, list: Option<&str>) -> Result<Option<Items<Name>>, No
     }
 }
 
-// The words to split, the words to keep, or both, or none.
+// Returns the lists of functions to move and to keep, or `None`.
 fn words_said(alloc: Global, arguments: &Arguments) -> Result<Option<SplitWords>, NoMemory>
     ensures { IfOk result (λ words. words ≡ words_said (arguments_value arguments.now)) }
 {
@@ -183,7 +182,7 @@ fn words_said(alloc: Global, arguments: &Arguments) -> Result<Option<SplitWords>
     }))
 }
 
-// The names that a split adds, or none.
+// Returns the names that a split adds, or `None`.
 fn names_said(alloc: Global, arguments: &Arguments) -> Result<Option<SplitNames>, NoMemory>
     ensures { IfOk result (λ names. names ≡ names_said (arguments_value arguments.now)) }
 {
@@ -203,7 +202,7 @@ fn names_said(alloc: Global, arguments: &Arguments) -> Result<Option<SplitNames>
     }))
 }
 
-// The split of what is said, or none.
+// Returns the task of `split`, or `None`.
 fn split_of_arguments<'a>(
     alloc: Global,
     arguments: &'a Arguments,
@@ -230,7 +229,7 @@ fn split_of_arguments<'a>(
     })))
 }
 
-// The words of a list, if they differ.
+// Returns the entries of a list, if they are distinct.
 fn words_apart(alloc: Global, list: &str) -> Result<Option<Items<Name>>, NoMemory>
     ensures { IfOk result (λ words. words ≡ words_apart list.now) }
 {
@@ -242,7 +241,7 @@ fn words_apart(alloc: Global, list: &str) -> Result<Option<Items<Name>>, NoMemor
     }
 }
 
-// The words of a list that may be absent.
+// Returns the entries of a list; none if there is no list.
 fn words_if_any(alloc: Global, list: Option<&str>) -> Result<Items<Name>, NoMemory>
     ensures { IfOk result (λ words. words ≡ words_if_any (option_map (λ text. text.now) list.entry)) }
 {
@@ -252,7 +251,7 @@ fn words_if_any(alloc: Global, list: Option<&str>) -> Result<Items<Name>, NoMemo
     }
 }
 
-// The evaluation of what is said, or none.
+// Returns the task of `ctor-eval`, or `None`.
 fn ctor_eval_of_arguments<'a>(
     alloc: Global,
     arguments: &'a Arguments,
@@ -283,7 +282,7 @@ fn ctor_eval_of_arguments<'a>(
     })))
 }
 
-// The seed of a sample, or none.
+// Returns the seed of a sample, or `None`.
 fn seed_in(text: &str) -> Option<u32>
     ensures value { result ≡ seed_in text.now }
     ensures few { IfSome result (λ seed. seed < 2 ^ 31) }
@@ -291,7 +290,7 @@ fn seed_in(text: &str) -> Option<u32>
     number_within(text, 0, 2_147_483_647)
 }
 
-// How many functions each module of a sample has, or none.
+// Returns how many functions each module of a sample has, or `None`.
 fn count_in(text: &str) -> Option<u32>
     ensures value { result ≡ count_in text.now }
     ensures some { IfSome result (λ count. 1 ≤ count) }
@@ -300,7 +299,7 @@ fn count_in(text: &str) -> Option<u32>
     number_within(text, 1, 100_000)
 }
 
-// The sample of what is said, or none.
+// Returns the task of `sample`, or `None`.
 fn sample_of_arguments<'a>(arguments: &'a Arguments) -> Option<Task<'a>>
     ensures { option_map task_value result ≡ sample_of_arguments (arguments_value arguments.now) }
 {
@@ -317,7 +316,7 @@ fn sample_of_arguments<'a>(arguments: &'a Arguments) -> Option<Task<'a>>
     }))
 }
 
-// The tool that a first word names.
+// The tool that the first argument of a command line names.
 fn tool_named(word: &str) -> Option<Tool>
     ensures { result ≡ tool_named word.now }
 {
@@ -349,7 +348,8 @@ fn tool_in(words: &[String]) -> Option<Tool>
     }
 }
 
-/// What a command line says to its tool, or none.
+/// Parses the arguments after the first one for the tool that the first one names. Returns `None`
+/// if there is no such tool or they do not parse.
 pub(crate) fn said_to_tool(alloc: Global, words: &[String]) -> Result<Option<Arguments>, NoMemory>
     ensures { IfOk result (λ said. option_map arguments_value said ≡ said_to_tool (map string_bytes words.now)) }
 {
@@ -362,7 +362,7 @@ pub(crate) fn said_to_tool(alloc: Global, words: &[String]) -> Result<Option<Arg
     }
 }
 
-// The task of a tool by what is said to it, or none.
+// Returns the task that parsed arguments ask of a tool, or `None`.
 fn task_of_arguments<'a>(
     alloc: Global,
     tool: Tool,
@@ -379,8 +379,8 @@ fn task_of_arguments<'a>(
     }
 }
 
-/// The task of a command line, or none. `said` is what the command line says to its tool. Where there
-/// was no memory to read that, the result is want of memory too.
+/// Returns the task of a command line, or `None`. `said` are its parsed arguments. If memory ran
+/// out while they were parsed, the result is `NoMemory` too.
 pub(crate) fn parse<'a>(
     alloc: Global,
     words: &[String],
@@ -400,7 +400,7 @@ pub(crate) fn parse<'a>(
     }
 }
 
-/// The usage line of these words.
+/// Returns the usage line for these arguments.
 pub(crate) fn usage(words: &[String]) -> &'static str
     ensures { result.now ≡ usage_line (map string_bytes words.now) }
 {

@@ -1,11 +1,10 @@
-// What an evaluation of constructors is to do.
 ghost use Rattle.std.specs.Prelude.{◌≡◌, ◌∷◌, [], IfOk};
 ghost use Rattle.tools_cli.specs.Command.{names_of};
 
 use std::alloc::Global;
 use wasm_bytes::{Items, Name, NoMemory};
 
-/// What an evaluation of constructors is to do.
+/// What `ctor-eval` is to do.
 #[derive(Drop)]
 pub(crate) struct CtorEvalTask<'a> {
     pub(crate) file: &'a str,
@@ -15,7 +14,7 @@ pub(crate) struct CtorEvalTask<'a> {
 }
 
 impl<'a> CtorEvalTask<'a> {
-    /// The file of the module.
+    /// Returns the file of the module.
     pub(crate) fn files(&self, alloc: Global) -> Result<Vec<&'a str>, NoMemory>
         ensures { IfOk result (λ names. names_of names.items ≡ self.now.file.now ∷ []) }
     {

@@ -33,7 +33,7 @@ pub(crate) struct Decision {
     pub(crate) lines: Vec<u8>,
 }
 
-/// An output without custom sections.
+/// Makes an output without custom sections.
 pub(crate) fn plain_output(alloc: Global, name: &str, tree: Valid) -> Result<Output, NoMemory>
     ensures { IfOk result (λ output. output_value output ≡ record { name = name.now; tree = tree; custom = [] }) }
 {
@@ -42,7 +42,7 @@ pub(crate) fn plain_output(alloc: Global, name: &str, tree: Valid) -> Result<Out
     Ok(Output { name, tree, custom })
 }
 
-/// One output without custom sections, and lines.
+/// Makes a decision of one output without custom sections, and lines.
 pub(crate) fn one_output(
     alloc: Global,
     name: &str,
@@ -56,7 +56,7 @@ pub(crate) fn one_output(
     Ok(Decision { outputs, lines })
 }
 
-/// Two outputs, in the order of writing, and lines.
+/// Makes a decision of two outputs, in the order of writing, and lines.
 pub(crate) fn two_outputs(
     alloc: Global,
     first: Output,

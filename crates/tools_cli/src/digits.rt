@@ -1,4 +1,3 @@
-// A number as text.
 ghost use Rattle.std.specs.Prelude.{◌≡◌, IfOk, string_bytes, decimal};
 
 use itoa::Buffer;
@@ -14,7 +13,7 @@ pub(crate) struct Digits {
 }
 
 impl Digits {
-    /// The number with its digits. The error is want of memory.
+    /// Makes the digits of a number.
     pub(crate) fn new(alloc: Global, number: u32) -> Result<Digits, NoMemory>
         ensures { IfOk result (λ digits. digits.number ≡ number) }
     {
@@ -23,7 +22,7 @@ impl Digits {
         Ok(Digits { number, text })
     }
 
-    /// The digits.
+    /// Returns the digits.
     pub(crate) fn as_str(&self) -> &str
         ensures { result.now ≡ decimal self.now.number }
     {

@@ -1,4 +1,4 @@
-// The outputs of a decision, as the bytes of their files.
+// The outputs of a decision, encoded.
 ghost use Rattle.std.specs.Prelude.{◌≡◌, map, IfOk, IfErr};
 ghost use Rattle.std.specs.List.{list_all};
 ghost use Rattle.tools_cli.specs.Command.{decision_value, output_value, output_values, write_entry, write_entries};
@@ -15,7 +15,7 @@ use wasm_bytes::NoMemory;
 use wasm_tree::{MOST_OUTPUT_BYTES, Which};
 use wasm_write::{fits, write};
 
-/// What is to be written, and the lines for standard output.
+/// The files to be written, and the lines for standard output.
 #[derive(Drop)]
 pub(crate) struct Plan {
     pub(crate) writes: Vec<Write>,
@@ -34,19 +34,17 @@ fn are_within(outputs: &[Output]) -> bool
     true
 }
 
-// One output, encoded.
 fn encode_output(alloc: Global, output: Output) -> Result<Write, NoMemory>
     ensures { IfOk result (λ write. write_entry write ≡ spelled_output (output_value output)) }
 {
     let Output { name, tree, custom } = output;
     let mut bytes = write(alloc, tree.module())?;
-    // The process ends soon: the memory of a tree goes back at once, and not node by node.
+    // The process ends soon and its memory is freed as a whole: the tree is not freed node by node.
     forget(tree);
     bytes.extend_from_slice(custom.as_slice())?;
     Ok(Write { name, bytes })
 }
 
-// All outputs, encoded.
 fn encode_outputs(alloc: Global, outputs: Vec<Output>) -> Result<Vec<Write>, NoMemory>
     ensures { IfOk result (λ writes. write_entries writes.items ≡ map spelled_output (output_values outputs.items)) }
 {

@@ -1,4 +1,4 @@
-// What an evaluation of constructors decides.
+// What `ctor-eval` decides.
 ghost use Rattle.std.specs.Prelude.{◌≡◌, length, IfOk, IfErr};
 ghost use Rattle.tools_cli_eval.specs.Evaluations.{IsEvaluation};
 ghost use Rattle.tools_cli.specs.CommandLine.{CtorEval};
@@ -16,7 +16,7 @@ use std::alloc::Global;
 use tools_cli_eval::{Evaluation, evaluate};
 use wasm_valid::Valid;
 
-// The module after the constructors that are evaluated, how many these are and what ended it.
+// Evaluates the constructors of a module; refuses a fault.
 fn evaluate_by<'a>(
     alloc: Global,
     eval: &CtorEvalTask<'a>,
@@ -31,7 +31,7 @@ fn evaluate_by<'a>(
     }
 }
 
-// Evaluates constructors of one module.
+// Evaluates the constructors of a module, and makes a decision of the result.
 fn evaluate_one<'a>(
     alloc: Global,
     eval: &CtorEvalTask<'a>,
@@ -49,7 +49,7 @@ fn evaluate_one<'a>(
     Ok(one_output(alloc, eval.output, module, lines)?)
 }
 
-/// Evaluates constructors of the module, which is one, of one file.
+/// Decides a `ctor-eval` task, which has one module and one file.
 pub(crate) fn decide_ctor_eval<'a>(
     alloc: Global,
     eval: &CtorEvalTask<'a>,

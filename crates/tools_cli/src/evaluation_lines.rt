@@ -1,4 +1,4 @@
-// The lines that tell of an evaluation of constructors.
+// The lines that report an evaluation of constructors.
 ghost use Rattle.std.specs.Prelude.{◌≡◌, ◌++◌, ◌≤◌, codes, length, slice_get, IfOk, OnOk};
 ghost use Rattle.tools_cli.specs.EvaluationLines.{constructor_line, ending_line, evaluated_lines, lines_after, stop_name};
 
@@ -7,7 +7,7 @@ use std::alloc::{AllocError, Global};
 use tools_cli_eval::Ending;
 use wasm_bytes::{Name, NoMemory};
 
-// What stops an evaluation, by its name.
+// The name of what stops an evaluation.
 fn stop_name<'a>(stop: Stop) -> &'a str
     ensures { result.now ≡ stop_name stop }
 {
@@ -37,7 +37,7 @@ fn evaluated_lines(alloc: Global, names: &[Name]) -> Result<Vec<u8>, NoMemory>
     Ok(lines)
 }
 
-// Adds what stopped an evaluation, behind this text, and ends the line.
+// Adds the text `before` and what stopped an evaluation, and ends the line.
 fn add_stop(lines: &mut Vec<u8>, before: &str, stop: Stop) -> Result<(), AllocError>
     ensures { OnOk result (lines.new.items ≡ lines.old.items ++ (before.now ++ (stop_name stop ++ codes "\n"))) }
 {
@@ -47,7 +47,7 @@ fn add_stop(lines: &mut Vec<u8>, before: &str, stop: Stop) -> Result<(), AllocEr
     Ok(())
 }
 
-// Adds the line that tells what stopped a constructor.
+// Adds the line that reports what stopped the constructor `name`.
 fn add_constructor(lines: &mut Vec<u8>, name: &str, stop: Stop) -> Result<(), AllocError>
     ensures { OnOk result (lines.new.items ≡ lines.old.items ++ constructor_line stop name.now) }
 {
@@ -56,7 +56,7 @@ fn add_constructor(lines: &mut Vec<u8>, name: &str, stop: Stop) -> Result<(), Al
     add_stop(lines, ": ", stop)
 }
 
-// Adds the line that tells what stopped the instantiation, or the constructor at this place.
+// Adds the line that reports what stopped the instantiation, or the constructor at this place.
 fn add_ending(
     lines: &mut Vec<u8>,
     ending: Ending,
@@ -74,7 +74,8 @@ fn add_ending(
     }
 }
 
-/// The lines of an evaluation that came so far in these constructors and ended so.
+/// Returns the lines of an evaluation of `names` whose first `count` constructors were evaluated,
+/// with this ending.
 pub(crate) fn lines_after(
     alloc: Global,
     names: &[Name],

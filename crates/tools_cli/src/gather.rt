@@ -1,4 +1,3 @@
-// The inputs of a command, read in order.
 ghost use Rattle.std.specs.Prelude.{◌≡◌, ◌<◌, ◌≤◌, ◌^◌, map, IfOk, IfErr, IfSome};
 ghost use Rattle.base_lists.specs.Every.{Every};
 ghost use Rattle.wasm_bytes.specs.Reading.{IsBytes};
@@ -20,12 +19,12 @@ pub(crate) struct Input<'a> {
     pub(crate) bytes: Vec<u8>,
 }
 
-// What a slice of bytes holds are bytes.
+// States that the elements of a slice of bytes are below 256.
 fn are_bytes(bytes: &[u8])
     ensures { IsBytes bytes.now }
 {}
 
-/// Reads the files of these names in order, up to `most` bytes together.
+/// Reads the files of these names in order, at most `most` bytes together.
 pub(crate) fn gather<'a, F: Files>(
     alloc: Global,
     files: &mut F,

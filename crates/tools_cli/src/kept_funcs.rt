@@ -1,4 +1,4 @@
-// The functions that were asked to move and are kept, and the lines that tell them.
+// The lines that report functions which were to move and are kept.
 ghost use Rattle.std.specs.Prelude.{◌≡◌, ◌++◌, ℕ, option_map, IfOk, OnOk};
 ghost use Rattle.tools_cli.specs.KeptFuncs.{exported_name, told_name, line_of_func, kept_lines};
 ghost use Rattle.tools_cli.specs.Labels.{label_in};
@@ -10,7 +10,8 @@ use wasm_bytes::NoMemory;
 use wasm_names::FuncName;
 use wasm_tree::{Export, Module, Space};
 
-// The names of functions by exports, from the last export to the first, so that the first of a function counts.
+// The names of functions by exports. The loop goes from the last export to the first, so that the
+// first export of a function counts.
 fn exported_names<'a>(
     alloc: Global,
     exports: &'a [Export],
@@ -27,7 +28,8 @@ fn exported_names<'a>(
     Ok(labels)
 }
 
-// The names by which functions are told, of those that have one: a name of the name list goes before an export.
+// The names by which functions are reported, for those that have one. A name of the name list takes
+// precedence over an export.
 fn told_names<'a>(
     alloc: Global,
     exports: &'a [Export],
@@ -43,7 +45,7 @@ fn told_names<'a>(
     Ok(labels)
 }
 
-// Adds the line that tells of a function.
+// Adds the line that reports a function.
 fn add_line(
     alloc: Global,
     lines: &mut Vec<u8>,
@@ -59,7 +61,7 @@ fn add_line(
     Ok(())
 }
 
-/// A line for each of these functions, in their order.
+/// Returns a line for each of these functions, in their order.
 pub(crate) fn kept_lines(
     alloc: Global,
     module: &Module,

@@ -1,4 +1,5 @@
-// What the definitions mean that the top call's contract cites, as the contract of a call that does nothing.
+// Laws of the definitions that the contract of `run` uses. Each is the contract of a function that
+// does nothing.
 ghost use Rattle.std.specs.Prelude.{◌≡◌, List, ℕ};
 ghost use Rattle.tool_io.specs.FilesAndSinks.{Contents};
 ghost use Rattle.tools_cli.specs.Effects.{Entry, made};
@@ -32,7 +33,7 @@ use wasm_write_proof::{
 };
 use world_sequential_proof::sequential_instantiation_equivalent;
 
-/// A command line has at most one job over some files.
+/// States that a command line has at most one job over some files, if these hold bytes.
 pub fn jobs_are_determined()
     ensures { (words : List (List ℕ)) (files : Contents) (one other : Job) → HoldBytes files → HasJob words files one → HasJob words files other → one ≡ other }
 {
@@ -42,7 +43,7 @@ pub fn jobs_are_determined()
     name_lists_are_those_of_the_first_name_section();
 }
 
-/// Over files that hold bytes every command line has a job.
+/// States that every command line has a job over files that hold bytes.
 pub fn command_lines_have_jobs()
     ensures exists { (words : List (List ℕ)) (files : Contents) → HoldBytes files → (job : Job) × HasJob words files job }
 {
@@ -53,9 +54,10 @@ pub fn command_lines_have_jobs()
     plan_faults_have_causes();
 }
 
-/// A job that is done is faithful: after its writes, each output is a valid module, is what the command makes of the modules and texts that were read, and is observationally
-/// equivalent to the original of its command (`IsFaithful`, with a case for each command). Asked is that the files that are read hold bytes, and that the words of a split
-/// are UTF-8.
+/// States that a job which is done is faithful (`IsFaithful`, with a case for each command): after
+/// its writes, each output is a valid module, is what the command makes of the modules and texts
+/// that were read, and is observationally equivalent to the original of its command. Premises: the
+/// files that are read hold bytes, and the arguments of a split are UTF-8.
 pub fn done_jobs_are_faithful()
     ensures faithful { (words : List (List ℕ)) (before : Contents) (writes : List Entry) (lines : List ℕ) → SplitWordsAreText words → ReadsBytes words before → HasJob words before (Done writes lines) → IsFaithful words before (made writes before) }
 {

@@ -1,4 +1,4 @@
-// Modules that are read and validated.
+// Reading and validating the modules of a command.
 ghost use Rattle.std.specs.Prelude.{◌≡◌, ◌≤◌, ◌<◌, ◌^◌, length, false, Ok, Err, IfOk, IfErr};
 ghost use Rattle.wasm_tree.specs.Bounds.{IsBounded};
 ghost use Rattle.wasm_valid.specs.declared.kinds.Invalid as items;
@@ -15,7 +15,7 @@ use wasm_read::read;
 use wasm_tree::Module;
 use wasm_valid::{Rejected, Valid, validate};
 
-// The tree, known to be valid.
+// Validates a module; refuses its first invalid item.
 fn accept<'a>(alloc: Global, file: &'a str, tree: Module) -> Result<Valid, Stop<'a>>
     requires { IsBounded tree }
     ensures accepted { IfOk result (λ valid. (valid ≡ tree) × IsAccepted false tree) }
@@ -29,7 +29,7 @@ fn accept<'a>(alloc: Global, file: &'a str, tree: Module) -> Result<Valid, Stop<
     Err(Stop::Refused(refuse_item(alloc, file, item)?))
 }
 
-// The module that a file holds.
+// Reads and validates the module that a file holds.
 fn load<'a>(alloc: Global, input: &Input<'a>) -> Result<Valid, Stop<'a>>
     requires { length input.now.bytes.items < 2 ^ 32 }
     ensures loaded { IfOk result (λ tree. Loads false input.now.name.now input.now.bytes.items (Ok tree)) }
@@ -41,7 +41,7 @@ fn load<'a>(alloc: Global, input: &Input<'a>) -> Result<Valid, Stop<'a>>
     }
 }
 
-/// The modules that files hold, in order.
+/// Reads and validates the modules that files hold, in order. The first that fails is refused.
 pub(crate) fn load_all<'a>(alloc: Global, inputs: &[Input<'a>]) -> Result<Vec<Valid>, Stop<'a>>
     requires { total (input_entries inputs.now) ≤ most_input }
     ensures loaded { IfOk result (λ modules. AllLoad false (input_entries inputs.now) modules.items) }

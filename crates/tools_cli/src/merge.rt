@@ -1,4 +1,3 @@
-// What a merge is to do.
 ghost use Rattle.std.specs.Prelude.{◌≡◌, true, IfOk};
 ghost use Rattle.tools_cli.specs.CommandLine.{are_apart};
 ghost use Rattle.tools_cli.specs.Sources.{source_names};
@@ -7,14 +6,14 @@ use merge_names::Mode;
 use std::alloc::Global;
 use wasm_bytes::NoMemory;
 
-/// Where a part of a merge comes from.
+/// A part of a merge: the file that holds it, and its name.
 #[derive(Clone, Copy, Debug)]
 pub(crate) struct Source<'a> {
     pub(crate) file: &'a str,
     pub(crate) name: &'a str,
 }
 
-/// What a merge is to do.
+/// What `merge` is to do.
 #[derive(Drop)]
 pub(crate) struct MergeTask<'a> {
     pub(crate) sources: Vec<Source<'a>>,
@@ -27,7 +26,7 @@ impl<'a> MergeTask<'a> {
     ghost use Rattle.tools_cli.specs.CommandLine.{source_files};
     ghost use Rattle.tools_cli.specs.Command.{merge_value, names_of};
 
-    /// The files of the parts, in order.
+    /// Returns the files of the parts, in order.
     pub(crate) fn files(&self, alloc: Global) -> Result<Vec<&'a str>, NoMemory>
         ensures { IfOk result (λ names. names_of names.items ≡ source_files (merge_value self.now)) }
     {

@@ -1,4 +1,4 @@
-// What a merge decides.
+// What `merge` decides.
 ghost use Rattle.std.specs.Prelude.{◌≡◌, ◌≤◌, ◌<◌, ◌^◌, false, length, IfOk, IfErr};
 ghost use Rattle.base_lists.specs.Every.{Every};
 ghost use Rattle.merge_spec.specs.Parts.{named_modules, HaveDistinctNames};
@@ -20,7 +20,7 @@ use std::alloc::Global;
 use wasm_bytes::{Items, Name, NoMemory};
 use wasm_valid::Valid;
 
-// The parts of a merge: the modules under the names of the sources.
+// Makes the parts of a merge: the modules, each with the name of its source.
 fn name_parts(
     alloc: Global,
     sources: &[Source<'_>],
@@ -37,7 +37,7 @@ fn name_parts(
     Ok(parts)
 }
 
-// The module that parts are merged into.
+// Links and joins the parts; refuses a fault.
 fn merge_parts<'a>(
     alloc: Global,
     merge: &MergeTask<'a>,
@@ -63,7 +63,7 @@ fn merge_parts<'a>(
     }
 }
 
-/// The module that these are merged into, one for each source.
+/// Merges these modules, one for each source.
 pub(crate) fn merge_modules<'a>(
     alloc: Global,
     merge: &MergeTask<'a>,
@@ -79,7 +79,7 @@ pub(crate) fn merge_modules<'a>(
     merge_parts(alloc, merge, parts)
 }
 
-/// Merges modules, one for each source.
+/// Decides a `merge` task with these modules, one for each source.
 pub(crate) fn decide_merge<'a>(
     alloc: Global,
     merge: &MergeTask<'a>,

@@ -1,11 +1,10 @@
-// What a metadce is to do.
 ghost use Rattle.std.specs.Prelude.{◌≡◌, ◌∷◌, [], IfOk};
 ghost use Rattle.tools_cli.specs.Command.{names_of};
 
 use std::alloc::Global;
 use wasm_bytes::NoMemory;
 
-/// What a metadce is to do.
+/// What `metadce` is to do.
 #[derive(Clone, Copy, Debug)]
 pub(crate) struct MetadceTask<'a> {
     pub(crate) file: &'a str,
@@ -14,7 +13,7 @@ pub(crate) struct MetadceTask<'a> {
 }
 
 impl<'a> MetadceTask<'a> {
-    /// The file of the module and that of the graph.
+    /// Returns the file of the module and that of the graph.
     pub(crate) fn files(&self, alloc: Global) -> Result<Vec<&'a str>, NoMemory>
         ensures { IfOk result (λ names. names_of names.items ≡ self.now.file.now ∷ (self.now.graph_file.now ∷ [])) }
     {

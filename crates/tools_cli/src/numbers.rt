@@ -1,4 +1,4 @@
-// Numbers among the words of a command line.
+// Numbers among the arguments of a command line.
 ghost use Rattle.std.specs.Prelude.{◌≡◌, ◌<◌, ◌^◌};
 ghost use Rattle.std.specs.Str.{all_ascii_digits};
 ghost use Rattle.tools_cli.specs.Numbers.{is_number, number_within};
@@ -21,14 +21,14 @@ fn is_number(text: &str) -> bool
     are_digits(text.as_bytes()) && !text.is_empty() && text.len() < 11
 }
 
-/// The number that a text spells in decimal digits, if it is in this range.
+/// Returns the number whose decimal digits the text is, if it is from `least` to `most`.
 pub(crate) fn number_within(text: &str, least: u32, most: u32) -> Option<u32>
     ensures { result ≡ number_within least most text.now }
 {
     if !is_number(text) {
         return None;
     }
-    // more than a u32 is above the range
+    // a number that does not fit a u32 is above `most` too
     match text.parse::<u32>() {
         Ok(number) if least <= number && number <= most => Some(number),
         _ => None,

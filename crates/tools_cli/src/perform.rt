@@ -1,4 +1,3 @@
-// The writes of a command.
 ghost use Rattle.std.specs.Prelude.{◌≡◌, OnOk, IfErr};
 ghost use Rattle.tool_io.specs.FilesAndSinks.{NoneFell, Becomes};
 ghost use Rattle.tools_cli.specs.Effects.{made, IsCut};
@@ -15,7 +14,7 @@ pub(crate) struct Write {
     pub(crate) bytes: Vec<u8>,
 }
 
-/// Writes files in order.
+/// Writes these files in order. Stops at the first that fails.
 pub(crate) fn write_outputs<'a, F: Files>(
     files: &mut F,
     outputs: Vec<Write>,

@@ -1,4 +1,4 @@
-// What a metadce decides.
+// What `metadce` decides.
 ghost use Rattle.std.specs.Prelude.{◌≡◌, ◌≤◌, ◌<◌, ◌^◌, List, ℕ, length, Ok, Err, IfOk, IfErr};
 ghost use Rattle.base_lists.specs.Every.{Every};
 ghost use Rattle.wasm_valid.specs.Validity.{IsValid};
@@ -24,7 +24,7 @@ use std::alloc::Global;
 use wasm_bytes::NoMemory;
 use wasm_valid::Valid;
 
-// The graph that a graph file holds.
+// Reads the graph of a graph file; refuses a fault.
 fn graph_in<'a>(alloc: Global, file: &'a str, text: &[u8]) -> Result<Graph, Stop<'a>>
     requires { length text.now < 2 ^ 32 }
     ensures graph { IfOk result (λ graph. graph_result text.now ≡ Ok graph) }
@@ -37,7 +37,7 @@ fn graph_in<'a>(alloc: Global, file: &'a str, text: &[u8]) -> Result<Graph, Stop
     }
 }
 
-// Marks on exactly what is reached, by which a module can be swept.
+// Marks exactly what is reached of the module; these marks are closed.
 fn marks_in(alloc: Global, graph: &Graph, module: &Valid) -> Result<Reached, NoMemory>
     requires { length graph.now.nodes < 2 ^ 32 }
     ensures exact { IfOk result (AreExact graph.now «module».now) }
@@ -48,7 +48,7 @@ fn marks_in(alloc: Global, graph: &Graph, module: &Valid) -> Result<Reached, NoM
     reached(alloc, graph, module)
 }
 
-// What is left of the module.
+// Removes from the module what is not marked; refuses a fault.
 fn sweep_by<'a>(alloc: Global, module: Valid, marks: &Reached) -> Result<Valid, Stop<'a>>
     requires { AreClosed (marks_of marks.now) «module» }
     ensures swept { IfOk result (λ left. Sweeps (marks_of marks.now) «module» (Ok left)) }
@@ -60,7 +60,8 @@ fn sweep_by<'a>(alloc: Global, module: Valid, marks: &Reached) -> Result<Valid, 
     }
 }
 
-// Reduces one module by a graph, which any text of a graph file gives that is read as it.
+// Decides for one module and a graph. The decision is the same for every text that encodes this
+// graph.
 fn reduce_by<'a>(
     alloc: Global,
     metadce: &MetadceTask<'a>,
@@ -77,7 +78,7 @@ fn reduce_by<'a>(
     Ok(one_output(alloc, metadce.output, left, lines)?)
 }
 
-// Reduces one module, by the text of its graph file.
+// Decides for one module and the text of its graph file.
 fn reduce<'a>(
     alloc: Global,
     metadce: &MetadceTask<'a>,
@@ -92,7 +93,7 @@ fn reduce<'a>(
     reduce_by(alloc, metadce, module, &graph)
 }
 
-/// Reduces the module of a metadce, which is one, by its graph file, whose contents are the second of two.
+/// Decides a `metadce` task, which has one module and, as its second file, the graph file.
 pub(crate) fn decide_metadce<'a>(
     alloc: Global,
     metadce: &MetadceTask<'a>,

@@ -1,4 +1,4 @@
-// What is wrong with the input, and the text of it.
+// Refusals and their texts.
 ghost use Rattle.std.specs.Prelude.{◌≡◌, ◌++◌, Some, IfOk, decimal, flat_map, length, slice_get, codes, ◌<◌};
 ghost use Rattle.tools_cli.specs.Texts.{which_text, fault_text, kind_text, invalid_text, link_text, join_text, graph_text, sweep_text, plan_text, split_text, eval_text};
 ghost use Rattle.tools_cli.specs.Stop.{refusal_text};
@@ -19,7 +19,7 @@ use wasm_read::ReadFault;
 use wasm_tree::Which;
 use wasm_valid::{Invalid, ItemKind};
 
-/// What is wrong with the input, by the names of the faults.
+/// Why the input is refused, with what the text of the refusal names.
 #[derive(Drop)]
 pub(crate) enum Refusal<'a> {
     NotModule {
@@ -110,7 +110,7 @@ pub(crate) enum Refusal<'a> {
     },
 }
 
-/// The refusal of a file for its first fault. Want of memory is the error, also as a fault.
+/// Makes the refusal of a file for its first fault. The fault `NoMemory` becomes the error.
 pub(crate) fn refuse_fault<'a>(
     alloc: Global,
     file: &'a str,
@@ -147,7 +147,7 @@ pub(crate) fn refuse_fault<'a>(
     }
 }
 
-/// The refusal of a file for an invalid item. Its error is want of memory.
+/// Makes the refusal of a file for the first invalid item of its module.
 pub(crate) fn refuse_item<'a>(
     alloc: Global,
     file: &'a str,
@@ -171,7 +171,7 @@ fn file_of<'a>(sources: &[Source<'a>], part: u32) -> &'a str
     sources[part as usize].file
 }
 
-/// The refusal of parts that do not link. Want of memory is the error, also as a fault.
+/// Makes the refusal of parts that do not link. The fault `NoMemory` becomes the error.
 pub(crate) fn refuse_link<'a>(
     alloc: Global,
     sources: &[Source<'a>],
@@ -202,7 +202,7 @@ pub(crate) fn refuse_link<'a>(
     }
 }
 
-/// The refusal of parts that are not joined. Want of memory is the error, as a fault.
+/// Makes the refusal of parts that cannot be joined. The fault `NoMemory` becomes the error.
 pub(crate) fn refuse_join<'a>(fault: JoinFault) -> Result<Refusal<'a>, NoMemory>
     ensures { IfOk result (λ refusal. join_text fault ≡ Some (refusal_text refusal)) }
 {
@@ -213,7 +213,7 @@ pub(crate) fn refuse_join<'a>(fault: JoinFault) -> Result<Refusal<'a>, NoMemory>
     }
 }
 
-/// The refusal of a graph file. Want of memory is the error, also as a fault.
+/// Makes the refusal of a graph file. The fault `NoMemory` becomes the error.
 pub(crate) fn refuse_graph<'a>(
     alloc: Global,
     file: &'a str,
@@ -233,7 +233,8 @@ pub(crate) fn refuse_graph<'a>(
     }
 }
 
-/// The refusal of a module whose sweep has too many of something. Want of memory is the error, as a fault.
+/// Makes the refusal of a sweep that leaves too many of something. The fault `NoMemory` becomes the
+/// error.
 pub(crate) fn refuse_sweep<'a>(fault: SweepFault) -> Result<Refusal<'a>, NoMemory>
     ensures { IfOk result (λ refusal. sweep_text fault ≡ Some (refusal_text refusal)) }
 {
@@ -243,7 +244,7 @@ pub(crate) fn refuse_sweep<'a>(fault: SweepFault) -> Result<Refusal<'a>, NoMemor
     }
 }
 
-/// The refusal of words that tell no plan. Want of memory is the error, as a fault.
+/// Makes the refusal of names that a split lists. The fault `NoMemory` becomes the error.
 pub(crate) fn refuse_plan<'a>(fault: PlanFault) -> Result<Refusal<'a>, NoMemory>
     ensures { IfOk result (λ refusal. plan_text fault ≡ Some (refusal_text refusal)) }
 {
@@ -255,7 +256,7 @@ pub(crate) fn refuse_plan<'a>(fault: PlanFault) -> Result<Refusal<'a>, NoMemory>
     }
 }
 
-/// The refusal of a module that is not split. Want of memory is the error, also as a fault.
+/// Makes the refusal of a module that cannot be split. The fault `NoMemory` becomes the error.
 pub(crate) fn refuse_split<'a>(
     alloc: Global,
     file: &'a str,
@@ -274,7 +275,7 @@ pub(crate) fn refuse_split<'a>(
     }
 }
 
-/// The refusal of constructors that are not evaluated. Want of memory is the error, as a fault.
+/// Makes the refusal of an evaluation. The fault `NoMemory` becomes the error.
 pub(crate) fn refuse_eval<'a>(fault: EvalFault) -> Result<Refusal<'a>, NoMemory>
     ensures { IfOk result (λ refusal. eval_text fault ≡ Some (refusal_text refusal)) }
 {
@@ -310,7 +311,7 @@ fn which_name<'a>(which: Which) -> &'a str
     }
 }
 
-// What stands between a file and the number of an invalid item.
+// The text between a file and the number of an invalid item.
 fn invalid_kind<'a>(kind: ItemKind) -> &'a str
     ensures { result.now ≡ codes ": invalid " ++ kind_text kind }
 {
@@ -329,21 +330,21 @@ fn invalid_kind<'a>(kind: ItemKind) -> &'a str
     }
 }
 
-// What is said of a file, at a number.
+// A text about a file, with a number at its end.
 fn at<'a>(file: &'a str, says: &'a str, number: &'a Digits) -> [&'a str; 4]
     ensures { flat_map (λ p. p.now) result ≡ file.now ++ (says.now ++ decimal number.now.number) }
 {
     [file, says, number.as_str(), ""]
 }
 
-// What is said of an import of a file.
+// The text about an import of a file.
 fn at_import<'a>(file: &'a str, import: &'a Digits, says: &'a str) -> [&'a str; 4]
     ensures { flat_map (λ p. p.now) result ≡ file.now ++ (codes ": import " ++ (decimal import.now.number ++ says.now)) }
 {
     [file, ": import ", import.as_str(), says]
 }
 
-/// The text of a refusal, in pieces.
+/// Returns the text of a refusal, in pieces.
 pub(crate) fn refusal_pieces<'a>(refusal: &'a Refusal<'a>) -> [&'a str; 4]
     ensures { flat_map (λ p. p.now) result ≡ refusal_text refusal.now }
 {

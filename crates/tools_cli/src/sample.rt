@@ -1,7 +1,6 @@
-// What a sample is to do.
 ghost use Rattle.std.specs.Prelude.{◌≤◌, ◌<◌, ◌^◌};
 
-/// What a sample is to do.
+/// What `sample` is to do.
 #[derive(Drop)]
 pub(crate) struct SampleTask<'a> {
     pub(crate) seed: u32,

@@ -1,4 +1,3 @@
-// The lines of a sample.
 ghost use Rattle.std.specs.Prelude.{◌≡◌, ◌++◌, decimal, string_bytes, IfOk, OnOk};
 ghost use Rattle.tools_cli.specs.Command.{sample_value};
 ghost use Rattle.tools_cli.specs.SampleLines.{sample_lines};
@@ -18,7 +17,7 @@ fn add(lines: &mut String, text: &str, number: usize) -> Result<(), AllocError>
     lines.push_str(Buffer::new().format(number))
 }
 
-/// The lines of a sample whose modules are merged into this one.
+/// Returns the lines of a sample whose merged module is `tree`.
 pub(crate) fn sample_lines(
     alloc: Global,
     sample: &SampleTask<'_>,
@@ -26,7 +25,7 @@ pub(crate) fn sample_lines(
 ) -> Result<Vec<u8>, NoMemory>
     ensures { IfOk result (λ lines. lines.items ≡ sample_lines (sample_value sample.now) tree.now) }
 {
-    // the bytes are counted as they are written: the writer has no other count of them
+    // the bytes are written to be counted: the writer has no other count of them
     let bytes = write(alloc, tree)?;
     let mut lines = String::new(alloc);
     add(&mut lines, "sample seed ", sample.seed as usize)?;

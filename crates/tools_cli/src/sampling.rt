@@ -1,4 +1,4 @@
-// What a sample decides.
+// What `sample` decides.
 ghost use Rattle.std.specs.Prelude.{◌≡◌, option_map, IfOk, IfErr};
 ghost use Rattle.tools_cli.specs.Command.{merge_value, sample_value, output_values, decision_value};
 ghost use Rattle.tools_cli.specs.Job.{Samples, Refuses, sample_merge, sample_modules, sample_outputs};
@@ -16,7 +16,7 @@ use wasm_bytes::NoMemory;
 use wasm_gen::{Sample, sample};
 use wasm_valid::Valid;
 
-// The two modules.
+// Makes the two modules.
 fn sample_modules(alloc: Global, task: &SampleTask<'_>) -> Result<Vec<Valid>, NoMemory>
     ensures { IfOk result (λ modules. modules.items ≡ sample_modules (sample_value task.now)) }
 {
@@ -27,7 +27,7 @@ fn sample_modules(alloc: Global, task: &SampleTask<'_>) -> Result<Vec<Valid>, No
     Ok(modules)
 }
 
-// How they are merged.
+// How the two modules are merged.
 fn sample_merge<'a>(alloc: Global) -> Result<MergeTask<'a>, NoMemory>
     ensures { IfOk result (λ merge. merge_value merge ≡ sample_merge) }
 {
@@ -47,7 +47,7 @@ fn sample_merge<'a>(alloc: Global) -> Result<MergeTask<'a>, NoMemory>
     })
 }
 
-// The output, if there is one.
+// The merged module as the output, if the sample names one.
 fn sample_outputs(
     alloc: Global,
     task: &SampleTask<'_>,
@@ -62,7 +62,7 @@ fn sample_outputs(
     Ok(outputs)
 }
 
-/// Makes two modules and merges them.
+/// Decides a `sample` task: makes two modules and merges them.
 pub(crate) fn decide_sample<'a>(alloc: Global, task: &SampleTask<'a>) -> Result<Decision, Stop<'a>>
     ensures decided { IfOk result (λ decision. Samples (sample_value task.now) (decision_value decision)) }
     ensures stops { IfErr result (StopsWith (λ text. Samples (sample_value task.now) (Refuses text))) }

@@ -1,23 +1,22 @@
-// What a split is to do.
 use split_spec::SplitNames;
 use std::alloc::Global;
 use wasm_bytes::{Items, Name, NoMemory};
 
-/// Where the two modules of a split are written.
+/// The output files of a split.
 #[derive(Clone, Copy, Debug)]
 pub(crate) struct SplitOutputs<'a> {
     pub(crate) primary: &'a str,
     pub(crate) secondary: &'a str,
 }
 
-/// The words that name functions to move, and those that name functions to keep, where there are such.
+/// The names of functions to move and of functions to keep, for each list that is given.
 #[derive(Drop)]
 pub(crate) struct SplitWords {
     pub(crate) split: Option<Items<Name>>,
     pub(crate) keep: Option<Items<Name>>,
 }
 
-/// What a split is to do.
+/// What `split` is to do.
 #[derive(Drop)]
 pub(crate) struct SplitTask<'a> {
     pub(crate) file: &'a str,
@@ -30,7 +29,7 @@ impl<'a> SplitTask<'a> {
     ghost use Rattle.std.specs.Prelude.{◌≡◌, ◌∷◌, [], IfOk};
     ghost use Rattle.tools_cli.specs.Command.{names_of};
 
-    /// The file of the module.
+    /// Returns the file of the module.
     pub(crate) fn files(&self, alloc: Global) -> Result<Vec<&'a str>, NoMemory>
         ensures { IfOk result (λ names. names_of names.items ≡ self.now.file.now ∷ []) }
     {

@@ -1,4 +1,4 @@
-// What a split decides.
+// What `split` decides.
 ghost use Rattle.std.specs.Prelude.{◌≡◌, ◌≤◌, ◌<◌, ◌^◌, [], ◌∷◌, length, None, IfOk, IfErr};
 ghost use Rattle.wasm_names.specs.NameList.{AreFunctionNames};
 ghost use Rattle.split_plan.specs.Plans.{IsPlan};
@@ -23,7 +23,8 @@ use wasm_bytes::{Items, NoMemory};
 use wasm_names::{FuncName, function_names};
 use wasm_valid::Valid;
 
-// Which functions move, and which were asked to and are kept.
+// Finds which functions move, and which were to move and are kept; refuses a fault of the listed
+// names.
 fn plan_by<'a>(
     alloc: Global,
     task: &SplitTask<'a>,
@@ -48,7 +49,7 @@ fn plan_by<'a>(
     }
 }
 
-// The two modules.
+// Splits the module; refuses a fault.
 fn split_by<'a>(
     alloc: Global,
     task: &SplitTask<'a>,
@@ -67,7 +68,7 @@ fn split_by<'a>(
     }
 }
 
-// Both modules of a split as outputs, in the order of writing.
+// Makes outputs of both modules, in the order of writing.
 fn both_outputs(
     alloc: Global,
     task: &SplitTask<'_>,
@@ -84,7 +85,7 @@ fn both_outputs(
     two_outputs(alloc, first, second, lines)
 }
 
-// Splits one module by the words, whose functions have these names.
+// Decides for one module whose functions have these names.
 fn split_named<'a>(
     alloc: Global,
     task: &SplitTask<'a>,
@@ -107,7 +108,8 @@ fn split_named<'a>(
     Ok(both_outputs(alloc, task, pair, lines)?)
 }
 
-/// Splits the module of a split, which is one, by the names in its file.
+/// Decides a `split` task, which has one module and one file. The file gives the functions their
+/// names.
 pub(crate) fn decide_split<'a>(
     alloc: Global,
     task: &SplitTask<'a>,

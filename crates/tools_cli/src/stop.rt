@@ -1,4 +1,4 @@
-// Why a command ends, and what is said of it.
+// Why a command stops, and the line about it.
 ghost use Rattle.std.specs.Prelude.{◌≡◌, ◌≤◌, flat_map};
 ghost use Rattle.tool_io.specs.FilesAndSinks.{Becomes, AppendsPrefix};
 ghost use Rattle.tools_cli.specs.Stop.{status_of, line_of, code_of, Reports};
@@ -13,20 +13,20 @@ use wasm_bytes::NoMemory;
 /// How a command ended.
 #[derive(Clone, Copy, Debug, PartialEq, Eq)]
 pub enum Status {
-    /// All that was asked for is written and printed.
+    /// All outputs are written and all lines printed.
     Done,
-    /// The input is refused, as the line on standard error says.
+    /// The input is refused. The line on standard error says why.
     Refused,
-    /// The words ask for no command.
+    /// The arguments ask for no task.
     Usage,
     /// A file or a standard stream failed.
     Outside,
-    /// There was no memory for the work.
+    /// Memory ran out.
     NoMemory,
 }
 
 impl Status {
-    /// The exit code of the program, 0 to 4.
+    /// Returns the exit status of the program, 0 to 4.
     pub fn code(self) -> u8
         ensures { result ≡ code_of self }
     {
@@ -40,7 +40,7 @@ impl Status {
     }
 }
 
-/// Why a command does not end as done.
+/// Why a command stops before it is done.
 #[derive(Drop)]
 pub(crate) enum Stop<'a> {
     // with the usage line
@@ -81,7 +81,7 @@ impl<'a, T: Drop> From<AllocFailed<T>> for Stop<'a> {
     }
 }
 
-// The line of a stop, in pieces.
+// The line about a stop, in pieces.
 fn pieces<'a>(stop: &'a Stop<'a>) -> [&'a str; 6]
     ensures { flat_map (λ p. p.now) result ≡ line_of stop.now }
 {
@@ -96,7 +96,8 @@ fn pieces<'a>(stop: &'a Stop<'a>) -> [&'a str; 6]
     ["binkit: ", first, second, third, fourth, "\n"]
 }
 
-/// Puts the line of a stop, and gives the status.
+/// Prints the line about a stop, and returns its status. If printing fails, the status is
+/// `Outside`, and if memory runs out, it is `NoMemory`.
 pub(crate) fn report<'a, E: Sink>(err: &mut E, stop: &'a Stop<'a>) -> Status
     ensures prefix { Becomes (E.bytes err.old) (E.bytes err.new) (AppendsPrefix (line_of stop.now)) }
     ensures later { E.faults err.old ≤ E.faults err.new }

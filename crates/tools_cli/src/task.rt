@@ -1,4 +1,3 @@
-// What a command line asks for: a case for each command.
 ghost use Rattle.std.specs.Prelude.{◌≡◌, length, option_map, IfOk};
 ghost use Rattle.tools_cli.specs.CommandLine.{inputs_of, modules_of};
 ghost use Rattle.tools_cli.specs.Job.{refused_before};
@@ -15,7 +14,7 @@ use std::alloc::Global;
 use wasm_bytes::NoMemory;
 use wasm_tree::MOST_PARTS;
 
-/// What a command is to do.
+/// What a command is to do, with a case for each command.
 #[derive(Drop)]
 pub(crate) enum Task<'a> {
     Merge(MergeTask<'a>),
@@ -26,7 +25,7 @@ pub(crate) enum Task<'a> {
 }
 
 impl<'a> Task<'a> {
-    /// The files that are read, in order: the modules first.
+    /// Returns the files to read, in order: the modules first.
     pub(crate) fn inputs(&self, alloc: Global) -> Result<Vec<&'a str>, NoMemory>
         ensures { IfOk result (λ names. names_of names.items ≡ inputs_of (task_value self.now)) }
     {
@@ -39,7 +38,7 @@ impl<'a> Task<'a> {
         }
     }
 
-    /// How many of the files are modules.
+    /// Returns how many of the files are modules.
     pub(crate) fn module_count(&self) -> usize
         ensures { result ≡ length (modules_of (task_value self.now)) }
     {
@@ -50,7 +49,7 @@ impl<'a> Task<'a> {
         }
     }
 
-    /// The refusal of a task before any file is read.
+    /// Returns the refusal of a task that is refused before any file is read.
     pub(crate) fn refused_before(&self) -> Option<Refusal<'a>>
         ensures { option_map refusal_text result ≡ refused_before (task_value self.now) }
     {

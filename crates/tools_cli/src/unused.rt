@@ -1,4 +1,4 @@
-// The nodes of a graph that are not reached, and the lines that tell them.
+// The lines that report nodes of a graph that are not reached.
 ghost use Rattle.std.specs.Prelude.{◌≡◌, length, IfOk};
 ghost use Rattle.tools_cli.specs.Unused.{unused_lines};
 ghost use Rattle.tools_cli.specs.Unmarked.{unmarked_names};
@@ -27,7 +27,8 @@ fn unmarked_names<'a>(
     Ok(names)
 }
 
-/// A line for each node without a mark, in ascending order of the bytes of their names.
+/// Returns a line for each name of a node without a mark, in ascending order of the bytes of the
+/// names.
 pub(crate) fn unused_lines(
     alloc: Global,
     nodes: &[Node],

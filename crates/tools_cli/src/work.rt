@@ -1,4 +1,4 @@
-// The work of a command, up to what is said of a stop.
+// The work of a command. A stop is reported by `run`.
 ghost use Rattle.std.specs.Prelude.{◌≡◌, ◌≤◌, ◌++◌, [], map, string_bytes, option_map, OnOk, IfOk, IfErr, IfSome, None};
 ghost use Rattle.base_lists.specs.Every.{Every};
 ghost use Rattle.wasm_bytes.specs.Reading.{IsBytes};
@@ -44,7 +44,7 @@ fn read_inputs<'a, F: Files>(
     gather(alloc, files, names.as_slice(), MOST_INPUT_BYTES as usize)
 }
 
-// Loads the modules, decides over them and the contents of all files, and encodes what is decided.
+// Loads the modules, decides over them and the contents of all files, and encodes the outputs.
 fn plan<'a>(alloc: Global, task: &Task<'a>, inputs: &[Input<'a>]) -> Result<Plan, Stop<'a>>
     requires room { total (input_entries inputs.now) ≤ most_input }
     requires names { map (λ e. e.0) (input_entries inputs.now) ≡ inputs_of (task_value task.now) }
@@ -58,7 +58,7 @@ fn plan<'a>(alloc: Global, task: &Task<'a>, inputs: &[Input<'a>]) -> Result<Plan
     encode(alloc, decision)
 }
 
-// Comes to what a task is to write and to print.
+// Does all of a task except writing and printing.
 fn prepare<'a, F: Files>(alloc: Global, task: &Task<'a>, files: &mut F) -> Result<Plan, Stop<'a>>
     ensures stays { F.contents files.new ≡ F.contents files.old }
     ensures reads { NoneFell (F.read_faults files.old) (F.read_faults files.new) }
@@ -76,7 +76,7 @@ fn prepare<'a, F: Files>(alloc: Global, task: &Task<'a>, files: &mut F) -> Resul
     plan(alloc, task, inputs.as_slice())
 }
 
-// Puts the lines of a command on standard output, if there are any.
+// Prints the lines of a command, if there are any.
 fn print_lines<'a, O: Sink>(out: &mut O, lines: &[u8]) -> Result<(), Stop<'a>>
     ensures printed { OnOk result (Becomes (O.bytes out.old) (O.bytes out.new) (λ a b. b ≡ a ++ lines.now)) }
     ensures prefix { Becomes (O.bytes out.old) (O.bytes out.new) (AppendsPrefix lines.now) }
@@ -111,7 +111,7 @@ fn finish<'a, F: Files, O: Sink>(files: &mut F, out: &mut O, plan: Plan) -> Resu
     print_lines(out, lines.as_slice())
 }
 
-/// Does what a command line asks for, by what it says to its tool.
+/// Does what a command line asks for; `said` are its parsed arguments.
 pub(crate) fn run_command<'a, F: Files, O: Sink>(
     alloc: Global,
     words: &[String],

@@ -5,7 +5,8 @@ use std::test::Fail;
 use tool_io::MemFiles;
 use tools_cli::Status;
 
-// That the merge of the bytes alone, as a.wasm, is refused with this text, or writes them where there is none, and leaves a.wasm as it is.
+// Merges the bytes alone, as a.wasm. Expects the refusal with this text or, if the text is empty,
+// the same bytes as output; a.wasm must be unchanged.
 fn unlike_told(alloc: Global, bytes: &[u8], text: &str) -> Result<&'static str, Fail> {
     let mut files = MemFiles::new(alloc);
     files.add("a.wasm", bytes)?;
@@ -23,8 +24,8 @@ fn unlike_told(alloc: Global, bytes: &[u8], text: &str) -> Result<&'static str, 
     Ok(ran.unlike(Status::Done, "", ""))
 }
 
-// What is said of the first bytes of a module that has 34, from none on: so many counts after one
-// another, and the text. Nothing is said where the bytes are a module.
+// The refusals of the first n bytes of the 34 bytes of A, from n = 0 on: each text for this many
+// values of n. An empty text means that the bytes are a module.
 const CUTS: [(usize, &str); 8] = [
     (8, "not a WebAssembly module"),
     (1, ""),

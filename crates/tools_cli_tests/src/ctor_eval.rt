@@ -1,4 +1,4 @@
-// The evaluation of constructors.
+// Tests of `ctor-eval`.
 use crate::given::{CUT, HEADER, LINKED, Ran, module_of, run_line, words_of};
 use std::alloc::Global;
 use std::test::Fail;
@@ -9,15 +9,15 @@ use tools_cli::{Status, run};
 const THREE: &str =
     "01 04 01 60 00 00 02 09 01 03 65 6E 76 01 66 00 00 03 04 03 00 00 00 05 03 01 00 01 07 0D 03 01 61 00 01 01 62 00 02 01 63 00 03 0A 1C 03 0A 00 41 80 08 41 2A 3A 00 00 0B 0C 00 41 81 08 41 01 3A 00 00 10 00 0B 02 00 0B";
 
-// After a.
+// THREE after a.
 const THREE_AFTER: &str =
     "01 04 01 60 00 00 02 09 01 03 65 6E 76 01 66 00 00 03 04 03 00 00 00 05 03 01 00 01 07 09 02 01 62 00 02 01 63 00 03 0A 1C 03 0A 00 41 80 08 41 2A 3A 00 00 0B 0C 00 41 81 08 41 01 3A 00 00 10 00 0B 02 00 0B 0B 08 01 00 41 80 08 0B 01 2A";
 
-// After a, whose export stays.
+// THREE after a, whose export is kept.
 const THREE_KEPT: &str =
     "01 04 01 60 00 00 02 09 01 03 65 6E 76 01 66 00 00 03 05 04 00 00 00 00 05 03 01 00 01 07 0D 03 01 61 00 04 01 62 00 02 01 63 00 03 0A 1F 04 0A 00 41 80 08 41 2A 3A 00 00 0B 0C 00 41 81 08 41 01 3A 00 00 10 00 0B 02 00 0B 02 00 0B 0B 08 01 00 41 80 08 0B 01 2A";
 
-// After a and c, whose exports stay and share a function.
+// THREE after a and c, whose exports are kept and share a function.
 const THREE_BOTH_KEPT: &str =
     "01 04 01 60 00 00 02 09 01 03 65 6E 76 01 66 00 00 03 05 04 00 00 00 00 05 03 01 00 01 07 0D 03 01 61 00 04 01 62 00 02 01 63 00 04 0A 1F 04 0A 00 41 80 08 41 2A 3A 00 00 0B 0C 00 41 81 08 41 01 3A 00 00 10 00 0B 02 00 0B 02 00 0B 0B 08 01 00 41 80 08 0B 01 2A";
 
@@ -25,47 +25,50 @@ const THREE_BOTH_KEPT: &str =
 const LINKED_AFTER: &str =
     "01 0D 03 60 00 00 60 01 7F 01 7F 60 01 7F 00 02 0B 01 03 65 6E 76 03 6C 6F 67 00 02 03 05 04 00 00 01 01 04 05 01 70 01 05 05 05 03 01 00 02 06 08 01 7F 01 41 90 88 04 0B 07 10 02 06 6D 65 6D 6F 72 79 02 00 03 72 75 6E 00 04 09 07 01 00 41 01 0B 01 03 0A 27 04 04 00 10 02 0B 0A 00 41 00 41 2A 36 02 84 08 0B 07 00 20 00 41 01 74 0B 0D 00 20 00 10 00 20 00 41 01 11 01 00 0B 0B 0C 01 00 41 80 08 0B 05 68 69 00 00 2A";
 
-// A segment has a byte for place 4000, and a stores at 4256 and at 4513.
+// A segment has a byte at 4000, and a stores at 4256 and at 4513.
 const ZEROS: &str =
     "01 04 01 60 00 00 03 02 01 00 05 03 01 00 01 07 05 01 01 61 00 00 0A 14 01 12 00 41 A0 21 41 02 3A 00 00 41 A1 23 41 03 3A 00 00 0B 0B 08 01 00 41 A0 1F 0B 01 01";
 
-// After a: 255 zeros lie in the first of two segments, and 256 between them.
+// ZEROS after a: the first of two segments contains 255 zeros, and 256 zeros lie between the
+// segments.
 const ZEROS_AFTER: &str =
     "01 04 01 60 00 00 03 02 01 00 05 03 01 00 01 0A 14 01 12 00 41 A0 21 41 02 3A 00 00 41 A1 23 41 03 3A 00 00 0B 0B 90 02 02 00 41 A0 1F 0B 81 02 01 00 00 00 00 00 00 00 00 00 00 00 00 00 00 00 00 00 00 00 00 00 00 00 00 00 00 00 00 00 00 00 00 00 00 00 00 00 00 00 00 00 00 00 00 00 00 00 00 00 00 00 00 00 00 00 00 00 00 00 00 00 00 00 00 00 00 00 00 00 00 00 00 00 00 00 00 00 00 00 00 00 00 00 00 00 00 00 00 00 00 00 00 00 00 00 00 00 00 00 00 00 00 00 00 00 00 00 00 00 00 00 00 00 00 00 00 00 00 00 00 00 00 00 00 00 00 00 00 00 00 00 00 00 00 00 00 00 00 00 00 00 00 00 00 00 00 00 00 00 00 00 00 00 00 00 00 00 00 00 00 00 00 00 00 00 00 00 00 00 00 00 00 00 00 00 00 00 00 00 00 00 00 00 00 00 00 00 00 00 00 00 00 00 00 00 00 00 00 00 00 00 00 00 00 00 00 00 00 00 00 00 00 00 00 00 00 00 00 00 00 00 00 00 00 00 00 00 00 00 00 00 00 00 00 00 00 00 00 00 00 00 00 00 00 00 00 00 00 00 00 00 00 00 00 00 02 00 41 A1 23 0B 01 03";
 
-// A memory of 65,536 pages, in whose last byte a stores.
+// A memory of 65,536 pages; a stores in its last byte.
 const LAST_BYTE: &str =
     "01 04 01 60 00 00 03 02 01 00 05 05 01 00 80 80 04 07 05 01 01 61 00 00 0A 0B 01 09 00 41 7F 41 01 3A 00 00 0B";
 
-// After a.
+// LAST_BYTE after a.
 const LAST_BYTE_AFTER: &str =
     "01 04 01 60 00 00 03 02 01 00 05 05 01 00 80 80 04 0A 0B 01 09 00 41 7F 41 01 3A 00 00 0B 0B 07 01 00 41 7F 0B 01 01";
 
-// Global 0 is imported, and global 1 begins with its value. a sets globals 2 to 4, the last one to function 1, which is the start and sets global 5.
+// Global 0 is imported, and global 1 begins with its value. a sets globals 2 to 4, the last one to
+// function 1, which is the start and sets global 5.
 const GLOBALS: &str =
     "01 04 01 60 00 00 02 0A 01 03 65 6E 76 01 67 03 7F 00 03 03 02 00 00 06 1A 05 7F 01 23 00 0B 7F 01 41 01 0B 7E 01 42 02 0B 70 01 D0 70 0B 7F 01 41 03 0B 07 09 02 01 61 00 00 01 74 00 01 08 01 01 0A 1B 02 12 00 41 79 24 02 42 80 E4 97 D0 12 24 03 D2 01 24 04 0B 06 00 41 04 24 05 0B";
 
-// After a: global 1 keeps its initialiser, and the start is gone.
+// GLOBALS after a: global 1 keeps its initialiser, and there is no start.
 const GLOBALS_AFTER: &str =
     "01 04 01 60 00 00 02 0A 01 03 65 6E 76 01 67 03 7F 00 03 03 02 00 00 06 1E 05 7F 01 23 00 0B 7F 01 41 79 0B 7E 01 42 80 E4 97 D0 12 0B 70 01 D2 01 0B 7F 01 41 04 0B 07 05 01 01 74 00 01 0A 1B 02 12 00 41 79 24 02 42 80 E4 97 D0 12 24 03 D2 01 24 04 0B 06 00 41 04 24 05 0B";
 
-// Of three data segments the last one is active. a copies the first to place 512 and drops it, and function 1 copies from the second.
+// Of three data segments the last one is active. a copies the first to 512 and drops it, and
+// function 1 copies from the second.
 const SEGMENTS: &str =
     "01 04 01 60 00 00 03 03 02 00 00 05 03 01 00 01 07 09 02 01 61 00 00 01 74 00 01 0C 01 03 0A 1F 02 10 00 41 80 04 41 00 41 02 FC 08 00 00 FC 09 00 0B 0C 00 41 00 41 00 41 00 FC 08 01 00 0B 0B 0F 03 01 02 61 62 01 02 63 64 00 41 10 0B 01 65";
 
-// After a: the first and the last are empty, and two come behind them.
+// SEGMENTS after a: the first and the last are empty, and two segments follow them.
 const SEGMENTS_AFTER: &str =
     "01 04 01 60 00 00 03 03 02 00 00 05 03 01 00 01 07 05 01 01 74 00 01 0C 01 05 0A 1F 02 10 00 41 80 04 41 00 41 02 FC 08 00 00 FC 09 00 0B 0C 00 41 00 41 00 41 00 FC 08 01 00 0B 0B 17 05 01 00 01 02 63 64 01 00 00 41 10 0B 01 65 00 41 80 04 0B 02 61 62";
 
-// Function 1 names a by `ref.func`, which the export of a alone declares.
+// Function 1 names a by `ref.func`. Only the export of a declares it.
 const REFERENCES: &str =
     "01 08 02 60 01 7F 00 60 00 00 03 03 02 01 01 07 09 02 01 61 00 00 01 74 00 01 0A 0A 02 02 00 0B 05 00 D2 00 1A 0B";
 
-// After a: a segment declares it.
+// REFERENCES after a: a segment declares it.
 const REFERENCES_AFTER: &str =
     "01 08 02 60 01 7F 00 60 00 00 03 03 02 01 01 07 05 01 01 74 00 01 09 05 01 03 00 01 00 0A 0A 02 02 00 0B 05 00 D2 00 1A 0B";
 
-// After a, whose export stays for function 2, of the second type.
+// REFERENCES after a, whose export is kept for function 2, of the second type.
 const REFERENCES_KEPT: &str =
     "01 08 02 60 01 7F 00 60 00 00 03 04 03 01 01 01 07 09 02 01 61 00 02 01 74 00 01 09 05 01 03 00 01 00 0A 0D 03 02 00 0B 05 00 D2 00 1A 0B 02 00 0B";
 
@@ -73,7 +76,7 @@ const ONE: &str = "evaluated a\n";
 
 const STOPPED_AT_B: &str = "evaluated a\nstopped at b: import\n";
 
-// Evaluates the module m.wasm into o.wasm by these words.
+// Evaluates the module m.wasm into o.wasm with these arguments.
 fn evaluate_by(alloc: Global, module: &str, words: &str) -> Result<Ran, Fail> {
     let module = module_of(alloc, module)?;
     let mut files = MemFiles::new(alloc);
@@ -82,7 +85,8 @@ fn evaluate_by(alloc: Global, module: &str, words: &str) -> Result<Ran, Fail> {
     run_line(alloc, files, line.as_str())
 }
 
-// That the evaluation of a module by these words prints these lines and writes this module.
+// Expects the evaluation of a module with these arguments to print these lines and to write this
+// module.
 fn unlike_evaluated(
     alloc: Global,
     module: &str,
@@ -142,7 +146,8 @@ fn constructors_are_evaluated_until_one_is_stopped(rt: HostRuntime) -> Result<()
     Ok(())
 }
 
-// Modules whose first constructor is stopped, each with what is told; and one whose start is.
+// Modules whose first constructor is stopped, with the reason that is reported; and one whose start
+// is stopped.
 const STOPPED: [(&str, &str); 11] = [
     // It calls an import.
     (
@@ -154,12 +159,12 @@ const STOPPED: [(&str, &str); 11] = [
         "01 04 01 60 00 00 02 09 01 03 65 6E 76 01 66 00 00 07 05 01 01 61 00 00",
         "stopped at a: import\n",
     ),
-    // It grows.
+    // It grows the memory.
     (
         "01 04 01 60 00 00 03 02 01 00 05 03 01 00 01 07 05 01 01 61 00 00 0A 09 01 07 00 41 00 40 00 1A 0B",
         "stopped at a: grow\n",
     ),
-    // It sets a slot.
+    // It sets a slot of a table.
     (
         "01 04 01 60 00 00 03 02 01 00 04 04 01 70 00 01 07 05 01 01 61 00 00 0A 0A 01 08 00 41 00 D0 70 26 00 0B",
         "stopped at a: table write\n",
@@ -169,7 +174,7 @@ const STOPPED: [(&str, &str); 11] = [
         "01 04 01 60 00 00 02 0A 01 03 65 6E 76 01 67 03 7F 00 03 02 01 00 07 05 01 01 61 00 00 0A 07 01 05 00 23 00 1A 0B",
         "stopped at a: unknown\n",
     ),
-    // It is unreachable.
+    // It runs `unreachable`.
     (
         "01 04 01 60 00 00 03 02 01 00 07 05 01 01 61 00 00 0A 05 01 03 00 00 0B",
         "stopped at a: trap\n",
@@ -179,7 +184,7 @@ const STOPPED: [(&str, &str); 11] = [
         "01 05 01 60 01 7F 00 03 02 01 00 07 05 01 01 61 00 00 0A 04 01 02 00 0B",
         "stopped at a: signature\n",
     ),
-    // It fills more than the turns.
+    // It fills more than the turns allow.
     (
         "01 04 01 60 00 00 03 02 01 00 05 05 01 00 BD FD 02 07 05 01 01 61 00 00 0A 11 01 0F 00 41 00 41 00 41 80 C0 F0 F5 7B FC 0B 00 0B",
         "stopped at a: steps\n",
@@ -194,7 +199,7 @@ const STOPPED: [(&str, &str); 11] = [
         "01 04 01 60 00 00 03 02 01 00 05 04 01 00 81 08 07 05 01 01 61 00 00 0A 10 01 0E 00 41 00 41 00 41 80 A0 80 20 FC 0B 00 0B",
         "stopped at a: memory\n",
     ),
-    // Its start is unreachable.
+    // Its start runs `unreachable`.
     (
         "01 04 01 60 00 00 03 03 02 00 00 07 05 01 01 61 00 00 08 01 01 0A 08 02 02 00 0B 03 00 00 0B",
         "instantiation stopped: trap\n",
@@ -236,7 +241,8 @@ fn a_name_of_no_exported_function_is_refused_before_anything_is_written(
     Ok(())
 }
 
-// That a failing call of the files, or a failing put on standard output, is told with this text.
+// Expects this text if this call of the files or this `put` on standard output fails. If `put` is
+// 1, o.wasm must be complete.
 fn unlike_outside(alloc: Global, call: u64, put: u64, text: &str) -> Result<&'static str, Fail> {
     let module = module_of(alloc, THREE)?;
     let words = words_of(alloc, "ctor-eval --ctors=a,b,c m.wasm -o o.wasm")?;
@@ -273,7 +279,7 @@ fn faults_of_its_file_and_of_standard_output_are_told(rt: HostRuntime) -> Result
     Ok(())
 }
 
-// That a line over these two files is refused with this text.
+// Expects the refusal of a line over these two files with this text.
 fn unlike_refused(alloc: Global, line: &str, text: &str) -> Result<&'static str, Fail> {
     let mut files = MemFiles::new(alloc);
     files.add("m.wasm", &CUT)?;

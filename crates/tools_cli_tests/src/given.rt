@@ -1,4 +1,4 @@
-// Words, files and modules that the tests are given.
+// Command lines, files and modules for the tests.
 use std::alloc::Global;
 use std::test::Fail;
 use tool_io::{MemFiles, MemSink};
@@ -7,7 +7,7 @@ use tools_cli::{Status, run};
 // The magic number and the version.
 pub const HEADER: [u8; 8] = [0x00, 0x61, 0x73, 0x6D, 0x01, 0x00, 0x00, 0x00];
 
-// One function, exported as f, that gives 7.
+// One function, exported as f, that returns 7.
 pub const A: [u8; 34] = [
     0x00, 0x61, 0x73, 0x6D, 0x01, 0x00, 0x00, 0x00, 0x01, 0x05, 0x01, 0x60, 0x00, 0x01, 0x7F, 0x03,
     0x02, 0x01, 0x00, 0x07, 0x05, 0x01, 0x01, 0x66, 0x00, 0x00, 0x0A, 0x06, 0x01, 0x04, 0x00, 0x41,
@@ -21,7 +21,7 @@ pub const CUT: [u8; 33] = [
     0x07,
 ];
 
-// The words of a line. The word `''` is empty.
+// The arguments of a line. The argument `''` is empty.
 pub fn words_of(alloc: Global, line: &str) -> Result<Vec<String>, Fail> {
     let mut words = Vec::new(alloc);
     for word in line.split_whitespace() {
@@ -31,7 +31,8 @@ pub fn words_of(alloc: Global, line: &str) -> Result<Vec<String>, Fail> {
     Ok(words)
 }
 
-// A command that was run: how it ended, what it put on standard output and on standard error, and the files after it.
+// The result of a run: its status, the texts on standard output and standard error, and the files
+// after it.
 #[derive(Drop)]
 pub struct Ran {
     ended: Status,
@@ -54,9 +55,10 @@ pub fn run_line(alloc: Global, mut files: MemFiles, line: &str) -> Result<Ran, F
     })
 }
 
-// The functions that are named unlike_ give a name to the first thing that is not as it is to be, or the empty text where each is.
+// Functions whose names begin with `unlike` return the name of the first thing that is not as
+// expected, or the empty text if everything is.
 impl Ran {
-    // That it ended so and put these texts on standard output and on standard error.
+    // Expects this status and these texts on standard output and on standard error.
     pub fn unlike(&self, ended: Status, out: &str, err: &str) -> &'static str {
         if self.err.text() != err.as_bytes() {
             return "standard error";
@@ -70,7 +72,7 @@ impl Ran {
         ""
     }
 
-    // Whether there is a file that holds exactly these bytes.
+    // Whether a file holds exactly these bytes.
     pub fn has(&self, name: &str, bytes: &[u8]) -> bool {
         match self.files.contents(name) {
             Some(held) => held == bytes,
@@ -78,13 +80,14 @@ impl Ran {
         }
     }
 
-    // Whether there is a file that holds exactly this module.
+    // Whether a file holds exactly this module.
     pub fn has_module(&self, alloc: Global, name: &str, sections: &str) -> Result<bool, Fail> {
         let module = module_of(alloc, sections)?;
         Ok(self.has(name, module.as_slice()))
     }
 
-    // That it is done, with these lines on standard output and nothing on standard error, and that a file holds this module.
+    // Expects status `Done`, these lines on standard output, nothing on standard error, and this
+    // module in a file.
     pub fn unlike_done(
         &self,
         alloc: Global,
@@ -98,7 +101,7 @@ impl Ran {
         Ok(self.unlike(Status::Done, lines, ""))
     }
 
-    // That it is refused with this text, and that there is no file of this name.
+    // Expects the refusal with this text, and no file of this name.
     pub fn unlike_refused(&self, text: &str, name: &str) -> &'static str {
         if self.files.contents(name).is_some() {
             return "the output";
@@ -107,7 +110,7 @@ impl Ran {
     }
 }
 
-// Adds the bytes that a text gives in hexadecimal.
+// Adds the bytes that a text has in hexadecimal.
 fn add_bytes(bytes: &mut Vec<u8>, text: &str) -> Result<(), Fail> {
     for byte in text.split_whitespace() {
         bytes.push(u8::from_str_radix(byte, 16)?)?;
@@ -115,14 +118,13 @@ fn add_bytes(bytes: &mut Vec<u8>, text: &str) -> Result<(), Fail> {
     Ok(())
 }
 
-// A module by its sections, as hexadecimal bytes.
+// A module, from its sections in hexadecimal.
 pub fn module_of(alloc: Global, sections: &str) -> Result<Vec<u8>, Fail> {
     let mut bytes = Vec::from_slice(alloc, &HEADER)?;
     add_bytes(&mut bytes, sections)?;
     Ok(bytes)
 }
 
-// So many bytes, each of them 0.
 pub fn zeros(alloc: Global, count: usize) -> Result<Vec<u8>, Fail> {
     let mut bytes = Vec::new(alloc);
     for _ in 0..count {
@@ -131,8 +133,8 @@ pub fn zeros(alloc: Global, count: usize) -> Result<Vec<u8>, Fail> {
     Ok(bytes)
 }
 
-// A module of so many tables of functions, each empty: `head` is the table section up to its count,
-// and `tail` the sections behind it.
+// A module of `count` tables of functions, each empty: `head` is the table section up to its count,
+// and `tail` the sections after it.
 pub fn module_of_tables(
     alloc: Global,
     head: &str,
@@ -157,14 +159,14 @@ fn two_files(alloc: Global, a: &str, b: &str) -> Result<MemFiles, Fail> {
     Ok(files)
 }
 
-// Merges the parts `a` and `b` into o.wasm, with a flag or none.
+// Merges the parts `a` and `b` into o.wasm, with at most one flag.
 pub fn merge_two(alloc: Global, a: &str, b: &str, flag: &str) -> Result<Ran, Fail> {
     let files = two_files(alloc, a, b)?;
     let line = format!(in alloc; "merge a.wasm a b.wasm b -o o.wasm {flag}")?;
     run_line(alloc, files, line.as_str())
 }
 
-// One function, exported as f, that gives 7.
+// One function, exported as f, that returns 7.
 pub const GIVES: &str =
     "01 05 01 60 00 01 7F 03 02 01 00 07 05 01 01 66 00 00 0A 06 01 04 00 41 07 0B";
 
@@ -172,5 +174,5 @@ pub const GIVES: &str =
 pub const LINKED: &str =
     "01 0D 03 60 00 00 60 01 7F 01 7F 60 01 7F 00 02 0B 01 03 65 6E 76 03 6C 6F 67 00 02 03 05 04 00 00 01 01 04 05 01 70 01 05 05 05 03 01 00 02 06 08 01 7F 01 41 90 88 04 0B 07 24 03 06 6D 65 6D 6F 72 79 02 00 11 5F 5F 77 61 73 6D 5F 63 61 6C 6C 5F 63 74 6F 72 73 00 01 03 72 75 6E 00 04 09 07 01 00 41 01 0B 01 03 0A 33 04 08 00 10 82 80 80 80 00 0B 0A 00 41 00 41 2A 36 02 84 08 0B 07 00 20 00 41 01 74 0B 15 00 20 00 10 80 80 80 80 00 20 00 41 01 11 81 80 80 80 00 00 0B 0B 09 01 00 41 80 08 0B 02 68 69 00 32 04 6E 61 6D 65 01 2B 05 00 03 6C 6F 67 01 11 5F 5F 77 61 73 6D 5F 63 61 6C 6C 5F 63 74 6F 72 73 02 04 69 6E 69 74 03 05 74 77 69 63 65 04 03 72 75 6E 00 0B 09 70 72 6F 64 75 63 65 72 73 00";
 
-// A function that is to give a number, and gives none.
+// A function whose type has a result, and which returns none.
 pub const NOTHING_GIVEN: &str = "01 05 01 60 00 01 7F 03 02 01 00 0A 04 01 02 00 0B";

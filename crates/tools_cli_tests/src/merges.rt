@@ -4,7 +4,7 @@ use std::test::Fail;
 use tool_io::MemFiles;
 use tools_cli::Status;
 
-// One function, exported as f and as f_1, that gives 7.
+// One function, exported as f and as f_1, that returns 7.
 const GIVES_TWICE: &str =
     "01 05 01 60 00 01 7F 03 02 01 00 07 0B 02 01 66 00 00 03 66 5F 31 00 00 0A 06 01 04 00 41 07 0B";
 
@@ -12,14 +12,14 @@ const GIVES_TWICE: &str =
 pub const CALLS: &str =
     "01 05 01 60 00 01 7F 02 07 01 01 61 01 66 00 00 03 02 01 00 07 05 01 01 67 00 01 0A 06 01 04 00 10 00 0B";
 
-// This one merged with the one that gives 7.
+// GIVES merged with CALLS.
 pub const BOTH: &str =
     "01 05 01 60 00 01 7F 03 03 02 00 00 07 09 02 01 66 00 00 01 67 00 01 0A 0B 02 04 00 41 07 0B 04 00 10 00 0B";
 
 // A start that does nothing.
 const STARTS: &str = "01 04 01 60 00 00 03 02 01 00 08 01 00 0A 04 01 02 00 0B";
 
-// That the merge of two parts, with a flag or none, writes this module.
+// Expects the merge of two parts, with at most one flag, to write this module.
 fn unlike_merge(
     alloc: Global,
     a: &str,
@@ -93,7 +93,8 @@ fn memories_and_globals_are_joined(rt: HostRuntime) -> Result<(), Fail> {
     Ok(())
 }
 
-// The same, and that the merge of o.wasm alone writes it once more, as p.wasm.
+// The same as `unlike_merge`; also expects the merge of o.wasm alone to write it once more, as
+// p.wasm.
 fn unlike_merges(
     alloc: Global,
     a: &str,
@@ -113,7 +114,7 @@ fn unlike_merges(
     second.unlike_done(alloc, "", "p.wasm", merged)
 }
 
-// Part a imports its own f, which gives 7, and its g calls that import.
+// Part a imports its own f, which returns 7, and its g calls that import.
 const OWN_IMPORT: &str =
     "01 05 01 60 00 01 7F 02 07 01 01 61 01 66 00 00 03 03 02 00 00 07 09 02 01 66 00 02 01 67 00 01 0A 0B 02 04 00 10 00 0B 04 00 41 07 0B";
 
@@ -199,11 +200,11 @@ fn a_function_that_two_parts_start_is_called_twice(rt: HostRuntime) -> Result<()
     Ok(())
 }
 
-// Part a asks for e.h, and its global y reads b.x.
+// Part a imports e.h, and its global y reads b.x.
 const Y_READS_B_X: &str =
     "02 0F 02 01 65 01 68 03 7F 00 01 62 01 78 03 7F 00 06 06 01 7F 00 23 01 0B 07 05 01 01 79 03 02";
 
-// The global x of part b, which reads e.g, and which is e.g.
+// The global x of part b: one that reads e.g, and then one that is e.g.
 const X_READS_E_G: &str =
     "02 08 01 01 65 01 67 03 7F 00 06 06 01 7F 00 23 00 0B 07 05 01 01 78 03 01";
 
@@ -275,7 +276,7 @@ fn as_many_tables_as_the_limit_are_written(rt: HostRuntime) -> Result<(), Fail> 
 }
 
 // A module as a linker leaves it, with padded indices, a name section and a producers section. All
-// but the code and these two sections comes out as it is.
+// but the code and these two sections is unchanged in the output.
 const BEFORE_CODE: &str =
     "01 0D 03 60 00 00 60 01 7F 01 7F 60 01 7F 00 02 0B 01 03 65 6E 76 03 6C 6F 67 00 02 03 05 04 00 00 01 01 04 05 01 70 01 05 05 05 03 01 00 02 06 08 01 7F 01 41 90 88 04 0B 07 24 03 06 6D 65 6D 6F 72 79 02 00 11 5F 5F 77 61 73 6D 5F 63 61 6C 6C 5F 63 74 6F 72 73 00 01 03 72 75 6E 00 04 09 07 01 00 41 01 0B 01 03";
 

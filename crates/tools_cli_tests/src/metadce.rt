@@ -3,7 +3,8 @@ use std::alloc::Global;
 use std::test::Fail;
 use tool_io::MemFiles;
 
-// The import env.cb, and functions 1 to 3, exported as a, b and c. Function 1 calls the import and names function 3.
+// The import env.cb, and functions 1 to 3, exported as a, b and c. Function 1 calls the import and
+// names function 3.
 pub const CALLS_BACK: &str =
     "01 04 01 60 00 00 02 0A 01 03 65 6E 76 02 63 62 00 00 03 04 03 00 00 00 07 0D 03 01 61 00 01 01 62 00 02 01 63 00 03 0A 0F 03 07 00 10 00 D2 03 1A 0B 02 00 0B 02 00 0B";
 
@@ -11,7 +12,7 @@ pub const CALLS_BACK: &str =
 pub const HOST: &str =
     "[{\"name\":\"out\",\"root\":true,\"reaches\":[\"A\"]},{\"name\":\"A\",\"export\":\"a\"},{\"name\":\"cb\",\"import\":[\"env\",\"cb\"],\"reaches\":[\"B\"]},{\"name\":\"B\",\"export\":\"b\"},{\"name\":\"C\",\"export\":\"c\"}]";
 
-// What it leaves: the export c is gone, and function 3 is declared.
+// What is left for HOST: the export c is gone, and function 3 is declared.
 pub const LEFT: &str =
     "01 04 01 60 00 00 02 0A 01 03 65 6E 76 02 63 62 00 00 03 04 03 00 00 00 07 09 02 01 61 00 01 01 62 00 02 09 05 01 03 00 01 03 0A 0F 03 07 00 10 00 D2 03 1A 0B 02 00 0B 02 00 0B";
 
@@ -25,7 +26,7 @@ fn run_over(alloc: Global, module: &[u8], graph: &[u8], line: &str) -> Result<Ra
     run_line(alloc, files, line)
 }
 
-// That this is left of a module by a graph, and these lines are printed.
+// Expects this to be left of a module by a graph, and these lines to be printed.
 fn unlike_left(
     alloc: Global,
     module: &str,
@@ -38,7 +39,7 @@ fn unlike_left(
     ran.unlike_done(alloc, lines, "o.wasm", left)
 }
 
-// That a module and a graph are refused with this text.
+// Expects the refusal of a module and a graph with this text.
 fn unlike_refused(
     alloc: Global,
     module: &[u8],
@@ -73,7 +74,7 @@ fn what_no_path_reaches_is_left_out_and_told(rt: HostRuntime) -> Result<(), Fail
             "",
             CALLS_BACK,
         ),
-        // by the bytes of the names, and not by the file
+        // in the order of the bytes of the names, and not of the file
         (
             "[{\"name\":\"b\"},{\"name\":\"\\ud83d\\ude00\"},{\"name\":\"\\ufffd\"},{\"name\":\"B\"},{\"name\":\"bb\"}]",
             "unused: B\nunused: b\nunused: bb\nunused: \u{fffd}\nunused: \u{1f600}\n",
@@ -86,7 +87,7 @@ fn what_no_path_reaches_is_left_out_and_told(rt: HostRuntime) -> Result<(), Fail
     Ok(())
 }
 
-// What is left of a module as a linker leaves it, for a host that uses its memory and run.
+// What is left of a linker's module, for a host that uses its memory and run.
 const LINKED_LEFT: &str =
     "01 0D 03 60 00 00 60 01 7F 01 7F 60 01 7F 00 02 0B 01 03 65 6E 76 03 6C 6F 67 00 02 03 03 02 01 01 04 05 01 70 01 05 05 05 03 01 00 02 07 10 02 06 6D 65 6D 6F 72 79 02 00 03 72 75 6E 00 02 09 07 01 00 41 01 0B 01 01 0A 17 02 07 00 20 00 41 01 74 0B 0D 00 20 00 10 00 20 00 41 01 11 01 00 0B 0B 09 01 00 41 80 08 0B 02 68 69";
 
@@ -161,7 +162,8 @@ fn the_graph_counts_as_input_bytes(rt: HostRuntime) -> Result<(), Fail> {
     Ok(())
 }
 
-// That a line over the module and the graph of the host is done, and leaves what is left in this file.
+// Expects a line over the module and the graph of the host to be done, and to write what is left to
+// this file.
 fn unlike_for_the_host(alloc: Global, line: &str, name: &str) -> Result<&'static str, Fail> {
     let module = module_of(alloc, CALLS_BACK)?;
     let ran = run_over(alloc, module.as_slice(), HOST.as_bytes(), line)?;
@@ -186,7 +188,8 @@ fn the_output_may_be_one_of_its_files(rt: HostRuntime) -> Result<(), Fail> {
     Ok(())
 }
 
-// As many element segments as the limit, each empty and passive, and a function that names another which only an export declares.
+// As many element segments as the limit allows, each empty and passive, and a function that names
+// another which only an export declares.
 fn many_segments(alloc: Global) -> Result<Vec<u8>, Fail> {
     let mut bytes = module_of(
         alloc,
@@ -225,7 +228,7 @@ fn its_options_stand_anywhere_and_once(rt: HostRuntime) -> Result<(), Fail> {
     Ok(())
 }
 
-// Words that are no metadce.
+// Lines that are no metadce.
 pub const NO_SWEEP: [&str; 15] = [
     "metadce",
     "metadce m.wasm -o o.wasm",

@@ -8,11 +8,11 @@ use std::test::Fail;
 use tool_io::{MemFiles, MemSink};
 use tools_cli::run;
 
-// A function that gives 7, without its last byte.
+// A function that returns 7, without its last byte.
 const GIVES_CUT: &str =
     "01 05 01 60 00 01 7F 03 02 01 00 07 05 01 01 66 00 00 0A 06 01 04 00 41 07";
 
-// The modules that are there.
+// The input modules.
 const MODULES: [(&str, &str); 7] = [
     ("a.wasm", GIVES),
     ("b.wasm", CALLS),
@@ -33,8 +33,7 @@ fn all_files(alloc: Global) -> Result<MemFiles, Fail> {
     Ok(files)
 }
 
-// Whether a file holds the first `count` bytes of a module. Where `count` is 0 it is not to be
-// there.
+// Whether a file holds the first `count` bytes of a module; if `count` is 0, whether it is missing.
 fn holds(
     alloc: Global,
     files: &MemFiles,
@@ -50,7 +49,7 @@ fn holds(
     }
 }
 
-// Whether the files that were there are as they were.
+// Whether the input files are unchanged.
 fn inputs_stay(alloc: Global, files: &MemFiles) -> Result<bool, Fail> {
     for (name, sections) in MODULES {
         let bytes = module_of(alloc, sections)?;
@@ -81,9 +80,10 @@ const SWEEP_N: &str = "metadce m.wasm --graph-file n.json -o o.wasm";
 
 const NO_OUTPUT: &str = "binkit: cannot write standard output\n";
 
-// A line, the number of the call of its files that fails, or 0, and of the put on standard output
-// and on standard error; what is put on standard error; and the output, o.wasm or q, and the second
-// one, p: the module of which it holds a first part, and how many bytes.
+// A line; the number of the call of its files that fails, of the `put` on standard output and of
+// that on standard error, or 0 if none fails; the text on standard error; and for the first output,
+// o.wasm or q, and for the second one, p: the module of which it holds the first bytes, and how
+// many.
 const FAILING: [(&str, u64, u64, u64, &str, &str, usize, &str, usize); 24] = [
     (MERGE, 1, 0, 0, "binkit: cannot read a.wasm\n", "", 0, "", 0),
     (MERGE, 2, 0, 0, "binkit: cannot read b.wasm\n", "", 0, "", 0),
@@ -120,7 +120,7 @@ const FAILING: [(&str, u64, u64, u64, &str, &str, usize, &str, usize); 24] = [
         "",
         0,
     ),
-    // a file that is not there, before another call that is to fail
+    // a missing file, before another call that fails
     (
         MERGE_N,
         0,
@@ -263,8 +263,8 @@ fn first_output(line: &str) -> &str {
     }
 }
 
-// Runs a line where these calls fail: whether it is told so, with nothing on standard output but
-// where that fails; and the files.
+// Runs a line with these calls failing. Returns whether the run reports it, with nothing on
+// standard output unless that fails; and the files.
 fn run_failing(
     alloc: Global,
     line: &str,
@@ -286,7 +286,7 @@ fn run_failing(
     Ok((is_silent && is_told, files))
 }
 
-// That a row is as it says, and that the files which were there stay.
+// Expects what a row says, and the input files to be unchanged.
 fn unlike_row(
     alloc: Global,
     row: (&str, u64, u64, u64, &str, &str, usize, &str, usize),
@@ -317,7 +317,7 @@ fn one_call_that_fails_is_told_and_the_files_are_a_first_part(rt: HostRuntime) -
     Ok(())
 }
 
-// That the merge of two files is refused with this text.
+// Expects the refusal of the merge of two files with this text.
 fn unlike_refused(
     alloc: Global,
     first: &[u8],

@@ -8,17 +8,17 @@ const FROM_6: &str = "02 0F 01 03 65 6E 76 06 6D 65 6D 6F 72 79 02 00 06";
 
 const FROM_1_TO_5: &str = "02 10 01 03 65 6E 76 06 6D 65 6D 6F 72 79 02 01 01 05";
 
-// A function that the other part is to give, exported as x.
+// A function that is imported from the other part, exported as x.
 const FROM_B: &str = "01 04 01 60 00 00 02 07 01 01 62 01 78 00 00 07 05 01 01 78 00 00";
 
 const FROM_A: &str = "01 04 01 60 00 00 02 07 01 01 61 01 78 00 00 07 05 01 01 78 00 00";
 
-// A global that reads one which the other part is to give, exported as x.
+// A global that reads one which is imported from the other part, exported as x.
 const READS_B: &str = "02 08 01 01 62 01 78 03 7F 00 06 06 01 7F 00 23 00 0B 07 05 01 01 78 03 01";
 
 const READS_A: &str = "02 08 01 01 61 01 78 03 7F 00 06 06 01 7F 00 23 00 0B 07 05 01 01 78 03 01";
 
-// That the merge of two parts is refused with this text.
+// Expects the refusal of the merge of two parts with this text.
 fn unlike_refused(alloc: Global, a: &str, b: &str, text: &str) -> Result<&'static str, Fail> {
     let ran = merge_two(alloc, a, b, "")?;
     Ok(ran.unlike_refused(text, "o.wasm"))
@@ -64,15 +64,15 @@ fn the_first_global_that_leads_into_a_cycle_is_told(rt: HostRuntime) -> Result<(
     Ok(())
 }
 
-// Part a asks for e.m of 6 pages or more and exports the i32 global x. Part b asks for e.m of at
-// most 5 pages, and for a.x as an i64.
+// Part a imports e.m with 6 pages or more and exports the i32 global x. Part b imports e.m with at
+// most 5 pages, and a.x as an i64.
 const ASKS_FOR_6: &str =
     "02 08 01 01 65 01 6D 02 00 06 06 06 01 7F 00 41 05 0B 07 05 01 01 78 03 00";
 
 const ASKS_FOR_5_AND_I64: &str = "02 10 02 01 65 01 6D 02 01 01 05 01 61 01 78 03 7E 00";
 
-// Part a passes on e.t of 6 entries or more, and part b asks for it with at most 5. Each has a
-// memory.
+// Part a exports its import e.t of 6 entries or more, and part b imports that with at most 5. Each
+// has a memory.
 const TABLE_FROM_6: &str = "02 09 01 01 65 01 74 01 70 00 06 05 03 01 00 01 07 05 01 01 74 01 00";
 
 const TABLE_TO_5: &str = "02 0A 01 01 61 01 74 01 70 01 01 05 05 03 01 00 01";
@@ -114,7 +114,7 @@ fn of_two_faults_the_earlier_in_the_order_is_told(rt: HostRuntime) -> Result<(),
     Ok(())
 }
 
-// Part a asks itself for the i32 global y as an i64, and for x, which is this very import; and the
+// Part a imports from itself the i32 global y as an i64, and x, which is this very import; then the
 // same two in the other order.
 const MISMATCH_AND_CYCLE: &str =
     "02 0F 02 01 61 01 79 03 7E 00 01 61 01 78 03 7F 00 06 06 01 7F 00 41 05 0B 07 09 02 01 79 03 02 01 78 03 01";
@@ -122,7 +122,7 @@ const MISMATCH_AND_CYCLE: &str =
 const CYCLE_AND_MISMATCH: &str =
     "02 0F 02 01 61 01 78 03 7F 00 01 61 01 79 03 7E 00 06 06 01 7F 00 41 05 0B 07 09 02 01 79 03 02 01 78 03 00";
 
-// Part a asks for e.g, and for b.y as an i64. Part b asks itself for x, which is this very import,
+// Part a imports e.g, and b.y as an i64. Part b imports from itself x, which is this very import,
 // and its global y is an i32.
 const MISMATCH_BEHIND: &str = "02 0F 02 01 65 01 67 03 7F 00 01 62 01 79 03 7E 00";
 
@@ -154,7 +154,7 @@ fn of_the_imports_with_a_fault_the_first_is_told(rt: HostRuntime) -> Result<(), 
     Ok(())
 }
 
-// The parts of the two tests above, each with the fault mended that is told there.
+// The parts of the two tests above, each without the fault that is reported there.
 #[test]
 fn where_the_earlier_fault_is_mended_the_later_is_told(rt: HostRuntime) -> Result<(), Fail> {
     let alloc = rt.alloc();
@@ -207,7 +207,7 @@ fn one_part_has_one_memory_even_where_two_are_of_one_name(rt: HostRuntime) -> Re
     Ok(())
 }
 
-// That the merge by a line of two modules is refused with this text.
+// Expects the refusal of a line that merges two modules with this text.
 fn unlike_refused_line(
     alloc: Global,
     a: &[u8],

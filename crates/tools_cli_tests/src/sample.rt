@@ -4,14 +4,14 @@ use std::test::Fail;
 use tool_io::MemFiles;
 use tools_cli::Status;
 
-// What a sample of seed 1 with one function each prints.
+// What a sample of seed 1 with one function in each module prints.
 const LINES: &str = "sample seed 1 count 1\nparts 2\nfunctions 2\nexports 2\nbytes 56\n";
 
-// And what its two modules are merged into.
+// The merged module of this sample.
 const MERGED: &str =
     "01 06 01 60 01 7F 01 7F 03 03 02 00 00 07 0B 02 02 66 30 00 00 02 67 30 00 01 0A 14 02 0B 00 20 00 41 A6 FD 99 8E 04 6A 0B 06 00 20 00 10 00 0B";
 
-// With seed 7 and two functions each.
+// The merged module for seed 7 and two functions each.
 const MERGED_OF_TWO: &str =
     "01 06 01 60 01 7F 01 7F 03 05 04 00 00 00 00 07 15 04 02 66 30 00 00 02 66 31 00 01 02 67 30 00 02 02 67 31 00 03 0A 27 04 0B 00 20 00 41 B4 AA B1 E3 04 6A 0B 0B 00 20 00 41 D2 A1 D1 D3 02 6A 0B 06 00 20 00 10 00 0B 06 00 20 00 10 01 0B";
 
@@ -20,7 +20,7 @@ fn run_alone(alloc: Global, line: &str) -> Result<Ran, Fail> {
     run_line(alloc, MemFiles::new(alloc), line)
 }
 
-// That a line prints these lines alone, and writes nothing.
+// Expects a line to print these lines alone, and to write nothing.
 fn unlike_printed(alloc: Global, line: &str, lines: &str) -> Result<&'static str, Fail> {
     let ran = run_alone(alloc, line)?;
     if ran.files.contents("o.wasm").is_some() {
@@ -35,7 +35,7 @@ fn a_sample_without_an_output_prints_its_lines(rt: HostRuntime) -> Result<(), Fa
     for (line, lines) in [
         ("sample --seed 1 --count 1", LINES),
         ("sample --count=1 --seed=1", LINES),
-        // zeros stand first
+        // leading zeros
         ("sample --seed 0000000001 --count=0000000001", LINES),
         (
             "sample --seed 2147483647 --count 1",
@@ -51,7 +51,7 @@ fn a_sample_without_an_output_prints_its_lines(rt: HostRuntime) -> Result<(), Fa
     Ok(())
 }
 
-// That a line prints these lines and writes this module.
+// Expects a line to print these lines and to write this module.
 fn unlike_written(
     alloc: Global,
     line: &str,

@@ -14,14 +14,15 @@ fn files_of(alloc: Global, module: &[u8]) -> Result<MemFiles, Fail> {
     Ok(files)
 }
 
-// Splits a module into p and q by these words.
+// Splits a module into p and q with these arguments.
 fn split_by(alloc: Global, module: &[u8], words: &str) -> Result<Ran, Fail> {
     let files = files_of(alloc, module)?;
     let line = format!(in alloc; "split s.wasm {words} --primary-output=p --secondary-output=q")?;
     run_line(alloc, files, line.as_str())
 }
 
-// That the split of a module by these words prints these lines and writes these modules.
+// Expects the split of a module with these arguments to print these lines and to write these
+// modules.
 fn unlike_split(
     alloc: Global,
     module: &str,
@@ -37,7 +38,8 @@ fn unlike_split(
     ran.unlike_done(alloc, lines, "q", secondary)
 }
 
-// A function, exported as add, that adds its parameters. Its primary module calls it through a trampoline.
+// A function, exported as add, that adds its parameters. Its primary module calls it through a
+// trampoline.
 pub const ADDS: &str =
     "01 07 01 60 02 7F 7F 01 7F 03 02 01 00 07 07 01 03 61 64 64 00 00 0A 09 01 07 00 20 00 20 01 6A 0B";
 
@@ -106,25 +108,25 @@ fn functions_move_to_the_secondary_module(rt: HostRuntime) -> Result<(), Fail> {
     Ok(())
 }
 
-// Function 0, exported as f, calls function 1, which is named g and gives 7.
+// Function 0, exported as f, calls function 1, which is named g and returns 7.
 const CALLS: &str =
     "01 05 01 60 00 01 7F 03 03 02 00 00 07 05 01 01 66 00 00 0A 0B 02 04 00 10 01 0B 04 00 41 07 0B 00 0B 04 6E 61 6D 65 01 04 01 01 01 67";
 
 const CALLS_PRIMARY: &str =
     "01 05 01 60 00 01 7F 02 11 01 0B 70 6C 61 63 65 68 6F 6C 64 65 72 01 30 00 00 03 02 01 00 04 05 01 70 01 01 01 07 0E 02 01 66 00 01 06 25 73 6C 6F 74 73 01 00 09 07 01 00 41 00 0B 01 00 0A 09 01 07 00 41 00 11 00 00 0B";
 
-// A function that gives 7 in slot 0.
+// A function that returns 7, in slot 0.
 const GIVES_SECONDARY: &str =
     "01 05 01 60 00 01 7F 02 15 01 07 70 72 69 6D 61 72 79 06 25 73 6C 6F 74 73 01 70 01 01 01 03 02 01 00 09 07 01 00 41 00 0B 01 00 0A 06 01 04 00 41 07 0B";
 
-// Nothing moves.
+// CALLS, if nothing moves.
 const CALLS_WHOLE: &str =
     "01 05 01 60 00 01 7F 03 03 02 00 00 04 05 01 70 01 00 00 07 0E 02 01 66 00 00 06 25 73 6C 6F 74 73 01 00 09 06 01 00 41 00 0B 00 0A 0B 02 04 00 10 01 0B 04 00 41 07 0B";
 
 const EMPTY_SECONDARY: &str =
     "01 05 01 60 00 01 7F 02 15 01 07 70 72 69 6D 61 72 79 06 25 73 6C 6F 74 73 01 70 01 00 00 09 06 01 00 41 00 0B 00";
 
-// The import namespace i, the placeholder namespace h and the prefix x.
+// CALLS, split with the import namespace i, the placeholder namespace h and the prefix x.
 const CALLS_NAMED: &str =
     "01 05 01 60 00 01 7F 02 07 01 01 68 01 30 00 00 03 02 01 00 04 05 01 70 01 01 01 07 0E 02 01 66 00 01 06 78 73 6C 6F 74 73 01 00 09 07 01 00 41 00 0B 01 00 0A 09 01 07 00 41 00 11 00 00 0B";
 
@@ -162,35 +164,36 @@ fn a_call_goes_through_the_slot_under_default_and_given_names(rt: HostRuntime) -
     Ok(())
 }
 
-// Function 0 is the import e.g, which is exported as g. Function 1, exported as f, calls function 2, which gives 7.
+// Function 0 is the import e.g, which is exported as g. Function 1, exported as f, calls function
+// 2, which returns 7.
 const CALLS_BESIDE: &str =
     "01 05 01 60 00 01 7F 02 07 01 01 65 01 67 00 00 03 03 02 00 00 07 09 02 01 66 00 01 01 67 00 00 0A 0B 02 04 00 10 02 0B 04 00 41 07 0B";
 
-// Function 2 moves.
+// CALLS_BESIDE, if function 2 moves.
 const BESIDE_PRIMARY: &str =
     "01 05 01 60 00 01 7F 02 17 02 01 65 01 67 00 00 0B 70 6C 61 63 65 68 6F 6C 64 65 72 01 30 00 00 03 02 01 00 04 05 01 70 01 01 01 07 12 03 01 66 00 02 01 67 00 00 06 25 73 6C 6F 74 73 01 00 09 07 01 00 41 00 0B 01 01 0A 09 01 07 00 41 00 11 00 00 0B";
 
-// Function 1 moves.
+// CALLS_BESIDE, if function 1 moves.
 const CALLER_PRIMARY: &str =
     "01 05 01 60 00 01 7F 02 17 02 01 65 01 67 00 00 0B 70 6C 61 63 65 68 6F 6C 64 65 72 01 30 00 00 03 03 02 00 00 04 05 01 70 01 01 01 07 18 04 01 66 00 02 01 67 00 00 03 25 66 32 00 03 06 25 73 6C 6F 74 73 01 00 09 07 01 00 41 00 0B 01 01 0A 0E 02 07 00 41 00 11 00 00 0B 04 00 41 07 0B";
 
 const CALLER_SECONDARY: &str =
     "01 05 01 60 00 01 7F 02 23 02 07 70 72 69 6D 61 72 79 03 25 66 32 00 00 07 70 72 69 6D 61 72 79 06 25 73 6C 6F 74 73 01 70 01 01 01 03 02 01 00 09 07 01 00 41 00 0B 01 01 0A 06 01 04 00 10 00 0B";
 
-// The name section that names function 2 f, and this one with a byte too few.
+// The name section that gives function 2 the name f, and the same with a byte too few.
 const F_IS_2: &str = "00 0B 04 6E 61 6D 65 01 04 01 02 01 66";
 
 const F_CUT: &str = "00 0B 04 6E 61 6D 65 01 05 01 02 01 66";
 
-// A name section behind CALLS_BESIDE, a word, and the function that it names: 1 or 2.
+// A name section after CALLS_BESIDE, a name, and the function that has it: 1 or 2.
 const NAMED: [(&str, &str, u32); 13] = [
     ("", "f", 1),
     (F_IS_2, "f", 2),
-    // a name that an import bears is passed over, and so is one of no function
+    // a name of an import is passed over, and so is one of no function
     ("00 0B 04 6E 61 6D 65 01 04 01 00 01 66", "f", 1),
     ("00 0B 04 6E 61 6D 65 01 04 01 09 01 66", "f", 1),
     ("00 0E 04 6E 61 6D 65 01 07 02 00 01 67 02 01 67", "g", 2),
-    // malformed, which is as none: cut off, twice, not ascending, a byte too many, no text
+    // malformed, so as if absent: cut off, twice, not ascending, a byte too many, not UTF-8
     (F_CUT, "f", 1),
     (
         "00 11 04 6E 61 6D 65 01 04 01 02 01 66 01 04 01 02 01 66",
@@ -200,7 +203,7 @@ const NAMED: [(&str, &str, u32); 13] = [
     ("00 0E 04 6E 61 6D 65 01 07 02 02 01 66 02 01 66", "f", 1),
     ("00 0C 04 6E 61 6D 65 01 05 01 02 01 66 00", "f", 1),
     ("00 0B 04 6E 61 6D 65 01 04 01 02 01 FF", "f", 1),
-    // the first one decides
+    // only the first name section counts
     (
         "00 0B 04 6E 61 6D 65 01 05 01 02 01 66 00 0B 04 6E 61 6D 65 01 04 01 02 01 66",
         "f",
@@ -211,7 +214,7 @@ const NAMED: [(&str, &str, u32); 13] = [
     ("00 0B 04 6E 61 6D 66 01 04 01 02 01 66", "f", 1),
 ];
 
-// That a word moves this function of the module with these names.
+// Expects this name to move this function of the module with these names.
 fn unlike_named(alloc: Global, names: &str, word: &str, func: u32) -> Result<&'static str, Fail> {
     let module = format!(in alloc; "{CALLS_BESIDE} {names}")?;
     let words = format!(in alloc; "--split-funcs={word}")?;
@@ -232,11 +235,12 @@ fn words_name_functions_by_the_name_list_and_then_by_exports(rt: HostRuntime) ->
     Ok(())
 }
 
-// Functions 1 to 4 use a segment: one is named one, and exported as x; the next is exported as b and as a. Function 5 is exported as m. The import is named i.
+// Functions 1 to 4 use a segment. One is named one and exported as x; the next is exported as b and
+// as a. Function 5 is exported as m. The import is named i.
 const SEGMENTS: &str =
     "01 04 01 60 00 00 02 09 01 03 65 6E 76 01 66 00 00 03 07 06 00 00 00 00 00 00 04 04 01 70 00 00 05 03 01 00 00 07 11 04 01 78 00 01 01 62 00 02 01 61 00 02 01 6D 00 05 09 04 01 01 00 00 0C 01 01 0A 30 06 0C 00 41 00 41 00 41 00 FC 08 00 00 0B 08 00 02 40 FC 09 00 0B 0B 0C 00 41 00 41 00 41 00 FC 0C 00 00 0B 05 00 FC 0D 00 0B 02 00 0B 02 00 0B 0B 04 01 01 01 78 00 16 04 6E 61 6D 65 01 0F 03 00 01 69 01 03 6F 6E 65 09 04 67 6F 6E 65";
 
-// Function 6 moves.
+// SEGMENTS, if function 6 moves.
 const SEGMENTS_PRIMARY: &str =
     "01 04 01 60 00 00 02 19 02 03 65 6E 76 01 66 00 00 0B 70 6C 61 63 65 68 6F 6C 64 65 72 01 30 00 00 03 06 05 00 00 00 00 00 04 08 02 70 00 00 70 01 01 01 05 03 01 00 00 07 1A 05 01 78 00 02 01 62 00 03 01 61 00 03 01 6D 00 06 06 25 73 6C 6F 74 73 01 01 09 0C 02 01 00 00 02 01 41 00 0B 00 01 01 0C 01 01 0A 2D 05 0C 00 41 00 41 00 41 00 FC 08 00 00 0B 08 00 02 40 FC 09 00 0B 0B 0C 00 41 00 41 00 41 00 FC 0C 00 00 0B 05 00 FC 0D 00 0B 02 00 0B 0B 04 01 01 01 78";
 
@@ -292,7 +296,7 @@ const ADDS_BESIDE: &str =
 const SLOTS: &str =
     "01 07 01 60 02 7F 7F 01 7F 03 02 01 00 07 0A 01 06 25 73 6C 6F 74 73 00 00 0A 09 01 07 00 20 00 20 01 6A 0B";
 
-// Both.
+// ADDS, exported as %slots, and the immutable global placeholder.g.
 const SLOTS_BESIDE: &str =
     "01 07 01 60 02 7F 7F 01 7F 02 12 01 0B 70 6C 61 63 65 68 6F 6C 64 65 72 01 67 03 7F 00 03 02 01 00 07 0A 01 06 25 73 6C 6F 74 73 00 00 0A 09 01 07 00 20 00 20 01 6A 0B";
 
@@ -308,7 +312,7 @@ const IMPORT_0: &str = "s.wasm: import 0 uses the placeholder namespace";
 
 const IMPORT_1: &str = "s.wasm: import 1 uses the placeholder namespace";
 
-// A module, words, and what is told.
+// A module, arguments, and the text of the refusal.
 const REFUSED: [(&str, &str, &str); 38] = [
     (COPIES, "--split-funcs=zz", "no function zz"),
     (COPIES, "--keep-funcs=zz", "no function zz"),
@@ -359,14 +363,14 @@ const REFUSED: [(&str, &str, &str); 38] = [
         "--split-funcs=g,f --keep-funcs=f,g",
         "function g is kept and split",
     ),
-    // a name that an import alone bears, and the name of an import that is exported
+    // a name that only an import has, and the name of an import that is exported
     (SEGMENTS, "--split-funcs=i", "no function i"),
     (IMPORTED, "--split-funcs=h", "no function h"),
     (CALLS_BESIDE, "--split-funcs=g", "no function g"),
     // a name of no function, and a name of a malformed list
     (SEGMENTS, "--split-funcs=gone", "no function gone"),
     (CALLS_MALFORMED, "--split-funcs=g", "no function g"),
-    // of the words before the module, and its imports before its exports
+    // faults of the listed names before those of the module, and its imports before its exports
     (ADDS_BESIDE, "--split-funcs=add", IMPORT_0),
     (ADDS_BESIDE, "--split-funcs=zz", "no function zz"),
     (
@@ -418,7 +422,8 @@ const REFUSED: [(&str, &str, &str); 38] = [
     ),
 ];
 
-// That the split of a module by these words is refused with this text, and leaves the files as they were.
+// Expects the refusal of the split of a module with these arguments with this text, and the files
+// to be unchanged.
 fn unlike_refused(
     alloc: Global,
     module: &str,
@@ -446,7 +451,8 @@ fn the_first_fault_is_told_and_no_file_is_written(rt: HostRuntime) -> Result<(),
     Ok(())
 }
 
-// The function without parameters that is exported as k, and 4,001 functions of 1,000 parameters, the first of which is exported as l.
+// A function without parameters, exported as k, and 4,001 functions of 1,000 parameters, the first
+// of which is exported as l.
 fn many_params(alloc: Global) -> Result<Vec<u8>, Fail> {
     let mut bytes = module_of(alloc, "01 F0 07 02 60 00 00 60 E8 07")?;
     for _ in 0..1000 {
@@ -466,7 +472,8 @@ fn many_params(alloc: Global) -> Result<Vec<u8>, Fail> {
     Ok(bytes)
 }
 
-// That the split of a module by these words is refused with this text and writes no secondary module, or writes one where there is no text.
+// Splits a module with these arguments. Expects the refusal with this text, without a secondary
+// module, or, if the text is empty, a secondary module.
 fn unlike_told(
     alloc: Global,
     module: &[u8],
@@ -542,7 +549,7 @@ fn the_module_is_read_and_validated_before_the_words_are_looked_up(
     Ok(())
 }
 
-// That a line over the module that calls is done and leaves these modules in these files.
+// Expects a line over CALLS to be done and to write these modules to these files.
 fn unlike_files(
     alloc: Global,
     line: &str,
@@ -579,7 +586,7 @@ fn an_output_may_be_the_file(rt: HostRuntime) -> Result<(), Fail> {
     Ok(())
 }
 
-// A function that is exported under the empty name and gives 7.
+// A function that is exported under the empty name and returns 7.
 const NAMELESS: &str = "01 05 01 60 00 01 7F 03 02 01 00 07 04 01 00 00 00 0A 06 01 04 00 41 07 0B";
 
 const NAMELESS_PRIMARY: &str =
@@ -618,7 +625,7 @@ fn its_options_stand_anywhere_and_once(rt: HostRuntime) -> Result<(), Fail> {
     Ok(())
 }
 
-// Words that are no split.
+// Lines that are no split.
 pub const NO_SPLIT: [&str; 27] = [
     "split",
     "split s.wasm",

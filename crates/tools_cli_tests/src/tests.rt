@@ -6,21 +6,21 @@ use std::test::Fail;
 use tool_io::{MemFiles, MemSink};
 use tools_cli::{Status, run};
 
-// A with an empty name section behind it.
+// A with an empty name section after it.
 const A_WITH_NAMES: [u8; 41] = [
     0x00, 0x61, 0x73, 0x6D, 0x01, 0x00, 0x00, 0x00, 0x01, 0x05, 0x01, 0x60, 0x00, 0x01, 0x7F, 0x03,
     0x02, 0x01, 0x00, 0x07, 0x05, 0x01, 0x01, 0x66, 0x00, 0x00, 0x0A, 0x06, 0x01, 0x04, 0x00, 0x41,
     0x07, 0x0B, 0x00, 0x05, 0x04, 0x6E, 0x61, 0x6D, 0x65,
 ];
 
-// A with the size of the code section spelled in five bytes.
+// A with the size of the code section encoded in five bytes.
 const A_PADDED: [u8; 38] = [
     0x00, 0x61, 0x73, 0x6D, 0x01, 0x00, 0x00, 0x00, 0x01, 0x05, 0x01, 0x60, 0x00, 0x01, 0x7F, 0x03,
     0x02, 0x01, 0x00, 0x07, 0x05, 0x01, 0x01, 0x66, 0x00, 0x00, 0x0A, 0x86, 0x80, 0x80, 0x80, 0x00,
     0x01, 0x04, 0x00, 0x41, 0x07, 0x0B,
 ];
 
-// And in six bytes.
+// The same in six bytes.
 const A_OVERLONG: [u8; 39] = [
     0x00, 0x61, 0x73, 0x6D, 0x01, 0x00, 0x00, 0x00, 0x01, 0x05, 0x01, 0x60, 0x00, 0x01, 0x7F, 0x03,
     0x02, 0x01, 0x00, 0x07, 0x05, 0x01, 0x01, 0x66, 0x00, 0x00, 0x0A, 0x86, 0x80, 0x80, 0x80, 0x80,
@@ -45,7 +45,7 @@ const UNKNOWN_OPCODE: [u8; 34] = [
     0x07, 0x0B,
 ];
 
-// A without the instruction that gives 7.
+// A without the instruction that pushes 7.
 const NOTHING_GIVEN: [u8; 32] = [
     0x00, 0x61, 0x73, 0x6D, 0x01, 0x00, 0x00, 0x00, 0x01, 0x05, 0x01, 0x60, 0x00, 0x01, 0x7F, 0x03,
     0x02, 0x01, 0x00, 0x07, 0x05, 0x01, 0x01, 0x66, 0x00, 0x00, 0x0A, 0x04, 0x01, 0x02, 0x00, 0x0B,
@@ -63,7 +63,7 @@ const MANY_PARAMETERS: [u8; 14] = [
 
 const ALL_USAGE: &str = "usage: binkit merge|split|metadce|ctor-eval|sample\n";
 
-// That a line over one module without sections writes it to this file.
+// Expects a line over one module without sections to write it to this file.
 fn unlike_copied(alloc: Global, line: &str, output: &str) -> Result<&'static str, Fail> {
     let mut files = MemFiles::new(alloc);
     files.add("h.wasm", &HEADER)?;
@@ -88,7 +88,7 @@ fn options_stand_anywhere_in_a_line(rt: HostRuntime) -> Result<(), Fail> {
     Ok(())
 }
 
-// Words that are no merge.
+// Lines that are no merge.
 const NO_MERGE: [&str; 29] = [
     "merge",
     "merge a.wasm -o o",
@@ -121,7 +121,7 @@ const NO_MERGE: [&str; 29] = [
     "merge h.wasm m -o o --skip-export-conflicts --rename-export-conflicts",
 ];
 
-// That a line is answered with this usage line alone.
+// Expects a line to print this usage line alone.
 fn unlike_usage(alloc: Global, line: &str, usage: &str) -> Result<&'static str, Fail> {
     let mut files = MemFiles::new(alloc);
     files.add("h.wasm", &HEADER)?;
@@ -159,7 +159,7 @@ fn words_that_ask_for_nothing_are_told_what_there_is(rt: HostRuntime) -> Result<
     Ok(())
 }
 
-// The words of a merge of so many parts.
+// The arguments of a merge of `count` parts.
 fn words_of_parts(alloc: Global, count: usize) -> Result<Vec<String>, Fail> {
     let mut words = words_of(alloc, "merge -o o")?;
     for part in 0..count {
@@ -183,7 +183,8 @@ fn a_thousand_and_one_parts_are_refused_before_a_file_is_read(rt: HostRuntime) -
     Ok(())
 }
 
-// That the merge of these bytes writes these, or is refused with this text and writes nothing where there is one.
+// Expects the merge of these bytes to write those, or, if there is a text, the refusal with it and
+// no output.
 fn unlike_written(
     alloc: Global,
     bytes: &[u8],
@@ -249,13 +250,13 @@ fn each_module_is_written_or_refused_with_its_text(rt: HostRuntime) -> Result<()
     Ok(())
 }
 
-// The type [] to [] and the function a.f of it, where the other part gives one of another type.
+// The type [] to [] and the function a.f of it. The other part has a.f of another type.
 const ASKS_FOR_ANOTHER_TYPE: [u8; 23] = [
     0x00, 0x61, 0x73, 0x6D, 0x01, 0x00, 0x00, 0x00, 0x01, 0x04, 0x01, 0x60, 0x00, 0x00, 0x02, 0x07,
     0x01, 0x01, 0x61, 0x01, 0x66, 0x00, 0x00,
 ];
 
-// That a merge of these two modules and a third is refused with this text.
+// Expects the refusal of a merge of these two modules and a third with this text.
 fn unlike_refused(
     alloc: Global,
     line: &str,

@@ -1,4 +1,4 @@
--- What the types of the code denote.
+-- What the types of the code denote in the definitions.
 use Rattle.std.specs.Prelude.{ℕ, List, ◌++◌, map, string_bytes}
 use Rattle.std.specs.Borrow.{Bor}
 use Rattle.tools_cli_words.specs.Words.{Text}
@@ -10,11 +10,11 @@ use Rattle.tools_cli_words.specs.declared.pass.Said.{Said}
 use Rattle.tools_cli_words.specs.declared.arguments.OptionValue.{OptionValue}
 use Rattle.tools_cli_words.specs.declared.arguments.Arguments.{Arguments}
 
--- The texts of borrowed words.
+-- The texts of borrowed strings.
 abbrev pub names_of : List (Bor Text) → List Text
 names_of words = map (λ w. w.now) words
 
--- What one word says, and what all say together, in their order.
+-- One parsed argument, and all of them in their order.
 abbrev pub argument_value : Argument → said.Argument
 argument_value (word.Value option value) = said.Value option.now value.now
 argument_value (word.Flag flag) = said.Flag flag.now
@@ -26,7 +26,7 @@ said_option v = record { option = v.option.now; value = v.value.now }
 abbrev pub said_value : Said → said.Arguments
 said_value s = record { values = map said_option s.values.items; flags = names_of s.flags.items; plain = names_of s.plain.items }
 
--- What is said first, and then more.
+-- The arguments of `first` and then those of `more`.
 abbrev pub join_arguments : said.Arguments → said.Arguments → said.Arguments
 join_arguments first more = record { values = first.values ++ more.values; flags = first.flags ++ more.flags; plain = first.plain ++ more.plain }
 

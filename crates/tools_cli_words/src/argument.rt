@@ -1,10 +1,9 @@
-// What the words of a command say, one by one.
 ghost use Rattle.std.specs.Prelude.{◌≡◌, List, ℕ, option_map, option_and_then, bytes_eq};
 ghost use Rattle.std.specs.List.{list_any};
 ghost use Rattle.tools_cli_words.specs.Words.{is_plain, long_name, takes_value, behind, own_value, value_behind, joined_value, other_word};
 ghost use Rattle.tools_cli_words.specs.Meaning.{argument_value, names_of};
 
-/// What an option and its value, a flag or a plain word says.
+/// An option with its value, a flag, or a positional argument.
 #[derive(Drop)]
 pub(crate) enum Argument<'a> {
     Value { option: &'a str, value: &'a str },
@@ -12,38 +11,37 @@ pub(crate) enum Argument<'a> {
     Plain(&'a str),
 }
 
-// A word that may denote a value.
+// Whether the argument may be positional, or a value.
 fn is_plain(word: &str) -> bool
     ensures { result ≡ is_plain word.now }
 {
     !word.is_empty() && !word.starts_with('-')
 }
 
-// Whether the word is one of these.
 fn is_one_of(words: &[&str], word: &str) -> bool
     ensures { result ≡ list_any (bytes_eq word.now) (names_of words.now) }
 {
     words.contains(&word)
 }
 
-/// The option of a command with one output.
+/// The output option of each command that has one output.
 pub(crate) const OUTPUT_OPTION: &str = "--output";
 
-/// The name of an option that a word may be.
+/// Returns the long name of the option `-o`, and any other argument as it is.
 pub(crate) fn long_name(word: &str) -> &str
     ensures { result.now ≡ long_name word.now }
 {
     if word == "-o" { OUTPUT_OPTION } else { word }
 }
 
-/// An option whose value is the next word.
+/// Whether the argument is an option whose value is the next argument.
 pub(crate) fn takes_value(options: &[&str], word: &str) -> bool
     ensures { result ≡ takes_value (names_of options.now) word.now }
 {
     is_one_of(options, long_name(word))
 }
 
-/// The value of an option as a word of its own.
+/// Returns the option with the next argument as its value, if it can be one.
 pub(crate) fn own_value<'a>(option: &'a str, word: &'a str) -> Option<Argument<'a>>
     ensures { option_map argument_value result ≡ own_value option.now word.now }
 {
@@ -57,7 +55,7 @@ pub(crate) fn own_value<'a>(option: &'a str, word: &'a str) -> Option<Argument<'
     }
 }
 
-// The value of an option, from what stands behind the option in its word.
+// Returns the option with its value, from what follows the option in its argument.
 fn value_behind<'a>(option: &'a str, rest: &'a str) -> Option<Argument<'a>>
     ensures { option_map argument_value result ≡ value_behind option.now rest.now }
 {
@@ -67,7 +65,7 @@ fn value_behind<'a>(option: &'a str, rest: &'a str) -> Option<Argument<'a>>
     }
 }
 
-// The value of this option in a word.
+// Returns this option with its value, if the argument has both.
 fn value_in<'a>(option: &'a str, word: &'a str) -> Option<Argument<'a>>
     ensures { option_map argument_value result ≡ option_and_then (value_behind option.now) (behind option.now word.now) }
 {
@@ -77,7 +75,7 @@ fn value_in<'a>(option: &'a str, word: &'a str) -> Option<Argument<'a>>
     }
 }
 
-// The value of one of the options in the word of the option itself.
+// Returns an option with its value, if the argument has both.
 fn joined_value<'a>(options: &[&'a str], word: &'a str) -> Option<Argument<'a>>
     ensures { option_map argument_value result ≡ joined_value (names_of options.now) word.now }
 {
@@ -89,7 +87,7 @@ fn joined_value<'a>(options: &[&'a str], word: &'a str) -> Option<Argument<'a>>
     None
 }
 
-/// What any other word says, where a command has these options and flags.
+/// Parses any other argument: not an option whose value is the next argument, and not such a value.
 pub(crate) fn other_word<'a>(
     options: &[&'a str],
     flags: &[&str],

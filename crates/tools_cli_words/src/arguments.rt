@@ -1,4 +1,3 @@
-// The arguments of a command, and what is picked from them.
 ghost use Rattle.std.specs.Prelude.{◌≡◌, option_map, IfOk};
 ghost use Rattle.tools_cli_words.specs.Words.{only, only_value, value_if_any, value_or};
 ghost use Rattle.tools_cli_words.specs.Meaning.{arguments_value, names_of};
@@ -13,7 +12,8 @@ pub struct OptionValue {
     pub value: String,
 }
 
-/// The arguments of a command: its options with their values, its flags, and plain words.
+/// The parsed arguments of a command: its options with their values, its flags, and its positional
+/// arguments (`plain`).
 #[derive(Drop)]
 pub struct Arguments {
     pub values: Vec<OptionValue>,
@@ -22,7 +22,7 @@ pub struct Arguments {
 }
 
 impl Arguments {
-    /// The one plain word, where there is exactly one.
+    /// Returns the positional argument, if there is exactly one.
     pub fn only_plain(&self) -> Option<&str>
         ensures { option_map (λ text. text.now) result ≡ only (arguments_value self.now).plain }
     {
@@ -32,7 +32,7 @@ impl Arguments {
         }
     }
 
-    /// The plain words, in order.
+    /// Returns the positional arguments, in order. The only error is `NoMemory`.
     pub fn plain_words(&self, alloc: Global) -> Result<Vec<&str>, NoMemory>
         ensures { IfOk result (λ words. names_of words.items ≡ (arguments_value self.now).plain) }
     {
@@ -43,7 +43,8 @@ impl Arguments {
         Ok(words)
     }
 
-    /// The value of an option that may be absent; none where the option stands twice.
+    /// Returns the value of an option: `Some(None)` if the option is absent, `None` if it is
+    /// repeated.
     pub fn value_if_any(&self, option: &str) -> Option<Option<&str>>
         ensures { option_map (option_map (λ text. text.now)) result ≡ value_if_any option.now (arguments_value self.now) }
     {
@@ -59,14 +60,14 @@ impl Arguments {
         Some(found)
     }
 
-    /// The value of an option that stands exactly once.
+    /// Returns the value of an option that is given exactly once, and otherwise `None`.
     pub fn only_value(&self, option: &str) -> Option<&str>
         ensures { option_map (λ text. text.now) result ≡ only_value option.now (arguments_value self.now) }
     {
         self.value_if_any(option).flatten()
     }
 
-    /// The value of an option, or this one where it is absent; none where the option stands twice.
+    /// Returns the value of an option, or `default` if it is absent; `None` if it is repeated.
     pub fn value_or<'a>(&'a self, option: &str, default: &'a str) -> Option<&'a str>
         ensures { option_map (λ text. text.now) result ≡ value_or option.now default.now (arguments_value self.now) }
     {

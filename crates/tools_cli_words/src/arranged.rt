@@ -1,4 +1,3 @@
-// What is said, as the words that `clap` reads.
 ghost use Rattle.std.specs.Prelude.{◌≡◌, ◌++◌, ◌∷◌, codes, map, string_bytes, IfOk, OnOk};
 ghost use Rattle.tools_cli_words.specs.Words.{arranged_words, option_word};
 ghost use Rattle.tools_cli_words.specs.Meaning.{said_value, said_option, names_of};
@@ -7,7 +6,7 @@ use crate::pass::{Said, SaidOption};
 use std::alloc::Global;
 use wasm_bytes::NoMemory;
 
-// An option and its value as one word.
+// An option and its value as one argument.
 fn option_word(alloc: Global, said: &SaidOption<'_>) -> Result<String, NoMemory>
     ensures { IfOk result (λ word. string_bytes word ≡ option_word (said_option said.now)) }
 {
@@ -31,7 +30,6 @@ fn add_options(
     Ok(())
 }
 
-// Adds more words.
 fn add_words(alloc: Global, words: &mut Vec<String>, more: &[&str]) -> Result<(), NoMemory>
     ensures { OnOk result (map string_bytes words.new.items ≡ map string_bytes words.old.items ++ names_of more.now) }
 {
@@ -41,7 +39,8 @@ fn add_words(alloc: Global, words: &mut Vec<String>, more: &[&str]) -> Result<()
     Ok(())
 }
 
-/// What is said, after the program's name: the options first, each with its value in one word, then the flags, and the plain words last.
+/// Returns the program's name and then the arguments: the options first, each with its value in one
+/// argument, then the flags, and the positional arguments last.
 pub(crate) fn arranged(alloc: Global, said: &Said<'_>) -> Result<Vec<String>, NoMemory>
     ensures { IfOk result (λ words. map string_bytes words.items ≡ codes "binkit" ∷ arranged_words (said_value said.now)) }
 {

@@ -1,4 +1,3 @@
-// The command that `clap` reads words by.
 ghost use Rattle.std.specs.Prelude.{◌≡◌, false, IfOk};
 ghost use Rattle.clap.specs.Words.{app_of, rule_of};
 ghost use Rattle.tools_cli_words.specs.Meaning.{names_of};
@@ -7,7 +6,7 @@ ghost use Rattle.tools_cli_words.specs.Reader.{app_of_vocabulary, long_of_option
 use clap::{Arg, ArgAction, Command};
 use std::alloc::{AllocError, Global};
 
-/// The id of the plain words.
+/// The id of the positional arguments.
 pub(crate) const PLAIN: &str = "words";
 
 // The name of an option or a flag, without its hyphens.
@@ -47,7 +46,7 @@ fn plain<'a>(alloc: Global) -> Arg<'a>
         .num_args(1..)
 }
 
-/// The command with these options and flags, and with plain words.
+/// Makes the `clap` command with these options and flags, and with positional arguments.
 pub(crate) fn command<'a>(
     alloc: Global,
     options: &[&'a str],

@@ -1,4 +1,4 @@
-//! What the words of a command say: arranged, read by `clap`, and looked up.
+//! Parses the arguments of a command: they are arranged, read by `clap`, and looked up.
 #![tactic(auto)]
 
 mod argument;

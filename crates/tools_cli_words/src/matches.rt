@@ -1,4 +1,3 @@
-// What the matches of a parse say.
 ghost use Rattle.std.specs.Prelude.{◌≡◌, [], List, ℕ, map, string_bytes, option_map, unwrap_or, Some, IfOk};
 ghost use Rattle.clap.specs.Words.{found_of, one_text, raw_values, matched_of};
 ghost use Rattle.base_lists.specs.Every.{Every};
@@ -12,7 +11,7 @@ use clap::ArgMatches;
 use std::alloc::Global;
 use wasm_bytes::NoMemory;
 
-/// The options that have a value, in this order.
+/// Returns the options that have a value, in this order.
 pub(crate) fn values_in(
     alloc: Global,
     matches: &ArgMatches<'_>,
@@ -30,7 +29,7 @@ pub(crate) fn values_in(
     Ok(values)
 }
 
-/// The flags that are set, in this order.
+/// Returns the flags that are set, in this order.
 pub(crate) fn flags_in(
     alloc: Global,
     matches: &ArgMatches<'_>,
@@ -47,7 +46,7 @@ pub(crate) fn flags_in(
     Ok(given)
 }
 
-/// The plain words.
+/// Returns the positional arguments.
 pub(crate) fn plain_in(alloc: Global, matches: &ArgMatches<'_>) -> Result<Vec<String>, NoMemory>
     ensures { IfOk result (λ words. map string_bytes words.items ≡ unwrap_or (option_map raw_values (matched_of (found_of matches.now) plain_id)) []) }
 {

@@ -1,4 +1,3 @@
-// What all words of a command say, in order.
 ghost use Rattle.std.specs.Prelude.{◌≡◌, ◌∷◌, [], ◌&&◌, None, map, option_map, is_none, string_bytes, OnOk, IfOk};
 ghost use Rattle.tools_cli_words.specs.Words.{said_from, arguments_of, takes_value, next_argument};
 ghost use Rattle.tools_cli_words.specs.Meaning.{said_value, argument_value, join_arguments, names_of};
@@ -7,14 +6,14 @@ use crate::argument::{Argument, long_name, other_word, own_value, takes_value};
 use std::alloc::Global;
 use wasm_bytes::NoMemory;
 
-/// An option and its value, as they stand in the words.
+/// An option and its value, as they are given.
 #[derive(Clone, Copy, Debug)]
 pub(crate) struct SaidOption<'a> {
     pub(crate) option: &'a str,
     pub(crate) value: &'a str,
 }
 
-/// What is said, sorted, in the order of the words.
+/// The parsed arguments by kind, in the order in which they are given.
 #[derive(Drop)]
 pub(crate) struct Said<'a> {
     pub(crate) values: Vec<SaidOption<'a>>,
@@ -45,14 +44,15 @@ impl<'a> Said<'a> {
     }
 }
 
-// Whether the word is an option whose value is the next word.
+// Whether the argument is an option whose value is the next argument, and not itself the value of
+// `due`.
 fn begins_option(options: &[&str], due: Option<&str>, word: &str) -> bool
     ensures { result ≡ (is_none due.entry && takes_value (names_of options.now) word.now) }
 {
     due.is_none() && takes_value(options, word)
 }
 
-// What a word says, where an option before it may want its value.
+// Parses an argument: as the value of the option `due`, if there is one, or else by itself.
 fn next_argument<'a>(
     options: &[&'a str],
     flags: &[&str],
@@ -67,7 +67,8 @@ fn next_argument<'a>(
     }
 }
 
-/// What the words say to a command with these options and flags, or none where one of them says nothing.
+/// Parses arguments with these options and flags. Returns `None` if one of them does not parse, or
+/// if the last is an option that needs its value.
 pub(crate) fn said_by<'a>(
     alloc: Global,
     options: &[&'a str],

@@ -1,4 +1,3 @@
-// The words of a command, read.
 ghost use Rattle.std.specs.Prelude.{◌≡◌, [], List, ℕ, Option, None, map, string_bytes, option_map, unwrap_or, IfOk};
 ghost use Rattle.base_lists.specs.Every.{Every};
 ghost use Rattle.clap.specs.Words.{found_of, raw_values, matched_of};
@@ -18,7 +17,7 @@ use clap::error::ErrorKind;
 use std::alloc::Global;
 use wasm_bytes::NoMemory;
 
-// The matches that arranged words have by the command of a tool, or none where it refuses them.
+// Returns the matches of arranged arguments by the command of a tool, or `None` if it refuses them.
 fn parse<'a>(
     alloc: Global,
     tool: Tool,
@@ -34,7 +33,7 @@ fn parse<'a>(
     }
 }
 
-// The arguments that matches give to a tool.
+// Returns the arguments that the matches report.
 fn arguments_in(alloc: Global, tool: Tool, matches: &ArgMatches<'_>) -> Result<Arguments, NoMemory>
     ensures { IfOk result (λ arguments. ReadFrom (vocabulary_of tool) (found_of matches.now) (arguments_value arguments)) }
 {
@@ -45,7 +44,9 @@ fn arguments_in(alloc: Global, tool: Tool, matches: &ArgMatches<'_>) -> Result<A
     })
 }
 
-/// What the words after a command say to its tool; none where one of them says nothing, or an option or a flag stands twice.
+/// Parses the arguments `words` after the name of a command, for its tool. Returns `None` if one of
+/// them does not parse, or if an option or a flag is repeated. The options and flags are in the
+/// order of the tool's vocabulary. The only error is `NoMemory`.
 pub fn read_arguments(
     alloc: Global,
     tool: Tool,

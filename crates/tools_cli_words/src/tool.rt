@@ -1,4 +1,3 @@
-// The tools, and the words of each.
 ghost use Rattle.std.specs.Prelude.{◌≡◌};
 ghost use Rattle.tools_cli_words.specs.Vocabularies.{vocabulary_of};
 ghost use Rattle.tools_cli_words.specs.Meaning.{names_of};
@@ -14,7 +13,7 @@ pub enum Tool {
 }
 
 impl Tool {
-    /// The options of the tool, each of which has a value.
+    /// Returns the options of the tool, each of which takes a value.
     pub(crate) fn options(self) -> &'static [&'static str]
         ensures { names_of result.now ≡ (vocabulary_of self).options }
     {
@@ -27,7 +26,7 @@ impl Tool {
         }
     }
 
-    /// The flags of the tool.
+    /// Returns the flags of the tool.
     pub(crate) fn flags(self) -> &'static [&'static str]
         ensures { names_of result.now ≡ (vocabulary_of self).flags }
     {
