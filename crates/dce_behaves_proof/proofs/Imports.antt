@@ -1,12 +1,12 @@
 -- The addresses of imports of which only some are kept.
-use Rattle.base_lists.proofs.Common.{◌≡◌, ◌∙◌, ap, sym, subst, refl, ℕ, ◌+◌, ◌≤◌, List, [], ◌∷◌, length, Option, Some, None, is_some, Bool, true, false, cond, arith, option_and_then, slice_get, cons_option, places_many, and_then_is}
+use Rattle.base_lists.proofs.Common.{◌≡◌, ◌∙◌, ap, sym, subst, refl, ℕ, ◌+◌, ◌≤◌, List, [], ◌∷◌, length, Option, Some, None, is_some, Bool, true, false, cond, arith, option_and_then, cons_option, places_many, and_then_is}
 use Rattle.std.proofs.Common.{filter, filter_map}
 use Rattle.base_lists.proofs.Filtered.{at_places}
 use Rattle.wasm_tree_spec.specs.Prelude.{Space, FuncType, Import}
 use Rattle.wasm_meaning.specs.Prelude.{has_kind, Environment, address_of, all_there}
 use Rattle.world_simulation.specs.Prelude.{external_value_in, addresses, import_places}
 use Rattle.world_simulation.specs.Alone.{address_in}
-use Rattle.base_kept.specs.Kept.{kept, is_marked}
+use Rattle.base_kept.specs.Kept.{kept}
 use Rattle.base_kept.proofs.Laws.{AreKeptAlike, kept_chosen}
 
 pub all_kept : {A B : Type 0} (f : A → Option B) (cs : List Bool) (xs : List A) (ys : List B) → all_there f xs ≡ Some ys → all_there f (kept cs xs) ≡ Some (kept cs ys)

@@ -6,3 +6,5 @@ pub mod NamedBoth
 pub mod Linked
 pub mod Shown
 pub mod WrongSweeps
+pub mod Unreachable
+mod UnreachableRows

@@ -1,16 +1,16 @@
 -- An environment that links a module links what is left of it.
-use Rattle.base_lists.proofs.Common.{◌≡◌, ◌∙◌, ap, ap₂, sym, subst, refl, ℕ, zero, suc, ◌+◌, ◌<◌, ◌⊎◌, inl, inr, List, [], ◌∷◌, ◌++◌, map, length, Option, Some, None, Bool, true, false, arith, option_and_then, slice_get, unwrap_or, IsTrue, length-append, length-map, slice_get_within, and_then_is, all_there_at, all_there_from, unwrap_or_false_is, append_from, map_at, map_from, slice_get_there}
-use Rattle.wasm_tree_spec.specs.Prelude.{Functions, Tables, Memories, Globals, ConstExpr, ElemSeg, GlobalDef, Import, ImportDesc, Module, imported_funcs, funcs_of}
+use Rattle.base_lists.proofs.Common.{◌≡◌, ◌∙◌, ap, ap₂, sym, subst, refl, ℕ, zero, suc, ◌+◌, ◌<◌, ◌⊎◌, inl, inr, List, [], ◌∷◌, ◌++◌, map, length, Some, true, false, arith, option_and_then, slice_get, unwrap_or, length-append, length-map, slice_get_within, and_then_is, all_there_at, all_there_from, append_from, map_at, map_from, slice_get_there}
+use Rattle.wasm_tree_spec.specs.Prelude.{Functions, ConstExpr, ElemSeg, GlobalDef, Import, ImportDesc, Module, imported_funcs, funcs_of}
 use Rattle.wasm_tree.specs.declared.module.Func as tree
 use Rattle.wasm_tree.specs.declared.module.ImportDesc.TheVariants as im
 use Rattle.wasm_meaning.specs.Prelude.{Inst, Func, Global, Elem, Store, RefVal, Environment, ExternalValue, all_of, sites, own_store, joined_stores, part_store, stores_from, insts_from, is_match, is_matched, all_there, seen_as, links, alone, Begun}
 use Rattle.wasm_meaning.specs.Linking as linking
 use Rattle.wasm_meaning.specs.World as world
 use Rattle.index_remap.specs.declared.remap.Remap.{Remap}
-use Rattle.index_remap.specs.Prelude.{declared_refs, new_func, new_elem, new_global, new_const, Pairing, StoreRel, OptRel, RefRel, ExternalValueRel, passed, RenumberedCodeIsRelated}
+use Rattle.index_remap.specs.Prelude.{declared_refs, new_func, new_global, new_const, Pairing, StoreRel, OptRel, RefRel, RenumberedCodeIsRelated}
 use Rattle.index_remap_proof.specs.Indices.{TreeNamesOnly}
-use Rattle.world_simulation.specs.Prelude.{one, site, external_value_in, FuncsCorrespond, Instantiated, values_in, IsInstantiated}
-use Rattle.world_simulation.proofs.Alone.{thing_is, on_some, funcs_counted}
+use Rattle.world_simulation.specs.Prelude.{one, site, external_value_in, Instantiated, values_in, IsInstantiated}
+use Rattle.world_simulation.proofs.Alone.{thing_is, funcs_counted}
 use Rattle.world_simulation.proofs.Allocated.{Adds, adds, part_there}
 use Rattle.world_simulation.proofs.Declared.{last_segments, last_elems}
 use Rattle.world_simulation.proofs.Instancing.{IsInst, is_space}

@@ -1,5 +1,5 @@
 -- How many are kept before a place, and which are marked: sums, order, and lists all of which are marked.
-use Rattle.std.proofs.Common.{◌≡◌, ◌∙◌, ap, sym, refl, ℕ, zero, suc, ◌+◌, ◌<◌, ◌≤◌, List, [], ◌∷◌, length, drop, replicate, Bool, true, false, cond, arith, true≢false}
+use Rattle.std.proofs.Common.{◌≡◌, ◌∙◌, ap, sym, refl, ℕ, zero, suc, ◌+◌, ◌<◌, ◌≤◌, List, [], ◌∷◌, length, drop, replicate, Bool, true, false, arith, true≢false}
 use Rattle.base_kept.specs.Kept.{kept, is_marked, kept_before}
 
 none_before : (n : ℕ) → kept_before [] n ≡ 0

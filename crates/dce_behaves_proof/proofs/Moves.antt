@@ -1,5 +1,5 @@
 -- Where addresses go when some of what a module defines is left out, and what index spaces name then.
-use Rattle.base_lists.proofs.Common.{◌≡◌, ◌∙◌, ap, ap₂, sym, refl, ℕ, zero, suc, ◌+◌, ◌-◌, ◌<◌, ◌≤◌, ◌&&◌, ◌⊎◌, inl, inr, List, [], ◌∷◌, ◌++◌, length, drop, Some, Bool, true, false, cond, nat_eq, nat_lt, arith, slice_get, cases_lt, eq-eqb, eqb-true, ltb-true, ltb-false, nat_tests, left_true, right_true, numbers_at, append_at_left, append_left, append_right, slice_get_there}
+use Rattle.base_lists.proofs.Common.{◌≡◌, ◌∙◌, ap, sym, refl, ℕ, ◌+◌, ◌-◌, ◌<◌, ◌≤◌, ◌&&◌, ◌⊎◌, inl, inr, List, ◌++◌, length, drop, Bool, true, false, cond, nat_eq, nat_lt, arith, slice_get, cases_lt, eq-eqb, eqb-true, ltb-true, nat_tests, left_true, right_true, numbers_at, append_at_left, append_left, append_right, slice_get_there}
 use Rattle.base_lists.specs.Places.{numbers}
 use Rattle.index_remap.specs.Prelude.{OptRel, some, ListRel}
 use Rattle.index_remap.proofs.Rel.{get_rel}

@@ -1,5 +1,5 @@
 -- What is kept names only indices that are kept and have an entry; and so the imports that are kept are those of the module.
-use Rattle.base_lists.proofs.Common.{◌≡◌, ◌∙◌, ap, ap₂, sym, refl, ℕ, suc, List, [], ◌∷◌, map, length, Some, Bool, true, ◌&&◌, slice_get, IsTrue}
+use Rattle.base_lists.proofs.Common.{◌≡◌, ◌∙◌, ap, ap₂, refl, ℕ, suc, List, [], ◌∷◌, map, length, Some, ◌&&◌, slice_get}
 use Rattle.wasm_tree_spec.specs.Prelude.{Instr, ConstExpr, DataMode, ElemMode, ExportDesc, Import, ImportDesc, Module, ListLayers, PassesLayerByLayer}
 use Rattle.wasm_tree.specs.declared.module.ConstExpr.TheVariants as const
 use Rattle.wasm_tree.specs.declared.module.DataMode.TheVariants as «data»
@@ -10,7 +10,7 @@ use Rattle.wasm_tree.proofs.OperandLaws.{passes_both}
 use Rattle.index_remap.specs.Prelude.{new_import, new_import_desc}
 use Rattle.index_remap_proof.specs.Indices.{Indices, with_entry, LayerNamesOnly, ConstNamesOnly, ImportNamesOnly, ExportNamesOnly, ElemModeNamesOnly, DataModeNamesOnly, TreeNamesOnly}
 use Rattle.index_remap_proof.proofs.Lists.{both_true}
-use Rattle.world_removal_proof.proofs.Holes.{stays_at}
+use Rattle.world_contents_proof.proofs.Grown.{stays_at}
 use Rattle.base_kept.specs.Kept.{kept}
 use Rattle.dce_sweep_spec.specs.Marks.{Marks, stays}
 use Rattle.dce_sweep_spec.specs.Closed.{AreClosed}

@@ -1,5 +1,5 @@
 -- What is left of a module by closed marks shows what the module shows.
-use Rattle.base_lists.proofs.Common.{◌≡◌, ◌∙◌, ap, sym, ℕ, List, [], ◌∷◌, Some, true, option_and_then, IsTrue}
+use Rattle.base_lists.proofs.Common.{◌≡◌, ◌∙◌, ap, sym, ℕ, List, [], ◌∷◌, Some, true, option_and_then}
 use Rattle.wasm_tree_spec.specs.Prelude.{Functions, Tables, Memories, Globals, Module}
 use Rattle.wasm_meaning.specs.Prelude.{Inst, Environment, insts_from, starts_of, instantiate, links, alone, Move, events}
 use Rattle.index_remap.specs.Prelude.{ListRel, RenumberedCodeIsRelated}

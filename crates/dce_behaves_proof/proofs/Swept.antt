@@ -1,23 +1,22 @@
 -- A module and what is left of it by closed marks: its records of the law for two worlds.
-use Rattle.base_lists.proofs.Common.{◌≡◌, ◌∙◌, ap, ap₂, sym, subst, refl, ℕ, suc, ◌+◌, ◌-◌, ◌<◌, ◌≤◌, ◌&&◌, ◌⊎◌, inl, inr, List, [], ◌∷◌, ◌++◌, map, length, drop, replicate, Option, Some, None, Bool, true, false, arith, option_and_then, append-nil, slice_get, slice_index, IsTrue, ltb-true, length-append, length-map, length-replicate, length-drop, map-id, slice_get_within, same_Some, left_true, right_true, length-numbers, numbers_at, and_then_is, all_there_at, all_there_from, append_at_left, append_from, map_at, map_from, map_twice, slice_get_there, slice_get_none}
+use Rattle.base_lists.proofs.Common.{◌≡◌, ◌∙◌, ap, ap₂, sym, subst, refl, ℕ, suc, ◌+◌, ◌<◌, ◌≤◌, ◌&&◌, List, [], ◌∷◌, ◌++◌, map, length, drop, replicate, Option, Some, None, Bool, true, arith, option_and_then, append-nil, slice_get, slice_index, IsTrue, ltb-true, length-append, length-map, length-replicate, length-drop, map-id, slice_get_within, same_Some, left_true, right_true, length-numbers, numbers_at, append_at_left, map_at, map_twice, slice_get_there}
 use Rattle.base_lists.specs.Places.{numbers}
-use Rattle.wasm_tree_spec.specs.Prelude.{Space, Types, Functions, Tables, Memories, Globals, ElementSegments, DataSegments, ConstExpr, ElemMode, ElemSeg, DataSeg, Export, GlobalDef, Module, imported_funcs, imported_tables, imported_memories, imported_globals, funcs_of, tables_of, memories_of, globals_of}
+use Rattle.wasm_tree_spec.specs.Prelude.{Space, Types, Functions, Tables, Memories, Globals, ElementSegments, DataSegments, ConstExpr, ElemMode, ElemSeg, Export, GlobalDef, Module, imported_funcs, imported_tables, imported_memories, imported_globals}
 use Rattle.wasm_tree.specs.declared.module.ConstExpr.TheVariants as const
 use Rattle.wasm_tree.specs.declared.module.ElemMode.TheVariants as elem
 use Rattle.wasm_tree.specs.declared.module.Func as tree
-use Rattle.wasm_meaning.specs.Prelude.{Inst, Text, Val, Environment, own_globals, Entity, imports_of, has_kind, PlacedSegment, segments_in, own_count, defined_count, insts_from, starts_of, seen_as, alone}
+use Rattle.wasm_meaning.specs.Prelude.{Inst, Text, Val, Environment, own_globals, Entity, imports_of, own_count, defined_count, starts_of, seen_as, alone}
 use Rattle.wasm_meaning.specs.World as world
 use Rattle.index_remap.specs.declared.remap.Remap.{Remap}
-use Rattle.index_remap.specs.Prelude.{declared_refs, entries, has, new_func, new_elem, new_elem_mode, new_data, new_global, new_const, new_export, new_start, Pairing, OneToOne, OptRel, none, some, ListRel, cons, nil, ValRel, number, reference, func, KeyRel, turned, HasNoPartner, passed, RenumberedCodeIsRelated}
+use Rattle.index_remap.specs.Prelude.{declared_refs, entries, has, new_func, new_elem, new_elem_mode, new_data, new_global, new_const, new_export, Pairing, OneToOne, OptRel, none, some, ListRel, cons, nil, ValRel, number, reference, func, KeyRel, passed, RenumberedCodeIsRelated}
 use Rattle.index_remap.proofs.Rel.{append_rel, get_rel}
 use Rattle.index_remap_proof.specs.Indices.{Indices, with_entry, ConstNamesOnly, ExportNamesOnly, FuncNamesOnly, TreeNamesOnly}
-use Rattle.world_simulation.specs.Prelude.{one, addresses, FuncsAt, FuncsCorrespond, GlobalsCorrespond, ElemsCorrespond, Partners, DefinitionsCorrespond, Instantiated, values_in, is_declarative, EntriesName, SharesOwn, InOrder, ends, only_second, ElemsPartner, ElemAlone, DatasPartner, DataAlone, ElemsInOrder, DatasInOrder, WorldsCorrespond}
+use Rattle.world_simulation.specs.Prelude.{one, addresses, FuncsAt, GlobalsCorrespond, ElemsCorrespond, Partners, DefinitionsCorrespond, Instantiated, values_in, is_declarative, EntriesName, SharesOwn, ElemsInOrder, DatasInOrder, WorldsCorrespond}
 use Rattle.world_simulation.specs.Definitions as partners
-use Rattle.world_simulation.specs.Segments as order
 use Rattle.world_simulation.proofs.Alone.{space_is, funcs_counted, tables_counted, memories_counted, globals_counted}
 use Rattle.world_simulation.proofs.Declared.{Keeps, keeps, last_segments}
-use Rattle.world_removal_proof.proofs.Holes.{all_in_step, stays_at}
-use Rattle.world_simulation.proofs.Instancing.{IsInst, addresses_in}
+use Rattle.world_contents_proof.proofs.Grown.{stays_at, no_more, declared_alone, all_in_step}
+use Rattle.world_simulation.proofs.Instancing.{IsInst}
 use Rattle.world_contents_proof.proofs.OwnValues.{const_same}
 use Rattle.world_simulation.proofs.Owned.{null_rel, own_globals_rel}
 use Rattle.world_simulation.proofs.Places.{opt_at, then_rel}
@@ -25,12 +24,12 @@ use Rattle.world_simulation.proofs.Renamed.{funcs_correspond, elems_alike, elem_
 use Rattle.world_simulation.proofs.Single.{space_at}
 use Rattle.world_simulation.proofs.Stored.{alike_correspond}
 use Rattle.base_kept.specs.Kept.{kept, is_marked, kept_before, new_places}
-use Rattle.base_kept.proofs.Laws.{before_most, kept_at, kept_from, kept_map, kept_all, new_place, marked_drop}
+use Rattle.base_kept.proofs.Laws.{before_most, kept_at, kept_map, kept_all, new_place}
 use Rattle.dce_sweep_spec.specs.Marks.{Marks, stays}
 use Rattle.dce_sweep_spec.specs.Closed.{AreClosed}
 use Rattle.dce_sweep_spec.specs.Swept.{defined_funcs, defined_globals, kept_elem, kept_items, kept_tree, renumbered_kept, sweep_map, swept}
 use Rattle.dce_sweep_spec.specs.Unswept.{unswept}
-use Rattle.dce_behaves_proof.proofs.Marked.{kept_length, before_less, marked_within, all_marked, all_before, drop_all}
+use Rattle.dce_behaves_proof.proofs.Marked.{kept_length, marked_within, all_marked, all_before, drop_all}
 use Rattle.dce_behaves_proof.proofs.Moves.{goes_to, Goes, own_stays, is_kept, goes_is, is_goes, goes_right, goes_left, space_moves}
 use Rattle.dce_behaves_proof.proofs.Imports.{kept_addresses}
 
@@ -366,25 +365,13 @@ module _ (k : Marks) (t : Module) (c : AreClosed k t) where
 
           elems_in_order : ElemsInOrder R env v w
           elems_in_order =
-              all_in_step _ _ _ i j moved_elem (last_segments fs) t.elems u.elems i.elems j.elems a.elems b.elems elems_mapped (declared_alone fs)
+              all_in_step _ _ _ i j moved_elem (last_segments fs) t.elems u.elems i.elems j.elems a.elems b.elems elems_mapped (declared_alone j fs (numbers (0 + length t.elems) (length (last_segments fs))))
               (λ x e h. elem_mode_named of r (kept_indices k t) i j names (values_in env v 0) (values_in env w 0) consts _ _ refl refl (elem_shared x (slice_get_within t.elems x e h)) e.mode (named.elem_modes x (kept_elem k e) (map_at (kept_elem k) t.elems x e h)))
-            where
-              declared_alone : (refs : List ℕ) (ns : List ℕ) →
-                  InOrder (λ x y. ElemsPartner R (values_in env v x.part) (values_in env w y.part) x y x.segment.mode y.segment.mode) (λ x. ElemAlone (HasNoPartner (turned R)) env v x x.segment.mode) (λ y. ElemAlone (HasNoPartner R) env w y y.segment.mode) [] (segments_in 0 j ns (last_segments refs) ++ [])
-              declared_alone [] [] = ends
-              declared_alone [] (n ∷ ns) = ends
-              declared_alone (f ∷ refs) [] = ends
-              declared_alone (f ∷ refs) (n ∷ []) = only_second order.ElemAlone.declarative ends
-              declared_alone (f ∷ refs) (n ∷ m ∷ ns) = only_second order.ElemAlone.declarative ends
 
           datas_in_order : DatasInOrder R env v w
           datas_in_order =
-              all_in_step _ _ _ i j (new_data r) [] t.datas u.datas i.datas j.datas a.datas b.datas (same.datas ∙ sym (append-nil _)) (λ ns. nothing ns)
+              all_in_step _ _ _ i j (new_data r) [] t.datas u.datas i.datas j.datas a.datas b.datas (same.datas ∙ sym (append-nil _)) (no_more j (numbers (0 + length t.datas) 0))
               (λ x d h. data_mode_named of r (kept_indices k t) i j names (values_in env v 0) (values_in env w 0) consts _ _ refl refl (data_shared x (slice_get_within t.datas x d h)) d.mode (named.data_modes x d h))
-            where
-              nothing : {P : PlacedSegment DataSeg → PlacedSegment DataSeg → Type 0} {F S : PlacedSegment DataSeg → Type 0} (ns : List ℕ) → InOrder P F S [] (segments_in 0 j ns [] ++ [])
-              nothing [] = ends
-              nothing (n ∷ ns) = ends
 
           pub view : ListRel (λ x y. OptRel (KeyRel R) (seen_as (i ∷ []) x) (seen_as (j ∷ []) y)) (unswept k t).view (alone u).view
           view = rw (kept_map seen k.exports t.exports, same.exports) (each (kept k.exports t.exports) named.exports)

@@ -1,8 +1,10 @@
-//! A law: what closed marks leave of a module is observationally equivalent to the module, seen
-//! through the exports that are kept.
+//! Laws: what closed marks leave of a valid module is observationally equivalent to the module,
+//! seen through the exports that are kept; and so is a module without one function that nothing
+//! else names.
 #![tactic(auto)]
 
 ghost use Rattle.dce_behaves_proof.specs.Laws.{SweptModuleEquivalent};
+ghost use Rattle.dce_behaves_proof.specs.Unreachable.{UnreachableFunctionRemovalEquivalent};
 
 use dce_sweep_proof::what_is_kept_fits;
 use index_remap::steps_agree;
@@ -24,4 +26,16 @@ pub fn swept_module_equivalent()
     steps_agree();
     related_instances_have_equal_traces();
     corresponding_worlds_have_equal_traces();
+}
+
+/// A module is observationally equivalent, step by step, to itself without one function that
+/// nothing else of it names, in each environment that links it (WebAssembly Core 2.0, section
+/// 2.5.1). The functions behind this one move down by one, declarative segments keep only their
+/// references to other functions, and references are declared if they have to be.
+pub fn unreachable_function_removal_equivalent()
+    ensures equivalent { UnreachableFunctionRemovalEquivalent }
+{
+    operands_pass_layer_by_layer();
+    steps_agree();
+    related_instances_have_equal_traces();
 }

@@ -1,5 +1,5 @@
 -- A module alone, and its primary module with stubs in place of its placeholders: what they define, their segments, views and starts correspond.
-use Rattle.base_lists.proofs.Common.{◌≡◌, ◌∙◌, ap, sym, subst, refl, ℕ, zero, suc, ◌+◌, ◌<◌, List, [], ◌∷◌, ◌++◌, map, take, length, Option, Some, Bool, true, false, cond, arith, option_map, append-nil, ⊎_elim, slice_get, slice_index, cons_option, length-append, length-map, map-id, slice_get_within, same_Some, length-numbers, numbers_index, append_at_left, append_left, map_at, push_last, slice_get_there}
+use Rattle.base_lists.proofs.Common.{◌≡◌, ◌∙◌, ap, sym, subst, refl, ℕ, zero, suc, ◌+◌, ◌<◌, List, [], ◌∷◌, ◌++◌, map, take, length, Option, Some, Bool, true, false, cond, arith, option_map, append-nil, ⊎_elim, slice_get, slice_index, cons_option, length-map, map-id, slice_get_within, same_Some, length-numbers, numbers_index, append_at_left, append_left, map_at, push_last, slice_get_there}
 use Rattle.std.proofs.Common.{filter_map}
 use Rattle.base_lists.specs.Places.{numbers}
 use Rattle.wasm_num.specs.Operations.{wrapped}
@@ -7,20 +7,19 @@ use Rattle.wasm_tree_spec.specs.Prelude.{Space, Functions, Tables, Memories, Glo
 use Rattle.wasm_tree.specs.declared.module.ConstExpr.TheVariants as const
 use Rattle.wasm_tree.specs.declared.module.Func as tree
 use Rattle.wasm_valid.specs.declared.kinds.ItemKind.TheVariants as kind
-use Rattle.wasm_meaning.specs.Prelude.{Inst, Text, Val, Environment, ExternalValue, export_named, same_text, LoaderWorld, PlacedSegment, segments_in, own_count, defined_count, starts_of, seen_as, alone}
+use Rattle.wasm_meaning.specs.Prelude.{Inst, Text, Val, Environment, ExternalValue, export_named, same_text, LoaderWorld, PlacedSegment, own_count, defined_count, starts_of, seen_as, alone}
 use Rattle.index_remap.specs.declared.remap.Remap.{Remap}
 use Rattle.index_remap.specs.Prelude.{declared_refs, Pairing, OptRel, none, some, ListRel, nil, cons, ValRel, number, reference, func, extern, ExternalValueRel, a_func, a_table, a_memory, a_global, KeyRel, HasNoPartner, turned, new_const, new_data, new_elem, new_export_desc, new_func, new_global}
 use Rattle.index_remap.proofs.Rel.{append_rel}
 use Rattle.index_remap_proof.specs.Indices.{Indices, ConstNamesOnly, ExportNamesOnly, TreeNamesOnly}
 use Rattle.index_remap_proof.proofs.Lists.{two_cases}
-use Rattle.world_simulation.specs.Prelude.{one, FuncsAt, GlobalsCorrespond, ElemsCorrespond, Partners, DefinitionsCorrespond, Instantiated, values_in, EntriesName, InOrder, ends, both, only_second, ElemsPartner, ElemAlone, DatasPartner, DataAlone, ElemsInOrder, DatasInOrder, WorldsCorrespond}
+use Rattle.world_simulation.specs.Prelude.{one, FuncsAt, GlobalsCorrespond, ElemsCorrespond, Partners, DefinitionsCorrespond, Instantiated, values_in, EntriesName, only_second, ElemsPartner, ElemAlone, DatasPartner, ElemsInOrder, DatasInOrder, WorldsCorrespond}
 use Rattle.world_simulation.specs.Definitions as partners
 use Rattle.world_loader_proof.specs.Loaded.{primary_world}
 use Rattle.world_simulation.specs.Segments as order
 use Rattle.world_loader_proof.specs.Stubbed.{stubbed}
 use Rattle.world_simulation.proofs.Declared.{last_segments}
-use Rattle.world_removal_proof.proofs.Holes.{all_in_step, kept_place, placed}
-use Rattle.world_removal_proof.proofs.Holes as holes
+use Rattle.world_contents_proof.proofs.Grown.{no_more, declared_alone, all_in_step, keeps_place}
 use Rattle.world_simulation.proofs.Instancing.{IsInst}
 use Rattle.world_simulation.proofs.Places.{then_rel}
 use Rattle.world_simulation.proofs.Renamed.{elems_alike, elem_mode_named, data_mode_named, start_named}
@@ -78,24 +77,6 @@ module _ (P R : Pairing) (same : (space : Space) (a b : ℕ) → P.of space a b 
     pub data_partner_as : {x y : PlacedSegment DataSeg} {p q : DataMode} → DatasPartner P value second x y p q → DatasPartner R value second x y p q
     data_partner_as (order.DatasPartner.active p t e) = order.DatasPartner.active (same _ _ _ p) (address_as t) e
     data_partner_as order.DatasPartner.passive = order.DatasPartner.passive
-
--- ---- segments in order, the second module's last ones alone ----
-
-in_step : {A : Type 0} (partners : PlacedSegment A → PlacedSegment A → Type 0) (first second : PlacedSegment A → Type 0) (i j : Inst) (new : A → A) (more : List A) (from : ℕ) (es : List A) → InOrder partners first second [] (segments_in 0 j (numbers (from + length es) (length more)) more ++ []) →
-    ((x : ℕ) (e : A) → slice_get es x ≡ Some e → partners (record { part = 0; inst = i; address = from + x; segment = e }) (record { part = 0; inst = j; address = from + x; segment = new e })) →
-    InOrder partners first second (segments_in 0 i (numbers from (length es)) es ++ []) (segments_in 0 j (numbers from (length es + length more)) (map new es ++ more) ++ [])
-in_step partners first second i j new more from [] last each =
-    let here : from + 0 ≡ from = omega arith in
-    let size : length more ≡ 0 + length more = omega arith in
-    subst (λ count. InOrder partners first second [] (segments_in 0 j (numbers from count) more ++ [])) size (subst (λ n. InOrder partners first second [] (segments_in 0 j (numbers n (length more)) more ++ [])) here last)
-in_step {A} partners first second i j new more from (e ∷ es) last each =
-    let here : from + 0 ≡ from = omega arith in
-    let further : from + suc (length es) ≡ suc from + length es = omega arith in
-    let size : suc (length es) + length more ≡ suc (length es + length more) = omega arith in
-    let at : (a : ℕ) (k : Inst) (x : A) → PlacedSegment A = λ a k x. record { part = 0; inst = k; address = a; segment = x } in
-    rw size
-    (both (subst (λ a. partners (at a i e) (at a j (new e))) here (each 0 e refl))
-    (in_step partners first second i j new more (suc from) es (subst (λ n. InOrder partners first second [] (segments_in 0 j (numbers n (length more)) more ++ [])) further last) (λ x d h. let n : from + suc x ≡ suc from + x = omega arith in subst (λ a. partners (at a i d) (at a j (new d))) n (each (suc x) d h))))
 
 -- ---- exports ----
 
@@ -210,10 +191,7 @@ module _ (laws : Laws) (namespace : ℕ → List ℕ) (names : SplitNames) (m : 
         (correspond : ℕ → Inst → A → ℕ → Inst → A → Type 0) → ((x : ℕ) (d : A) → slice_get (definitions m) x ≡ Some d → correspond 0 i d 0 j (new d)) → (c d : ℕ) → R.of space c d → Partners env v w space definitions correspond c d
     same_placed space other definitions new more counts are correspond alike c d related =
         let s = partner_same space other c d related in
-        let lt = s.1 in
-        let counted = counts m in
-        placed env m primary i j space definitions new (length (definitions m)) counts (λ x y e h move. ap (λ ds. slice_get ds y) are ∙ kept_place (definitions m) new more x y e h move) correspond (λ x e h apart. alike x e h) c d
-        (holes.low (omega (arith, lt, counted)) lt s.0)
+        subst (Partners env v w space definitions correspond c) s.0 (keeps_place env m primary i j space definitions new more counts are correspond alike c s.1)
 
     elem_alike : (x : ℕ) (e : ElemSeg) → slice_get m.elems x ≡ Some e → ElemsCorrespond R (values_in env v 0) (values_in env w 0) e (new_elem map_of e)
     elem_alike x e h =
@@ -258,13 +236,6 @@ module _ (laws : Laws) (namespace : ℕ → List ℕ) (names : SplitNames) (m : 
         (λ c related. let s = partner_same ElementSegments refl c (0 + length m.elems) related in let e = s.0 in let lt = s.1 in omega (arith, e, lt))
         refl (omega (arith, many, each, count))
 
-    declared_alone : (refs ns : List ℕ) → InOrder ElemPair FirstElem SecondElem [] (segments_in 0 j ns (last_segments refs) ++ [])
-    declared_alone [] [] = ends
-    declared_alone [] (n ∷ ns) = ends
-    declared_alone (f ∷ refs) [] = ends
-    declared_alone (f ∷ refs) (n ∷ []) = only_second order.ElemAlone.declarative ends
-    declared_alone (f ∷ refs) (n ∷ l ∷ ns) = only_second order.ElemAlone.declarative ends
-
     elem_pairs : (x : ℕ) (e : ElemSeg) → slice_get m.elems x ≡ Some e → ElemPair (record { part = 0; inst = i; address = 0 + x; segment = e }) (record { part = 0; inst = j; address = 0 + x; segment = new_elem map_of e })
     elem_pairs x e h =
         elem_partner_as P R (λ space c d p. p) (elem_mode_named of map_of kept i j names_there (values_in env v 0) (values_in env w 0) const_values _ _ refl refl
@@ -272,24 +243,14 @@ module _ (laws : Laws) (namespace : ℕ → List ℕ) (names : SplitNames) (m : 
 
     elems_in_order : ElemsInOrder R env v w
     elems_in_order =
-        let more = more_segments laws namespace names m moved owns g in
-        let refs = declared_refs (plain laws namespace names m moved owns g) in
-        let are = elems_are laws namespace names m moved owns g in
-        let size : length primary.elems ≡ length m.elems + length more = ap length are ∙ length-append (map (new_elem map_of) m.elems) more ∙ ap (λ n. n + length more) (length-map m.elems (new_elem map_of)) in
-        subst (λ xs. InOrder ElemPair FirstElem SecondElem (segments_in 0 i xs m.elems ++ []) (segments_in 0 j j.elems primary.elems ++ [])) (sym a.elems)
-        (subst (λ ys. InOrder ElemPair FirstElem SecondElem (segments_in 0 i (numbers 0 (length m.elems)) m.elems ++ []) (segments_in 0 j ys primary.elems ++ [])) (ap (numbers 0) (sym size) ∙ sym b.elems)
-        (subst (λ us. InOrder ElemPair FirstElem SecondElem (segments_in 0 i (numbers 0 (length m.elems)) m.elems ++ []) (segments_in 0 j (numbers 0 (length m.elems + length more)) us ++ [])) (sym are)
-        (in_step ElemPair FirstElem SecondElem i j (new_elem map_of) more 0 m.elems (only_second slots_alone (declared_alone refs (numbers (suc (0 + length m.elems)) (length (last_segments refs))))) elem_pairs)))
+        all_in_step ElemPair FirstElem SecondElem i j (new_elem map_of) (more_segments laws namespace names m moved owns g) m.elems primary.elems i.elems j.elems a.elems b.elems (elems_are laws namespace names m moved owns g)
+        (only_second slots_alone (let refs = declared_refs (plain laws namespace names m moved owns g) in declared_alone j refs (numbers (suc (0 + length m.elems)) (length (last_segments refs))))) elem_pairs
 
     datas_in_order : DatasInOrder R env v w
     datas_in_order =
-        all_in_step _ _ _ i j (new_data map_of) [] m.datas primary.datas i.datas j.datas a.datas b.datas (datas_are laws namespace names m moved owns g ∙ sym (append-nil _)) (λ ns. nothing ns)
+        all_in_step _ _ _ i j (new_data map_of) [] m.datas primary.datas i.datas j.datas a.datas b.datas (datas_are laws namespace names m moved owns g ∙ sym (append-nil _)) (no_more j (numbers (0 + length m.datas) 0))
         (λ x d h. data_partner_as P R (λ space c d p. p) (data_mode_named of map_of kept i j names_there (values_in env v 0) (values_in env w 0) const_values _ _ refl refl
         (its_partner DataSegments refl (0 + x) (let lt = slice_get_within m.datas x d h in omega (arith, lt))) d.mode (outside_named.data_modes x d h)))
-      where
-        nothing : {P : PlacedSegment DataSeg → PlacedSegment DataSeg → Type 0} {F S : PlacedSegment DataSeg → Type 0} (ns : List ℕ) → InOrder P F S [] (segments_in 0 j ns [] ++ [])
-        nothing [] = ends
-        nothing (n ∷ ns) = ends
 
     -- ---- views and starts ----
 

@@ -27,8 +27,7 @@ use Rattle.world_loader_proof.specs.Loaded.{LoadersBeginAsTheirPrimary, LoadersH
 use Rattle.world_loader_proof.specs.Stubbed.{stub, stubbed, LoadersAddAsStubbed, LoadersBeginAsStubbed}
 use Rattle.world_simulation.proofs.Alone.{funcs_counted, tables_counted, memories_counted, globals_counted}
 use Rattle.world_simulation.proofs.Declared.{Keeps, last_segments}
-use Rattle.world_removal_proof.proofs.Holes.{Down, Moved, stays, space_moves, stays_at}
-use Rattle.world_removal_proof.proofs.Holes as holes
+use Rattle.world_contents_proof.proofs.Grown.{stays_at, space_grows}
 use Rattle.world_simulation.proofs.Instancing.{IsInst}
 use Rattle.world_contents_proof.proofs.OwnValues.{const_same}
 use Rattle.world_simulation.proofs.Owned.{null_rel, own_globals_rel}
@@ -255,11 +254,7 @@ module _ (laws : Laws) (namespace : ℕ → List ℕ) (names : SplitNames) (m : 
           let imported = same_Some _ _ (sym sy.are ∙ ap (λ ts. addresses env ts m.imports space) types_are ∙ sx.are) in
           let many = sx.many in
           opt_at (ap (λ l. slice_get l x) sx.all) (ap (λ l. slice_get l x) (sy.all ∙ ap (λ l. l ++ numbers (own_count space env) (defined_count space Q)) imported))
-          (space_moves (P.of space) sx.imported (own_count space env) (defined_count space m) (defined_count space m) (defined_count space Q) sx.shared (omega arith) (λ c. absurd (omega (arith, c))) (λ e. more) by x x (omega (arith, lt, many)) (stays (omega (arith, lt, many)) refl))
-        where
-          by : (c d : ℕ) → Down (own_count space env + defined_count space m) (own_count space env + defined_count space m) c d → P.of space c d
-          by c d (holes.low h l e) = subst (λ d. P.of space c d) e (related c l)
-          by c d (holes.high h l e) = absurd (omega (arith, h, l))
+          (space_grows (P.of space) sx.imported (own_count space env) (defined_count space m) (defined_count space Q) sx.shared more related x (omega (arith, lt, many)))
 
       segment_stays : (space : Space) (xs ys : List ℕ) (count more : ℕ) → xs ≡ numbers 0 count → ys ≡ numbers 0 more → count ≤ more → ((c : ℕ) → c < count → P.of space c c) → (x : ℕ) → x < count → OptRel (P.of space) (slice_get xs x) (slice_get ys x)
       segment_stays space xs ys count more hx hy few related x lt =

@@ -4,3 +4,4 @@ mod LeavesRows
 pub mod FuncsAside
 pub mod Copies
 pub mod OwnValues
+pub mod Grown

@@ -1,0 +1,19 @@
+use Rattle.std.proofs.Common.{[], ◌∙◌, sym, subst, append-nil, IsTrue}
+use Rattle.wasm_meaning.specs.Prelude.{alone, links, Same, events}
+use Rattle.dce_behaves_proof.specs.Unreachable.{all_but, removed}
+use Rattle.dce_behaves_proof.proofs.NamedBoth.{named_both, tree_imports}
+use Rattle.dce_behaves_proof.proofs.Shown.{shows_the_same}
+use Rattle.dce_behaves_proof.proofs.Unreachable.{closed, all_in_view}
+use Rattle.dce_behaves_proof.proofs.unreachable_function_removal_equivalent.Goals as goal
+
+pub returns : goal.returns
+returns c = record {
+  equivalent = λ t n there unreachable.
+      let k = all_but n t in
+      let marks = closed t n there unreachable in
+      let named = named_both k t c.operands_pass_layer_by_layer.ensures.layers unreachable.not_named unreachable.all_exist in
+      subst (λ w. Same (λ env. IsTrue (links env w)) (events w) (events (alone (removed n t))) (λ n. n) (λ n. n)) (all_in_view t n)
+      (λ env offers linked moves m.
+      let e = shows_the_same k t marks (tree_imports k t marks named) named c.steps_agree.ensures.code env c.related_instances_have_equal_traces.ensures.equal_traces linked moves m in
+      (([], append-nil _ ∙ e), ([], append-nil _ ∙ sym e)));
+}

@@ -1,4 +1,0 @@
-pub mod Holes
-pub mod SameItems
-pub mod Unreachable
-mod Examples
