@@ -1,9 +1,8 @@
 -- A module with its references declared: it has perhaps one more element segment, which is declarative and is allocated wherever the module is.
-use Rattle.base_lists.proofs.Common.{◌≡◌, ℕ, zero, suc, ◌+◌, ◌<◌, List, [], ◌∷◌, ◌++◌, map, length, Some, refl, sym, subst, arith, append-nil, slice_get, same_Some, range_with_len, kept_is, map_from, slice_get_there, all_there_from}
+use Rattle.base_lists.proofs.Common.{◌≡◌, ℕ, zero, suc, ◌+◌, ◌<◌, List, [], ◌∷◌, ◌++◌, map, length, Some, refl, sym, arith, append-nil, slice_get, same_Some, range_with_len, kept_is, map_from, slice_get_there, all_there_from, is_some_there}
 use Rattle.wasm_tree.specs.declared.module.ConstExpr.TheVariants as const
-use Rattle.wasm_tree.specs.declared.module.ElemMode.TheVariants as elem
 use Rattle.wasm_tree_spec.specs.Prelude.{ElemSeg, Module, funcs_of}
-use Rattle.wasm_meaning.specs.Prelude.{FuncRef, Inst, Elem, Environment, all_there, new_elem, elem_of}
+use Rattle.wasm_meaning.specs.Prelude.{Inst, Elem, Environment, all_there, elem_of}
 use Rattle.wasm_meaning.specs.World.{ref_value}
 use Rattle.index_remap.specs.Prelude.{declared_refs, with_declared, declaring}
 use Rattle.world_simulation.specs.Prelude.{one}
@@ -27,12 +26,9 @@ pub record Keeps (m n : Module) (fs : List ℕ) : Type 0 where
   pub datas : n.datas ≡ m.datas
   pub func_space : funcs_of n ≡ funcs_of m
 
-with_elems : (m : Module) (fs : List ℕ) (es : List ElemSeg) → es ≡ m.elems ++ last_segments fs → Keeps m (record m { elems = es }) fs
-with_elems m fs es e = record { types = refl; imports = refl; funcs = refl; tables = refl; mems = refl; globals = refl; exports = refl; start = refl; elems = e; datas = refl; func_space = refl }
-
 pub keeps : (m : Module) (fs : List ℕ) → Keeps m (with_declared m fs) fs
-keeps m [] = with_elems m [] m.elems (sym (append-nil m.elems))
-keeps m (f ∷ fs) = with_elems m (f ∷ fs) _ refl
+keeps m [] = assumption (sym (append-nil m.elems))
+keeps m (f ∷ fs) = assumption
 
 range_below : (a n k x : ℕ) → slice_get (range_with_len a n) k ≡ Some x → x < a + n
 range_below a zero k x h = cc
@@ -46,11 +42,10 @@ module _ (env : Environment) (u : Module) (j : Inst) where
       let r = all_there_from (ref_value env (one u) (j ∷ []) 0) (map const.Func (f ∷ fs)) (λ n x e.
       let g = map_from const.Func (f ∷ fs) n x e in
       let a = slice_get_there j.funcs g.0 (h n g.0 g.1) in
-      (FuncRef (Some a.0), subst (λ x. ref_value env (one u) (j ∷ []) 0 x ≡ Some (FuncRef (Some a.0))) g.2 (rw a.1 refl))) in
-      (new_elem elem.Declarative r.results ∷ [], rw r.are refl)
+      is_some_there _ (rw (← g.2, a.1))) in
+      is_some_there _ (rw r.are)
 
   -- the segment that declares a module's references is allocated, where the instance names as many functions as the module has
   pub last_elems : (m : Module) → length j.funcs ≡ length (funcs_of m) → (es : List Elem) × (all_there (elem_of env (one u) (j ∷ []) 0) (last_segments (declared_refs m)) ≡ Some es)
   last_elems m e = segments_there (declared_refs m) (λ n f h.
-      let k = kept_is _ (range_with_len 0 (length (funcs_of m))) n f h in
-      omega (arith, range_below 0 (length (funcs_of m)) k.1.0 f k.1.1))
+      grind (arith, kept_is _ (range_with_len 0 (length (funcs_of m))) n f h, range_below 0 (length (funcs_of m))))

@@ -6,7 +6,7 @@ use Rattle.wasm_meaning.specs.Prelude.{Part, Entity, module_at, imports_of, Envi
 -- what a part defines is at the next addresses of its kind
 pub defined_at : (env : Environment) (parts : List Part) (e : Entity) (m : Module) → module_at parts e.part ≡ Some m → index_of_export e.what - length (imports_of (space_of_export e.what) m) < defined_count (space_of_export e.what) m →
     defined_external_value env parts e ≡ external_value_at (space_of_export e.what) (base env parts (space_of_export e.what) e.part + (index_of_export e.what - length (imports_of (space_of_export e.what) m)))
-defined_at env parts e m is_part low = rw (is_part, numbers_at _ _ _ low) refl
+defined_at env parts e m is_part low = rw (is_part, numbers_at _ _ _ low)
 
 -- a number below that of all definitions is the place of one among those of a part
 defined_among : (k : Space) (parts : List Part) (n : ℕ) → n < defined_before k parts (length parts) → (p : ℕ) × (m : Module) × (x : ℕ) × (module_at parts p ≡ Some m) × (x < defined_count k m) × (n ≡ defined_before k parts p + x)

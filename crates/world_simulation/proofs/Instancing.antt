@@ -1,7 +1,8 @@
 -- What an instance holds, and the instances of several parts one after the other.
-use Rattle.base_lists.proofs.Common.{◌≡◌, ◌∙◌, ap, sym, refl, ℕ, zero, suc, ◌+◌, ◌<◌, List, [], ◌∷◌, ◌++◌, length, Option, Some, arith, add-zero, zero-add, inl, inr, option_and_then, slice_get, length-append, same_Some, slice_get_within, length-numbers, and_then_is, all_there_at, all_there_length, slice_get_there, append_from}
+use Rattle.base_lists.proofs.Common.{◌≡◌, ap, refl, ℕ, zero, suc, ◌+◌, ◌<◌, List, [], ◌∷◌, ◌++◌, length, Option, Some, arith, add-zero, zero-add, inl, inr, option_and_then, slice_get, length-append, same_Some, length-numbers, and_then_is, is_some_there, all_there_length, append_from}
 use Rattle.wasm_tree_spec.specs.Prelude.{Space, Types, Functions, Tables, Memories, Globals, DataSegments, ElementSegments, Module}
 use Rattle.wasm_meaning.specs.Prelude.{Inst, Part, module_at, imports_of, Environment, space, numbers, inst_of, insts_from, defined_before, defined_count, base, address_of, all_there, imported_external_value}
+use Rattle.index_remap_proof.proofs.Lists.{all_there_back}
 use Rattle.world_simulation.proofs.Places.{number_is}
 
 -- ---- an index space ----
@@ -35,19 +36,13 @@ module _ (env : Environment) (parts : List Part) (k : Space) (p : ℕ) where
       defines : (j : ℕ) → x ≡ length (imports_of k m) + j → j < defined_count k m → a ≡ base env parts k p + j → Entry x a
 
     pub is_space : (xs : List ℕ) → space env parts k p m ≡ Some xs → IsSpace xs
-    is_space xs h =
-        let r = and_then_is (all_there import_address (imports_of k m)) _ xs h in
-        rw (← same_Some _ _ r.2) (record { imported = r.0; are = r.1; all = refl; size = rw (length-append, length-numbers, all_there_length import_address (imports_of k m) r.0 r.1) })
+    is_space xs h = search (arith, length-append, length-numbers, all_there_length)
 
     pub entry_at : (xs : List ℕ) → IsSpace xs → (x a : ℕ) → slice_get xs x ≡ Some a → Entry x a
     entry_at xs s x a h =
-        let many = all_there_length import_address (imports_of k m) s.imported s.are in
         elim (append_from s.imported (numbers (base env parts k p) (defined_count k m)) x a (rw (← s.all) h)) [
-          | inl e ↦
-              let n = slice_get_there (imports_of k m) x (rw (← many) (slice_get_within s.imported x a e)) in
-              let r = all_there_at import_address (imports_of k m) s.imported s.are x n.0 n.1 in
-              imports n.0 n.1 (r.1 ∙ sym r.2 ∙ e)
-          | inr j ↦ let r = number_is (base env parts k p) (defined_count k m) j.0 a j.2 in defines j.0 (rw (← many) j.1) r.0 r.1
+          | inl e ↦ let r = all_there_back _ _ _ s.are x a e in imports r.0 r.1 r.2
+          | inr j ↦ let r = number_is _ _ j.0 a j.2 in defines j.0 (rw (← all_there_length import_address (imports_of k m) s.imported s.are) j.1) r.0 r.1
         ]
 
 -- ---- one ----
@@ -63,19 +58,11 @@ module _ (env : Environment) (parts : List Part) (p : ℕ) (m : Module) where
     pub datas : i.datas ≡ numbers (defined_before DataSegments parts p) (length m.datas)
 
   pub inst_is : (i : Inst) → inst_of env parts p m ≡ Some i → IsInst i
-  inst_is i h =
-      let f = and_then_is (space env parts Functions p m) _ i h in
-      let t = and_then_is (space env parts Tables p m) _ i f.2 in
-      let s = and_then_is (space env parts Memories p m) _ i t.2 in
-      let g = and_then_is (space env parts Globals p m) _ i s.2 in
-      rw (← same_Some _ _ g.2) (record { types = refl; funcs = f.1; tables = t.1; mems = s.1; globals = g.1; elems = refl; datas = refl })
+  inst_is i h = search arith
 
   -- where its index spaces are there, so is the instance
   pub inst_there : (fs ts ms gs : List ℕ) → space env parts Functions p m ≡ Some fs → space env parts Tables p m ≡ Some ts → space env parts Memories p m ≡ Some ms → space env parts Globals p m ≡ Some gs → (i : Inst) × (inst_of env parts p m ≡ Some i)
-  inst_there fs ts ms gs f t s g = (
-    record { types = m.types; funcs = fs; tables = ts; mems = ms; globals = gs; elems = numbers (defined_before ElementSegments parts p) (length m.elems); datas = numbers (defined_before DataSegments parts p) (length m.datas) },
-    rw (f, t, s, g),
-  )
+  inst_there fs ts ms gs f t s g = is_some_there _ (rw (f, t, s, g))
 
 -- ---- several ----
 
@@ -88,30 +75,28 @@ module _ (env : Environment) (all : List Part) where
     pub size : length is ≡ length parts
     pub each : (q : ℕ) (m : Module) → module_at parts q ≡ Some m → (i : Inst) × (slice_get is q ≡ Some i) × (inst_of env all (p + q) m ≡ Some i)
 
-  each_cons : {p : ℕ} (part : Part) {parts : List Part} (i : Inst) {is : List Inst} → inst_of env all p part.«module» ≡ Some i → EachInst (suc p) parts is → (q : ℕ) (m : Module) → module_at (part ∷ parts) q ≡ Some m →
-      (j : Inst) × (slice_get (i ∷ is) q ≡ Some j) × (inst_of env all (p + q) m ≡ Some j)
-  each_cons part i h later zero m e = (i, refl, rw (add-zero, ← same_Some _ _ e) h)
-  each_cons part i h later (suc q) m e = rw add_next (later.each q m e)
-
   pub insts_are : (p : ℕ) (parts : List Part) (is : List Inst) → insts_from env all p parts ≡ Some is → EachInst p parts is
-  insts_are p [] is h = rw (← same_Some _ _ h) (record { size = refl; each = λ q m e. absurd (let k = e in cc) })
+  insts_are p [] is h = search arith
   insts_are p (part ∷ parts) is h =
       let i = and_then_is (inst_of env all p part.«module») _ is h in
       let r = and_then_is (insts_from env all (suc p) parts) _ is i.2 in
       let later = insts_are (suc p) parts r.0 r.1 in
-      rw (← same_Some _ _ r.2) (record { size = ap suc later.size; each = each_cons part i.0 i.1 later })
+      rw (← same_Some _ _ r.2) (record {
+        size = ap suc later.size;
+        each = elim [ zero ↦ search (arith, add-zero) | suc q ↦ rw add_next (later.each q) ];
+      })
 
   pub insts_there : (p : ℕ) (parts : List Part) → ((q : ℕ) (m : Module) → module_at parts q ≡ Some m → (i : Inst) × (inst_of env all (p + q) m ≡ Some i)) → (is : List Inst) × (insts_from env all p parts ≡ Some is)
   insts_there p [] h = ([], refl)
   insts_there p (part ∷ parts) h =
       let first = rw add-zero at (h 0 part.«module» refl) in
-      let r = insts_there (suc p) parts (λ q m e. rw (← add_next p q) (h (suc q) m e)) in
-      (first.0 ∷ r.0, rw (first.1, r.1))
+      let r = insts_there (suc p) parts (λ q. rw (← add_next p q) (h (suc q))) in
+      is_some_there _ (rw (first.1, r.1))
 
   -- ---- those of a world ----
 
   pub inst_in : (is : List Inst) → insts_from env all 0 all ≡ Some is → (p : ℕ) (m : Module) → module_at all p ≡ Some m → (i : Inst) × (slice_get is p ≡ Some i) × IsInst env all p m i
-  inst_in is h p m at = let i = (insts_are 0 all is h).each p m at in (i.0, i.1, inst_is env all p m i.0 (rw zero-add at i.2))
+  inst_in is h p m at = search (arith, (insts_are 0 all is h).each, inst_is)
 
   pub insts_in : ((p : ℕ) (m : Module) → module_at all p ≡ Some m → (i : Inst) × (inst_of env all p m ≡ Some i)) → (is : List Inst) × (insts_from env all 0 all ≡ Some is)
-  insts_in h = insts_there 0 all (λ p m at. rw zero-add (h p m at))
+  insts_in h = insts_there 0 all (simp zero-add h)

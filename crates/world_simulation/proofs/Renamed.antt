@@ -1,25 +1,20 @@
--- A module's items with other indices, where each index of a set names what its entry names: exports, starts, functions, constant expressions, and the modes of segments.
-use Rattle.base_lists.proofs.Common.{◌≡◌, ℕ, suc, List, [], ◌∷◌, map, Option, Some, None, refl, option_and_then, slice_get, slice_index, IsTrue, Bool}
-use Rattle.wasm_tree_spec.specs.Prelude.{Space, Types, Functions, Tables, Memories, Globals, ElementSegments, DataSegments, ConstExpr, ExportDesc, ElemMode, ElemSeg, DataMode, DataSeg}
-use Rattle.wasm_tree.specs.declared.module.ExportDesc.TheVariants as ex
-use Rattle.wasm_tree.specs.declared.module.ElemMode.TheVariants as elem
-use Rattle.wasm_tree.specs.declared.module.DataMode.TheVariants as data'
+-- A module's items with other indices, where each index of a set names what its entry names: exports, starts, functions, constant expressions, and the modes of
+use Rattle.base_lists.proofs.Common.{◌≡◌, arith, ℕ, [], Option, Some, refl, option_and_then, slice_get, slice_index, IsTrue, Bool}
+use Rattle.wasm_tree_spec.specs.Prelude.{Space, Types, Functions, ElementSegments, DataSegments, ConstExpr, ExportDesc, ElemMode, ElemSeg, DataMode, DataSeg}
 use Rattle.wasm_tree.specs.declared.module.Func as tree
 use Rattle.wasm_num.specs.Operations.{W32}
-use Rattle.wasm_meaning.specs.Prelude.{Val, Inst, num_of, PlacedSegment, one_place, start_in, address_in}
+use Rattle.wasm_meaning.specs.Prelude.{Val, Inst, num_of, PlacedSegment, start_in, address_in}
 use Rattle.index_remap.specs.declared.remap.Remap.{Remap}
-use Rattle.index_remap.specs.Prelude.{new_func, new_const, new_elem, new_elem_mode, new_data_mode, new_export_desc, new_start, Pairing, OptRel, none, some, ListRel, nil, cons, ValRel, reference, ExternalValueRel, a_func, a_table, a_memory, a_global, passed, RenumberedCodeIsRelated}
+use Rattle.index_remap.specs.Prelude.{new_func, new_const, new_elem, new_elem_mode, new_data_mode, new_export_desc, new_start, Pairing, OptRel, none, some, ListRel, nil, cons, ValRel, ExternalValueRel, a_func, a_table, a_memory, a_global, passed, RenumberedCodeIsRelated}
 use Rattle.index_remap_proof.specs.Indices.{Indices, ConstNamesOnly, FuncNamesOnly, ExportNamesOnly, ElemModeNamesOnly, DataModeNamesOnly}
-use Rattle.world_simulation.specs.Prelude.{EntriesName, FuncsCorrespond, is_declarative, ElemsPartner, DatasPartner}
-use Rattle.world_simulation.specs.Segments as segments
-use Rattle.world_simulation.proofs.Places.{then_rel}
+use Rattle.world_simulation.specs.Prelude.{EntriesName, FuncsCorrespond, ElemsPartner, DatasPartner}
 use Rattle.world_simulation.proofs.Named.{all_named}
+use Rattle.world_simulation.proofs.Places.{placed_rel}
 use Rattle.world_simulation.proofs.Stored.{ElemsAlike}
 
 -- the offset of a segment, by values that are related
 pub offset_same : (R : Pairing) {o p : Option Val} → OptRel (ValRel R) o p → option_and_then (num_of W32) o ≡ option_and_then (num_of W32) p
-offset_same R (some (reference r)) = refl
-offset_same R _ = refl
+offset_same R r = grind arith
 
 module _ (of : Space → ℕ → ℕ → Bool) (m : Remap) (kept : Indices) (i j : Inst) (names : EntriesName (passed of of []) m kept i j) where
   abbrev R : Pairing
@@ -29,18 +24,10 @@ module _ (of : Space → ℕ → ℕ → Bool) (m : Remap) (kept : Indices) (i j
   func_named = names Functions
 
   pub export_named : (d : ExportDesc) → ExportNamesOnly kept d → OptRel (ExternalValueRel R) (address_in i d) (address_in j (new_export_desc m d))
-  export_named (ex.Func x) h = then_rel (names Functions x h) (λ _ _ r. some (a_func r))
-  export_named (ex.Table x) h = then_rel (names Tables x h) (λ _ _ r. some (a_table r))
-  export_named (ex.Memory x) h = then_rel (names Memories x h) (λ _ _ r. some (a_memory r))
-  export_named (ex.Global x) h = then_rel (names Globals x h) (λ _ _ r. some (a_global r))
+  export_named d h = grind (arith, a_func, a_table, a_memory, a_global, some, none)
 
   pub start_named : (start : Option ℕ) → ((f : ℕ) → start ≡ Some f → IsTrue (kept Functions f)) → ListRel (R.of Functions) (start_in i start) (start_in j (new_start m start))
-  start_named None h = nil
-  start_named (Some f) h = go (func_named f (h f refl))
-    where
-      go : {o p : Option ℕ} → OptRel (R.of Functions) o p → ListRel (R.of Functions) (one_place o) (one_place p)
-      go none = nil
-      go (some r) = cons r nil
+  start_named start h = grind (arith, nil, cons, λ (f : ℕ) (e : start ≡ Some f). func_named f (h f e))
 
   pub funcs_correspond : RenumberedCodeIsRelated → (f : tree.Func) → FuncNamesOnly kept f → FuncsCorrespond R i j f (new_func m f)
   funcs_correspond law f h = record { type = names Types f.ty h.0; locals = refl; code = law of of [] m i j f.body (all_named R m kept i j names f.body h.1) }
@@ -49,23 +36,10 @@ module _ (of : Space → ℕ → ℕ → Bool) (m : Remap) (kept : Indices) (i j
 
   module _ (value second_value : ConstExpr → Option Val) (consts : (e : ConstExpr) → ConstNamesOnly kept e → OptRel (ValRel R) (value e) (second_value (new_const m e))) where
     pub elem_mode_named : (x y : PlacedSegment ElemSeg) → x.inst ≡ i → y.inst ≡ j → R.of ElementSegments x.address y.address → (mode : ElemMode) → ElemModeNamesOnly kept mode → ElemsPartner R value second_value x y mode (new_elem_mode m mode)
-    elem_mode_named x y e f r (elem.Active t d) h =
-        segments.ElemsPartner.active r (rw (e, f) (names Tables t h.0)) (offset_same R (consts d h.1))
-    elem_mode_named x y e f r elem.Passive h = segments.ElemsPartner.passive
-    elem_mode_named x y e f r elem.Declarative h = segments.ElemsPartner.declarative
+    elem_mode_named x y e f r mode h = grind (arith, offset_same R, ElemsPartner.active, ElemsPartner.passive, ElemsPartner.declarative)
 
     pub data_mode_named : (x y : PlacedSegment DataSeg) → x.inst ≡ i → y.inst ≡ j → R.of DataSegments x.address y.address → (mode : DataMode) → DataModeNamesOnly kept mode → DatasPartner R value second_value x y mode (new_data_mode m mode)
-    data_mode_named x y e f r (data'.Active t d) h =
-        segments.DatasPartner.active r (rw (e, f) (names Memories t h.0)) (offset_same R (consts d h.1))
-    data_mode_named x y e f r data'.Passive h = segments.DatasPartner.passive
+    data_mode_named x y e f r mode h = grind (arith, offset_same R, DatasPartner.active, DatasPartner.passive)
 
     pub elems_alike : (e : ElemSeg) → ((p : ℕ) (x : ConstExpr) → slice_get e.items p ≡ Some x → ConstNamesOnly kept x) → ElemsAlike R value second_value e (new_elem m e)
-    elems_alike e h = record { declarative = same e.mode; items = items e.items h }
-      where
-        same : (mode : ElemMode) → is_declarative mode ≡ is_declarative (new_elem_mode m mode)
-        same (elem.Active t d) = refl
-        same _ = refl
-
-        items : (xs : List ConstExpr) → ((p : ℕ) (x : ConstExpr) → slice_get xs p ≡ Some x → ConstNamesOnly kept x) → ListRel (λ x y. OptRel (ValRel R) (value x) (second_value y)) xs (map (new_const m) xs)
-        items [] h = nil
-        items (x ∷ xs) h = cons (consts x (h 0 x refl)) (items xs (λ p. h (suc p)))
+    elems_alike e h = record { declarative = grind arith; items = placed_rel (new_const m) e.items (λ p x at. consts x (h p x at)) }

@@ -1,5 +1,5 @@
 -- Element segments that correspond, and that do not.
-use Rattle.base_lists.proofs.Common.{refl, List, [], ◌∷◌, Option, Some, None, false}
+use Rattle.base_lists.proofs.Common.{refl, arith, List, [], ◌∷◌, Option, Some, None, false}
 use Rattle.wasm_tree.specs.declared.types.RefType.TheVariants as reft
 use Rattle.wasm_tree_spec.specs.Prelude.{ConstExpr, ElemMode, ElemSeg}
 use Rattle.wasm_tree.specs.declared.module.ConstExpr.TheVariants as const
@@ -21,23 +21,19 @@ value _ = Some (Ref (FuncRef None))
 abbrev segment : List ConstExpr → ElemMode → ElemSeg
 segment items mode = record { ty = reft.Func; items = items; mode = mode }
 
-abbrev of_function : List ConstExpr
-of_function = const.Func 0 ∷ []
-
 abbrev of_null : List ConstExpr
 of_null = const.Null reft.Func ∷ []
 
 -- a declarative one and one without its item
-items_are_gone : ElemsCorrespond R value value (segment of_function elem.Declarative) (segment [] elem.Declarative)
+items_are_gone : ElemsCorrespond R value value (segment (const.Func 0 ∷ []) elem.Declarative) (segment [] elem.Declarative)
 items_are_gone = declared refl refl
 
 nulls_are_related : ElemsCorrespond R value value (segment of_null elem.Passive) (segment of_null elem.Passive)
 nulls_are_related = kept refl refl (cons (some (reference (func none))) nil)
 
 -- a passive one keeps its items, and a declarative one is no passive one
-not_without_its_item : ElemsCorrespond R value value (segment of_function elem.Passive) (segment [] elem.Passive) → ⊥
-not_without_its_item (declared h k) = cc
-not_without_its_item (kept h k items) = elim items [ ]
+not_without_its_item : ElemsCorrespond R value value (segment (const.Func 0 ∷ []) elem.Passive) (segment [] elem.Passive) → ⊥
+not_without_its_item h = grind arith
 
 not_of_another_mode : ElemsCorrespond R value value (segment of_null elem.Declarative) (segment of_null elem.Passive) → ⊥
-not_of_another_mode = elim [ declared h k ↦ cc | kept h k items ↦ cc ]
+not_of_another_mode h = grind arith

@@ -1,5 +1,5 @@
 -- Tables and memories as they are allocated (WebAssembly Core 2.0, sections 4.5.3.2 and 4.5.3.3).
-use Rattle.std.specs.Prelude.{ℕ, ◌*◌}
+use Rattle.std.specs.Prelude.{◌*◌}
 use Rattle.wasm_tree_spec.specs.Prelude.{TableType, Limits}
 use Rattle.wasm_meaning.specs.Prelude.{copies, Table, Memory, null_of}
 
