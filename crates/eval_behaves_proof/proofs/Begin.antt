@@ -27,7 +27,8 @@ use Rattle.eval_behaves_proof.proofs.StatesAgree.{R, enough}
 use Rattle.eval_behaves_proof.proofs.InRange.{NamingLaws, each_index, names_there}
 use Rattle.eval_behaves_proof.proofs.DatasAlike.{AreBytesOf}
 use Rattle.eval_behaves_proof.proofs.KnownValues.{Run}
-use Rattle.eval_behaves_proof.proofs.Left.{quiet_leaves, world_leaves}
+use Rattle.world_contents_proof.proofs.Leaves.{world_leaves}
+use Rattle.eval_behaves_proof.proofs.Left.{quiet_leaves}
 use Rattle.eval_behaves_proof.proofs.QuietRuns.{BothInstantiated, QuietRun, quiet_run}
 use Rattle.eval_behaves_proof.proofs.QuietSegments.{IsQuietlyMade, memory_count, quietly_made}
 use Rattle.eval_behaves_proof.proofs.Same.{BeginAlike}

@@ -1,12 +1,12 @@
 -- Copies one after the other, computed; and a module with a table into which two segments are copied.
-use Rattle.base_lists.proofs.Common.{◌≡◌, refl, ℕ, List, [], ◌∷◌, Some, None, true, false, pos}
+use Rattle.base_lists.proofs.Common.{◌≡◌, refl, ℕ, List, [], ◌∷◌, ◌++◌, map, Option, Some, None, Bool, true, false, pos}
 use Rattle.base_lists.specs.Options.{◌>>=◌}
 use Rattle.wasm_tree.specs.declared.types.RefType.TheVariants as reft
 use Rattle.wasm_tree.specs.declared.module.ConstExpr.TheVariants as const
 use Rattle.wasm_tree_spec.specs.Prelude.{ElemMode, ElemSeg, Module}
 use Rattle.wasm_tree.specs.declared.module.ElemMode.TheVariants as elem
 use Rattle.wasm_num.specs.Operations.{wrapped}
-use Rattle.wasm_meaning.specs.Prelude.{RefVal, FuncRef, Store, added}
+use Rattle.wasm_meaning.specs.Prelude.{FuncRef, Table, own_store, added}
 use Rattle.world_contents_proof.specs.Leaves.{Copy, nothing, contents, over, all_over}
 
 abbrev to : (address offset : ℕ) → List ℕ → Copy ℕ
@@ -41,8 +41,9 @@ without_an_offset = refl
 abbrev segment : ElemMode → ElemSeg
 segment mode = record { ty = reft.Func; items = const.Func 0 ∷ []; mode = mode }
 
-abbrev with_table : List ElemSeg → Module
-with_table elems = record {
+-- its segments are copied to these offsets in its table, and the last, a passive one, nowhere
+abbrev with_table : List ℕ → Module
+with_table offsets = record {
   types = record { params = []; results = [] } ∷ [];
   imports = [];
   funcs = record { ty = 0; locals = []; body = [] } ∷ [];
@@ -51,30 +52,31 @@ with_table elems = record {
   globals = [];
   exports = [];
   start = None;
-  elems = elems;
+  elems = map (λ n. segment (elem.Active 0 (const.I32 (pos n)))) offsets ++ segment elem.Passive ∷ [];
   datas = [];
 }
 
-abbrev no_store : Store
-no_store = record { funcs = []; tables = []; mems = []; globals = []; elems = []; datas = [] }
+-- the tables after it was added to nothing, and whether a segment trapped
+abbrev after : List ℕ → Option (List Table × Bool)
+after offsets = added (own_store []) (with_table offsets) [] >>= λ a. Some (a.filled.store.tables, a.filled.trapped)
 
-abbrev null : RefVal
-null = FuncRef None
+abbrev table : List (Option ℕ) → List Table
+table funcs = record { ty = reft.Func; most = None; slots = map FuncRef funcs } ∷ []
 
 -- its function in slot 1 alone, or in slots 1 and 2; a passive segment is copied nowhere
-once : (added no_store (with_table (segment (elem.Active 0 (const.I32 (pos 1))) ∷ segment elem.Passive ∷ [])) [] >>= λ a. Some a.filled.store.tables) ≡ Some (record { ty = reft.Func; most = None; slots = null ∷ FuncRef (Some 0) ∷ null ∷ [] } ∷ [])
+once : after (1 ∷ []) ≡ Some (table (None ∷ Some 0 ∷ None ∷ []), false)
 unfolding wrapped
 once = refl
 
-twice : (added no_store (with_table (segment (elem.Active 0 (const.I32 (pos 1))) ∷ segment (elem.Active 0 (const.I32 (pos 2))) ∷ [])) [] >>= λ a. Some a.filled.store.tables) ≡ Some (record { ty = reft.Func; most = None; slots = null ∷ FuncRef (Some 0) ∷ FuncRef (Some 0) ∷ [] } ∷ [])
+twice : after (1 ∷ 2 ∷ []) ≡ Some (table (None ∷ Some 0 ∷ Some 0 ∷ []), false)
 unfolding wrapped
 twice = refl
 
--- past the end it traps, and the law says nothing
-past_its_end : (added no_store (with_table (segment (elem.Active 0 (const.I32 (pos 3))) ∷ [])) [] >>= λ a. Some a.filled.trapped) ≡ Some true
-unfolding wrapped
-past_its_end = refl
-
-up_to_its_end : (added no_store (with_table (segment (elem.Active 0 (const.I32 (pos 2))) ∷ [])) [] >>= λ a. Some a.filled.trapped) ≡ Some false
+up_to_its_end : after (2 ∷ []) ≡ Some (table (None ∷ None ∷ Some 0 ∷ []), false)
 unfolding wrapped
 up_to_its_end = refl
+
+-- past the end it traps, and the law says nothing
+past_its_end : after (3 ∷ []) ≡ Some (table (None ∷ None ∷ None ∷ []), true)
+unfolding wrapped
+past_its_end = refl

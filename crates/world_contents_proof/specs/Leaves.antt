@@ -1,13 +1,13 @@
 -- What the instantiation of one module leaves in a store, entity by entity (WebAssembly Core 2.0,
 -- sections 4.5.3 and 4.5.4): what the module defines comes after what was there, and its active
 -- segments are copied in order.
-use Rattle.std.specs.Prelude.{◌≡◌, ℕ, ◌+◌, ◌*◌, nat_eq, Bool, false, cond, List, [], ◌∷◌, map, length, Option, Some, None, slice_get}
+use Rattle.std.specs.Prelude.{◌≡◌, ℕ, ◌+◌, nat_eq, Bool, false, cond, List, [], ◌∷◌, map, length, Option, Some, None, slice_get}
 use Rattle.base_lists.specs.Options.{◌>>=◌}
 use Rattle.wasm_tree_spec.specs.Prelude.{TableType, Limits, ConstExpr, GlobalDef, ElemMode, ElemSeg, DataMode, DataSeg, Module}
 use Rattle.wasm_tree.specs.declared.module.Func as tree
 use Rattle.wasm_tree.specs.declared.module.ElemMode.TheVariants as elem
 use Rattle.wasm_tree.specs.declared.module.DataMode.TheVariants as data'
-use Rattle.wasm_meaning.specs.Prelude.{overwrite, copies, RefVal, Val, Inst, Func, Table, Memory, Global, Elem, Data, Store, ref_of, null_of, no_items, no_bytes, Environment, ExternalValue, Begun, all_there, const_value, value_of, new_func, global_with, elem_with, insts_from, own_store, alone, instantiate, Added, added, LoaderWorld, store_under, primary_added, begun_under}
+use Rattle.wasm_meaning.specs.Prelude.{overwrite, RefVal, Val, Inst, Func, Table, Memory, Global, Elem, Data, Store, ref_of, no_items, no_bytes, Environment, ExternalValue, Begun, all_there, const_value, value_of, new_func, global_with, elem_with, insts_from, own_store, alone, instantiate, Added, added, LoaderWorld, store_under, primary_added, begun_under}
 use Rattle.world_simulation.specs.Prelude.{one, new_table, new_memory, offset_in}
 
 -- ---- copies ----

@@ -20,13 +20,14 @@ one_import = record { «module» = 112 ∷ []; field = 48 ∷ []; desc = im.Func
 abbrev loading : List Secondary → LoaderWorld
 loading secondaries = record { primary = importing (one_import ∷ []); secondaries = secondaries; slot_table = 0; view = [] }
 
-abbrev a_placeholder : List Secondary
-a_placeholder = record { «module» = importing []; placeholders = ((112 ∷ [], 48 ∷ []), nothing) ∷ [] } ∷ []
+-- one that has a placeholder for it
+abbrev a_loader : LoaderWorld
+a_loader = loading (record { «module» = importing []; placeholders = ((112 ∷ [], 48 ∷ []), nothing) ∷ [] } ∷ [])
 
-it_is_supplied : is_there (begun_under [] (loading a_placeholder)) ≡ true
+it_is_supplied : is_there (begun_under [] a_loader) ≡ true
 it_is_supplied = refl
 
-alone_it_is_not_linked : links [] (primary_world (loading a_placeholder)) ≡ false
+alone_it_is_not_linked : links [] (primary_world a_loader) ≡ false
 alone_it_is_not_linked = refl
 
 -- where nothing is supplied neither begins
@@ -37,15 +38,15 @@ nor_is_it_linked : links [] (primary_world (loading [])) ≡ false
 nor_is_it_linked = refl
 
 -- without an import both begin alike
-without_an_import : begun_under [] (record (loading []) { primary = importing [] }) ≡ instantiate [] (primary_world (record (loading []) { primary = importing [] }))
+without_an_import : let w = record (loading []) { primary = importing [] } in begun_under [] w ≡ instantiate [] (primary_world w)
 without_an_import = refl
 
 -- ---- a function in place of the placeholder ----
 
-its_placeholder_is_last : ImportsThemLast (loading a_placeholder) [] (0 ∷ [])
+its_placeholder_is_last : ImportsThemLast a_loader [] (0 ∷ [])
 its_placeholder_is_last = record { slots = one_import ∷ []; all = refl; own = tt; placeholders = (refl, refl, refl, tt) }
 
-it_begins_as_with_a_function : begun_under [] (loading a_placeholder) ≡ begun_under [] (stubbed (loading a_placeholder) [] (0 ∷ [])) >>= λ b. Some (placeholders_begun [] (loading a_placeholder) b)
+it_begins_as_with_a_function : begun_under [] a_loader ≡ begun_under [] (stubbed a_loader [] (0 ∷ [])) >>= λ b. Some (placeholders_begun [] a_loader b)
 it_begins_as_with_a_function = refl
 
 -- but for the placeholder itself
@@ -53,8 +54,8 @@ abbrev has_placeholder : List Func → Bool
 has_placeholder (Placeholder slot ty ∷ fs) = true
 has_placeholder fs = false
 
-it_has_the_placeholder : begun_under [] (loading a_placeholder) >>= (λ b. Some (has_placeholder b.store.funcs)) ≡ Some true
+it_has_the_placeholder : begun_under [] a_loader >>= (λ b. Some (has_placeholder b.store.funcs)) ≡ Some true
 it_has_the_placeholder = refl
 
-the_other_has_a_function : begun_under [] (stubbed (loading a_placeholder) [] (0 ∷ [])) >>= (λ b. Some (has_placeholder b.store.funcs)) ≡ Some false
+the_other_has_a_function : begun_under [] (stubbed a_loader [] (0 ∷ [])) >>= (λ b. Some (has_placeholder b.store.funcs)) ≡ Some false
 the_other_has_a_function = refl

@@ -1,9 +1,9 @@
 -- Steps of a run under a loader: those that call no placeholder are steps of the run, and one that
 -- calls a placeholder continues in the function that is then in its slot.
-use Rattle.std.specs.Prelude.{◌≡◌, ℕ, ◌<◌, Bool, false, List, Option, Some, slice_get}
+use Rattle.std.specs.Prelude.{◌≡◌, ℕ, ◌<◌, Bool, false, List, Some, slice_get}
 use Rattle.wasm_tree_spec.specs.Prelude.{FuncType}
 use Rattle.base_simulation.specs.Machines.{events_of, state_after}
-use Rattle.wasm_meaning.specs.Prelude.{Gives, Pair, FuncRef, Val, Inst, Table, Store, Entry, CallsPlaceholder, type_at, enter_at, Run, Event, Out, Steps, transition, run_after, tick, Secondary, LoaderWorld, LoaderRun, placeholders_of, secondary_of, store_loaded, tick_loader}
+use Rattle.wasm_meaning.specs.Prelude.{Gives, Pair, FuncRef, Val, Inst, Table, Store, Entry, CallsPlaceholder, type_at, enter_at, Run, Out, Steps, transition, run_after, tick, Secondary, LoaderWorld, LoaderRun, placeholders_of, secondary_of, store_loaded, tick_loader}
 use Rattle.wasm_meaning.specs.Loader.{with_loaded}
 use Rattle.index_remap.specs.Prelude.{calls_placeholder}
 

@@ -7,7 +7,7 @@ use Rattle.base_lists.specs.Options.{◌>>=◌}
 use Rattle.wasm_tree_spec.specs.Prelude.{Functions, FuncType, Unreachable, Import}
 use Rattle.wasm_tree.specs.declared.module.Func as tree
 use Rattle.wasm_tree.specs.declared.module.ImportDesc.TheVariants as im
-use Rattle.wasm_meaning.specs.Prelude.{Pair, Func, Store, Environment, own_funcs, Begun, own_count, Added, LoaderWorld, placeholders_of, placeholders_from, slot_of, primary_added, begun_under}
+use Rattle.wasm_meaning.specs.Prelude.{Pair, Store, Environment, own_funcs, Begun, own_count, Added, LoaderWorld, placeholders_of, placeholders_from, slot_of, primary_added, begun_under}
 
 -- ---- a primary that imports its placeholders last ----
 
