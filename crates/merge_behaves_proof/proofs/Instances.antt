@@ -1,7 +1,8 @@
 -- The instances of the parts, and the instance of the merged module: all there or none, and each index of a part and its new one name one address.
-use Rattle.base_lists.proofs.Common.{◌≡◌, ◌∙◌, ap, sym, refl, ℕ, ◌+◌, ◌<◌, ◌≤◌, List, [], ◌∷◌, ◌++◌, map, length, Option, Some, None, arith, option_and_then, slice_get, true, slice_index, length-append, same_Some, slice_get_within, place_there, length-numbers, numbers_at, map_numbers_index, and_then_is, all_there_at, all_there_length, all_there_from, slice_get_there, append_left, append_right, slice_index_is}
+use Rattle.base_lists.proofs.Common.{◌≡◌, ◌∙◌, ap, sym, refl, ℕ, ◌+◌, ◌<◌, ◌≤◌, List, [], ◌∷◌, ◌++◌, map, length, Option, Some, None, arith, option_and_then, slice_get, true, slice_index, length-append, same_Some, place_there, length-numbers, numbers_at, map_numbers_index, is_some_there, and_then_is, all_there_at, all_there_length, all_there_from, slice_get_there, append_right, slice_index_is, suc, zero-add, add-zero, append_at_left, length-map}
+use Rattle.base_lists.proofs.Options.{AllThere}
 use Rattle.wasm_tree_spec.specs.Prelude.{Space, Functions, Tables, Memories, Globals, ElementSegments, DataSegments, Module}
-use Rattle.wasm_meaning.specs.Prelude.{Inst, Part, Site, has_kind, module_at, imports_of, Environment, own_count, defined_count, base, all_there, numbers, space, inst_of, insts_from, defined_before}
+use Rattle.wasm_meaning.specs.Prelude.{Inst, Part, has_kind, module_at, imports_of, Environment, own_count, defined_count, all_there, numbers, space, inst_of, insts_from, defined_before}
 use Rattle.index_remap.specs.Prelude.{OptRel, entries}
 use Rattle.merge_names.specs.declared.mode.Mode.{Mode}
 use Rattle.merge_spec.specs.Prelude.{link_fault, staying_of, new_index, joined_module}
@@ -10,8 +11,8 @@ use Rattle.merge_valid_proof.specs.Joinable.{CanBeJoined}
 use Rattle.merge_valid_proof.specs.Ended.{added_count, is_external}
 use Rattle.world_simulation.specs.Prelude.{one}
 use Rattle.world_simulation.proofs.Alone.{funcs_counted, tables_counted, memories_counted, globals_counted}
-use Rattle.world_simulation.proofs.Instancing.{addresses_in, import_address, is_space, entry_at, IsInst, inst_there, insts_are, inst_in, insts_in}
-use Rattle.world_simulation.proofs.Places.{map_length, both_or_none}
+use Rattle.world_simulation.proofs.Instancing.{addresses_in, import_address, is_space, entry_at, IsInst, insts_are, inst_in, insts_in, add_next}
+use Rattle.world_simulation.proofs.Places.{both_or_none}
 use Rattle.world_simulation.proofs.Single.{one_inst}
 use Rattle.merge_behaves_proof.specs.Shared.{shared_count}
 use Rattle.merge_behaves_proof.specs.Instances.{SpaceAgrees, PartAgrees, InstancesAgree}
@@ -21,178 +22,124 @@ use Rattle.merge_behaves_proof.proofs.MergedAlone.{joined_keeps, joined_types, s
 
 -- ---- the entries of a part's map ----
 
-module _ (parts : List Part) (p : ℕ) (m : Module) where
-  map_is : (k : Space) → is_external k ≡ true → entries (map_of parts p m) k ≡ map (new_index parts p k) (numbers 0 (length (imports_of k m) + defined_count k m))
+module _ (parts : List Part) (p : ℕ) (m : Module) (k : Space) (ext : is_external k ≡ true) where
+  map_is : entries (map_of parts p m) k ≡ map (new_index parts p k) (numbers 0 (length (imports_of k m) + defined_count k m))
   unfolding map_of
-  map_is Functions e = simp (length-append, map_length, funcs_counted)
-  map_is Tables e = simp (length-append, tables_counted)
-  map_is Memories e = simp (length-append, memories_counted)
-  map_is Globals e = simp (length-append, map_length, globals_counted)
-  map_is k e = cc
-
-  pub entries_many : (k : Space) → is_external k ≡ true → length (entries (map_of parts p m) k) ≡ length (imports_of k m) + defined_count k m
-  entries_many k e = ap length (map_is k e) ∙ map_length (new_index parts p k) _ ∙ length-numbers 0 _
+  map_is = grind (arith, length-append, length-map, funcs_counted, tables_counted, memories_counted, globals_counted)
 
   -- what a map has for an index
-  pub entry_is : (k : Space) → is_external k ≡ true → (x : ℕ) → x < length (entries (map_of parts p m) k) → slice_index (entries (map_of parts p m) k) x ≡ new_index parts p k x
-  entry_is k e x l =
-      let many = entries_many k e in
-      let from_0 : 0 + x ≡ x = omega arith in
-      rw (map_is k e) (map_numbers_index (new_index parts p k) 0 _ x (omega arith) ∙ ap (new_index parts p k) from_0)
+  pub entry_is : (x : ℕ) → x < length (entries (map_of parts p m) k) → slice_index (entries (map_of parts p m) k) x ≡ new_index parts p k x
+  entry_is x l = grind (arith, map_is, map_numbers_index, length-map, length-numbers)
 
-  pub map_elems : (map_of parts p m).elems ≡ numbers (defined_before ElementSegments parts p) (length m.elems)
-  unfolding map_of
-  map_elems = refl
+-- ---- all there or none ----
 
-  pub map_datas : (map_of parts p m).datas ≡ numbers (defined_before DataSegments parts p) (length m.datas)
-  unfolding map_of
-  map_datas = refl
+all_spaces : (env : Environment) (q : List Part) (p : ℕ) (m : Module) → ((k : Space) → is_external k ≡ true → (xs : List ℕ) × (space env q k p m ≡ Some xs)) → (i : Inst) × (inst_of env q p m ≡ Some i)
+all_spaces env q p m there = is_some_there (inst_of env q p m) (grind (arith, there Functions refl, there Tables refl, there Memories refl, there Globals refl))
 
 module _ (laws : SpaceLaws) (env : Environment) (parts : List Part) (linked : link_fault parts true ≡ None) (mode : Mode) where
+  -- an import that stays is one of its part
+  staying_there : (insts : List Inst) → insts_from env parts 0 parts ≡ Some insts → (k : Space) → is_external k ≡ true → AllThere (site_address env parts k) (staying_of parts k)
+  staying_there insts h k ext = all_there_from (site_address env parts k) (staying_of parts k) (λ n s at.
+      let w = staying_kind laws parts k n s at in
+      let i = inst_in env parts insts h s.part w.0.of w.0.is_part in
+      let t = is_space env parts k s.part w.0.of (addresses_in k i.0) (grind (arith, i.2)) in
+      let x = place_there (has_kind k) w.0.of.imports 0 s.import w.0.import w.0.stands w.1 in
+      is_some_there _ (grind (arith, x, laws.stays parts linked s w.0.import w.0.at w.0.remains, all_there_at (import_address env parts k s.part) (imports_of k w.0.of) t.imported t.are)))
+
   abbrev J : Module
   J = joined_module parts mode
 
   -- ---- the addresses of a space ----
 
-  space_in : {q : List Part} {p : ℕ} {m : Module} {i : Inst} → IsInst env q p m i → (k : Space) → is_external k ≡ true → space env q k p m ≡ Some (addresses_in k i)
-  space_in a Functions e = a.funcs
-  space_in a Tables e = a.tables
-  space_in a Memories e = a.mems
-  space_in a Globals e = a.globals
-  space_in a k e = cc
+  module _ (j : Inst) (there : IsInst env (one J) 0 J j) (k : Space) (ext : is_external k ≡ true) where
+    -- those of the imports that stay, and then of what the merged module defines
+    merged_part : (xs : List ℕ) × (all_there (site_address env parts k) (staying_of parts k) ≡ Some xs) × (Some (xs ++ numbers (own_count k env) (total env parts k + added_count parts k)) ≡ Some (addresses_in k j))
+    merged_part =
+        let is : space env (one J) k 0 J ≡ Some (addresses_in k j) = grind arith in
+        and_then_is _ _ _ (rw (merged_space laws env parts linked mode k ext) at is)
 
-  pub record MergedSpace (k : Space) (ys : List ℕ) : Type 0 where
-    pub imported : List ℕ
-    pub are : all_there (site_address env parts k) (staying_of parts k) ≡ Some imported
-    pub many : length imported ≡ length (staying_of parts k)
-    pub all : ys ≡ imported ++ numbers (own_count k env) (total env parts k + added_count parts k)
+    -- what the merged module defines comes after its imports
+    pub own_at : (d : ℕ) → d < total env parts k + added_count parts k → slice_get (addresses_in k j) (length (staying_of parts k) + d) ≡ Some (own_count k env + d)
+    own_at d low = grind (arith, merged_part.1, merged_part.2, all_there_length, append_right merged_part.0, numbers_at (own_count k env))
 
-  pub merged_part : (k : Space) → is_external k ≡ true → (j : Inst) → IsInst env (one J) 0 J j → MergedSpace k (addresses_in k j)
-  merged_part k ext j a =
-      let r = and_then_is (all_there (site_address env parts k) (staying_of parts k)) _ (addresses_in k j) (sym (merged_space laws env parts linked mode k ext) ∙ space_in a k ext) in
-      record { imported = r.0; are = r.1; many = all_there_length (site_address env parts k) (staying_of parts k) r.0 r.1; all = sym (same_Some _ _ r.2) }
-
-  -- what stands at an address of a part, the merged module's index names
-  names_same : (k : Space) (ys : List ℕ) → MergedSpace k ys → (a index : ℕ) → Stands env parts k (Some a) index → (slice_get ys index ≡ Some a) × (a < shared_count env parts k)
-  names_same k ys s a index (own d l e i) =
-      let same = same_Some _ _ e in
-      let many = s.many in
-      let at : index ≡ length s.imported + d = omega arith in
-      (rw (s.all, at) (append_right s.imported _ d ∙ numbers_at (own_count k env) (total env parts k + added_count parts k) d (omega arith) ∙ sym e), omega arith)
-  names_same k ys s a index (stays u h e) =
-      let r = all_there_at (site_address env parts k) (staying_of parts k) s.imported s.are index u h in
-      (rw s.all (append_left s.imported _ index (slice_get_within s.imported index r.0 r.2) ∙ r.2 ∙ sym r.1 ∙ sym e), site_low env parts laws.own k u a (sym e))
+    -- what an entry of a part stands for has an address that both worlds have, and the merged module's index names it
+    stands_at : {o : Option ℕ} {index : ℕ} → Stands env parts k o index → (a : ℕ) × (o ≡ Some a) × (slice_get (addresses_in k j) index ≡ Some a) × (a < shared_count env parts k)
+    stands_at (own d l e i) = (own_count k env + d, e, grind (arith, own_at d), omega arith)
+    stands_at {index = index} (stays u h e) =
+        let r = all_there_at _ _ merged_part.0 merged_part.1 index u h in
+        (r.0, e ∙ r.1, grind (arith, merged_part.2, append_at_left, r.2), site_low env parts laws.own k u r.0 r.1)
 
   -- ---- instances that are there ----
 
-  abbrev entries_of : ℕ → Module → Space → List ℕ
-  entries_of p m k = entries (map_of parts p m) k
-
   part_agrees : (p : ℕ) (m : Module) (i j : Inst) → module_at parts p ≡ Some m → IsInst env parts p m i → IsInst env (one J) 0 J j → PartAgrees env parts p m i j
+  unfolding map_of
   part_agrees p m i j is a b = record {
     own_types = a.types;
-    types = λ x t h. ap (λ l. slice_get l (slice_index (map_of parts p m).types x)) (b.types ∙ joined_types parts mode) ∙ laws.types parts p m x t is h;
+    types = λ x t h. rw (b.types, joined_types parts mode) (laws.types parts p m x t is h);
     funcs = agrees Functions refl;
     tables = agrees Tables refl;
     mems = agrees Memories refl;
     globals = agrees Globals refl;
-    elems = segments_agree ElementSegments (length J.elems) a.elems b.elems (map_elems parts p m) (let e = simp length-append at (ap length (joined_keeps parts mode).elems) in let d = elems_many parts (names_of parts mode) in omega arith);
-    datas = segments_agree DataSegments (length J.datas) a.datas b.datas (map_datas parts p m) (let e = ap length (joined_keeps parts mode).datas in let d = datas_many parts (names_of parts mode) in omega arith);
+    elems = rw (a.elems, b.elems) (segments_agree ElementSegments _ (grind (arith, length-append, (joined_keeps parts mode).elems, elems_many parts (names_of parts mode))));
+    datas = rw (a.datas, b.datas) (segments_agree DataSegments _ (grind (arith, (joined_keeps parts mode).datas, datas_many parts (names_of parts mode))));
   }
     where
-      agrees : (k : Space) → is_external k ≡ true → SpaceAgrees env parts k (addresses_in k i) (addresses_in k j) (entries_of p m k)
+      agrees : (k : Space) → is_external k ≡ true → SpaceAgrees env parts k (addresses_in k i) (addresses_in k j) (entries (map_of parts p m) k)
       agrees k e =
-          let s = is_space env parts k p m (addresses_in k i) (space_in a k e) in
-          let n = s.size in
-          let many = entries_many parts p m k e in
+          let s = is_space env parts k p m (addresses_in k i) (grind arith) in
+          let many = simp (length-map, length-numbers) at (ap length (map_is parts p m k e)) in
           record {
-            size = n ∙ sym many;
+            size = omega arith;
             each = λ x l.
                 let o = slice_get_there (addresses_in k i) x (omega arith) in
-                let q = names_same k (addresses_in k j) (merged_part k e j b) o.0 (new_index parts p k x) (entry_stands env parts laws linked k p m x o.0 is (entry_at env parts k p m (addresses_in k i) s x o.0 o.1)) in
-                record { address = o.0; first = o.1; second = rw (entry_is parts p m k e x l) q.0; shared = q.1 };
+                let q = stands_at j b k e (entry_stands env parts laws linked k p m x o.0 is (entry_at env parts k p m _ s x o.0 o.1)) in
+                record { address = q.0; first = o.1 ∙ q.1; second = rw (entry_is parts p m k e x l) q.2; shared = q.3 };
           }
 
-      segments_agree : (k : Space) (n : ℕ) {xs ys : List ℕ} → xs ≡ numbers (defined_before k parts p) (defined_count k m) → ys ≡ numbers 0 n → entries_of p m k ≡ numbers (defined_before k parts p) (defined_count k m) → shared_count env parts k ≤ n → SpaceAgrees env parts k xs ys (entries_of p m k)
-      segments_agree k n e f g h = record {
-        size = ap length (e ∙ sym g);
+      segments_agree : (k : Space) (n : ℕ) → shared_count env parts k ≤ n → SpaceAgrees env parts k (numbers (defined_before k parts p) (defined_count k m)) (numbers 0 n) (numbers (defined_before k parts p) (defined_count k m))
+      segments_agree k n h = record {
+        size = refl;
         each = λ x l.
             let first = defined_before k parts p in
-            let many = ap length g ∙ length-numbers first (defined_count k m) in
+            let many = length-numbers first (defined_count k m) in
             let low = defined_low k parts p m is in
             let at = numbers_at first (defined_count k m) x (omega arith) in
-            let from_0 : 0 + (first + x) ≡ first + x = omega arith in
-            record {
-              address = first + x;
-              first = rw e at;
-              second = rw (f, slice_index_is (entries_of p m k) x (first + x) (rw g at)) (numbers_at 0 n (first + x) (omega arith) ∙ ap Some from_0);
-              shared = omega arith;
-            };
+            record { address = first + x; first = at; second = grind (arith, slice_index_is _ x _ at, numbers_at 0 n); shared = omega arith };
       }
-
-  both_there : (insts js : List Inst) → insts_from env parts 0 parts ≡ Some insts → insts_from env (one J) 0 (one J) ≡ Some js → InstancesAgree env parts insts js
-  both_there insts js h g =
-      let j = one_inst env J js g in
-      record {
-        merged = j.0;
-        alone = j.1;
-        size = (insts_are env parts 0 parts insts h).size;
-        each = λ p m is. let i = inst_in env parts insts h p m is in (i.0, i.1, part_agrees p m i.0 j.0 is i.2 j.2);
-      }
-
-  -- ---- all there or none ----
-
-  -- the environment has what each import of a kind that stays asks for
-  abbrev Present : Space → Type 0
-  Present k = (n : ℕ) (s : Site) → slice_get (staying_of parts k) n ≡ Some s → (a : ℕ) × (site_address env parts k s ≡ Some a)
-
-  abbrev AllPresent : Type 0
-  AllPresent = (k : Space) → is_external k ≡ true → Present k
-
-  merged_there : AllPresent → (k : Space) → is_external k ≡ true → (ys : List ℕ) × (space env (one J) k 0 J ≡ Some ys)
-  merged_there present k e =
-      let r = all_there_from (site_address env parts k) (staying_of parts k) (present k e) in
-      (_, merged_space laws env parts linked mode k e ∙ ap (option_and_then _) r.are)
-
-  import_present : (k : Space) → Present k → (o : Option ℕ) (index : ℕ) → Stands env parts k o index → (a : ℕ) × (o ≡ Some a)
-  import_present k present o index (own d l e i) = (own_count k env + d, e)
-  import_present k present o index (stays u h e) = let r = present index u h in (r.0, e ∙ r.1)
-
-  part_there : AllPresent → (p : ℕ) (m : Module) → module_at parts p ≡ Some m → (k : Space) → is_external k ≡ true → (xs : List ℕ) × (space env parts k p m ≡ Some xs)
-  part_there present p m is k e =
-      let r = all_there_from (import_address env parts k p) (imports_of k m) (λ x n h. import_present k (present k e) (import_address env parts k p n) (new_index parts p k x) (import_stands env parts laws linked k p m x n is h)) in
-      (_, ap (option_and_then (λ l. Some (l ++ numbers (base env parts k p) (defined_count k m)))) r.are)
-
-  all_spaces : (q : List Part) (p : ℕ) (m : Module) → ((k : Space) → is_external k ≡ true → (xs : List ℕ) × (space env q k p m ≡ Some xs)) → (i : Inst) × (inst_of env q p m ≡ Some i)
-  all_spaces q p m there = inst_there env q p m _ _ _ _ (there Functions refl).1 (there Tables refl).1 (there Memories refl).1 (there Globals refl).1
-
-  -- an import that stays is one of its part
-  parts_present : (insts : List Inst) → insts_from env parts 0 parts ≡ Some insts → AllPresent
-  parts_present insts h k ext n s at =
-      let w = staying_kind laws parts k n s at in
-      let m = w.0.of in
-      let i = inst_in env parts insts h s.part m w.0.is_part in
-      let t = is_space env parts k s.part m (addresses_in k i.0) (space_in i.2 k ext) in
-      let x = place_there (has_kind k) m.imports 0 s.import w.0.import w.0.stands w.1 in
-      let import : 0 + s.import ≡ s.import = omega arith in
-      let r = all_there_at (import_address env parts k s.part) (imports_of k m) t.imported t.are x.0 s.import (x.1 ∙ ap Some import) in
-      (r.0, rw (laws.stays parts linked s w.0.import w.0.at w.0.remains).0 at r.1)
-
-  joined_present : (js : List Inst) → insts_from env (one J) 0 (one J) ≡ Some js → AllPresent
-  joined_present js h k e n s at =
-      let j = one_inst env J js h in
-      let t = merged_part k e j.0 j.2 in
-      let r = all_there_at (site_address env parts k) (staying_of parts k) t.imported t.are n s at in
-      (r.0, r.1)
-
-  joined_there : AllPresent → (js : List Inst) × (insts_from env (one J) 0 (one J) ≡ Some js)
-  joined_there present =
-      let i = all_spaces (one J) 0 J (merged_there present) in
-      (i.0 ∷ [], rw i.1 refl)
-
-  pub linked_instances_agree : OptRel (InstancesAgree env parts) (insts_from env parts 0 parts) (insts_from env (one J) 0 (one J))
-  linked_instances_agree = both_or_none _ _ both_there (λ insts h. joined_there (parts_present insts h)) (λ js g. insts_in env parts (λ p m is. all_spaces parts p m (part_there (joined_present js g) p m is)))
 
 -- the instances of parts that can be joined, and that of the merged module
 pub instances_agree : SpaceLaws → (env : Environment) (parts : List Part) (mode : Mode) → CanBeJoined parts mode → OptRel (InstancesAgree env parts) (insts_from env parts 0 parts) (insts_from env (one (joined_module parts mode)) 0 (one (joined_module parts mode)))
-instances_agree laws env parts mode can = linked_instances_agree laws env parts can.linked mode
+instances_agree laws env parts mode can = both_or_none _ _
+    (λ insts js h g.
+    let j = one_inst env _ js g in
+    record {
+      merged = j.0;
+      alone = j.1;
+      size = (insts_are env parts 0 parts insts h).size;
+      each = λ p m is. let i = inst_in env parts insts h p m is in (i.0, i.1, part_agrees laws env parts can.linked mode p m i.0 j.0 is i.2 j.2);
+    })
+    (λ insts h.
+    let i = all_spaces env (one (joined_module parts mode)) 0 (joined_module parts mode) (λ k ext.
+    (_, merged_space laws env parts can.linked mode k ext ∙ ap (option_and_then _) (staying_there laws env parts can.linked mode insts h k ext).are)) in
+    (i.0 ∷ [], rw i.1))
+    (λ js g.
+    let j = one_inst env _ js g in
+    insts_in env parts (λ p m is. all_spaces env parts p m (λ k ext.
+    let all = all_there_from (import_address env parts k p) (imports_of k m) (λ x n h. let a = stands_at laws env parts can.linked mode j.0 j.2 k ext (import_stands env parts laws can.linked k p m x n is h) in (a.0, a.1)) in
+    (_, ap (option_and_then _) all.are))))
+
+-- ---- parts with their instances ----
+
+-- What holds where no part is left, and of a part with its instance and what follows where it holds of what follows, holds of all.
+module _ {env : Environment} {parts : List Part} {insts js : List Inst} (agree : InstancesAgree env parts insts js) (P : ℕ → List Part → List Inst → Type 0) (none_left : (p : ℕ) (is : List Inst) → P p [] is)
+    (before : (p : ℕ) (part : Part) (i : Inst) (rest : List Part) (is : List Inst) → module_at parts p ≡ Some part.«module» → PartAgrees env parts p part.«module» i agree.merged → P (suc p) rest is → P p (part ∷ rest) (i ∷ is)) where
+  from : (p : ℕ) (rest : List Part) (is : List Inst) → ((q : ℕ) → (module_at parts (p + q) ≡ module_at rest q) × (slice_get insts (p + q) ≡ slice_get is q)) → P p rest is
+  from p [] is h = none_left p is
+  from p (part ∷ rest) [] h = absurd (grind (arith, h 0, agree.each p part.«module»))
+  from p (part ∷ rest) (i ∷ is) h =
+      let s = rw add-zero at (h 0) in
+      let x = agree.each p part.«module» s.0 in
+      before p part i rest is s.0 (rw (same_Some x.0 i (sym x.1 ∙ s.1)) at x.2) (from (suc p) rest is (λ q. rw add_next at (h (suc q))))
+
+  pub along : P 0 parts insts
+  along = from 0 parts insts (λ q. rw zero-add (refl, refl))

@@ -1,5 +1,5 @@
 -- What the laws of lower crates say that the values and stores of parts and of their merged module rest on.
-use Rattle.base_lists.proofs.Common.{◌≡◌, ◌↔◌, ℕ, ◌<◌, List, length, Some, None, true, IsTrue, slice_get, sym, ◌∙◌, same_Some, slice_get_within}
+use Rattle.base_lists.proofs.Common.{◌≡◌, ◌↔◌, ℕ, ◌<◌, List, length, Some, None, true, IsTrue, slice_get, slice_get_within, arith}
 use Rattle.wasm_tree_spec.specs.Prelude.{Ref, Func, GlobalDef, ElemSeg, DataSeg, ValType, ConstExpr, Module}
 use Rattle.wasm_valid.specs.declared.kinds.ItemKind.TheVariants as kind
 use Rattle.wasm_valid.specs.Prelude.{const_type, IsValid, HoldsAt, ElemModeHolds, DataModeHolds, count_of}
@@ -39,16 +39,16 @@ EachAgrees env parts insts j = (p : ℕ) (m : Module) → module_at parts p ≡ 
 
 module _ (laws : Laws) (m : Module) (valid : IsValid m) where
   pub global_typed : (n : ℕ) (g : GlobalDef) → slice_get m.globals n ≡ Some g → const_type m g.init ≡ Some g.ty.ty
-  global_typed n g h = let z = (laws.items m).0 valid kind.Global n (slice_get_within m.globals n g h) in rw (← same_Some _ _ (sym z.1 ∙ h)) z.2
+  global_typed n g h = let z = (laws.items m).0 valid kind.Global n (slice_get_within _ n g h) in cc
 
   pub item_typed : (n : ℕ) (s : ElemSeg) → slice_get m.elems n ≡ Some s → (l : ℕ) (e : ConstExpr) → slice_get s.items l ≡ Some e → const_type m e ≡ Some (Ref s.ty)
-  item_typed n s h = let z = (laws.items m).0 valid kind.Elem n (slice_get_within m.elems n s h) in rw (← same_Some _ _ (sym z.1 ∙ h)) z.2
+  item_typed n s h = let z = (laws.items m).0 valid kind.Elem n (slice_get_within _ n s h) in grind arith
 
   pub elem_holds : (n : ℕ) (s : ElemSeg) → slice_get m.elems n ≡ Some s → ElemModeHolds m s.ty s.mode
-  elem_holds n s h = let z = (laws.items m).0 valid kind.Elem n (slice_get_within m.elems n s h) in rw (← same_Some _ _ (sym z.1 ∙ h)) z.3
+  elem_holds n s h = let z = (laws.items m).0 valid kind.Elem n (slice_get_within _ n s h) in grind arith
 
   pub data_holds : (n : ℕ) (d : DataSeg) → slice_get m.datas n ≡ Some d → DataModeHolds m d.mode
-  data_holds n d h = let z = (laws.items m).0 valid kind.Segment n (slice_get_within m.datas n d h) in rw (← same_Some _ _ (sym z.1 ∙ h)) z.2
+  data_holds n d h = let z = (laws.items m).0 valid kind.Segment n (slice_get_within _ n d h) in grind arith
 
   pub func_typed : (n : ℕ) (f : Func) → slice_get m.funcs n ≡ Some f → f.ty < length m.types
-  func_typed n f h = let z = (laws.items m).0 valid kind.Func n (slice_get_within m.funcs n f h) in rw (← same_Some _ _ (sym z.1 ∙ h)) z.2
+  func_typed n f h = let z = (laws.items m).0 valid kind.Func n (slice_get_within _ n f h) in grind arith

@@ -1,16 +1,15 @@
 -- The values of constant expressions of a part, and of what these become in the merged module.
-use Rattle.base_lists.proofs.Common.{◌≡◌, ℕ, zero, suc, ◌+◌, List, [], ◌∷◌, map, length, Some, Bool, true, false, cond, refl, ap, ◌∙◌, arith, option_and_then, slice_get, slice_get_past, length-append, slice_index, ltb-true}
-use Rattle.wasm_tree_spec.specs.Prelude.{Space, Functions, Globals, Import, Module, imported_funcs, funcs_of, ValType, ConstExpr}
-use Rattle.wasm_meaning.specs.Prelude.{Inst, places, has_kind, space_index, Part, module_at, Environment, own_globals, insts_from, value_of_read, value_of, const_value}
+use Rattle.base_lists.proofs.Common.{◌≡◌, ℕ, zero, suc, ◌+◌, List, [], ◌∷◌, length, Some, true, refl, ap, ◌∙◌, arith, option_and_then, slice_get, slice_get_past, length-append, ltb-true, length-map, place_back}
+use Rattle.wasm_tree_spec.specs.Prelude.{Space, Functions, Globals, Import, Module, funcs_of, ValType, ConstExpr}
+use Rattle.wasm_meaning.specs.Prelude.{Inst, places, has_kind, space_index, Part, module_at, Environment, own_globals, insts_from, value_of, const_value}
 use Rattle.world_simulation.proofs.Alone.{funcs_counted}
-use Rattle.world_simulation.specs.Prelude.{one, import_places, read_in}
+use Rattle.world_simulation.specs.Prelude.{one}
 use Rattle.world_simulation.specs.Alone.{ReadsStay}
-use Rattle.world_simulation.proofs.Places.{map_length, then_rel, opt_at}
-use Rattle.world_simulation.proofs.Instancing.{is_space, Entry, imports, defines, entry_at, IsInst}
+use Rattle.world_simulation.proofs.Instancing.{is_space, entry_at, IsInst}
 use Rattle.world_simulation.proofs.Ordered.{inst_at}
 use Rattle.wasm_valid.specs.Prelude.{const_type}
 use Rattle.index_remap.specs.Prelude.{new_const, fits_const, Pairing, OptRel, some, func, ValRel, number, reference}
-use Rattle.index_remap.proofs.Rel.{get_rel}
+use Rattle.index_remap.proofs.Rel.{get_rel, then_rel}
 use Rattle.merge_names.specs.declared.mode.Mode.{Mode}
 use Rattle.merge_spec.specs.Prelude.{joined_module, map_of}
 use Rattle.merge_spec.specs.Merged.{merged_const}
@@ -24,16 +23,11 @@ use Rattle.wasm_tree.specs.declared.module.ConstExpr.TheVariants as const
 
 -- ---- imports of one kind ----
 
--- the import that stands at a place among those of its kind
-import_at : (k : Space) (is : List Import) (from y n : ℕ) → slice_get (places (has_kind k) is from) y ≡ Some n → (p : ℕ) × (i : Import) × (n ≡ from + p) × (slice_get is p ≡ Some i) × (space_index is p k ≡ y)
-import_at k [] from y n h = absurd (let e = h in cc)
-import_at k (i ∷ is) from y n h = by (λ y h. import_at k is (suc from) y n h) (has_kind k i) refl y h
-  where
-    by : ((y : ℕ) → slice_get (places (has_kind k) is (suc from)) y ≡ Some n → (p : ℕ) × (j : Import) × (n ≡ suc from + p) × (slice_get is p ≡ Some j) × (space_index is p k ≡ y)) → (b : Bool) → has_kind k i ≡ b →
-        (y : ℕ) → slice_get (cond b (from ∷ places (has_kind k) is (suc from)) (places (has_kind k) is (suc from))) y ≡ Some n → (p : ℕ) × (j : Import) × (n ≡ from + p) × (slice_get (i ∷ is) p ≡ Some j) × (space_index (i ∷ is) p k ≡ y)
-    by on true e zero h = let same : from ≡ n = cc in (0, i, omega arith, refl, refl)
-    by on true e (suc y) h = let r = on y h in let d = r.2 in (suc r.0, r.1, omega arith, r.3, rw e (ap suc r.4))
-    by on false e y h = let r = on y h in let d = r.2 in (suc r.0, r.1, omega arith, r.3, rw e r.4)
+-- the index of an import among those of its kind, by its place
+index_at : (k : Space) (is : List Import) (from p y : ℕ) → slice_get (places (has_kind k) is from) y ≡ Some (from + p) → space_index is p k ≡ y
+index_at k [] from p y h = cc
+index_at k (i ∷ is) from zero y h = grind (arith, place_back (has_kind k) is (suc from))
+index_at k (i ∷ is) from (suc p) y h = grind (arith, index_at k is (suc from) p)
 
 -- ---- the instance of a module alone ----
 
@@ -42,24 +36,11 @@ module _ (reads : ReadsStay) (env : Environment) (u : Module) (j : Inst) (are : 
   is_inst = inst_at env (record { parts = one u; insts = j ∷ [] }) are 0 u j refl refl
 
   pub func_count : length j.funcs ≡ length (funcs_of u)
-  func_count =
-      let a = (is_space env (one u) Functions 0 u j.funcs is_inst.funcs).size in
-      let c = length-append (imported_funcs u.imports) (map (λ f. f.ty) u.funcs) in
-      let d = map_length (λ f. f.ty) u.funcs in
-      let e = funcs_counted u.imports 0 in
-      omega arith
+  func_count = simp (length-append, length-map, ← funcs_counted u.imports 0) (is_space env (one u) Functions 0 u _ is_inst.funcs).size
 
   -- a global has the value of the environment's at its address, where it is an import, and otherwise none that is read; its address is then none of the environment's
   pub global_value : (y a : ℕ) → slice_get j.globals y ≡ Some a → value_of env (one u) (j ∷ []) 0 (const.Global y) ≡ option_and_then (λ g. Some g.value) (slice_get (own_globals env) a)
-  global_value y a h = rw (reads u (const.Global y)) (go (entry_at env (one u) Globals 0 u j.globals (is_space env (one u) Globals 0 u j.globals is_inst.globals) y a h))
-    where
-      go : Entry env (one u) Globals 0 u y a → option_and_then (value_of_read (own_globals env) (j ∷ [])) (read_in u.imports (const.Global y)) ≡ option_and_then (λ g. Some g.value) (slice_get (own_globals env) a)
-      go (imports n at address) =
-          let r = import_at Globals u.imports 0 y n at in
-          let place : n ≡ r.0 = omega arith in
-          rw (at, place, r.3, r.4, h) refl
-      go (defines n at low is) =
-          rw (slice_get_past (import_places Globals u.imports) y (omega arith), slice_get_past (own_globals env) a (omega arith)) refl
+  global_value y a h = grind (arith, reads u (const.Global y), entry_at env (one u) Globals 0 u _ (is_space env (one u) Globals 0 u _ is_inst.globals) y a h, place_back (has_kind Globals) u.imports 0, index_at Globals u.imports 0, slice_get_past)
 
 -- ---- a constant expression of a part, and what it becomes ----
 
@@ -73,16 +54,12 @@ module _ (laws : Laws) (env : Environment) (parts : List Part) (mode : Mode) whe
   module _ (can : CanBeJoined parts mode) (insts : List Inst) (j : Inst) (each : EachAgrees env parts insts j) (are : insts_from env M 0 M ≡ Some (j ∷ [])) where
     -- what is read
     read_rel : (q : ℕ) (m : Module) (i : Inst) → PartAgrees env parts q m i j → (x : ConstExpr) → fits_const (map_of parts q m) x ≡ true → OptRel (ValRel R) (const_value (own_globals env) i x) (value_of env M (j ∷ []) 0 (new_const (map_of parts q m) x))
-    read_rel q m i k (const.I32 v) h = some number
-    read_rel q m i k (const.I64 v) h = some number
-    read_rel q m i k (const.Null ty) h = some (reference (null_rel R ty))
-    read_rel q m i k (const.Func f) h =
-        then_rel (names_one env parts Functions k.funcs f h) (λ _ _ r. some (reference (func (some r))))
+    read_rel q m i k (const.Func f) h = then_rel (names_one env parts Functions k.funcs f h) (λ _ _ r. some (reference (func (some r))))
     read_rel q m i k (const.Global x) h =
         let a = k.globals.each x (ltb-true _ _ h) in
-        opt_at (rw a.first refl)
-        (global_value laws.alone_reads env (joined_module parts mode) j are (slice_index (map_of parts q m).globals x) a.address a.second)
+        rw (a.first, global_value laws.alone_reads env (joined_module parts mode) j are _ a.address a.second)
         (then_rel (get_rel (laws.own (is_shared env parts) env (shares_own env parts)).globals a.address) (λ _ _ g. some g.value))
+    read_rel q m i k x h = grind (arith, some, number, reference, null_rel R)
 
     pub const_rel : (p : ℕ) (m : Module) (e : ConstExpr) (ty : ValType) → module_at parts p ≡ Some m → const_type m e ≡ Some ty → OptRel (ValRel R) (value_of env parts insts p e) (value_of env M (j ∷ []) 0 (merged_const parts p e))
     unfolding merged_const
@@ -90,13 +67,8 @@ module _ (laws : Laws) (env : Environment) (parts : List Part) (mode : Mode) whe
         let r = laws.there parts p m e ty can.valid can.linked is t in
         let h = laws.reads parts p m e ty r.0 can.valid can.linked is t r.1 in
         let i = each r.0.part h.of h.is_part in
-        opt_at (rw (r.1, i.1) refl) (ap (value_of env M (j ∷ []) 0) (rw (r.1, h.is_part) refl)) (read_rel r.0.part h.of i.0 i.2 r.0.expr h.fits)
+        rw (r.1, i.1, h.is_part) (read_rel r.0.part h.of i.0 i.2 r.0.expr h.fits)
 
-  -- ---- for instances that agree ----
-
-  module _ (can : CanBeJoined parts mode) (insts js : List Inst) (k : InstancesAgree env parts insts js) (are : insts_from env M 0 M ≡ Some js) where
-    pub are_one : insts_from env M 0 M ≡ Some (k.merged ∷ [])
-    are_one = are ∙ ap Some k.alone
-
-    pub value_rel : (p : ℕ) (m : Module) (e : ConstExpr) (ty : ValType) → module_at parts p ≡ Some m → const_type m e ≡ Some ty → OptRel (ValRel R) (value_of env parts insts p e) (value_of env M js 0 (merged_const parts p e))
-    value_rel p m e ty is t = rw k.alone (const_rel can insts k.merged k.each are_one p m e ty is t)
+  -- for instances that agree
+  pub are_one : CanBeJoined parts mode → (insts js : List Inst) (k : InstancesAgree env parts insts js) → insts_from env M 0 M ≡ Some js → insts_from env M 0 M ≡ Some (k.merged ∷ [])
+  are_one can insts js k are = are ∙ ap Some k.alone

@@ -1,5 +1,5 @@
 -- Merges that are wrong, of two small parts each, with names: a trace of the parts is no trace of such a module, by computation.
-use Rattle.base_lists.proofs.Common.{◌≡◌, refl, ap, subst, ℕ, zero, suc, List, [], ◌∷◌, Bool, true, false, Some, None, pos, ◌+◌, IsTrue}
+use Rattle.base_lists.proofs.Common.{◌≡◌, refl, ap, ℕ, zero, suc, List, [], ◌∷◌, true, Some, None, pos, IsTrue, arith}
 use Rattle.wasm_tree.specs.declared.types.RefType.TheVariants as reft
 use Rattle.wasm_tree.specs.declared.types.ValType.TheVariants as valt
 use Rattle.wasm_tree_spec.specs.Prelude.{FuncType, Limits, Instr, fold_out-Instr, the_lemmas, Func, Import, Module}
@@ -10,11 +10,10 @@ use Rattle.wasm_tree.specs.declared.module.ImportDesc.TheVariants as im
 use Rattle.wasm_tree.specs.declared.module.ConstExpr.TheVariants as const
 use Rattle.wasm_tree.specs.declared.module.ElemMode.TheVariants as elem
 use Rattle.wasm_num.specs.Operations.{wrapped}
-use Rattle.wasm_meaning.specs.Prelude.{Text, Level, Running, Opening, Part, same_text, Environment, Offer, is_environment, alone, instantiate, Event, Linked, LinkFault, InstanceTrapped, Asked, BadMove, Move, Answer, Run, IsPrefix, fresh_run, tick, events}
-use Rattle.base_simulation.specs.Machines.{events_of, state_after}
+use Rattle.wasm_meaning.specs.Prelude.{Text, Part, Environment, Offer, is_environment, alone, Event, Linked, LinkFault, InstanceTrapped, Asked, BadMove, Move, Answer, IsPrefix, events}
 use Rattle.merge_names.specs.declared.mode.Mode.TheVariants as mode
-use Rattle.merge_spec.specs.Faults.{link_fault, import_fault, stays, kept_limits, clash_fault, memory_count, memory_fault, defined_globals, global_fault}
-use Rattle.merge_spec.specs.Merged.{staying, staying_of, place_of_end, new_index, merged_types, place_of_type, map_of, merged_const, merged_import, starts, defined_funcs, all_exports, merged}
+use Rattle.merge_spec.specs.Faults.{link_fault, import_fault, stays, kept_limits, clash_fault, defined_globals}
+use Rattle.merge_spec.specs.Merged.{staying, staying_of, place_of_end, new_index, merged_types, place_of_type, map_of, merged_const, merged_import, starts, defined_funcs, all_exports, merged, nullary}
 use Rattle.merge_spec.specs.Joined.{joined_module}
 use Rattle.merge_spec.specs.declared.parts.Part as given
 use Rattle.merge_spec.specs.Prelude.{named_modules, linked_world}
@@ -25,7 +24,7 @@ use Rattle.merge_behaves_proof.specs.Laws.{ObservationallyEquivalent}
 
 -- the names own, a, b, f, g and m
 abbrev own : Text
-own = 111 ∷ (119 ∷ (110 ∷ []))
+own = 111 ∷ 119 ∷ 110 ∷ []
 
 abbrev a : Text
 a = 97 ∷ []
@@ -42,76 +41,52 @@ g = 103 ∷ []
 abbrev m : Text
 m = 109 ∷ []
 
-abbrev pub nothing : FuncType
-nothing = record { params = []; results = [] }
-
-abbrev pub from_i32 : FuncType
+abbrev from_i32 : FuncType
 from_i32 = record { params = valt.I32 ∷ []; results = valt.I32 ∷ [] }
 
-abbrev pub empty : Module
+abbrev empty : Module
 empty = record { types = []; imports = []; funcs = []; tables = []; mems = []; globals = []; exports = []; start = None; elems = []; datas = [] }
 
-abbrev pub code : ℕ → List Instr → Func
+abbrev code : ℕ → List Instr → Func
 code ty body = record { ty = ty; locals = []; body = body }
 
-abbrev pub own_func : Text → ℕ → Import
+abbrev own_func : Text → ℕ → Import
 own_func field ty = record { «module» = own; field = field; desc = im.Func ty }
 
 abbrev offered : Text → Offer
-offered field = record { pair = (own, field); funcs = nothing ∷ []; table = None; memory = None; global = None }
-
--- the parts a and b, as `join` is given them
-abbrev pub two_given : Module → Module → List given.Part
-two_given x y = record { name = a; «module» = x } ∷ (record { name = b; «module» = y } ∷ [])
+offered field = record { pair = (own, field); funcs = nullary ∷ []; table = None; memory = None; global = None }
 
 abbrev asks : Text → Event
-asks field = Asked (own, field) nothing []
-
--- the first event asks for this function of the environment's own
-abbrev asks_first : Text → List Event → Bool
-asks_first field (Asked pair ty xs ∷ es) = same_text field pair.1
-asks_first field _ = false
+asks field = Asked (own, field) nullary []
 
 -- ---- two starts ----
 
 -- whose start calls one function of the environment's own
 abbrev pub starting : Text → Module
-starting field = record empty { types = nothing ∷ []; imports = own_func field 0 ∷ []; funcs = code 0 (i.Call 0 ∷ []) ∷ []; start = Some 1 }
+starting field = record empty { types = nullary ∷ []; imports = own_func field 0 ∷ []; funcs = code 0 (i.Call 0 ∷ []) ∷ []; start = Some 1 }
 
 -- merged, with this body of the function that is the start
 abbrev starting_by : List Instr → Module
 starting_by body = record empty {
-  types = nothing ∷ [];
-  imports = own_func f 0 ∷ (own_func g 0 ∷ []);
-  funcs = code 0 (i.Call 0 ∷ []) ∷ (code 0 (i.Call 1 ∷ []) ∷ (code 0 body ∷ []));
+  types = nullary ∷ [];
+  imports = own_func f 0 ∷ own_func g 0 ∷ [];
+  funcs = code 0 (i.Call 0 ∷ []) ∷ code 0 (i.Call 1 ∷ []) ∷ code 0 body ∷ [];
   start = Some 4;
 }
 
 -- both starts are called
 abbrev in_order : Module
-in_order = starting_by (i.Call 2 ∷ (i.Call 3 ∷ []))
-
--- the second start is not called
-abbrev pub second_dropped : Module
-second_dropped = starting_by (i.Call 2 ∷ [])
-
--- the first start is the start
-abbrev pub first_alone : Module
-first_alone = record in_order { start = Some 2 }
-
--- the second start is called first
-abbrev pub second_first : Module
-second_first = starting_by (i.Call 3 ∷ (i.Call 2 ∷ []))
+in_order = starting_by (i.Call 2 ∷ i.Call 3 ∷ [])
 
 -- ---- an indirect call ----
 
-abbrev pub calling_body : ℕ → List Instr
-calling_body ty = i.I32Const (pos 7) ∷ (i.I32Const (pos 0) ∷ (i.CallIndirect ty 0 ∷ (i.Drop ∷ [])))
+abbrev calling_body : ℕ → List Instr
+calling_body ty = i.I32Const (pos 7) ∷ i.I32Const (pos 0) ∷ i.CallIndirect ty 0 ∷ i.Drop ∷ []
 
 -- whose start calls a function of the environment's own through its table
 abbrev pub calling : Module
 calling = record empty {
-  types = nothing ∷ [];
+  types = nullary ∷ [];
   imports = own_func f 0 ∷ [];
   funcs = code 0 (calling_body 0) ∷ [];
   tables = record { ty = reft.Func; limits = record { min = 1; max = Some 1 } } ∷ [];
@@ -120,20 +95,17 @@ calling = record empty {
 }
 
 -- after a part with another type, and with this type index in the indirect call
-abbrev pub two_types_with : ℕ → Module
-two_types_with ty = record calling { types = from_i32 ∷ (nothing ∷ []); imports = own_func f 1 ∷ []; funcs = code 1 (calling_body ty) ∷ [] }
+abbrev two_types_with : ℕ → Module
+two_types_with ty = record calling { types = from_i32 ∷ nullary ∷ []; imports = own_func f 1 ∷ []; funcs = code 1 (calling_body ty) ∷ [] }
 
 -- ---- the limits of a memory ----
 
 abbrev pages_from : ℕ → Limits
 pages_from n = record { min = n; max = None }
 
-abbrev pub own_memory : ℕ → Import
-own_memory n = record { «module» = own; field = m; desc = im.Memory (pages_from n) }
-
--- with this minimum
+-- that imports a memory with this minimum
 abbrev pub one_memory_from : ℕ → Module
-one_memory_from n = record empty { imports = own_memory n ∷ [] }
+one_memory_from n = record empty { imports = record { «module» = own; field = m; desc = im.Memory (pages_from n) } ∷ [] }
 
 -- a memory without a page
 abbrev no_page : Environment
@@ -141,16 +113,9 @@ no_page = record { pair = (own, m); funcs = []; table = None; memory = Some (rec
 
 -- ---- a start that does not end ----
 
--- its start begins again and again
-abbrev pub begins_again : List Instr
-begins_again = i.Loop bt.Empty (i.Br 0 ∷ []) ∷ []
-
+-- whose start begins again and again
 abbrev pub never_ending : Module
-never_ending = record empty { types = nothing ∷ []; funcs = code 0 begins_again ∷ []; start = Some 0 }
-
--- the module without the start
-abbrev pub without_start : Module
-without_start = record never_ending { start = None }
+never_ending = record empty { types = nullary ∷ []; funcs = code 0 (i.Loop bt.Empty (i.Br 0 ∷ []) ∷ []) ∷ []; start = Some 0 }
 
 -- ---- the parts, and what is seen of them ----
 
@@ -160,14 +125,13 @@ pub data Example : Type 0 where
   one_memory : Example
   no_end : Example
 
--- Two parts, and their merged module; an environment, how it moves, and what is seen of the parts there in so many steps.
+-- Two parts, and their merged module; an environment, how it moves, and what is seen of the parts there in ten steps.
 pub record Case : Type 0 where
   pub first : Module
   pub second : Module
   pub whole : Module
   pub env : Environment
   pub moves : List Move
-  pub steps : ℕ
   pub shown : List Event
 
 abbrev pub case : Example → Case
@@ -175,80 +139,51 @@ case two_starts = record {
   first = starting f;
   second = starting g;
   whole = in_order;
-  env = offered f ∷ (offered g ∷ []);
-  moves = Answer [] ∷ (Answer [] ∷ []);
-  steps = 10;
-  shown = asks f ∷ (asks g ∷ (Linked ∷ []));
+  env = offered f ∷ offered g ∷ [];
+  moves = Answer [] ∷ Answer [] ∷ [];
+  shown = asks f ∷ asks g ∷ Linked ∷ [];
 }
-case two_types = record { first = record empty { types = from_i32 ∷ [] }; second = calling; whole = two_types_with 1; env = offered f ∷ []; moves = Answer [] ∷ []; steps = 9; shown = asks f ∷ (Linked ∷ []) }
-case one_memory = record { first = one_memory_from 0; second = one_memory_from 1; whole = one_memory_from 1; env = no_page; moves = []; steps = 2; shown = LinkFault ∷ [] }
-case no_end = record { first = never_ending; second = empty; whole = never_ending; env = []; moves = []; steps = 6; shown = [] }
+case two_types = record { first = record empty { types = from_i32 ∷ [] }; second = calling; whole = two_types_with 1; env = offered f ∷ []; moves = Answer [] ∷ []; shown = asks f ∷ Linked ∷ [] }
+case one_memory = record { first = one_memory_from 0; second = one_memory_from 1; whole = one_memory_from 1; env = no_page; moves = []; shown = LinkFault ∷ [] }
+case no_end = record { first = never_ending; second = empty; whole = never_ending; env = []; moves = []; shown = [] }
 
+-- the parts a and b, as `join` is given them
 abbrev pub given_as : Example → List given.Part
-given_as e = two_given (case e).first (case e).second
+given_as e = record { name = a; «module» = (case e).first } ∷ record { name = b; «module» = (case e).second } ∷ []
 
 -- as linking by name speaks of them
 abbrev pub parts_of : Example → List Part
 parts_of e = named_modules (given_as e)
 
 pub no_fault : (e : Example) → link_fault (parts_of e) true ≡ None
-unfolding link_fault import_fault stays kept_limits clash_fault memory_count memory_fault defined_globals global_fault
-no_fault two_starts = refl
-no_fault _ = refl
+unfolding link_fault import_fault kept_limits clash_fault defined_globals
+no_fault e = grind arith
 
 pub joins : (e : Example) → joined_module (parts_of e) mode.Refuse ≡ (case e).whole
-unfolding joined_module merged staying staying_of place_of_end new_index merged_types place_of_type map_of merged_const merged_import starts defined_funcs all_exports stays out-Instr denote.Hole.Carrier.out
+unfolding joined_module merged staying staying_of place_of_end new_index merged_types place_of_type map_of merged_const merged_import starts defined_funcs all_exports stays
 joins one_memory = refl
-joins no_end = simp (fold_out-Instr, the_lemmas) refl
-joins _ = simp fold_out-Instr refl
+joins _ = simp (fold_out-Instr, the_lemmas)
 
 -- Of the parts whose start does not end nothing is seen, by whatever moves and in any number of steps.
-module _ (moves : List Move) where
-  abbrev before : Run
-  before = fresh_run [] (instantiate [] (linked_world (parts_of no_end) mode.Refuse)) moves
+the_parts_show_nothing : (moves : List Move) (n : ℕ) → events (linked_world (parts_of no_end) mode.Refuse) [] moves n ≡ []
+unfolding all_entities merge_view
+the_parts_show_nothing moves zero = refl
+the_parts_show_nothing moves (suc zero) = refl
+-- the loop is about to begin
+the_parts_show_nothing moves (suc (suc zero)) = refl
+the_parts_show_nothing moves (suc (suc (suc zero))) = simp i.outs-Loop
+-- it begins again
+the_parts_show_nothing moves (suc (suc (suc (suc n)))) = simp (i.outs-Loop, i.outs-Br) (the_parts_show_nothing moves (suc (suc n)))
 
-  -- in the start, with these levels
-  abbrev in_start : List Level → Run
-  in_start ls = record (state_after tick before 2) { entries = Running (record { inst = record { types = nothing ∷ []; funcs = 0 ∷ []; tables = []; mems = []; globals = []; elems = []; datas = [] }; locals = []; results = []; levels = ls }) ∷ (Opening [] ∷ []) }
-
-  -- the loop is about to begin, and its branch is
-  abbrev at_loop : Run
-  at_loop = in_start (record { values = []; code = begins_again; gives = 0; takes = 0; back = [] } ∷ [])
-
-  abbrev at_branch : Run
-  at_branch = in_start (record { values = []; code = i.Br 0 ∷ []; gives = 0; takes = 0; back = begins_again } ∷ (record { values = []; code = []; gives = 0; takes = 0; back = [] } ∷ []))
-
-  begins : tick at_loop ≡ (at_branch, None)
-  unfolding all_entities merge_view
-  begins = simp (i.outs-Loop) refl
-
-  branches : tick at_branch ≡ (at_loop, None)
-  unfolding all_entities merge_view
-  branches = simp (i.outs-Br) refl
-
-  mutual
-    silent_at_loop : (n : ℕ) → events_of tick at_loop n ≡ []
-    silent_at_loop zero = refl
-    silent_at_loop (suc n) = rw begins (silent_at_branch n)
-
-    silent_at_branch : (n : ℕ) → events_of tick at_branch n ≡ []
-    silent_at_branch zero = refl
-    silent_at_branch (suc n) = rw branches (silent_at_loop n)
-
-  pub the_parts_show_nothing : (n : ℕ) → events (linked_world (parts_of no_end) mode.Refuse) [] moves n ≡ []
-  unfolding all_entities merge_view
-  the_parts_show_nothing zero = refl
-  the_parts_show_nothing (suc zero) = refl
-  the_parts_show_nothing (suc (suc n)) = silent_at_loop n
-
-the_parts_show : (e : Example) → events (linked_world (parts_of e) mode.Refuse) (case e).env (case e).moves (case e).steps ≡ (case e).shown
+-- the environment is well formed, and what is seen of the parts there
+the_parts_show : (e : Example) → IsTrue (is_environment (case e).env) × (events (linked_world (parts_of e) mode.Refuse) (case e).env (case e).moves 10 ≡ (case e).shown)
 unfolding out-Instr denote.Hole.Carrier.out wrapped all_entities merge_view
-the_parts_show no_end = the_parts_show_nothing [] 6
-the_parts_show _ = refl
+the_parts_show no_end = (refl, the_parts_show_nothing [] 10)
+the_parts_show _ = (refl, refl)
 
 -- what is seen of a module alone in four steps more
 abbrev seen_alone : Example → Module → List Event
-seen_alone e x = events (alone x) (case e).env (case e).moves ((case e).steps + 4)
+seen_alone e x = events (alone x) (case e).env (case e).moves 14
 
 -- of the merged module, where the start ends
 the_merge_shows_the_same : (e : Example) → (e ≡ no_end → ⊥) → seen_alone e (joined_module (parts_of e) mode.Refuse) ≡ (case e).shown
@@ -258,34 +193,73 @@ the_merge_shows_the_same e ends = ap (seen_alone e) (joins e)
 
 -- ---- the wrong merges ----
 
--- Where what is seen of the parts does not begin what is seen of a module, in four steps more, the module does not behave as they do.
-refused : (e : Example) (wrong : Module) (ys : List Event) → IsTrue (is_environment (case e).env) → seen_alone e wrong ≡ ys → (IsPrefix (case e).shown ys → ⊥) → ObservationallyEquivalent (parts_of e) mode.Refuse wrong → ⊥
-refused e wrong ys fit shown apart same = apart (rw (← the_parts_show e) (rw (← shown) (same (case e).env fit tt (case e).moves (case e).steps).0))
+-- mistakes that a merge can make
+pub data Mistake : Type 0 where
+  -- the second start is not called
+  second_dropped : Mistake
+  -- the first start is the start
+  first_alone : Mistake
+  -- the second start is called first
+  second_first : Mistake
+  -- the types are shared, and the type index of an indirect call is as it was: the call traps
+  type_index_kept : Mistake
+  -- a memory that two parts import keeps the first limits
+  first_limits : Mistake
+  -- a start which does not end is left out
+  start_left_out : Mistake
 
--- a merge that does not call the second start is refused
-pub dropped_starts_are_refused : ObservationallyEquivalent (parts_of two_starts) mode.Refuse second_dropped → ⊥
+-- which parts are merged, the module that a mistake gives for them, and what is seen of it alone in four steps more
+pub record Wrong : Type 0 where
+  pub parts : Example
+  pub tree : Module
+  pub shown : List Event
+
+abbrev pub wrong : Mistake → Wrong
+wrong second_dropped = record { parts = two_starts; tree = starting_by (i.Call 2 ∷ []); shown = asks f ∷ Linked ∷ BadMove ∷ [] }
+wrong first_alone = record { parts = two_starts; tree = record in_order { start = Some 2 }; shown = asks f ∷ Linked ∷ BadMove ∷ [] }
+wrong second_first = record { parts = two_starts; tree = starting_by (i.Call 3 ∷ i.Call 2 ∷ []); shown = asks g ∷ asks f ∷ Linked ∷ [] }
+wrong type_index_kept = record { parts = two_types; tree = two_types_with 0; shown = InstanceTrapped ∷ BadMove ∷ [] }
+wrong first_limits = record { parts = one_memory; tree = one_memory_from 0; shown = Linked ∷ [] }
+wrong start_left_out = record { parts = no_end; tree = record never_ending { start = None }; shown = Linked ∷ [] }
+
+-- what is seen of it, by computation
+it_shows : (w : Mistake) → seen_alone (wrong w).parts (wrong w).tree ≡ (wrong w).shown
 unfolding out-Instr denote.Hole.Carrier.out wrapped
-dropped_starts_are_refused = refused two_starts second_dropped (asks f ∷ (Linked ∷ (BadMove ∷ []))) refl refl (λ p. let k = p.1 in cc)
+it_shows second_dropped = refl
+it_shows _ = refl
 
--- so is one that starts with the first alone
-pub first_starts_alone_are_refused : ObservationallyEquivalent (parts_of two_starts) mode.Refuse first_alone → ⊥
-unfolding out-Instr denote.Hole.Carrier.out wrapped
-first_starts_alone_are_refused = refused two_starts first_alone (asks f ∷ (Linked ∷ (BadMove ∷ []))) refl refl (λ p. let k = p.1 in cc)
+-- what a merge with the mistake gives has equal traces
+abbrev pub IsEquivalent : Mistake → Type 0
+IsEquivalent w = ObservationallyEquivalent (parts_of (wrong w).parts) mode.Refuse (wrong w).tree
 
--- and one that calls the second start first
-pub starts_in_reverse_are_refused : ObservationallyEquivalent (parts_of two_starts) mode.Refuse second_first → ⊥
-unfolding out-Instr denote.Hole.Carrier.out wrapped
-starts_in_reverse_are_refused = refused two_starts second_first (asks g ∷ (asks f ∷ (Linked ∷ []))) refl refl (λ p. let k : true ≡ false = ap (asks_first f) p.1 in cc)
+-- then what is seen of the parts begins what is seen of it
+begins_it : (w : Mistake) → IsEquivalent w → IsPrefix (case (wrong w).parts).shown (wrong w).shown
+begins_it w same =
+    let e = (wrong w).parts in
+    let parts = the_parts_show e in
+    rw (← parts.1, ← it_shows w) (same (case e).env parts.0 tt (case e).moves 10).0
 
--- a merge that shares the types and leaves the type index of an indirect call as it was is refused: the call traps
-pub kept_type_indices_are_refused : ObservationallyEquivalent (parts_of two_types) mode.Refuse (two_types_with 0) → ⊥
-unfolding out-Instr denote.Hole.Carrier.out wrapped
-kept_type_indices_are_refused = refused two_types (two_types_with 0) (InstanceTrapped ∷ (BadMove ∷ [])) refl refl (λ p. let k = p.1 in cc)
+-- Each mistake is refused: what is seen of the parts does not begin what is seen of the module. A start that does not end and is left out is refused by the other half, since the module shows what the parts do not.
+pub mistakes_are_refused : (w : Mistake) → IsEquivalent w → ⊥
+mistakes_are_refused start_left_out same = grind (arith, the_parts_show_nothing [] 6, (same [] refl tt [] 2).1)
+mistakes_are_refused w same = grind (arith, (begins_it w same).1)
 
--- a merge that keeps the first limits of a memory that two parts import is refused
-pub first_limits_are_refused : ObservationallyEquivalent (parts_of one_memory) mode.Refuse (one_memory_from 0) → ⊥
-first_limits_are_refused = refused one_memory (one_memory_from 0) (Linked ∷ []) refl refl (λ p. let k = p.1 in cc)
+-- each of them by its name
 
--- A merge that leaves out a start which does not end is refused by the other half, since it shows what the parts do not.
-pub starts_without_end_are_not_left_out : ObservationallyEquivalent (parts_of no_end) mode.Refuse without_start → ⊥
-starts_without_end_are_not_left_out same = let p = subst (IsPrefix (Linked ∷ [])) (the_parts_show_nothing [] 6) (same [] refl tt [] 2).1 in cc
+dropped_starts_are_refused : IsEquivalent second_dropped → ⊥
+dropped_starts_are_refused = mistakes_are_refused second_dropped
+
+first_starts_alone_are_refused : IsEquivalent first_alone → ⊥
+first_starts_alone_are_refused = mistakes_are_refused first_alone
+
+starts_in_reverse_are_refused : IsEquivalent second_first → ⊥
+starts_in_reverse_are_refused = mistakes_are_refused second_first
+
+kept_type_indices_are_refused : IsEquivalent type_index_kept → ⊥
+kept_type_indices_are_refused = mistakes_are_refused type_index_kept
+
+first_limits_are_refused : IsEquivalent first_limits → ⊥
+first_limits_are_refused = mistakes_are_refused first_limits
+
+starts_without_end_are_not_left_out : IsEquivalent start_left_out → ⊥
+starts_without_end_are_not_left_out = mistakes_are_refused start_left_out
