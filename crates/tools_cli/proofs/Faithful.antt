@@ -313,12 +313,13 @@ none_from : {A B : Type 0} (f : A → B) (o : Option A) → option_map f o ≡ N
 none_from f None e = refl
 none_from f (Some x) e = absurd (cc)
 
-none_above : (n : ℕ) (which : Which) (rest : Option Which) → or_above n which rest ≡ None → rest ≡ None
-none_above n which rest e = by (nat_lt (limit which) n) e
+-- no count is above its limit: neither this one nor the others
+none_behind : (n : ℕ) (which : Which) (a b : Option Which) → or_above n which (option_or a b) ≡ None → (a ≡ None) × (b ≡ None)
+none_behind n which a b e = by (nat_lt (limit which) n) e
   where
-    by : (b : Bool) → cond b (Some which) rest ≡ None → rest ≡ None
+    by : (over : Bool) → cond over (Some which) (option_or a b) ≡ None → (a ≡ None) × (b ≡ None)
     by true e = absurd (cc)
-    by false e = e
+    by false e = none_of_both a b e
 
 -- neither the namespace nor an added name is taken, and no count of either module is above its limit
 record HasNoFault (names : SplitNames) (m : Module) (moved : List ℕ) : Type 0 where
@@ -331,8 +332,7 @@ no_fault : (names : SplitNames) (m : Module) (moved : List ℕ) → split_fault 
 no_fault names m moved e =
     let first = none_of_both (option_map NamespaceTaken (namespace_taken names.placeholder_namespace m)) (option_or (option_map PrefixTaken (prefix_taken names.export_prefix m moved)) (option_map TooMany (too_many names m moved))) e in
     let second = none_of_both (option_map PrefixTaken (prefix_taken names.export_prefix m moved)) (option_map TooMany (too_many names m moved)) first.1 in
-    let counts = none_above (moved_params m moved) Trampolines (option_or (over_limit (primary names m moved)) (over_limit (secondary names m moved))) (none_from TooMany (too_many names m moved) second.1) in
-    let both = none_of_both (over_limit (primary names m moved)) (over_limit (secondary names m moved)) counts in
+    let both = none_behind (moved_params m moved) Trampolines (over_limit (primary names m moved)) (over_limit (secondary names m moved)) (none_from TooMany (too_many names m moved) second.1) in
     record { namespace = none_from NamespaceTaken (namespace_taken names.placeholder_namespace m) first.0; prefix = none_from PrefixTaken (prefix_taken names.export_prefix m moved) second.0; primary_fits = both.0; secondary_fits = both.1 }
 
 -- functions that words tell can move

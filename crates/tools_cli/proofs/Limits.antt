@@ -1,5 +1,5 @@
 -- A tree that is read has no list above its limit.
-use Rattle.base_lists.proofs.Common.{ℕ, ◌≤◌, List, [], ◌∷◌, length, Bool, true, false, sym, subst, arith, ◌==◌}
+use Rattle.base_lists.proofs.Common.{ℕ, ◌-◌, ◌≤◌, List, [], ◌∷◌, length, Bool, true, false, sym, subst, arith, ◌==◌}
 use Rattle.wasm_bytes.specs.Prelude.{Section}
 use Rattle.wasm_tree_spec.specs.Prelude.{Imports, limit, Func, Module}
 use Rattle.wasm_tree.specs.declared.which.Which.TheVariants.{Types, Functions, Tables, Memories, Globals, ElementSegments, DataSegments}
@@ -65,16 +65,17 @@ contents_keep many p (t ∷ ss) q s h k = contents_keep many h.0 ss q ((section_
 none_yet : FewParts nothing
 none_yet = record { types = omega arith; imports = omega arith; func_types = omega arith; tables = omega arith; mems = omega arith; globals = omega arith; elems = omega arith; datas = omega arith }
 
-length_typed : (ts : List ℕ) (fs : List Func) → length (typed ts fs) ≤ length ts
-length_typed [] fs = omega arith
-length_typed (t ∷ ts) [] = omega arith
-length_typed (t ∷ ts) (f ∷ fs) = let k = length_typed ts fs in omega (arith, k)
+-- no more functions are put together than there are types of them
+few_typed : (ts : List ℕ) (fs : List Func) (most : ℕ) → length ts ≤ most → length (typed ts fs) ≤ most
+few_typed [] fs most h = omega arith
+few_typed (t ∷ ts) [] most h = omega arith
+few_typed (t ∷ ts) (f ∷ fs) most h = let k = few_typed ts fs (most - 1) (omega arith) in omega (arith, k)
 
 tree_few : (p : Parts) → FewParts p → IsWithinLimits (tree_of p)
 tree_few p s = record {
   types = s.types;
   imports = s.imports;
-  funcs = omega (arith, s.func_types, length_typed p.func_types p.codes);
+  funcs = few_typed p.func_types p.codes (limit Functions) s.func_types;
   tables = s.tables;
   mems = s.mems;
   globals = s.globals;
