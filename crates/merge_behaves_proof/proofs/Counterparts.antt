@@ -17,7 +17,7 @@ use Rattle.merge_behaves_proof.specs.Shared.{shared_count, is_shared, sharing}
 use Rattle.merge_behaves_proof.proofs.SpaceLaws.{SpaceLaws}
 use Rattle.merge_behaves_proof.proofs.ValueShared.{is_same, shares_own}
 
--- what the first parts and one more define, all do
+-- what the parts up to one define is no more than what all parts define
 pub defined_low : (k : Space) (parts : List Part) (p : ℕ) (m : Module) → module_at parts p ≡ Some m → defined_before k parts p + defined_count k m ≤ defined_before k parts (length parts)
 defined_low k [] p m e = cc
 defined_low k (part ∷ parts) p m e = grind (arith, defined_low k parts (p - 1) m)
@@ -37,9 +37,10 @@ module _ (env : Environment) (parts : List Part) where
 
   -- what an import that stays denotes is related to itself
   pub outside_rel : OwnEntitiesCorrespond → (s : Site) → OptRel (ExternalValueRel (sharing env parts)) (outside_external_value (owned_of env) parts s) (outside_external_value (owned_of env) parts s)
-  outside_rel law s = then_same (module_at parts s.part) (λ m _. then_same (import_at parts s) (λ i _. then_same (own_key m i) (λ key _. look_rel (sharing env parts) env (shares_own env parts) (same_key key) (law (is_shared env parts) env (shares_own env parts)).owned)))
+  outside_rel law s =
+      then_same (module_at parts s.part) (λ m _. then_same (import_at parts s) (λ i _. then_same (own_key m i) (λ key _. look_rel (sharing env parts) env (shares_own env parts) (same_key key) (law (is_shared env parts) env (shares_own env parts)).owned)))
 
-  -- which is one of the first
+  -- and its address is one that both worlds have
   pub site_low : OwnEntitiesCorrespond → (k : Space) (s : Site) (a : ℕ) → site_address k s ≡ Some a → a < shared_count env parts k
   site_low law k s a h = (is_same env parts k a a (opt_self (then_rel (outside_rel law s) (λ _ _. address_rel (sharing env parts) k)) h)).1
 

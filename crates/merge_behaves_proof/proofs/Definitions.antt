@@ -58,7 +58,7 @@ all_join parts mode =
 
 -- ---- one definition ----
 
--- each entry of a list has its result
+-- `f` gives something for each entry of the list
 abbrev EachThere : {A B : Type 0} → (A → Option B) → List A → Type 0
 EachThere {A} {B} f xs = (n : ℕ) (x : A) → slice_get xs n ≡ Some x → (y : B) × (f x ≡ Some y)
 
@@ -115,7 +115,7 @@ module _ (laws : Laws) (env : Environment) (parts : List Part) (mode : Mode) (ca
               partners.defined (stood p m is n x.0 x.1 at) (moved p m is n x.0 x.1 (cc)) (alike p m is n x.0 x.1)
         ]
 
-    -- an entry of a list of the merged module is one of a part, or one of those that follow
+    -- `f` gives something for each definition of the merged module, if it does for what those of each part become and for those that follow
     merged_there : {B : Type 0} (f : A → Option B) → ((p : ℕ) (m : Module) → module_at parts p ≡ Some m → EachThere (λ x. f (new p m x)) (definitions m)) → EachThere f more → EachThere f (definitions J)
     merged_there f part last n x h = elim (append_from _ more n x (rw q.is at h)) [
       | inl g ↦
@@ -140,7 +140,7 @@ module _ (laws : Laws) (env : Environment) (parts : List Part) (mode : Mode) (ca
 
   -- ---- both stores are there, or neither ----
 
-  -- a function is allocated where its type is among those of its module
+  -- each function of a valid module is allocated, since its type is among those of the module
   funcs_there : (m : Module) (i : Inst) → IsValid m → i.types ≡ m.types → EachThere (new_func i) m.funcs
   funcs_there m i valid types n f h =
       is_some_there (new_func i f) (grind (arith, slice_get_there i.types f.ty (rw types (func_typed laws m valid n f h))))

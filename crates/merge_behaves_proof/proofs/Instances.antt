@@ -33,6 +33,7 @@ module _ (parts : List Part) (p : ℕ) (m : Module) (k : Space) (ext : is_extern
 
 -- ---- all there or none ----
 
+-- an instance is there where its index spaces are
 all_spaces : (env : Environment) (q : List Part) (p : ℕ) (m : Module) → ((k : Space) → is_external k ≡ true → (xs : List ℕ) × (space env q k p m ≡ Some xs)) → (i : Inst) × (inst_of env q p m ≡ Some i)
 all_spaces env q p m there = is_some_there (inst_of env q p m) (grind (arith, there Functions refl, there Tables refl, there Memories refl, there Globals refl))
 
@@ -130,7 +131,7 @@ instances_agree laws env parts mode can = both_or_none _ _
 
 -- ---- parts with their instances ----
 
--- What holds where no part is left, and of a part with its instance and what follows where it holds of what follows, holds of all.
+-- Induction along the parts and their instances: what holds where no part is left, and holds of a part and all after it if it holds of those after it, holds of all parts.
 module _ {env : Environment} {parts : List Part} {insts js : List Inst} (agree : InstancesAgree env parts insts js) (P : ℕ → List Part → List Inst → Type 0) (none_left : (p : ℕ) (is : List Inst) → P p [] is)
     (before : (p : ℕ) (part : Part) (i : Inst) (rest : List Part) (is : List Inst) → module_at parts p ≡ Some part.«module» → PartAgrees env parts p part.«module» i agree.merged → P (suc p) rest is → P p (part ∷ rest) (i ∷ is)) where
   from : (p : ℕ) (rest : List Part) (is : List Inst) → ((q : ℕ) → (module_at parts (p + q) ≡ module_at rest q) × (slice_get insts (p + q) ≡ slice_get is q)) → P p rest is

@@ -19,11 +19,11 @@ type_in s (TableAt a) = slice_get s.tables a >>= λ u. Some (TableOf (record { t
 type_in s (MemoryAt a) = slice_get s.mems a >>= λ u. Some (MemoryOf (record { min = u.pages; max = u.most }))
 type_in s (GlobalAt a) = slice_get s.globals a >>= λ g. Some (GlobalOf g.ty)
 
--- whether there is a type, which is of one kind and type with what is asked for and meets its limits
+-- whether there is a type that is what is asked for except for limits, and meets the limits that are asked for
 abbrev pub fits_type : (demand : External) → Option External → Bool
 fits_type demand o = unwrap_or (option_map (λ type. same_but_limits demand type && meets_limits demand type) o) false
 
--- what is asked for is of this type
+-- the type fits what is asked for
 pub record Fits (demand type : External) : Type 0 where
   pub same : same_but_limits demand type ≡ true
   pub meets : meets_limits demand type ≡ true
@@ -59,25 +59,27 @@ kept (MemoryOf k) l = MemoryOf l
 kept x l = x
 
 -- where limits imply others, what fits with the ones fits with the others
-pub fits_kept : (d e : External) (o : Option External) (l : Limits) → same_but_limits d e ≡ true → fits_type (kept e l) o ≡ true → ((k : Limits) → limits_in d ≡ Some k → (size : ℕ) (most : Option ℕ) → meets size most l ≡ true → meets size most k ≡ true) → fits_type d o ≡ true
+pub fits_kept : (d e : External) (o : Option External) (l : Limits) → same_but_limits d e ≡ true → fits_type (kept e l) o ≡ true →
+    ((k : Limits) → limits_in d ≡ Some k → (size : ℕ) (most : Option ℕ) → meets size most l ≡ true → meets size most k ≡ true) → fits_type d o ≡ true
 fits_kept (FuncOf t) (FuncOf u) o l same f implied = rw (func_type_is t u same) f
 fits_kept d e o l same f implied = grind arith
 
 -- ---- an import by its site ----
 
+-- the limits that an import asks for are those of the external type that it asks for
 pub site_limits : (parts : List Part) (t : Site) (i : Import) (x : External) → import_at parts t ≡ Some i → asked_at parts t ≡ Some x → limits_of i.desc ≡ limits_in x
 site_limits parts t i x at asks = grind arith
 
 module _ (env : Environment) (parts : List Part) (s : Store) (t : Site) (i : Import) (x : External) (at : import_at parts t ≡ Some i) (asks : asked_at parts t ≡ Some x) where
-  -- whether it matches, by the type of what it denotes
+  -- it matches if the type of what it denotes fits what it asks for
   pub matched_is : is_matched env parts s t ≡ fits_type x (imported_external_value env parts t >>= type_in s)
   matched_is = grind arith
 
-  -- where all imports match, it fits
+  -- where all imports match, that type fits
   pub type_fits : SitesAreImports → all_of (is_matched env parts s) (sites parts) ≡ true → fits_type x (imported_external_value env parts t >>= type_in s) ≡ true
   type_fits sites_are all = let n = (sites_are parts t).1 i at in rw matched_is at (list_all_each _ _ all n.0 t n.1)
 
-  -- it matches where what it denotes fits what it asks for
+  -- and what it denotes, and the type of that, are there
   pub site_fits : SitesAreImports → all_of (is_matched env parts s) (sites parts) ≡ true → FitsAt s x (imported_external_value env parts t)
   site_fits sites_are all =
       let f = type_fits sites_are all in
@@ -96,6 +98,7 @@ module _ (size : ℕ) (most : Option ℕ) where
   consed_met b o ls = grind (arith, nat_tests)
 
   module _ (parts : List Part) (s : Site) where
+    -- if the import at the site ends at `s`, the limits that it asks for are met
     abbrev site_met : Site → Bool
     site_met t = met_if (is_outside s (linked_end parts t)) (import_at parts t >>= λ i. limits_of i.desc)
 

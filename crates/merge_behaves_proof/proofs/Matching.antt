@@ -33,7 +33,7 @@ module _ (env : Environment) (w : Instantiated) (s : Store) (made : stores_from 
   abbrev address : Space → ℕ → ℕ
   address k n = base env w.parts k q + place k n
 
-  -- what is found at an index after the imports is of what the module defines
+  -- what is found at an index after the imports belongs to a definition of the module, and is found of that definition
   abbrev defined : (k : Space) {A B C : Type 0} (definitions : Module → List A) (entry : A → B) (imported : List B) (found : B → Option C) {entries : List B} {n : ℕ} {x : C} → length (imports_of k m) ≡ length imported → entries ≡ map entry (definitions m) →
       length (imports_of k m) ≤ n → option_and_then found (slice_get (imported ++ entries) n) ≡ Some x → (d : DefinedAt env w k definitions (address k n)) × (found (entry d.definition) ≡ Some x)
   defined k definitions entry imported found {entries} {n} {x} many are le h =
@@ -76,7 +76,7 @@ module _ (laws : SpaceLaws) (env : Environment) (parts : List Part) (linked : li
     abbrev AllMatch : Type 0
     AllMatch = all_of (is_matched env parts s) (sites parts) ≡ true
 
-    -- what an import asks for that ends at a staying one: this one's type, where all imports match
+    -- where all imports match, the type of what a staying import denotes fits what each import asks for that ends at it
     ends_at : AllMatch → (u t : Site) (i : Import) → import_at parts t ≡ Some i → is_outside u (linked_end parts t) ≡ true → (demand : External) × (asked_at parts t ≡ Some demand) × (fits_type demand (own_type s u) ≡ true)
     ends_at all u t i at h =
         let linked_to = outside_is u (linked_end parts t) h in

@@ -71,12 +71,13 @@ staying_kind laws parts k n s h =
 
 module _ (laws : SpaceLaws) (env : Environment) (parts : List Part) (linked : link_fault parts true ≡ None) where
   module _ (s : Site) (w : IsStaying parts s) where
-    -- in the merged module it names the same of the environment's own
+    -- in the merged module it denotes what it denotes in the parts' world
     pub moved_thing : external_value_in env (merged_types parts) (Some (record w.import { desc = merged_desc parts s w.of w.import.desc })) ≡ outside_external_value (owned_of env) parts s
     moved_thing =
         let ended = laws.ends parts linked s w.import w.at in
         grind (arith, laws.types parts s.part w.of)
 
+  -- the imports of the merged module have the addresses of the imports that stay
   chosen_addresses : (k : Space) → addresses env (merged_types parts) (filter_map (merged_import parts) (staying parts)) k ≡ all_there (site_address env parts k) (staying_of parts k)
   unfolding staying_of
   chosen_addresses k =
@@ -85,7 +86,7 @@ module _ (laws : SpaceLaws) (env : Environment) (parts : List Part) (linked : li
       let w = staying_is laws parts n s h in
       (_, import_is parts s w.of w.import w.is_part w.at, grind arith, λ q. grind (arith, moved_thing s w)))
 
-  -- its index spaces
+  -- the index spaces of the merged module: the addresses of the imports that stay, and then of what it defines
   pub merged_space : (mode : Mode) (k : Space) → is_external k ≡ true →
       space env (one (joined_module parts mode)) k 0 (joined_module parts mode) ≡ option_and_then (λ l. Some (l ++ numbers (own_count k env) (defined_before k parts (length parts) + added_count parts k))) (all_there (site_address env parts k) (staying_of parts k))
   merged_space mode k e =

@@ -36,7 +36,7 @@ HasEqualTraces merge = (parts : List Part) (how : Mode) → CanBeJoined parts ho
 abbrev BreaksTheLaw : List Part → Module → Type 0
 BreaksTheLaw parts wrong = (merge : List Part → Mode → Module) → merge parts mode.Refuse ≡ wrong → HasEqualTraces merge → ⊥
 
--- What `join` asks of parts and their links, and that it gives a module for them. No body meets its clause `same` that gives this one, of which not the same is seen.
+-- What `join` asks of parts and their links, so that it has to give a module for them. A body that gives this one does not meet the clause `same`, since it is not equivalent to the parts.
 record BreaksTheClause (given : List given.Part) (wrong : Module) : Type 0 where
   joinable : CanBeJoined (named_modules given) mode.Refuse
   links : Links
@@ -45,13 +45,14 @@ record BreaksTheClause (given : List given.Part) (wrong : Module) : Type 0 where
   few : FewInAll (named_modules given)
   refused : ObservationallyEquivalent (named_modules given) mode.Refuse wrong → ⊥
 
--- both of what a merge with this mistake gives
+-- the module that this mistake gives breaks both the law and the clause
 abbrev Breaks : Mistake → Type 0
 Breaks w = BreaksTheLaw (parts_of (wrong w).parts) (wrong w).tree × BreaksTheClause (given_as (wrong w).parts) (wrong w).tree
 
 -- ---- what is computed ----
 
--- The links of parts whose imports all have an end. Here each import that stays is its own end, without limits and with nothing read; both of a memory end at the first, which keeps the greater minimum.
+-- The links of parts whose imports all have an end. In the examples each import that stays is its own end, without limits and with nothing read; only the two imports of one memory both
+-- end at the first, which keeps the greater minimum.
 abbrev links_of : List Part → Links
 links_of parts = record {
   ends = by_import (λ s. unwrap_or (option_map end_entry (linked_end parts s)) (Outside 0 0)) parts;
@@ -62,6 +63,7 @@ links_of parts = record {
 are_links : (e : Example) → AreLinks (parts_of e) (links_of (parts_of e))
 are_links e = grind arith
 
+-- of each kind, what is imported, defined and at most added is less than 2 ^ 32
 few : (e : Example) (k : Space) → count_of (imports_kind (parts_of e) k) (sites (parts_of e)) + (defined_before k (parts_of e) 2 + most_added k) < 2 ^ 32
 few e k = grind arith
 
@@ -71,7 +73,8 @@ few e k = grind arith
 starting_is_valid : (field : Text) → IsValid (starting field)
 starting_is_valid field = ((_, refl, omega arith), ((_, refl, omega arith), ((_, _, refl, refl, refl, refl), ((_, _, refl, refl, ([], (_, (_, refl, ([], _, refl, tt, refl)), refl), tt)), tt))))
 
--- its import, its function, its table, its start, its element segment, whose one item is a function, and the body of the function: after each of the four instructions one operand, two, one, none
+-- its import, its function, its table, its start, its element segment, whose one item is a function, and the body of the function, with one operand after the first of its four
+-- instructions, and then two, one and none
 calling_is_valid : IsValid calling
 calling_is_valid = (
   (_, refl, omega arith),
@@ -120,7 +123,7 @@ can_be_joined : (e : Example) → CanBeJoined (parts_of e) mode.Refuse
 unfolding repeated_name all_exports over_limit
 can_be_joined e = record { valid = valid e; bounded = λ p m is. grind arith; linked = no_fault e; names = grind arith; sizes = rw (joins e) (grind arith) }
 
--- each mistake breaks both
+-- each mistake breaks the law and the clause
 breaks : (w : Mistake) → Breaks w
 breaks w =
     let e = (wrong w).parts in (

@@ -42,10 +42,10 @@ module _ {env : Environment} {parts : List Part} {insts js : List Inst} (agree :
     in_part (x ∷ xs) ys [] at each = rw at then
     in_part _ _ (e ∷ es) at each = let s = each 0 e refl in cc
 
-  -- what no part has stands in the merged module alone
-  left_out : (ns : List ℕ) (es : List A) → ((n l : ℕ) (e : A) → slice_get es l ≡ Some e → second (task 0 whole n e)) → InOrder partners first second [] (segments_in 0 whole ns es)
-  left_out (n ∷ ns) (e ∷ es) h = only_second (h n 0 e refl) (left_out ns es (λ n l. h n (suc l)))
-  left_out _ _ h = ends
+  -- where no segment of a part is left, each segment that is left of the merged module stands there without a partner
+  rest_alone : (ns : List ℕ) (es : List A) → ((n l : ℕ) (e : A) → slice_get es l ≡ Some e → second (task 0 whole n e)) → InOrder partners first second [] (segments_in 0 whole ns es)
+  rest_alone (n ∷ ns) (e ∷ es) h = only_second (h n 0 e refl) (rest_alone ns es (λ n l. h n (suc l)))
+  rest_alone _ _ h = ends
 
   -- The segments of the parts and those of the merged module: a part's stand there behind those of the parts before it, with the addresses that they have, and each has its partner.
   all_in_order : ((n l : ℕ) (e : A) → slice_get more l ≡ Some e → second (task 0 whole n e)) →
@@ -55,7 +55,7 @@ module _ {env : Environment} {parts : List Part} {insts js : List Inst} (agree :
   all_in_order last each = rw joins.is (rw (defined_none k parts) at (along agree
       (λ p rest is. InOrder partners first second (tasks_by segs (addresses_in k) p rest is)
       (segments_in 0 whole (drop (defined_before k parts p) (addresses_in k whole)) (by_part_from (λ p m. map (new p m) (segs m)) p rest ++ more)))
-      (λ p is. left_out _ more last)
+      (λ p is. rest_alone _ more last)
       (λ p part i rest is at a then.
       let m = part.«module» in
       let s = each p m i at a in

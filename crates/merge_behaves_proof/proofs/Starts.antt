@@ -49,7 +49,7 @@ module _ {env : Environment} {parts : List Part} {j : Inst} where
   shared_with_self nil = nil
   shared_with_self (cons w r) = cons (shares env parts Functions _ w.shared) (shared_with_self r)
 
-  -- from the addresses that are named to the indices that name them
+  -- if P holds of each start's index and the address that it names, it holds of the lists of these, place by place
   each_start : (P : ℕ → ℕ → Type 0) {several fs : List ℕ} → ListRel (IsNamed env parts j) several fs → ((n f a : ℕ) → slice_get fs n ≡ Some f → slice_get j.funcs f ≡ Some a → P f a) → ListRel P fs several
   each_start P nil h = nil
   each_start P (cons w r) h = cons (h 0 _ _ refl w.names) (each_start P r (λ n. h (suc n)))
@@ -82,7 +82,7 @@ module _ (laws : SpaceLaws) (env : Environment) (parts : List Part) (linked : li
 
 -- ---- segments leave the functions as they are ----
 
--- where each run leaves the functions as they are, so do several, one after the other
+-- if each run leaves the functions as they are, so do several, one after the other
 in_turn_keeps : {A : Type 0} (run : Store → A → Filled) → ((s : Store) (x : A) → (run s x).store.funcs ≡ s.funcs) → (s : Store) (xs : List A) → (one_by_one run s xs).store.funcs ≡ s.funcs
 in_turn_keeps run h s [] = refl
 in_turn_keeps run h s (x ∷ xs) = grind (arith, h, in_turn_keeps run h (run s x).store xs)

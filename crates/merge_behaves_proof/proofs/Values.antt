@@ -52,7 +52,7 @@ module _ (laws : Laws) (env : Environment) (parts : List Part) (mode : Mode) whe
   R = sharing env parts
 
   module _ (can : CanBeJoined parts mode) (insts : List Inst) (j : Inst) (each : EachAgrees env parts insts j) (are : insts_from env M 0 M ≡ Some (j ∷ [])) where
-    -- what is read
+    -- the value of an expression that is read, and of what it becomes
     read_rel : (q : ℕ) (m : Module) (i : Inst) → PartAgrees env parts q m i j → (x : ConstExpr) → fits_const (map_of parts q m) x ≡ true → OptRel (ValRel R) (const_value (own_globals env) i x) (value_of env M (j ∷ []) 0 (new_const (map_of parts q m) x))
     read_rel q m i k (const.Func f) h = then_rel (names_one env parts Functions k.funcs f h) (λ _ _ r. some (reference (func (some r))))
     read_rel q m i k (const.Global x) h =
@@ -69,6 +69,6 @@ module _ (laws : Laws) (env : Environment) (parts : List Part) (mode : Mode) whe
         let i = each r.0.part h.of h.is_part in
         rw (r.1, i.1, h.is_part) (read_rel r.0.part h.of i.0 i.2 r.0.expr h.fits)
 
-  -- for instances that agree
+  -- where instances agree, the only one of the merged module is the one that they agree with
   pub are_one : CanBeJoined parts mode → (insts js : List Inst) (k : InstancesAgree env parts insts js) → insts_from env M 0 M ≡ Some js → insts_from env M 0 M ≡ Some (k.merged ∷ [])
   are_one can insts js k are = are ∙ ap Some k.alone

@@ -25,10 +25,11 @@ use Rattle.world_simulation.specs.Simulation.{WhatIsInstantiated, AllocatedStore
 use Rattle.merge_behaves_proof.proofs.Matching.{all_matched}
 use Rattle.merge_behaves_proof.proofs.Starts.{StartsAgree, starts_agree, segments_keep_funcs, caller_code, starts_typed}
 
+-- what has begun, with other starts
 abbrev started : Begun → List ℕ → Begun
 started c starts = record c { starts = starts }
 
--- where each is there or neither, and what comes after both too
+-- if two values are both there or neither is, and so is what `f` and `g` make of them, then the results are both there or neither is
 there_after : {A B C D : Type 0} {P : A → B → Type 0} {o : Option A} {p : Option B} (f : A → Option C) (g : B → Option D) →
     OptRel P o p → ((a : A) (b : B) → o ≡ Some a → p ≡ Some b → P a b → is_there (f a) ≡ is_there (g b)) → is_there (option_and_then f o) ≡ is_there (option_and_then g p)
 there_after f g none h = refl
@@ -36,7 +37,8 @@ there_after f g (some r) h = h _ _ refl refl r
 
 -- ---- instantiation ----
 
-module _ (spaces : SpaceLaws) (laws : Laws) (nothing : StartsTakeNothing) (similar_law : CorrespondingWorldsBeginRelated) (made_law : WhatIsInstantiated) (allocated_law : AllocatedStoresCorrespond) (alike_law : RelatedBegunHaveEqualTraces) (calls_law : OneStartMayCallSeveral)
+module _ (spaces : SpaceLaws) (laws : Laws) (nothing : StartsTakeNothing) (similar_law : CorrespondingWorldsBeginRelated) (made_law : WhatIsInstantiated)
+    (allocated_law : AllocatedStoresCorrespond) (alike_law : RelatedBegunHaveEqualTraces) (calls_law : OneStartMayCallSeveral)
     (env : Environment) (parts : List Part) (mode : Mode) (can : CanBeJoined parts mode) where
   abbrev R : Pairing
   R = sharing env parts
@@ -56,7 +58,7 @@ module _ (spaces : SpaceLaws) (laws : Laws) (nothing : StartsTakeNothing) (simil
   fit : AllFit parts
   fit p m is = laws.entries parts p m (can.valid p m is)
 
-  -- the instances of the parts and of the merged module are there or not alike
+  -- either all instances of the parts and that of the merged module are there, and agree, or both are missing
   insts_agree : OptRel (InstancesAgree env parts) (insts_from env parts 0 parts) (insts_from env M 0 M)
   insts_agree = instances_agree spaces env parts mode can
 

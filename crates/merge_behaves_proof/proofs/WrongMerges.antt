@@ -1,4 +1,4 @@
--- Merges that are wrong, of two small parts each, with names: a trace of the parts is no trace of such a module, by computation.
+-- Merges that are wrong, of two small parts each, with names: by computation, the parts and such a module do not have the same traces.
 use Rattle.base_lists.proofs.Common.{◌≡◌, refl, ap, ℕ, zero, suc, List, [], ◌∷◌, true, Some, None, pos, IsTrue, arith}
 use Rattle.wasm_tree.specs.declared.types.RefType.TheVariants as reft
 use Rattle.wasm_tree.specs.declared.types.ValType.TheVariants as valt
@@ -61,11 +61,11 @@ asks field = Asked (own, field) nullary []
 
 -- ---- two starts ----
 
--- whose start calls one function of the environment's own
+-- a module whose start calls one function of the environment's own
 abbrev pub starting : Text → Module
 starting field = record empty { types = nullary ∷ []; imports = own_func field 0 ∷ []; funcs = code 0 (i.Call 0 ∷ []) ∷ []; start = Some 1 }
 
--- merged, with this body of the function that is the start
+-- two of them merged, with this body of the function that is the start
 abbrev starting_by : List Instr → Module
 starting_by body = record empty {
   types = nullary ∷ [];
@@ -83,7 +83,7 @@ in_order = starting_by (i.Call 2 ∷ i.Call 3 ∷ [])
 abbrev calling_body : ℕ → List Instr
 calling_body ty = i.I32Const (pos 7) ∷ i.I32Const (pos 0) ∷ i.CallIndirect ty 0 ∷ i.Drop ∷ []
 
--- whose start calls a function of the environment's own through its table
+-- a module whose start calls a function of the environment's own through its table
 abbrev pub calling : Module
 calling = record empty {
   types = nullary ∷ [];
@@ -94,7 +94,7 @@ calling = record empty {
   elems = record { mode = elem.Active 0 (const.I32 (pos 0)); ty = reft.Func; items = const.Func 0 ∷ [] } ∷ [];
 }
 
--- after a part with another type, and with this type index in the indirect call
+-- that module merged after a part with another type, with this type index in its indirect call
 abbrev two_types_with : ℕ → Module
 two_types_with ty = record calling { types = from_i32 ∷ nullary ∷ []; imports = own_func f 1 ∷ []; funcs = code 1 (calling_body ty) ∷ [] }
 
@@ -103,7 +103,7 @@ two_types_with ty = record calling { types = from_i32 ∷ nullary ∷ []; import
 abbrev pages_from : ℕ → Limits
 pages_from n = record { min = n; max = None }
 
--- that imports a memory with this minimum
+-- a module that imports a memory with this minimum
 abbrev pub one_memory_from : ℕ → Module
 one_memory_from n = record empty { imports = record { «module» = own; field = m; desc = im.Memory (pages_from n) } ∷ [] }
 
@@ -113,7 +113,7 @@ no_page = record { pair = (own, m); funcs = []; table = None; memory = Some (rec
 
 -- ---- a start that does not end ----
 
--- whose start begins again and again
+-- a module whose start begins again and again
 abbrev pub never_ending : Module
 never_ending = record empty { types = nullary ∷ []; funcs = code 0 (i.Loop bt.Empty (i.Br 0 ∷ []) ∷ []) ∷ []; start = Some 0 }
 
@@ -151,7 +151,7 @@ case no_end = record { first = never_ending; second = empty; whole = never_endin
 abbrev pub given_as : Example → List given.Part
 given_as e = record { name = a; «module» = (case e).first } ∷ record { name = b; «module» = (case e).second } ∷ []
 
--- as linking by name speaks of them
+-- the same parts, as linking by name speaks of them
 abbrev pub parts_of : Example → List Part
 parts_of e = named_modules (given_as e)
 
@@ -181,11 +181,11 @@ unfolding out-Instr denote.Hole.Carrier.out wrapped all_entities merge_view
 the_parts_show no_end = (refl, the_parts_show_nothing [] 10)
 the_parts_show _ = (refl, refl)
 
--- what is seen of a module alone in four steps more
+-- what is seen of a module alone in fourteen steps, four more than the parts have
 abbrev seen_alone : Example → Module → List Event
 seen_alone e x = events (alone x) (case e).env (case e).moves 14
 
--- of the merged module, where the start ends
+-- of the merged module, where the start ends, the same is seen as of the parts
 the_merge_shows_the_same : (e : Example) → (e ≡ no_end → ⊥) → seen_alone e (joined_module (parts_of e) mode.Refuse) ≡ (case e).shown
 unfolding out-Instr denote.Hole.Carrier.out wrapped
 the_merge_shows_the_same no_end ends = absurd (ends refl)
@@ -208,7 +208,7 @@ pub data Mistake : Type 0 where
   -- a start which does not end is left out
   start_left_out : Mistake
 
--- which parts are merged, the module that a mistake gives for them, and what is seen of it alone in four steps more
+-- which parts are merged, the module that a mistake gives for them, and what is seen of that module alone in fourteen steps
 pub record Wrong : Type 0 where
   pub parts : Example
   pub tree : Module
@@ -222,24 +222,25 @@ wrong type_index_kept = record { parts = two_types; tree = two_types_with 0; sho
 wrong first_limits = record { parts = one_memory; tree = one_memory_from 0; shown = Linked ∷ [] }
 wrong start_left_out = record { parts = no_end; tree = record never_ending { start = None }; shown = Linked ∷ [] }
 
--- what is seen of it, by computation
+-- what is seen of the module that a mistake gives, by computation
 it_shows : (w : Mistake) → seen_alone (wrong w).parts (wrong w).tree ≡ (wrong w).shown
 unfolding out-Instr denote.Hole.Carrier.out wrapped
 it_shows second_dropped = refl
 it_shows _ = refl
 
--- what a merge with the mistake gives has equal traces
+-- the module that a mistake gives has the traces of the parts
 abbrev pub IsEquivalent : Mistake → Type 0
 IsEquivalent w = ObservationallyEquivalent (parts_of (wrong w).parts) mode.Refuse (wrong w).tree
 
--- then what is seen of the parts begins what is seen of it
+-- then what is seen of the parts is the beginning of what is seen of the module
 begins_it : (w : Mistake) → IsEquivalent w → IsPrefix (case (wrong w).parts).shown (wrong w).shown
 begins_it w same =
     let e = (wrong w).parts in
     let parts = the_parts_show e in
     rw (← parts.1, ← it_shows w) (same (case e).env parts.0 tt (case e).moves 10).0
 
--- Each mistake is refused: what is seen of the parts does not begin what is seen of the module. A start that does not end and is left out is refused by the other half, since the module shows what the parts do not.
+-- Each mistake is refused: what is seen of the parts is not the beginning of what is seen of the module. Only where a start that does not end is left out the other half of the
+-- equivalence is refused: the module shows what the parts do not.
 pub mistakes_are_refused : (w : Mistake) → IsEquivalent w → ⊥
 mistakes_are_refused start_left_out same = grind (arith, the_parts_show_nothing [] 6, (same [] refl tt [] 2).1)
 mistakes_are_refused w same = grind (arith, (begins_it w same).1)

@@ -16,9 +16,12 @@ right_is (both {b = b} r) = (b, refl)
 left_is : {A B : Type 0} {P : A → B → Type 0} {o : Option A} {p : Option B} → BothRel P o p → (a : A) × (o ≡ Some a)
 left_is (both {a = a} r) = (a, refl)
 
--- what is related in two lists is so still in longer ones
+-- items that are related in two lists are so still where more comes behind both
 both_joined : {A B : Type 0} {P : A → B → Type 0} (xs us : List A) (ys vs : List B) (a b : ℕ) → BothRel P (slice_get xs a) (slice_get ys b) → BothRel P (slice_get (xs ++ us) a) (slice_get (ys ++ vs) b)
-both_joined xs us ys vs a b r = let x = left_is r in let y = right_is r in rw (append_left xs us a (slice_get_within xs a x.0 x.1), append_left ys vs b (slice_get_within ys b y.0 y.1)) r
+both_joined xs us ys vs a b r =
+    let x = left_is r in
+    let y = right_is r in
+    rw (append_left xs us a (slice_get_within xs a x.0 x.1), append_left ys vs b (slice_get_within ys b y.0 y.1)) r
 
 module _ (R : Pairing) where
   -- stores stay related where more comes behind both
@@ -35,7 +38,10 @@ module _ (R : Pairing) where
   }
     where
       funcs : (a b : ℕ) → R.of Functions a b → (slice_get (s.funcs ++ t.funcs) a ≡ slice_get s.funcs a) × (slice_get (z.funcs ++ u.funcs) b ≡ slice_get z.funcs b)
-      funcs a b r = let k = left_is (like.types r) in let l = right_is (like.types r) in grind (arith, append_at_left, k.1, l.1)
+      funcs a b r =
+          let k = left_is (like.types r) in
+          let l = right_is (like.types r) in
+          grind (arith, append_at_left, k.1, l.1)
 
   abbrev nothing_defined : Store
   nothing_defined = record { funcs = []; tables = []; mems = []; globals = []; elems = []; datas = [] }
@@ -51,12 +57,12 @@ module _ (R : Pairing) where
 pub number_past : (from count n a : ℕ) → slice_get (numbers from count) n ≡ Some a → from ≤ a
 number_past from count n a h = omega (arith, number_is from count n a h)
 
--- what it comes to: what it defines behind what is there, and then its segments
+-- what adding a module comes to: what it defines comes behind what is there, and then its segments are run
 pub added_is : (s : Store) (m : Module) (things : List ExternalValue) (a : Added) → added s m things ≡ Some a → let i = next_inst s m things in (t : Store) × (store_with (const_value s.globals i) m i ≡ Some t) × (record { inst = i; filled = own_segments (const_value s.globals i) m i (joined_stores s t) } ≡ a)
 added_is s m things a h = grind arith
 
 module _ (related alone : Space → ℕ → Type 0) (never : (k : Space) (a : ℕ) → alone k a → related k a → ⊥) where
-  -- what each of two runs keeps, both keep
+  -- what each of two runs keeps, the one after the other keeps
   then_kept : (s : Store) (f : Filled) (g : Store → Filled) → Kept related s f.store → ((t : Store) → Kept related t (g t).store) → Kept related s (and_then f g).store
   then_kept s f g h next = grind (arith, next f.store)
 
@@ -66,7 +72,7 @@ module _ (related alone : Space → ℕ → Type 0) (never : (k : Space) (a : �
   turn_kept run i (a ∷ ns) (x ∷ xs) h s = then_kept s _ (λ s. one_by_one run s (segments_in 0 i ns xs)) (h 0 a x refl refl s) (turn_kept run i ns xs (λ n. h (suc n)))
   turn_kept run i _ _ h s = nothing_kept related s
 
-  -- what is related was there before, and is kept if the segments write only what is alone
+  -- If all related segments were there before, and those of the added module write only what is alone, then what is related is kept.
   added_kept : (s : Store) (m : Module) (things : List ExternalValue) (a : Added) → added s m things ≡ Some a →
       ((n : ℕ) → related ElementSegments n → n < length s.elems) → ((n : ℕ) → related DataSegments n → n < length s.datas) → WritesAlone alone m a.inst → (t : Store) × Kept related (joined_stores s t) a.filled.store
   added_kept s m things a h elems datas writes =

@@ -4,7 +4,7 @@ use Rattle.base_lists.specs.Options.{◌>>=◌}
 use Rattle.wasm_meaning.specs.Prelude.{overwrite, Store, Filled, or_trapped, and_then}
 use Rattle.world_contents_proof.specs.Leaves.{Copy, nothing, contents, over, all_over}
 
--- where both go on, each does
+-- where two runs, one after the other, do not trap, neither traps, and what the second leaves is left
 pub then_went : (f : Filled) (g : Store → Filled) → (and_then f g).trapped ≡ false → (f.trapped ≡ false) × ((g f.store).trapped ≡ false) × ((and_then f g).store ≡ (g f.store).store)
 then_went f g h = grind arith
 
@@ -44,10 +44,12 @@ module _ {C S A : Type 0} (k : Kind C S A) where
   IsOf nothing e = Unit {0}
   IsOf (contents to offset copied) e = copied ≡ Some (k.items e)
 
+  -- what a copy leaves of its segment
   abbrev pub left : Copy A → S → S
   left nothing e = e
   left (contents to offset copied) e = k.dropped
 
+  -- each holder of the first store is in the second, with what `f` makes of its contents at its address
   abbrev pub Written : Store → Store → (ℕ → List A → Option (List A)) → Type 0
   Written s t f = (a : ℕ) (c : C) → slice_get (k.holders s) a ≡ Some c → (xs : List A) × (f a (k.held c) ≡ Some xs) × (slice_get (k.holders t) a ≡ Some (k.holding c xs))
 
@@ -70,6 +72,7 @@ module _ {C S A : Type 0} (k : Kind C S A) where
     pub each : (j : ℕ) (c : Copy A) (e : S) → slice_get cs j ≡ Some c → slice_get (k.segments s) (n + j) ≡ Some e → slice_get (k.segments t) (n + j) ≡ Some (left c e)
     pub earlier : (j : ℕ) → j < n → slice_get (k.segments t) j ≡ slice_get (k.segments s) j
 
+  -- each copy is of the segment at its place, from `n` on
   abbrev pub AreOf : Store → ℕ → List (Copy A) → Type 0
   AreOf s n cs = (j : ℕ) (c : Copy A) → slice_get cs j ≡ Some c → (e : S) × (slice_get (k.segments s) (n + j) ≡ Some e) × IsOf c e
 
@@ -86,7 +89,7 @@ module _ {C S A : Type 0} (k : Kind C S A) where
         earlier = grind arith;
       })
 
-  -- whatever neither a holder nor a segment is stays
+  -- what is neither a holder nor a segment stays as it was
   module _ {B : Type 0} (get : Store → B) (put : (s : Store) (a : ℕ) (c : C) → get (k.put s a c) ≡ get s) (drop : (s : Store) (n : ℕ) → get (k.drop s n) ≡ get s) where
     run_stays : (s : Store) (n : ℕ) (c : Copy A) → get (run s n c).store ≡ get s
     run_stays s n c = grind arith

@@ -67,7 +67,7 @@ turns_are : {C S A X : Type 0} (k : Kind C S A) (i : Inst) (copy : X → Copy A)
 turns_are k i copy g one [] s n = refl
 turns_are k i copy g one (x ∷ xs) s n = rw (one s n x, turns_are k i copy g one xs)
 
--- all of a module's
+-- all segments of a module, each run in turn, are run as the copies of these
 pub copies_in_turn : (value : ConstExpr → Option Val) (m : Module) (i : Inst) (g : Store → PlacedSegment ElemSeg → Filled) (h : Store → PlacedSegment DataSeg → Filled) → ((s : Store) (n : ℕ) (e : ElemSeg) → g s (record { part = 0; inst = i; address = n; segment = e }) ≡ run tables s n (elem_copy value i e e.mode)) →
     ((s : Store) (n : ℕ) (d : DataSeg) → h s (record { part = 0; inst = i; address = n; segment = d }) ≡ run memories s n (data_copy value i d d.mode)) → (n k : ℕ) → i.elems ≡ numbers n (length m.elems) → i.datas ≡ numbers k (length m.datas) →
     (s : Store) → and_then (one_by_one g s (segments_in 0 i i.elems m.elems)) (λ s. one_by_one h s (segments_in 0 i i.datas m.datas)) ≡ and_then (runs tables s n (elem_copies value i m.elems)) (λ s. runs memories s k (data_copies value i m.datas))
@@ -75,32 +75,36 @@ copies_in_turn _ m i g h elem_runs data_runs n k elems datas s = simp (elems, da
 
 -- ---- what the copies of one kind leave ----
 
--- what stands after the segments xs were copied, where some of it was there before and what is new stands behind that; each leaves what `result` says
+-- What `after` has when the segments `xs` of a module were copied in a store that had what is in `before`, and then what is in `new`: each table or memory with the copies laid over it,
+-- for each of `xs` what `result` says, and the segments of `before` as they were.
 record CopiesLeave {C S A X : Type 0} (k : Kind C S A) (copy : X → Copy A) (result : X → Option S) (xs : List X) (before new after : Store) : Type 0 where
   holders : (a : ℕ) (c : C) → slice_get (k.holders before ++ k.holders new) a ≡ Some c → Stands (k.holders after) a (all_over a (map copy xs) (k.held c) >>= λ held. Some (k.holding c held))
   segments : (n : ℕ) (x : X) → slice_get xs n ≡ Some x → Stands (k.segments after) (length (k.segments before) + n) (result x)
   earlier : (n : ℕ) (e : S) → slice_get (k.segments before) n ≡ Some e → slice_get (k.segments after) n ≡ Some e
 
--- the copies begin in the store s, which has all of this, and `after` has what they leave of it
+-- It has this, if the copies begin in a store `s` that has what is in `before` and then what is in `new`, and `after` has what they leave.
 copies_leave : {C S A X : Type 0} (k : Kind C S A) (copy : X → Copy A) (result : X → Option S) (xs : List X) (before new s after : Store) → k.holders s ≡ k.holders before ++ k.holders new → k.segments s ≡ k.segments before ++ k.segments new →
     ((n : ℕ) (x : X) → slice_get xs n ≡ Some x → (e : S) × (slice_get (k.segments new) n ≡ Some e) × (IsOf k (copy x) e × (result x ≡ Some (left k (copy x) e)))) →
     let f = runs k s (length (k.segments before)) (map copy xs) in f.trapped ≡ false → k.holders after ≡ k.holders f.store → k.segments after ≡ k.segments f.store → CopiesLeave k copy result xs before new after
 copies_leave k copy result xs before new s after holders_are segments_are of went holders_end segments_end =
-    let all = all_ran k (map copy xs) s (length (k.segments before)) (λ j c h. let x = map_from _ _ j c h in let e = of j x.0 x.1 in (e.0, rw (segments_are, append_right) e.1, rw x.2 at e.2.0)) went in
+    let all = all_ran k (map copy xs) s (length (k.segments before)) (λ j c h.
+    let x = map_from _ _ j c h in
+    let e = of j x.0 x.1 in
+    (e.0, rw (segments_are, append_right) e.1, rw x.2 at e.2.0)) went in
     record {
       holders = λ a c h. let w = all.written a c (rw holders_are h) in (k.holding c w.0, rw w.1, rw holders_end w.2);
       segments = λ j x h. let e = of j x h in (_, e.2.1, rw segments_end (all.each j (copy x) e.0 (map_at _ _ j x h) (rw (segments_are, append_right) e.1)));
       earlier = λ j e h. rw (segments_end, all.earlier j (slice_get_within _ j e h), segments_are) (append_at_left _ _ j e h);
     }
 
--- the copy of an element segment is of what is allocated for it, and leaves of that what it should
+-- the copy of an element segment is of what is allocated for the segment, and leaves of that what `elem_left` says
 elem_is : (value : ConstExpr → Option Val) (i : Inst) (e : ElemSeg) (mode : ElemMode) (y : Elem) → elem_with value (record e { mode = mode }) ≡ Some y →
     IsOf tables (elem_copy value i e mode) y × (elem_left value (record e { mode = mode }) mode ≡ Some (left tables (elem_copy value i e mode) y))
 elem_is value i e (elem.Active x offset) y h = let r = and_then_is (all_there (λ x. value x >>= ref_of) e.items) _ y h in (r.1 ∙ ap (λ (y : Elem). Some y.items) (same_Some _ _ r.2), refl)
 elem_is value i e elem.Passive y h = (tt, h)
 elem_is value i e elem.Declarative y h = (tt, (and_then_is (all_there (λ x. value x >>= ref_of) e.items) _ y h).2)
 
--- the same of a data segment
+-- the same of a data segment, with `data_left`
 data_is : (value : ConstExpr → Option Val) (i : Inst) (d : DataSeg) (mode : DataMode) → IsOf memories (data_copy value i d mode) (new_data d) × (Some (data_left d mode) ≡ Some (left memories (data_copy value i d mode) (new_data d)))
 data_is value i d (data'.Active x offset) = (refl, refl)
 data_is value i d data'.Passive = (tt, refl)
@@ -143,7 +147,7 @@ module _ (value : ConstExpr → Option Val) (m : Module) (i : Inst) (before t : 
         earlier_datas = datas.earlier;
       }
 
-  -- by what runs the segments in turn
+  -- the same, where `g` and `h` run the segments in turn
   pub left_in_turn : (g : Store → PlacedSegment ElemSeg → Filled) (h : Store → PlacedSegment DataSeg → Filled) → ((s : Store) (n : ℕ) (e : ElemSeg) → g s (record { part = 0; inst = i; address = n; segment = e }) ≡ run tables s n (elem_copy value i e e.mode)) →
       ((s : Store) (n : ℕ) (d : DataSeg) → h s (record { part = 0; inst = i; address = n; segment = d }) ≡ run memories s n (data_copy value i d d.mode)) → i.elems ≡ numbers (length before.elems) (length m.elems) → i.datas ≡ numbers (length before.datas) (length m.datas) →
       (f : Filled) → f ≡ and_then (one_by_one g start (segments_in 0 i i.elems m.elems)) (λ s. one_by_one h s (segments_in 0 i i.datas m.datas)) → f.trapped ≡ false → Leaves value m i before f.store

@@ -1,4 +1,4 @@
--- Copies one after the other, computed; and a module with a table into which two segments are copied.
+-- Copies one after the other, computed; and a module with a table into which segments are copied.
 use Rattle.base_lists.proofs.Common.{◌≡◌, refl, ℕ, List, [], ◌∷◌, ◌++◌, map, Option, Some, None, Bool, true, false, pos}
 use Rattle.base_lists.specs.Options.{◌>>=◌}
 use Rattle.wasm_tree.specs.declared.types.RefType.TheVariants as reft

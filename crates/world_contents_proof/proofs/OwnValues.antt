@@ -26,6 +26,7 @@ module _ (env : Environment) where
   pub shares : SharesOwn R env
   shares = record { funcs = is_shared Functions; tables = is_shared Tables; mems = is_shared Memories; globals = is_shared Globals }
 
+  -- what is related at each of the environment's own addresses is related at addresses that are shared
   shared_at : {A : Type 0} {P : A → A → Type 0} (k : Space) (xs : List A) → ((n : ℕ) → n < own_count k env → BothRel P (slice_get xs n) (slice_get xs n)) → (a b : ℕ) → R.of k a b → BothRel P (slice_get xs a) (slice_get xs b)
   shared_at k xs h a b r = let e : (a ≡ b) × (a < own_count k env) = grind (arith, nat_tests) in rw (← e.0) (h a e.1)
 
@@ -45,7 +46,7 @@ module _ (env : Environment) where
 
 -- ---- values of constant expressions ----
 
--- an import of the kind, whose place is n and whose index is x
+-- an import of the list has the place `n`, counted from `from`, and the index `x` among those of its kind
 abbrev Indexed : Space → List Import → (from x n : ℕ) → Type 0
 Indexed k is from x n = (z : ℕ) × (n ≡ from + z) × (i : Import) × (slice_get is z ≡ Some i) × (space_index is z k ≡ x)
 
@@ -63,7 +64,7 @@ place_index k (i ∷ is) from x n h = by (λ x. place_index k is (suc from) x n)
     by more false e x h = let r = more x h in (suc r.0, omega (arith, r.1), r.2, r.3, rw e r.4)
 
 module _ (env : Environment) (m : Module) (i : Inst) (a : IsInst env (one m) 0 m i) where
-  -- a global of the module that is one of the environment's is an import
+  -- a global of the module that has a value among the environment's own is an import
   own_within : (x : ℕ) (v : Val) → const_value (own_globals env) i (const.Global x) ≡ Some v → x < length (imports_of Globals m)
   own_within x v h =
       let c = and_then_is (slice_get i.globals x) _ v h in

@@ -36,7 +36,7 @@ all_copied : {A : Type 0} (run : (ConstExpr → Option Val) → Store → Placed
 all_copied run value i (n ∷ ns) (x ∷ xs) s = grind (arith, all_copied run value i ns xs)
 all_copied run value i _ _ s = refl
 
--- where a test tells what is chosen, there is something for all that pass it
+-- If, of what fits, just what passes `test` is what `choose` gives something for, then all that pass have something, and it is what `choose` gives for the whole list.
 chosen_there : {A B : Type 0} (fits test : A → Bool) (choose : A → Option B) → ((x : A) → fits x ≡ true → test x ≡ is_some (choose x)) → (xs : List A) → all_of fits xs ≡ true → all_there choose (filter test xs) ≡ Some (filter_map choose xs)
 chosen_there fits test choose tells [] h = refl
 chosen_there fits test choose tells (x ∷ xs) h = grind (arith, tells x, chosen_there fits test choose tells xs)
@@ -54,13 +54,13 @@ module _ (env : Environment) (m : Module) where
   abbrev next : Inst
   next = next_inst (own_store env) m (filter_map own m.imports)
 
-  -- imports match whatever is allocated behind what the environment has
+  -- whether all imports match does not depend on what is allocated behind what the environment has
   matched_is : (t : Store) → all_of (is_matched env (one m) (joined_stores (own_store env) t)) (sites (one m)) ≡ all_of fits m.imports
   matched_is t =
       sym (all_matched (R env) env (shares env) (own_store env) _ (joined_right (R env) t (own_like env)) m m refl refl)
       ∙ all_at _ fits m.imports 0 (λ n i h. rw (zero-add, thing_is env m n, h, key_is))
 
-  -- all imports denote something that matches, or the module is not added
+  -- if all imports fit, there is what `f` makes of what they denote, and otherwise there is nothing
   fitting : {B : Type 0} (is : List Import) (f : List ExternalValue → Option B) → (all_there own is >>= λ xs. cond (all_match (own_store env) m is xs) (f xs) None) ≡ cond (all_of fits is) (f (filter_map own is)) None
   fitting [] f = refl
   fitting (i ∷ is) f = grind (arith, λ (x : ExternalValue). fitting is (λ xs. f (x ∷ xs)))
@@ -79,7 +79,7 @@ module _ (env : Environment) (m : Module) where
     inst_there : world.inst_of env (one m) 0 m ≡ Some next
     inst_there = rw (space_there Functions, space_there Tables, space_there Memories, space_there Globals)
 
-    -- its constants and its segments
+    -- its constant expressions have the values, and its segments the runs, of a module that is added
     values_same : value_of env (one m) (next ∷ []) 0 ≡ const_value (own_globals env) next
     values_same = fun_ext (const_same env m next (inst_is env (one m) 0 m next inst_there))
 
@@ -102,7 +102,7 @@ nothing_supplied env w none i = rw none
 store_is : (env : Environment) (w : LoaderWorld) → placeholders_of w ≡ [] → store_under env w ≡ own_store env
 store_is env w none = rw (none, append-nil)
 
--- what is made of a value is handed on
+-- a value that is made into another and handed on is handed on as the other
 then_made : {A B C : Type 0} (o : Option A) (make : A → B) (f : B → Option C) → o >>= (λ a. Some (make a)) >>= f ≡ o >>= λ a. f (make a)
 then_made None make f = refl
 then_made (Some a) make f = refl
@@ -116,11 +116,11 @@ module _ (env : Environment) (w : LoaderWorld) where
   abbrev m : Module
   m = w.primary
 
-  -- the primary module is added as it is over what the environment has
+  -- without placeholders, the primary module is added behind what the environment has, if all its imports fit
   added_is : placeholders_of w ≡ [] → primary_added env w ≡ cond (all_of (fits env m) m.imports) (added_as (own_store env) m (next env m)) None
   added_is none = rw (fun_ext (nothing_supplied env w none), store_is env w none) (fitting env m m.imports (λ xs. added_as (own_store env) m (next_inst (own_store env) m xs)))
 
-  -- so it is where it is instantiated alone
+  -- and instantiated alone, it begins as what is added so
   alone_is : (b : Bool) → all_of (fits env m) m.imports ≡ b → instantiate env (primary_world w) ≡ cond b (added_as (own_store env) m (next env m)) None >>= begun_of env w
   alone_is false h = simp (then_made, matched_is env m, h, none_after)
   alone_is true h = rw (inst_there env m h, values_same env m h) (simp (then_made, seen, matched_is env m, h, segments_same env m h, append-nil (start_in (next env m) m.start)))

@@ -20,7 +20,7 @@ one_import = record { «module» = 112 ∷ []; field = 48 ∷ []; desc = im.Func
 abbrev loading : List Secondary → LoaderWorld
 loading secondaries = record { primary = importing (one_import ∷ []); secondaries = secondaries; slot_table = 0; view = [] }
 
--- one that has a placeholder for it
+-- a loader with a placeholder for that import
 abbrev a_loader : LoaderWorld
 a_loader = loading (record { «module» = importing []; placeholders = ((112 ∷ [], 48 ∷ []), nothing) ∷ [] } ∷ [])
 

@@ -5,6 +5,7 @@ use Rattle.index_remap.specs.Prelude.{calls_placeholder}
 use Rattle.index_remap.proofs.SlotCalls.{func_type_self}
 use Rattle.world_loader_proof.specs.LoaderSteps.{LoadersStepAsTheirRun, LoadersGoAsTheirRun, PlaceholdersAreAnswered}
 
+-- what a loader makes of a step that calls no placeholder is what the run makes of it
 made_by_the_run : (w : LoaderWorld) (q : LoaderRun) (t : Transition) → calls_placeholder t ≡ false → loader_made w q t ≡ (record q { run = (made t).0 }, (made t).1)
 made_by_the_run w q t none = grind arith
 

@@ -18,7 +18,7 @@ use Rattle.world_simulation.proofs.Instancing.{add_next}
 use Rattle.std.proofs.Common.{add-suc}
 use lib.Seq.{drop-append_seam, drop-append-add}
 
--- what is there for a list and for another behind it
+-- what is there for a list with another behind it is what is there for each, one behind the other
 there_both : {A B : Type 0} (f : A → Option B) (xs ys : List A) → all_there f (xs ++ ys) ≡ all_there f xs >>= λ a. all_there f ys >>= λ b. Some (a ++ b)
 there_both f [] ys = grind arith
 there_both f (x ∷ xs) ys = grind (arith, there_both f xs ys)
@@ -32,11 +32,12 @@ of_functions : (k : Space) (xs : List ℕ) → addresses_of k (map FuncAt xs) �
 of_functions k [] = grind arith
 of_functions k (x ∷ xs) = grind (arith, of_functions k xs)
 
--- the stub of a placeholder in an instance
+-- the stub of a placeholder, as it is allocated in an instance
 abbrev stub_in : Inst → Pair × FuncType → Func
 stub_in i q = Code q.1 i (declared []) (Unreachable ∷ [])
 
 module _ (env : Environment) (w : LoaderWorld) (others : List Import) (tys : List ℕ) (last : ImportsThemLast w others tys) where
+  -- the primary module, and the one with stubs in place of the placeholders
   abbrev P : Module
   P = w.primary
 
@@ -46,6 +47,7 @@ module _ (env : Environment) (w : LoaderWorld) (others : List Import) (tys : Lis
   abbrev ps : List (Pair × FuncType)
   ps = placeholders_of w
 
+  -- the store to which the primary module is added
   abbrev first : Store
   first = store_under env w
 
@@ -89,7 +91,7 @@ module _ (env : Environment) (w : LoaderWorld) (others : List Import) (tys : Lis
   matches_one : (i : Import) (x : ExternalValue) → own_external_value (owned_of env) Q i ≡ Some x → is_match first P i.desc x ≡ is_match (own_store env) Q i.desc x
   matches_one i x is = grind (arith, match_same (R env) env (shares env) (own_store env) first like Q Q refl refl i.desc (opt_self (thing_rel (R env) env (shares env) Q.types (Some i)) (rw key_is at is)))
 
-  -- what the imports denote, where the others denote these
+  -- what all imports denote, where those other than placeholders denote `xs`
   abbrev behind : List ExternalValue → List ExternalValue
   behind xs = xs ++ functions (own_count Functions env) ps
 
@@ -110,6 +112,7 @@ module _ (env : Environment) (w : LoaderWorld) (others : List Import) (tys : Lis
     abbrev with_stubs : Option Store → Option Store
     with_stubs o = o >>= λ t. Some (record t { funcs = map (stub_in i) ps ++ t.funcs })
 
+    -- what the module `m` comes to in the store `s`, where it adds this
     abbrev filled_in : Store → Module → Option Store → Option Added
     filled_in s m o = o >>= λ t. Some (record { inst = i; filled = own_segments value m i (joined_stores s t) })
 
@@ -130,7 +133,7 @@ module _ (env : Environment) (w : LoaderWorld) (others : List Import) (tys : Lis
   added_same : (xs : List ExternalValue) → all_there (own_external_value (owned_of env) Q) others ≡ Some xs → added first P (behind xs) ≡ added (own_store env) Q xs >>= λ a. Some (placeholders_in env w a)
   added_same xs h = rw (ap (λ is. all_match first P is (behind xs)) last.all, matches others xs h, same_inst xs, same_added (next_inst (own_store env) Q xs) refl) (grind arith)
 
-  -- what all the imports denote
+  -- what all imports of the primary module denote
   denoted : all_there (supplied env w) P.imports ≡ all_there (own_external_value (owned_of env) Q) others >>= λ xs. Some (behind xs)
   denoted = rw (last.all, there_both, supplied_own others last.own, slots.denote)
 

@@ -23,13 +23,16 @@ overwrite_fits xs ys n h =
     let zs = is_some_there (overwrite xs n ys) (grind (arith, split_take, length-drop)) in
     (zs.0, zs.1, overwritten_length xs n ys zs.0 zs.1)
 
--- something stands at the place, and P holds of it
+-- an item stands at the place, and P holds of it
 abbrev pub Holds : {A : Type 0} → (A → Type 0) → List A → ℕ → Type 0
 Holds {A} P xs n = (x : A) × (slice_get xs n ≡ Some x) × P x
 
--- what holds of what stands at a place holds still, where it holds of what is written there
-pub set_holds : {A : Type 0} {D : ℕ → Type 0} {P : (m : ℕ) → D m → A → Type 0} (xs : List A) (n : ℕ) (v : A) → ((m : ℕ) (d : D m) → Holds (P m d) xs m) → ((m : ℕ) (d : D m) (old : A) → slice_get xs n ≡ Some old → P m d old → P m d v) → (m : ℕ) (d : D m) → Holds (P m d) (slice_set xs n v) m
-set_holds xs n v all new m d = let k = all m d in elim (ℕ_discrete n m) [ yes e ↦ (v, grind (arith, at_put_here), grind (arith, new)) | no e ↦ (k.0, grind (arith, at_put_there), k.2) ]
+-- What holds of the items at some places holds of them still after `v` is written at one of these, if it holds of `v` where it held of the item that stood there.
+pub set_holds : {A : Type 0} {D : ℕ → Type 0} {P : (m : ℕ) → D m → A → Type 0} (xs : List A) (n : ℕ) (v : A) → ((m : ℕ) (d : D m) → Holds (P m d) xs m) →
+    ((m : ℕ) (d : D m) (old : A) → slice_get xs n ≡ Some old → P m d old → P m d v) → (m : ℕ) (d : D m) → Holds (P m d) (slice_set xs n v) m
+set_holds xs n v all new m d =
+    let k = all m d in
+    elim (ℕ_discrete n m) [ yes e ↦ (v, grind (arith, at_put_here), grind (arith, new)) | no e ↦ (k.0, grind (arith, at_put_there), k.2) ]
 
 -- ---- stores with room ----
 
@@ -40,7 +43,7 @@ pub record HasRoom (env : Environment) (w : Instantiated) (s : Store) : Type 0 w
   pub elems : (a : ℕ) (d : DefinedAt env w ElementSegments (λ m. m.elems) a) → Holds (λ e. length e.items ≤ length d.definition.items) s.elems a
   pub datas : (a : ℕ) (d : DefinedAt env w DataSegments (λ m. m.datas) a) → Holds (λ e. length e.bytes ≤ length d.definition.bytes) s.datas a
 
--- what each way through look-ups comes to
+-- Q holds of what a look-up and all after it come to, if it holds of a trap, and of what comes after each value that may be found
 pub then_holds : {A : Type 0} (Q : Filled → Type 0) (s : Store) (o : Option A) (f : A → Option Filled) → Q (record { store = s; trapped = true }) → ((a : A) → o ≡ Some a → Q (or_trapped s (f a))) → Q (or_trapped s (option_and_then f o))
 then_holds Q s o f t h = grind arith
 

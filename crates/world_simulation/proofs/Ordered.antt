@@ -14,11 +14,11 @@ use Rattle.world_simulation.proofs.Copied.{overwritten_length, overwrite_fits, s
 -- ---- each segment is one that its part defines ----
 
 module _ (env : Environment) (w : Instantiated) (k : Space) {A : Type 0} (definitions : Module → List A) where
-  -- its part defines the segment
+  -- a part defines the segment, at the segment's address
   abbrev IsDefined : PlacedSegment A → Type 0
   IsDefined x = (d : DefinedAt env w k definitions x.address) × (d.definition ≡ x.segment)
 
-  -- what stands at the address of a segment
+  -- a part defines each segment of the list
   abbrev pub Defines : List (PlacedSegment A) → Type 0
   Defines tasks = (n : ℕ) (x : PlacedSegment A) → slice_get tasks n ≡ Some x → IsDefined x
 
@@ -32,7 +32,7 @@ abbrev pub tasks_by : {A : Type 0} → (Module → List A) → (Inst → List �
 tasks_by segs adds p (part ∷ parts) (i ∷ is) = segments_in p i (adds i) (segs part.«module») ++ tasks_by segs adds (suc p) parts is
 tasks_by segs adds p _ _ = []
 
--- what holds of each segment that has a place in its part holds of all of them
+-- what holds of each segment of each module, with the address that stands at its place in the module's instance, holds of every segment of the list by part
 each_task : {A : Type 0} {P : PlacedSegment A → Type 0} (segs : Module → List A) (adds : Inst → List ℕ) (p : ℕ) (parts : List Part) (is : List Inst) →
     ((q : ℕ) (m : Module) (i : Inst) → module_at parts q ≡ Some m → slice_get is q ≡ Some i → (n : ℕ) (x : PlacedSegment A) → slice_get (adds i) n ≡ Some x.address → slice_get (segs m) n ≡ Some x.segment → P x) →
     (n : ℕ) (x : PlacedSegment A) → slice_get (tasks_by segs adds p parts is) n ≡ Some x → P x
@@ -52,6 +52,7 @@ module _ (env : Environment) (w : Instantiated) (are : insts_from env w.parts 0 
   pub inst_at : (p : ℕ) (m : Module) (i : Inst) → module_at w.parts p ≡ Some m → slice_get w.insts p ≡ Some i → IsInst env w.parts p m i
   inst_at p m i is there = grind (arith, inst_in _ _ _ are p m is)
 
+  -- parts define all segments of a kind, if each instance has the addresses of what its part defines of it
   all_defined : {k : Space} {A : Type 0} (definitions : Module → List A) (adds : Inst → List ℕ) → own_count k env ≡ 0 →
       ((p : ℕ) (m : Module) (i : Inst) → IsInst env w.parts p m i → adds i ≡ numbers (defined_before k w.parts p) (length (definitions m))) → Defines env w k definitions (tasks_by definitions adds 0 w.parts w.insts)
   all_defined definitions adds none_own first = each_task definitions adds 0 w.parts w.insts (λ p m i is_part is_inst n x address stands.
@@ -85,7 +86,7 @@ module _ (R : Pairing) where
 -- ---- the segments of one world ----
 
 module _ (Q : Filled → Type 0) (value : ConstExpr → Option Val) (s : Store) (still : (trapped : Bool) → Q (record { store = s; trapped = trapped })) where
-  -- what holds where nothing is written, and where what is written is as long as it was, holds of each run
+  -- Q holds of each run of a segment, if it holds of the store left as it is, and of the store where the run overwrites contents with as many items
   elem_holds : (x : PlacedSegment ElemSeg) → ((a : ℕ) (t : Table) (slots : List RefVal) → slice_get s.tables a ≡ Some t → length slots ≡ length t.slots → Q (copy_slots s x.address a t (Some slots))) → Q (run_elem_with value s x x.segment.mode)
   elem_holds x written = grind (arith, overwritten_length)
 
@@ -96,11 +97,11 @@ module _ (R : Pairing) (env : Environment) (w : Instantiated) where
   abbrev Room : Filled → Type 0
   Room f = HasRoom env w f.store
 
-  -- a segment is copied without a trap, and the store is as it was where it is related
+  -- a run does not trap, and leaves the store as it was at the second addresses that R relates
   abbrev Copies : Store → Filled → Type 0
   Copies s f = (f.trapped ≡ false) × Kept (in_second R) s f.store
 
-  -- the runs of the segments of one kind in a store with room: they leave room, and one without partner copies and keeps what is related
+  -- Of each run of a segment of one kind, in a store with room: it leaves room, and where the segment has no partner it does not trap and keeps what is related.
   abbrev Runs : Space → {A : Type 0} → (Module → List A) → (PlacedSegment A → Type 0) → (Store → PlacedSegment A → Filled) → Type 0
   Runs k definitions alone run = (s : Store) → HasRoom env w s → (x : PlacedSegment _) → Room (run s x) × (IsDefined env w k definitions x → alone x → Copies s (run s x))
 

@@ -64,11 +64,12 @@ opt_self r e = opt_both r e e
 
 -- ---- lists that are related ----
 
+-- a list is related to itself, if each item is
 pub self_rel : {A : Type 0} {P : A → A → Type 0} (xs : List A) → ((x : A) → P x x) → ListRel P xs xs
 self_rel [] h = nil
 self_rel (x ∷ xs) h = cons (h x) (self_rel xs h)
 
--- to the list that it is mapped to, where each item is related to what it becomes
+-- a list is related to what a function makes of it, if each item is related to what the function makes of the item
 pub placed_rel : {A B : Type 0} {P : A → B → Type 0} (f : A → B) (xs : List A) → ((n : ℕ) (x : A) → slice_get xs n ≡ Some x → P x (f x)) → ListRel P xs (map f xs)
 placed_rel f [] h = nil
 placed_rel f (x ∷ xs) h = cons (h 0 x refl) (placed_rel f xs (λ n. h (suc n)))

@@ -1,4 +1,4 @@
--- A module's items with other indices, where each index of a set names what its entry names: exports, starts, functions, constant expressions, and the modes of
+-- A module's items with other indices, where each index of a set names what its entry names: exports, starts, functions, constant expressions, and the modes of segments.
 use Rattle.base_lists.proofs.Common.{◌≡◌, arith, ℕ, [], Option, Some, refl, option_and_then, slice_get, slice_index, IsTrue, Bool}
 use Rattle.wasm_tree_spec.specs.Prelude.{Space, Types, Functions, ElementSegments, DataSegments, ConstExpr, ExportDesc, ElemMode, ElemSeg, DataMode, DataSeg}
 use Rattle.wasm_tree.specs.declared.module.Func as tree

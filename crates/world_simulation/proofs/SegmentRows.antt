@@ -13,7 +13,7 @@ use Rattle.world_simulation.specs.Definitions.{declared, kept}
 abbrev R : Pairing
 R = passed (λ k a b. false) (λ k a b. false) []
 
--- a function is related to itself, and null for null
+-- the value of a function's index is that function, and any other expression is null
 abbrev value : ConstExpr → Option Val
 value (const.Func f) = Some (Ref (FuncRef (Some f)))
 value _ = Some (Ref (FuncRef None))

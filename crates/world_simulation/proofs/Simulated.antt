@@ -48,7 +48,7 @@ module _ (R : Pairing) (apart : OneToOne R) (env : Environment) (v w : World) (s
       (datas_in_order R apart env first second k.datas (datas_defined env first x.are_insts) (datas_defined env second y.are_insts)) in
       rw (← x.is, ← y.is) (record { store = filled.stores.related; entries = tt; closed = tt; trapped = filled.trapped; view = opt_both (all_rel k.view) x.is_view y.is_view; owned = owned_rel R env k.own })
 
-  -- both or neither
+  -- both are instantiated, to what is related, or neither is
   pub instances_rel : StartsCorrespond R env v w → links env v ≡ links env w → OptRel (BegunRel R (EntryByEntry R)) (instantiate env v) (instantiate env w)
   instances_rel starts linked = alike_there _ _ linked (λ b c f g.
       let x = what_is_made env v b f in

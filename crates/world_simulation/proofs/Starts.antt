@@ -9,7 +9,7 @@ use Rattle.index_remap.proofs.Rel.{cond_two, each_rel}
 use Rattle.world_simulation.specs.Starts.{from_nothing_to_nothing, NamesStart, CallsEach}
 use Rattle.base_simulation.proofs.LedRuns.{Leads, both, second, led_traces_are_equal}
 
--- what the starts stand on that are left, and the frame of the one start with the calls that are left
+-- The entries that all others stand on: the starts that are left to open; and, where one start calls them, its own frame with the calls that are left.
 abbrev openings : List ℕ → List Entry
 openings xs = Opening xs ∷ []
 
@@ -24,7 +24,7 @@ data Alike : ℕ → Run → Run → Type 0 where
   between : (r : Run) (xs ns : List ℕ) (j : Inst) → ListRel (NamesStart r.store j) ns xs → Alike 1 (record r { entries = openings xs }) (record r { entries = calls j ns })
   inside : (r : Run) (es : List Entry) (xs ns : List ℕ) (j : Inst) → GivesNothing es → ListRel (NamesStart r.store j) ns xs → Alike 1 (record r { entries = es ++ openings xs }) (record r { entries = es ++ calls j ns })
 
--- the same event, and again such runs
+-- two steps show the same event, and lead to runs that are alike
 abbrev Agree : ℕ → Out → Out → Type 0
 Agree d o p = (o.1 ≡ p.1) × Alike d o.0 p.0
 

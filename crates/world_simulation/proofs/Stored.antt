@@ -50,7 +50,7 @@ module _ (R : Pairing) where
   abbrev FuncPair : ℕ → Func → Func → Type 0
   FuncPair a f g = (type_of_func f ≡ type_of_func g) × (own_of f ≡ own_of g) × (¬ R.listed a → FuncRel R f g)
 
-  -- related functions are such a pair
+  -- related functions are such a pair at any address
   as_pair : (a : ℕ) {f g : Func} → FuncRel R f g → FuncPair a f g
   as_pair _ (defined c) = (refl, refl, λ _. defined c)
   as_pair _ h = (refl, refl, λ _. h)
@@ -61,7 +61,7 @@ module _ (R : Pairing) where
   pub own_same : {o p : Option Func} → BothRel (FuncRel R) o p → option_and_then own_of o ≡ option_and_then own_of p
   own_same (both h) = (as_pair 0 h).1
 
-  -- so are the functions of two definitions that correspond
+  -- what two definitions that correspond are allocated to is such a pair
   func_pair : {a : ℕ} {i j : Inst} {f g : tree.Func} → FuncsAt R a i j f g → (x y : Func) → new_func i f ≡ Some x → new_func j g ≡ Some y → FuncPair a x y
   func_pair (alike k) x y e h = grind (arith, defined)
   func_pair (set_apart l t) x y e h = grind arith
@@ -102,10 +102,13 @@ module _ (R : Pairing) where
         rw (← same, keeps env v.parts v.insts allocates 0 v.parts v.insts (own_store env) s s_is a x.0 x.1, keeps env w.parts w.insts allocates 0 w.parts w.insts (own_store env) z z_is a x.0 x.1) (both (opt_self (get_rel rel a) x.1))
     stand allocates rel (partners.defined d e c) at_defined = at_defined d e c
 
-    -- and what stands at related addresses
+    -- the functions at related addresses are such a pair
     func_pairs : {a b : ℕ} → R.of Functions a b → BothRel (FuncPair a) (slice_get s.funcs a) (slice_get z.funcs b)
     func_pairs {a} r = stand funcs_allocate (each_rel (λ _ _. as_pair a) (own_funcs_rel R env)) (defs.funcs _ _ r)
-        (λ d e c. let x = func_placed env v s s_is d in let y = func_placed env w z z_is e in rw (x.1, y.1) (both (func_pair c x.0 y.0 x.2 y.2)))
+        (λ d e c.
+        let x = func_placed env v s s_is d in
+        let y = func_placed env w z z_is e in
+        rw (x.1, y.1) (both (func_pair c x.0 y.0 x.2 y.2)))
 
     pub stores_rel : StoreRel R s z
     stores_rel = record {
@@ -116,7 +119,10 @@ module _ (R : Pairing) where
           (λ d e c. rw (table_placed env v s s_is d, table_placed env w z z_is e, ← c) (search (both, copies_rel, null_rel)));
       mems = λ r. stand mems_allocate (self_rel (own_memories env) (λ x. refl)) (defs.mems _ _ r) (λ d e c. rw (memory_placed env v s s_is d, memory_placed env w z z_is e, c) (both refl));
       globals = λ r. stand globals_allocate (own_globals_rel R env shares) (defs.globals _ _ r)
-          (λ d e c. let x = global_placed env v s s_is d in let y = global_placed env w z z_is e in rw (x.1, y.1) (both (opt_both (global_rel _ _ c) x.2 y.2)));
+          (λ d e c.
+          let x = global_placed env v s s_is d in
+          let y = global_placed env w z z_is e in
+          rw (x.1, y.1) (both (opt_both (global_rel _ _ c) x.2 y.2)));
       elems = λ r. stand elems_allocate nil (defs.elems _ _ r)
           (λ d e c. grind (arith, elem_placed env v s s_is d, elem_placed env w z z_is e, elem_both _ _ c, both));
       datas = λ r. stand datas_allocate nil (defs.datas _ _ r) (λ d e c. rw (data_placed env v s s_is d, data_placed env w z z_is e) (both c));
