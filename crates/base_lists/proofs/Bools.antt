@@ -1,5 +1,6 @@
--- Tests that are joined. Std has the rest: `and_parts`, `and_from`, `cases_Bool`, `not-true` and others.
-use Rattle.std.proofs.Common.{◌≡◌, Bool, true, false, ◌&&◌, cond, ◌⊎◌, inl, inr, refl, sym}
+-- Tests that are joined. Std has the rest: `and_parts`, `and_from`, `cases_Bool`, `not-true`, `or-true` and others.
+use Rattle.std.proofs.Common.{◌≡◌, ap, Bool, true, false, ◌&&◌, ◌||◌, cond, ◌⊎◌, inl, inr, refl, sym, Ordering, Less, Equal, Greater}
+use Rattle.std.specs.Ordering.{is_eq, ordering_then}
 
 pub left_true : (a b : Bool) → a && b ≡ true → a ≡ true
 left_true true b h = refl
@@ -13,6 +14,25 @@ pub and_false : (b : Bool) → b && false ≡ false
 and_false true = refl
 and_false false = refl
 
+pub either_true : (a b : Bool) → (a || b) ≡ true → (a ≡ true) ⊎ (b ≡ true)
+either_true true b h = inl refl
+either_true false b h = inr h
+
+pub left_either : (a b : Bool) → a ≡ true → (a || b) ≡ true
+left_either a b h = ap (λ z. z || b) h
+
+pub right_either : (a b : Bool) → b ≡ true → (a || b) ≡ true
+right_either true b h = refl
+right_either false b h = h
+
+pub left_false : (a b : Bool) → (a || b) ≡ false → a ≡ false
+left_false true b h = h
+left_false false b h = refl
+
+pub right_false : (a b : Bool) → (a || b) ≡ false → b ≡ false
+right_false true b h = cc
+right_false false b h = h
+
 -- two tests that pass together are the same
 pub same_tests : (a b : Bool) → (a ≡ true → b ≡ true) → (b ≡ true → a ≡ true) → a ≡ b
 same_tests true b f g = sym (f refl)
@@ -23,3 +43,9 @@ same_tests false false f g = refl
 pub cond_is : {A : Type 0} (b : Bool) (x y z : A) → cond b x y ≡ z → ((b ≡ true) × (x ≡ z)) ⊎ ((b ≡ false) × (y ≡ z))
 cond_is true x y z h = inl (refl, h)
 cond_is false x y z h = inr (refl, h)
+
+-- two lexicographic steps find equals exactly where both do
+pub both_equal : (o p : Ordering) → is_eq (ordering_then o p) ≡ is_eq o && is_eq p
+both_equal Less p = refl
+both_equal Equal p = refl
+both_equal Greater p = refl

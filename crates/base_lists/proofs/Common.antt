@@ -1,16 +1,16 @@
 -- Words and lemmas of std and of this crate that most proofs cite, passed on from one place. Declares nothing.
-pub use Rattle.base_lists.proofs.Bools.{and_false, cond_is, left_true, right_true, same_tests}
+pub use Rattle.base_lists.proofs.Bools.{and_false, cond_is, either_true, left_either, left_true, right_either, right_true, same_tests}
 pub use Rattle.base_lists.proofs.Each.{every_at, list_all_each, list_all_from, list_any_there}
-pub use Rattle.base_lists.proofs.Filtered.{chosen_from, filter_map_most, first_at, has_chosen, is_kept, kept_is, place_back, place_of, place_there, places_many}
+pub use Rattle.base_lists.proofs.Filtered.{all_counted, chosen_from, filter_map_most, first_at, has_chosen, is_kept, kept_is, place_back, place_of, place_there, places_many}
 pub use Rattle.base_lists.proofs.Found.{absent, present}
-pub use Rattle.base_lists.proofs.Numbers.{length-numbers, map_numbers_index, numbers_append, numbers_at, numbers_index, numbers_is, numbers_more}
-pub use Rattle.base_lists.proofs.Options.{all_there_at, all_there_from, all_there_length, all_there_same, and_then_is, is_some_there, option_map_is, unwrap_or_false_is}
+pub use Rattle.base_lists.proofs.Numbers.{length-numbers, map_numbers_index, numbers_append, numbers_at, numbers_index, numbers_is, numbers_more, same_number}
+pub use Rattle.base_lists.proofs.Options.{all_there_at, all_there_back, all_there_from, all_there_length, all_there_same, and_then_is, is_some_there, option_map_is, unwrap_or_false_is}
 pub use Rattle.base_lists.proofs.Pigeons.{pigeons}
-pub use Rattle.base_lists.proofs.Places.{Has, append_at_left, append_from, append_left, append_right, drop_at, has_left, has_right, map_at, map_from, map_twice, push_before, push_last, replicate_at, set_at, set_other, slice_get_none, slice_get_there, slice_index_is}
+pub use Rattle.base_lists.proofs.Places.{Has, append_at_left, append_from, append_left, append_right, drop_at, has_left, has_right, index_left, index_right, map_at, map_from, map_stays, map_twice, push_before, push_last, replicate_at, set_at, set_other, slice_get_none, slice_get_there, slice_index_is}
 pub use Rattle.base_lists.proofs.Same.{each_same_is, each_same_self}
 pub use Rattle.base_lists.proofs.Walk.{mapped_more, none_past, part, part_at, part_more}
 pub use Rattle.std.proofs.Common.{Bool, Contains, Equal, Err, Greater, IfErr, IfOk, IfSome, IsNone, IsOk, IsSome, IsTrue, IsUtf8, Less, List, None, Ok, OnOk, Option, Ordering, Result, Some, [], add-one, add-zero, ap, append-nil, append_assoc, ap₂, arith, codes, cond, count_by, decimal, drop, drop-cons, false, find, fold, get_or, if◌then◌else◌, inl, inr, is_none, is_some, length, ltb, map, max, min, nat_eq, nat_le, nat_lt, negsuc, not, of_z, option_and_then, option_map, option_to_list, pos, refl, replicate, reverse, rules, set, slice_get, slice_index, slice_index_or, slice_set, string_bytes, subst, suc, sym, take, to_z, true, true≢false, unwrap_or, vec_capacity, w32, w64, zero, zero-add, ℕ, ℤ, ⊎_elim, ◌%◌, ◌&&◌, ◌*◌, ◌++◌, ◌+◌, ◌-ℤ◌, ◌-◌, ◌/◌, ◌<◌, ◌==◌, ◌^◌, ◌||◌, ◌↔◌, ◌∙◌, ◌∷◌, ◌≡◌, ◌≢◌, ◌≤◌, ◌⊎◌}
-pub use Rattle.std.proofs.Math.Bool.{and-false, or-false, or_assoc}
+pub use Rattle.std.proofs.Math.Bool.{and-false, or-false, or-true, or_assoc}
 pub use Rattle.std.proofs.Math.Dec.{eqb-suc-zero}
 pub use Rattle.std.proofs.Math.Nat.{mod-lt}
 pub use Rattle.std.proofs.Math.Path.{fun_ext}

@@ -1,10 +1,11 @@
 -- A test, or a fact, of each element of a list, by its place.
-use Rattle.std.proofs.Common.{◌≡◌, subst, refl, ℕ, zero, suc, List, [], ◌∷◌, Some, Bool, true, false, ◌||◌, slice_get}
+use Rattle.std.proofs.Common.{◌≡◌, subst, refl, ℕ, zero, suc, List, [], ◌∷◌, Some, Bool, true, false, ◌||◌, slice_get, Contains, sym, ap, ◌∙◌, ◌<◌}
+use Rattle.std.proofs.lemmas.Option.{slice_get_within, get_or_from_slice_get}
 use Rattle.std.specs.List.{list_any, list_all}
 use Rattle.std.proofs.lemmas.Bool.{and_from}
 use Rattle.base_lists.specs.Every.{Every}
-use Rattle.base_lists.proofs.Bools.{left_true, right_true}
-use Rattle.base_lists.proofs.Places.{Has}
+use Rattle.base_lists.proofs.Bools.{left_true, right_true, left_either, right_either}
+use Rattle.base_lists.proofs.Places.{Has, slice_get_there}
 
 pub every_at : {A : Type 0} (P : A → Type 0) (xs : List A) (n : ℕ) (x : A) → Every P xs → slice_get xs n ≡ Some x → P x
 every_at P [] n x e h = cc
@@ -30,3 +31,18 @@ list_any_there {A} test (y ∷ ys) h = by (list_any_there test ys) (test y) refl
     by : (list_any test ys ≡ true → (x : A) × Has ys x × (test x ≡ true)) → (b : Bool) → test y ≡ b → (b || list_any test ys) ≡ true → (x : A) × Has (y ∷ ys) x × (test x ≡ true)
     by on true e k = (y, (0, refl), e)
     by on false e k = more (on k)
+
+pub any_from_place : {A : Type 0} (test : A → Bool) (xs : List A) (n : ℕ) (x : A) → slice_get xs n ≡ Some x → test x ≡ true → list_any test xs ≡ true
+any_from_place test [] n x at h = cc
+any_from_place test (y ∷ ys) zero x at h = let same : y ≡ x = cc in left_either (test y) (list_any test ys) (ap test same ∙ h)
+any_from_place test (y ∷ ys) (suc n) x at h = right_either (test y) (list_any test ys) (any_from_place test ys n x at h)
+
+-- ---- members by place ----
+
+pub contains_there : {A : Type 0} (xs : List A) (x : A) → Contains xs x → (p : ℕ) × (slice_get xs p ≡ Some x)
+contains_there xs x (k, lt, e) =
+    let y = slice_get_there xs k lt in
+    (k, y.1 ∙ ap Some (sym (get_or_from_slice_get xs k y.0 x y.1) ∙ e))
+
+pub there_contains : {A : Type 0} (xs : List A) (p : ℕ) (x : A) → slice_get xs p ≡ Some x → Contains xs x
+there_contains xs p x at = (p, slice_get_within xs p x at, get_or_from_slice_get xs p x x at)

@@ -210,3 +210,33 @@ place_there {A} test (y ∷ ys) from j x h t = by (λ j h. place_there test ys (
     by on true q (suc j) h = let r = on j h in (suc r.0, r.1 ∙ ap Some (let e : suc from + j ≡ from + suc j = omega arith in e))
     by on false q zero h = let same : y ≡ x = cc in absurd (let a : true ≡ false = sym t ∙ ap test (sym same) ∙ q in cc)
     by on false q (suc j) h = let r = on j h in (r.0, r.1 ∙ ap Some (let e : suc from + j ≡ from + suc j = omega arith in e))
+
+-- ---- where something is chosen of each ----
+
+pub all_chosen : {A B : Type 0} (h : A → Option B) (xs : List A) → ((n : ℕ) (x : A) → slice_get xs n ≡ Some x → (y : B) × (h x ≡ Some y)) → (n : ℕ) (x : A) → slice_get xs n ≡ Some x → slice_get (filter_map h xs) n ≡ h x
+all_chosen h [] e n x at = cc
+all_chosen h (z ∷ xs) e zero x at =
+    let y = e 0 z refl in
+    let same : z ≡ x = cc in
+    ap (λ o. slice_get (cons_option o (filter_map h xs)) 0) y.1 ∙ sym y.1 ∙ ap h same
+all_chosen h (z ∷ xs) e (suc n) x at = let y = e 0 z refl in ap (λ o. slice_get (cons_option o (filter_map h xs)) (suc n)) y.1 ∙ all_chosen h xs (λ k. e (suc k)) n x at
+
+pub all_counted : {A B : Type 0} (h : A → Option B) (xs : List A) → ((n : ℕ) (x : A) → slice_get xs n ≡ Some x → (y : B) × (h x ≡ Some y)) → length (filter_map h xs) ≡ length xs
+all_counted h [] e = refl
+all_counted h (z ∷ xs) e = let y = e 0 z refl in ap (λ o. length (cons_option o (filter_map h xs))) y.1 ∙ ap suc (all_counted h xs (λ k. e (suc k)))
+
+-- a place stands once among places
+pub places_apart : {A : Type 0} (test : A → Bool) (xs : List A) (from i j n : ℕ) → slice_get (places test xs from) i ≡ Some n → slice_get (places test xs from) j ≡ Some n → i ≡ j
+places_apart test [] from i j n e h = cc
+places_apart {A} test (x ∷ xs) from i j n e h = by (test x) (places_apart test xs (suc from)) i j e h
+  where
+    later : (i : ℕ) → slice_get (places test xs (suc from)) i ≡ Some from → ⊥
+    later i e = let r = place_back test xs (suc from) i from e in let z = r.2 in absurd (omega (arith, z))
+
+    by : (b : Bool) → ((i j n : ℕ) → slice_get (places test xs (suc from)) i ≡ Some n → slice_get (places test xs (suc from)) j ≡ Some n → i ≡ j) →
+        (i j : ℕ) → slice_get (cond b (from ∷ places test xs (suc from)) (places test xs (suc from))) i ≡ Some n → slice_get (cond b (from ∷ places test xs (suc from)) (places test xs (suc from))) j ≡ Some n → i ≡ j
+    by true on zero zero e h = refl
+    by true on zero (suc j) e h = let same : from ≡ n = cc in absurd (later j (h ∙ ap Some (sym same)))
+    by true on (suc i) zero e h = let same : from ≡ n = cc in absurd (later i (e ∙ ap Some (sym same)))
+    by true on (suc i) (suc j) e h = ap suc (on i j n e h)
+    by false on i j e h = on i j n e h

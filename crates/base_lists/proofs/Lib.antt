@@ -8,4 +8,6 @@ pub mod Pigeons
 pub mod Walk
 pub mod Found
 pub mod Same
+pub mod Every
+pub mod Members
 pub mod Common

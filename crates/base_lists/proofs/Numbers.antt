@@ -1,8 +1,12 @@
--- Numbers in a row.
-use Rattle.std.proofs.Common.{◌≡◌, ◌∙◌, ap, sym, refl, ℕ, zero, suc, ◌+◌, ◌<◌, [], ◌∷◌, ◌++◌, map, length, Some, arith, slice_get, slice_index}
+-- Numbers in a row, and the test whether two numbers are equal.
+use Rattle.std.proofs.Common.{◌≡◌, ◌∙◌, ap, sym, refl, ℕ, zero, suc, ◌+◌, ◌<◌, [], ◌∷◌, ◌++◌, map, length, Some, true, nat_eq, arith, slice_get, slice_index}
 use Rattle.std.proofs.lemmas.Option.{slice_get_within}
+use Rattle.std.proofs.lemmas.Bool.Decides.{nat_tests}
 use Rattle.base_lists.specs.Places.{numbers}
 use Rattle.base_lists.proofs.Places.{slice_index_is}
+
+pub same_number : (x y : ℕ) → nat_eq x y ≡ true → x ≡ y
+same_number x y h = grind (arith, nat_tests)
 
 pub length-numbers : (from count : ℕ) → length (numbers from count) ≡ count
 length-numbers from zero = refl

@@ -1,6 +1,8 @@
 -- What a chain of look-ups found, and what it found for each element of a list.
-use Rattle.std.proofs.Common.{◌≡◌, ◌∙◌, ap, ap₂, sym, refl, ℕ, zero, suc, List, [], ◌∷◌, length, Option, Some, None, Bool, true, false, is_some, option_and_then, option_map, unwrap_or, slice_get}
+use Rattle.std.proofs.Common.{◌≡◌, ◌∙◌, ap, ap₂, sym, refl, ℕ, zero, suc, List, [], ◌∷◌, length, Option, Some, None, Bool, true, false, is_some, option_and_then, option_map, unwrap_or, slice_get, arith}
+use Rattle.std.proofs.lemmas.Option.{slice_get_within}
 use Rattle.base_lists.specs.Options.{all_there}
+use Rattle.base_lists.proofs.Places.{slice_get_there}
 
 pub and_then_is : {A B : Type 0} (o : Option A) (f : A → Option B) (y : B) → option_and_then f o ≡ Some y → (x : A) × (o ≡ Some x) × (f x ≡ Some y)
 and_then_is None f y h = absurd (let k = h in cc)
@@ -50,6 +52,15 @@ all_there_at {A} {B} f (z ∷ xs) ys h n x e = by (λ rest r n e. all_there_at f
         let list : y ∷ rest ≡ ys = cc in
         let r = on rest j n e in
         (r.0, r.1, ap (λ l. slice_get l (suc n)) (sym list) ∙ r.2)
+
+-- what stands at a place was found for the element at that place
+pub all_there_back : {A B : Type 0} (f : A → Option B) (xs : List A) (ys : List B) → all_there f xs ≡ Some ys → (n : ℕ) (y : B) → slice_get ys n ≡ Some y → (x : A) × (slice_get xs n ≡ Some x) × (f x ≡ Some y)
+all_there_back f xs ys h n y at =
+    let many = all_there_length f xs ys h in
+    let within = slice_get_within ys n y at in
+    let x = slice_get_there xs n (omega (arith, many, within)) in
+    let z = all_there_at f xs ys h n x.0 x.1 in
+    (x.0, x.1, z.1 ∙ sym z.2 ∙ at)
 
 -- something is there for each, and stands at its place
 pub record AllThere {A B : Type 0} (f : A → Option B) (xs : List A) : Type 0 where

@@ -1,5 +1,5 @@
 -- What stands at a place of a list, and of one that is mapped, joined or written. Std has `slice_get_within`, `slice_get_past` and `slice_get-map`.
-use Rattle.std.proofs.Common.{◌≡◌, ◌≢◌, ◌∙◌, ap, refl, ℕ, zero, suc, ◌+◌, ◌<◌, ◌≤◌, List, [], ◌∷◌, ◌++◌, map, length, drop, replicate, Some, None, arith, ◌⊎◌, inl, inr, slice_get, slice_set, slice_index}
+use Rattle.std.proofs.Common.{◌≡◌, ◌≢◌, ◌∙◌, ap, refl, ℕ, zero, suc, ◌+◌, ◌<◌, ◌≤◌, List, [], ◌∷◌, ◌++◌, map, length, drop, replicate, Some, None, arith, ◌⊎◌, inl, inr, slice_get, slice_set, slice_index, ap₂, sym}
 
 -- x stands somewhere in xs
 abbrev pub Has : {A : Type 0} → List A → A → Type 0
@@ -36,6 +36,11 @@ pub map_twice : {A B C : Type 0} (f : B → C) (g : A → B) (xs : List A) → m
 map_twice f g [] = refl
 map_twice f g (x ∷ xs) = ap (λ ys. f (g x) ∷ ys) (map_twice f g xs)
 
+-- a list of which each element stays
+pub map_stays : {A : Type 0} (f : A → A) (xs : List A) → ((n : ℕ) (x : A) → slice_get xs n ≡ Some x → f x ≡ x) → map f xs ≡ xs
+map_stays f [] h = refl
+map_stays f (x ∷ xs) h = ap₂ (λ y ys. y ∷ ys) (h 0 x refl) (map_stays f xs (λ n. h (suc n)))
+
 -- ---- joined ----
 
 pub append_at_left : {A : Type 0} (xs ys : List A) (n : ℕ) (x : A) → slice_get xs n ≡ Some x → slice_get (xs ++ ys) n ≡ Some x
@@ -67,6 +72,13 @@ append_from (z ∷ xs) ys (suc n) x h = by (append_from xs ys n x h)
     by : (slice_get xs n ≡ Some x) ⊎ ((k : ℕ) × (n ≡ length xs + k) × (slice_get ys k ≡ Some x)) → (slice_get xs n ≡ Some x) ⊎ ((k : ℕ) × (suc n ≡ suc (length xs) + k) × (slice_get ys k ≡ Some x))
     by (inl e) = inl e
     by (inr r) = let e = r.1 in inr (r.0, omega (arith, e), r.2)
+
+-- indices into two lists in a row
+pub index_left : (xs ys : List ℕ) (i : ℕ) → i < length xs → slice_index (xs ++ ys) i ≡ slice_index xs i
+index_left xs ys i lt = let x = slice_get_there xs i lt in slice_index_is (xs ++ ys) i x.0 (append_at_left xs ys i x.0 x.1) ∙ sym (slice_index_is xs i x.0 x.1)
+
+pub index_right : (xs ys : List ℕ) (n j x : ℕ) → n ≡ length xs → slice_get ys j ≡ Some x → slice_index (xs ++ ys) (n + j) ≡ x
+index_right xs ys n j x e h = ap (λ k. slice_index (xs ++ ys) (k + j)) e ∙ slice_index_is (xs ++ ys) (length xs + j) x (append_right xs ys j ∙ h)
 
 pub push_last : {A : Type 0} (xs : List A) (y : A) → slice_get (xs ++ y ∷ []) (length xs) ≡ Some y
 push_last [] y = refl

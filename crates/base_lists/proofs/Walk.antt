@@ -1,6 +1,6 @@
 -- Steps of a loop that goes over a list and makes, or writes, one item at a time.
-use Rattle.std.proofs.Common.{◌≡◌, ℕ, zero, suc, ◌+◌, ◌<◌, ◌≤◌, arith, List, [], ◌∷◌, ◌++◌, map, take, drop, set, get_or, slice_get, Some, None, refl, sym, ap, ◌∙◌, add-one, length, Result, Ok, Err, OnErr}
-use Rattle.std.proofs.lemmas.List.{take_more, map_push}
+use Rattle.std.proofs.Common.{◌≡◌, ℕ, zero, suc, ◌+◌, ◌-◌, ◌<◌, ◌≤◌, arith, List, [], ◌∷◌, ◌++◌, map, take, drop, set, get_or, slice_get, Some, None, refl, sym, ap, ◌∙◌, add-one, length, Result, Ok, Err, OnErr}
+use Rattle.std.proofs.lemmas.List.{drop_more, take_more, map_push}
 use denote.Param.Weighed.{most}
 
 -- the item at i goes behind what was made of those before it
@@ -43,3 +43,9 @@ none_past (x ∷ xs) (suc i) e = omega (arith, none_past xs i e)
 pub on_err : {T E : Type 0} (r : Result T E) (P : Type 0) → P → OnErr r P
 on_err (Ok x) P p = tt
 on_err (Err e) P p = p
+
+-- what is left before a step from the end
+pub left_back : {A : Type 0} (xs : List A) (i : ℕ) (x : A) → 0 < i → i ≤ length xs → x ≡ get_or xs (i - 1) x → drop (i - 1) xs ≡ x ∷ drop i xs
+left_back xs i x above within is =
+    let e : i - 1 + 1 ≡ i = omega arith in
+    drop_more xs (i - 1) x (omega arith) ∙ ap (λ y. y ∷ drop (i - 1 + 1) xs) (sym is) ∙ ap (λ n. x ∷ drop n xs) e

@@ -1,12 +1,12 @@
 -- The blocks that a range reaches are counted one by one.
-use Rattle.base_lists.proofs.Common.{◌≡◌, ◌≢◌, ℕ, suc, ◌+◌, ◌-◌, ◌*◌, ◌/◌, ◌<◌, ◌≤◌, List, [], ◌∷◌, length, map, Bool, true, false, ◌||◌, slice_index_or, slice_set, refl, sym, ap, ap₂, ◌∙◌, inl, inr, arith, zero-add, if◌then◌else◌, cases_eq, cases_Bool, ext_get_or, get_or-set_same, get_or-set_other, length-map, same_tests}
+use Rattle.base_lists.proofs.Common.{◌≡◌, ◌≢◌, ℕ, suc, ◌+◌, ◌-◌, ◌*◌, ◌/◌, ◌<◌, ◌≤◌, List, [], ◌∷◌, length, map, Bool, true, false, ◌||◌, slice_index_or, slice_set, refl, sym, ap, ap₂, ◌∙◌, inl, inr, arith, zero-add, if◌then◌else◌, cases_eq, cases_Bool, ext_get_or, get_or-set_same, get_or-set_other, length-map, same_tests, or-true, or-false}
 use Rattle.std.proofs.Common.{length-set}
 use Rattle.std.proofs.lemmas.List.Sums.{count_by-le-length}
 use Rattle.block_pool.specs.Pages.{reaches, with_reached}
 use Rattle.block_pool.specs.Table.{is_present, slot_at, IsSound}
 use Rattle.block_pool.specs.declared.table.Table.{Table}
 use Rattle.block_pool.proofs.Counts.{flag, counted_set}
-use Rattle.block_pool.proofs.Reached.{reached_at, reached_length, or_true, or_false}
+use Rattle.block_pool.proofs.Reached.{reached_at, reached_length}
 use Rattle.block_pool.proofs.Joined.{Reaches, reaches_is, reaches_from, reached_none}
 use Rattle.block_pool.proofs.Rooms.{count, map_there}
 
@@ -58,7 +58,7 @@ module _ (t : Table) (at k : ℕ) (inside : k < length t.slots.items) (from : at
       elim (cases_eq i k) [
         | inl e ↦
             read_at (4096 * (k + 1) - at) i small ∙ (ap (λ j. slice_index_or ws j false || reaches at (4096 * (k + 1) - at) j) e
-            ∙ (ap (λ b. slice_index_or ws k false || b) here ∙ (or_true (slice_index_or ws k false)
+            ∙ (ap (λ b. slice_index_or ws k false || b) here ∙ (or-true (slice_index_or ws k false)
             ∙ sym (ap (λ j. slice_index_or (slice_set (upto t at k) k true) j false) e ∙ get_or-set_same (upto t at k) k true false (rw (reached_length at (4096 * k - at) 0 ws, many) inside)))))
         | inr n ↦
             read_at (4096 * (k + 1) - at) i small ∙ (ap (λ b. slice_index_or ws i false || b) (elsewhere i n)
@@ -68,7 +68,7 @@ module _ (t : Table) (at k : ℕ) (inside : k < length t.slots.items) (from : at
   pub counted_one : count (upto t at (k + 1)) + flag (is_present (slot_at t.slots.items k)) ≡ count (upto t at k) + 1
   counted_one =
       let was : slice_index_or (upto t at k) k false ≡ is_present (slot_at t.slots.items k) =
-      read_at (4096 * k - at) k (rw many inside) ∙ (ap (λ b. slice_index_or ws k false || b) not_yet ∙ (or_false (slice_index_or ws k false) ∙ map_there t.slots.items k inside)) in
+      read_at (4096 * k - at) k (rw many inside) ∙ (ap (λ b. slice_index_or ws k false || b) not_yet ∙ (or-false (slice_index_or ws k false) ∙ map_there t.slots.items k inside)) in
       let f : count (slice_set (upto t at k) k true) + flag (slice_index_or (upto t at k) k false) ≡ count (upto t at k) + 1 = counted_set (λ w. w) (upto t at k) k true false (rw (reached_length at (4096 * k - at) 0 ws, many) inside) in
       rw one_more (rw was at f)
 

@@ -1,11 +1,11 @@
 -- Two writes that follow one another are one.
-use Rattle.base_lists.proofs.Common.{◌≡◌, ℕ, suc, ◌+◌, ◌-◌, ◌*◌, ◌<◌, ◌≤◌, List, [], ◌∷◌, ◌++◌, length, Bool, true, false, ◌&&◌, ◌||◌, nat_lt, slice_index, refl, sym, ap, ap₂, ◌∙◌, inl, inr, arith, add-zero, cases_lt, and_parts, ltb-true, get_or_append_left, get_or-append_right, same_tests}
+use Rattle.base_lists.proofs.Common.{◌≡◌, ℕ, suc, ◌+◌, ◌-◌, ◌*◌, ◌<◌, ◌≤◌, List, [], ◌∷◌, ◌++◌, length, Bool, true, false, ◌&&◌, ◌||◌, nat_lt, slice_index, refl, sym, ap, ap₂, ◌∙◌, inl, inr, arith, add-zero, cases_lt, and_parts, ltb-true, get_or_append_left, get_or-append_right, same_tests, left_either, right_either, or-false}
 use Rattle.std.proofs.Common.{length-append, take-append-drop}
 use Rattle.std.proofs.lemmas.Bool.{or_cases}
 use Rattle.block_pool.specs.Blocks.{with_part}
 use Rattle.block_pool.specs.Pages.{Contents, Pages, Writes, written_over, reaches, with_reached, size}
 use Rattle.block_pool.proofs.Parts.{is_part, part_length, part_below, part_inside, part_above}
-use Rattle.block_pool.proofs.Reached.{reaches_yes, or_false}
+use Rattle.block_pool.proofs.Reached.{reaches_yes}
 
 pub record Reaches (at n b : ℕ) : Type 0 where
   pub some : 0 < n
@@ -21,13 +21,6 @@ reaches_is at n b h =
 pub reaches_from : (at n b : ℕ) → Reaches at n b → reaches at n b ≡ true
 reaches_from at n b r = reaches_yes at n b r.some r.before r.behind
 
-or_left : (x y : Bool) → x ≡ true → (x || y) ≡ true
-or_left x y e = rw e refl
-
-or_right : (x y : Bool) → y ≡ true → (x || y) ≡ true
-or_right true y e = refl
-or_right false y e = e
-
 -- a range reaches what its two parts reach
 reaches_both : (at n m b : ℕ) → (reaches at n b || reaches (at + n) m b) ≡ reaches at (n + m) b
 reaches_both at n m b =
@@ -40,10 +33,10 @@ reaches_both at n m b =
     let r : Reaches at (n + m) b = reaches_is at (n + m) b h in
     elim (cases_lt (4096 * b) (at + n)) [
       | inl f ↦ elim (cases_lt 0 n) [
-        | inl g ↦ or_left _ _ (reaches_from at n b (record { some = g; before = r.before; behind = f }))
-        | inr g ↦ or_right _ _ (reaches_from (at + n) m b (record { some = omega arith; before = omega arith; behind = omega arith }))
+        | inl g ↦ left_either _ _ (reaches_from at n b (record { some = g; before = r.before; behind = f }))
+        | inr g ↦ right_either _ _ (reaches_from (at + n) m b (record { some = omega arith; before = omega arith; behind = omega arith }))
       ]
-      | inr f ↦ or_right _ _ (reaches_from (at + n) m b (record { some = omega arith; before = omega arith; behind = omega arith }))
+      | inr f ↦ right_either _ _ (reaches_from (at + n) m b (record { some = omega arith; before = omega arith; behind = omega arith }))
     ])
 
 or_assoc : (x y z : Bool) → ((x || y) || z) ≡ (x || (y || z))
@@ -70,7 +63,7 @@ reached_back at n m j (w ∷ ws) =
 
 pub reached_none : (at j : ℕ) (ws : List Bool) → with_reached at 0 j ws ≡ ws
 reached_none at j [] = refl
-reached_none at j (w ∷ ws) = ap₂ (λ b bs. b ∷ bs) (or_false w) (reached_none at (suc j) ws)
+reached_none at j (w ∷ ws) = ap₂ (λ b bs. b ∷ bs) (or-false w) (reached_none at (suc j) ws)
 
 module _ (xs : List ℕ) (at : ℕ) (ys zs : List ℕ) (fits : at + length ys + length zs ≤ length xs) where
   first : List ℕ

@@ -1,5 +1,5 @@
 -- What is kept names only indices that are kept and have an entry; and so the imports that are kept are those of the module.
-use Rattle.base_lists.proofs.Common.{◌≡◌, ◌∙◌, ap, ap₂, refl, ℕ, suc, List, [], ◌∷◌, map, length, Some, ◌&&◌, slice_get}
+use Rattle.base_lists.proofs.Common.{◌≡◌, ◌∙◌, ap, ap₂, refl, ℕ, suc, List, [], ◌∷◌, map, length, Some, ◌&&◌, slice_get, and_from}
 use Rattle.wasm_tree_spec.specs.Prelude.{Instr, ConstExpr, DataMode, ElemMode, ExportDesc, Import, ImportDesc, Module, ListLayers, PassesLayerByLayer}
 use Rattle.wasm_tree.specs.declared.module.ConstExpr.TheVariants as const
 use Rattle.wasm_tree.specs.declared.module.DataMode.TheVariants as «data»
@@ -9,7 +9,6 @@ use Rattle.wasm_tree.specs.declared.module.ImportDesc.TheVariants as im
 use Rattle.wasm_tree.proofs.OperandLaws.{passes_both}
 use Rattle.index_remap.specs.Prelude.{new_import, new_import_desc}
 use Rattle.index_remap_proof.specs.Indices.{Indices, with_entry, LayerNamesOnly, ConstNamesOnly, ImportNamesOnly, ExportNamesOnly, ElemModeNamesOnly, DataModeNamesOnly, TreeNamesOnly}
-use Rattle.index_remap_proof.proofs.Lists.{both_true}
 use Rattle.world_contents_proof.proofs.Grown.{stays_at}
 use Rattle.base_kept.specs.Kept.{kept}
 use Rattle.dce_sweep_spec.specs.Marks.{Marks, stays}
@@ -25,42 +24,42 @@ module _ (p q : Indices) where
   consts_both (const.I32 v) h k = tt
   consts_both (const.I64 v) h k = tt
   consts_both (const.Null ty) h k = tt
-  consts_both (const.Func f) h k = both_true _ _ h k
-  consts_both (const.Global g) h k = both_true _ _ h k
+  consts_both (const.Func f) h k = and_from _ _ h k
+  consts_both (const.Global g) h k = and_from _ _ h k
 
   imports_both : (d : ImportDesc) → ImportNamesOnly p d → ImportNamesOnly q d → ImportNamesOnly both d
-  imports_both (im.Func ty) h k = both_true _ _ h k
+  imports_both (im.Func ty) h k = and_from _ _ h k
   imports_both (im.Table l) h k = tt
   imports_both (im.Memory l) h k = tt
   imports_both (im.Global g) h k = tt
 
   exports_both : (d : ExportDesc) → ExportNamesOnly p d → ExportNamesOnly q d → ExportNamesOnly both d
-  exports_both (ex.Func x) h k = both_true _ _ h k
-  exports_both (ex.Table x) h k = both_true _ _ h k
-  exports_both (ex.Memory x) h k = both_true _ _ h k
-  exports_both (ex.Global x) h k = both_true _ _ h k
+  exports_both (ex.Func x) h k = and_from _ _ h k
+  exports_both (ex.Table x) h k = and_from _ _ h k
+  exports_both (ex.Memory x) h k = and_from _ _ h k
+  exports_both (ex.Global x) h k = and_from _ _ h k
 
   elem_modes_both : (mode : ElemMode) → ElemModeNamesOnly p mode → ElemModeNamesOnly q mode → ElemModeNamesOnly both mode
-  elem_modes_both (elem.Active table offset) h k = (both_true _ _ h.0 k.0, consts_both offset h.1 k.1)
+  elem_modes_both (elem.Active table offset) h k = (and_from _ _ h.0 k.0, consts_both offset h.1 k.1)
   elem_modes_both elem.Passive h k = tt
   elem_modes_both elem.Declarative h k = tt
 
   data_modes_both : (mode : DataMode) → DataModeNamesOnly p mode → DataModeNamesOnly q mode → DataModeNamesOnly both mode
-  data_modes_both («data».Active memory offset) h k = (both_true _ _ h.0 k.0, consts_both offset h.1 k.1)
+  data_modes_both («data».Active memory offset) h k = (and_from _ _ h.0 k.0, consts_both offset h.1 k.1)
   data_modes_both «data».Passive h k = tt
 
   module _ (layers : PassesLayerByLayer) where
     bodies_both : (code : List Instr) → ListLayers (LayerNamesOnly p) code → ListLayers (LayerNamesOnly q) code → ListLayers (LayerNamesOnly both) code
     bodies_both code h k =
-        (layers (λ o. both o.space o.index) code).0 (passes_both (λ o. p o.space o.index) (λ o. q o.space o.index) (λ o. both o.space o.index) (λ o a b. both_true _ _ a b) code ((layers (λ o. p o.space o.index) code).1 h) ((layers (λ o. q o.space o.index) code).1 k))
+        (layers (λ o. both o.space o.index) code).0 (passes_both (λ o. p o.space o.index) (λ o. q o.space o.index) (λ o. both o.space o.index) (λ o a b. and_from _ _ a b) code ((layers (λ o. p o.space o.index) code).1 h) ((layers (λ o. q o.space o.index) code).1 k))
 
     pub tree_both : (t : Module) → TreeNamesOnly p t → TreeNamesOnly q t → TreeNamesOnly both t
     tree_both t h k = record {
       imports = λ i x e. imports_both x.desc (h.imports i x e) (k.imports i x e);
-      funcs = λ i f e. let a = h.funcs i f e in let b = k.funcs i f e in (both_true _ _ a.0 b.0, bodies_both f.body a.1 b.1);
+      funcs = λ i f e. let a = h.funcs i f e in let b = k.funcs i f e in (and_from _ _ a.0 b.0, bodies_both f.body a.1 b.1);
       globals = λ i g e. consts_both g.init (h.globals i g e) (k.globals i g e);
       exports = λ i x e. exports_both x.desc (h.exports i x e) (k.exports i x e);
-      start = λ f e. both_true _ _ (h.start f e) (k.start f e);
+      start = λ f e. and_from _ _ (h.start f e) (k.start f e);
       items = λ i n a e g l. consts_both e (h.items i n a e g l) (k.items i n a e g l);
       elem_modes = λ i a e. elem_modes_both a.mode (h.elem_modes i a e) (k.elem_modes i a e);
       data_modes = λ i a e. data_modes_both a.mode (h.data_modes i a e) (k.data_modes i a e);

@@ -1,5 +1,6 @@
 -- What is left of a module has the numbers of the module.
 use Rattle.base_lists.proofs.Common.{List, [], ◌∷◌, Bool, true, false, cond, IsUtf8}
+use Rattle.base_lists.proofs.Every.{every_map}
 use Rattle.std.proofs.Common.{filter}
 use Rattle.base_lists.specs.Every.{Every}
 use Rattle.base_kept.specs.Kept.{kept}
@@ -15,7 +16,6 @@ use Rattle.wasm_write_proof.specs.Ranges.{ConstInRange, ImportDescInRange, Impor
 use Rattle.merge_encode_proof.proofs.Numbers.{ConstNumberInRange, ImportLimitsInRange, ImportNumbersInRange, FuncNumbersInRange, ElemOffsetInRange, ElemNumbersInRange, DataOffsetInRange, NumbersInRange}
 use Rattle.merge_encode_proof.proofs.Bodies.{NumbersStay, body_keeps}
 use Rattle.merge_encode_proof.proofs.Consts.{number_of, new_number}
-use Rattle.merge_encode_proof.proofs.Lists.{every_map}
 use Rattle.merge_encode_proof.proofs.Modules.{declared_numbers}
 
 -- what is so of each is so of those that are kept

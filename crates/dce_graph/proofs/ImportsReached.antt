@@ -1,5 +1,6 @@
 -- Edges and roots that are imports.
-use Rattle.base_lists.proofs.Common.{◌≡◌, ◌∙◌, sym, ap, refl, subst, ℕ, zero, suc, ◌+◌, List, [], ◌∷◌, ◌++◌, map, Bool, true, false, cond, Option, Some, None, slice_get, ◌⊎◌, inl, inr, ⊎_elim, arith, ◌↔◌, Contains, option_map, cons_option, filter_map, flat_map, Contains-append_left, Contains-append_right, Contains-append_cases, slice_get_within, every_at, place_back, place_there, map_at, map_from, append_at_left, append_from}
+use Rattle.base_lists.proofs.Common.{◌≡◌, ◌∙◌, sym, ap, refl, subst, ℕ, zero, suc, ◌+◌, List, [], ◌∷◌, ◌++◌, map, Bool, true, Option, Some, None, slice_get, ◌⊎◌, inl, inr, ⊎_elim, arith, ◌↔◌, Contains, option_map, cons_option, filter_map, flat_map, Contains-append_left, Contains-append_right, Contains-append_cases, slice_get_within, every_at, place_back, place_there, map_at, map_from, append_at_left, append_from}
+use Rattle.base_lists.proofs.Filtered.{places_apart}
 use Rattle.base_lists.specs.Every.{Every}
 use Rattle.base_lists.specs.Places.{places}
 use Rattle.wasm_tree_spec.specs.Prelude.{Space, Types, Functions, Tables, Memories, Globals, ElementSegments, DataSegments, Operand, ConstExpr, DataMode, ElemMode, ExportDesc, GlobalDef, ImportDesc, Module, same_space, space_of_import}
@@ -182,21 +183,6 @@ root_import g m n h =
 
 -- ---- an import and what it adds ----
 
-not_before : {A : Type 0} (test : A → Bool) (xs : List A) (from a n : ℕ) → slice_get (places test xs (suc from)) a ≡ Some n → from ≡ n → ⊥
-not_before test xs from a n e same = let r = place_back test xs (suc from) a n e in let is = r.2 in absurd (omega (arith, is, same))
-
-once : {A : Type 0} (test : A → Bool) (xs : List A) (from : ℕ) (b : Bool) (i j n : ℕ) → ((a c : ℕ) → slice_get (places test xs (suc from)) a ≡ Some n → slice_get (places test xs (suc from)) c ≡ Some n → a ≡ c)
-    → slice_get (cond b (from ∷ places test xs (suc from)) (places test xs (suc from))) i ≡ Some n → slice_get (cond b (from ∷ places test xs (suc from)) (places test xs (suc from))) j ≡ Some n → i ≡ j
-once test xs from false i j n on h k = on i j h k
-once test xs from true zero zero n on h k = refl
-once test xs from true zero (suc j) n on h k = absurd (not_before test xs from j n k (let same : from ≡ n = cc in same))
-once test xs from true (suc i) zero n on h k = absurd (not_before test xs from i n h (let same : from ≡ n = cc in same))
-once test xs from true (suc i) (suc j) n on h k = ap suc (on i j h k)
-
-places_once : {A : Type 0} (test : A → Bool) (xs : List A) (from i j n : ℕ) → slice_get (places test xs from) i ≡ Some n → slice_get (places test xs from) j ≡ Some n → i ≡ j
-places_once test [] from i j n h k = cc
-places_once test (x ∷ xs) from i j n h k = once test xs from (test x) i j n (λ a c. places_once test xs (suc from) a c n) h k
-
 no_func_stays : (d : ImportDesc) → same_space Functions (space_of_import d) ≡ true → stays_imported (space_of_import d) ≡ true → ⊥
 no_func_stays (im.Func t) e f = cc
 no_func_stays (im.Table t) e f = cc
@@ -229,7 +215,7 @@ back_to_func g m i n at p (root th h) e =
     let r = both_pass m n (into Functions) is_staying (placed m (into Functions) i n at) (root_import g m n (subst (Contains (roots g m)) e h)) in
     absurd (no_func_stays r.0.desc r.1 r.2)
 back_to_func g m i n at q (along {p = p} before th h) e = ⊎_elim
-    (λ f. subst (IsReached g m) (f.1 ∙ ap Func (places_once (into Functions) m.imports 0 f.0 i n f.2 at)) before)
+    (λ f. subst (IsReached g m) (f.1 ∙ ap Func (places_apart (into Functions) m.imports 0 f.0 i n f.2 at)) before)
     (λ f. let r = both_pass m n (into Functions) (into Globals) (placed m (into Functions) i n at) (placed m (into Globals) f.0 n f.2) in absurd (not_of_both r.0.desc r.1 r.2))
     (edge_to_import g m p n (subst (Contains (edges g m p)) e h))
 
@@ -239,7 +225,7 @@ back_to_global g m i n at p (root th h) e =
     absurd (no_global_stays r.0.desc r.1 r.2)
 back_to_global g m i n at q (along {p = p} before th h) e = ⊎_elim
     (λ f. let r = both_pass m n (into Functions) (into Globals) (placed m (into Functions) f.0 n f.2) (placed m (into Globals) i n at) in absurd (not_of_both r.0.desc r.1 r.2))
-    (λ f. subst (IsReached g m) (f.1 ∙ ap Global (places_once (into Globals) m.imports 0 f.0 i n f.2 at)) before)
+    (λ f. subst (IsReached g m) (f.1 ∙ ap Global (places_apart (into Globals) m.imports 0 f.0 i n f.2 at)) before)
     (edge_to_import g m p n (subst (Contains (edges g m p)) e h))
 
 row_at : (is : List ℕ) (others : List (List Point)) (i n : ℕ) → slice_get is i ≡ Some n → Contains (edges_of (slice_get (map (λ place. Import place ∷ []) is ++ others) i)) (Import n)

@@ -1,5 +1,6 @@
 -- The nodes that denote one module and field, met from the last to the first.
-use Rattle.base_lists.proofs.Common.{◌≡◌, ◌∙◌, sym, ap, refl, ℕ, zero, suc, ◌+◌, ◌<◌, ◌≤◌, List, [], ◌∷◌, ◌++◌, map, take, drop, length, Bool, true, false, cond, Option, Some, None, slice_get, subst, ap₂, ◌&&◌, inl, inr, ⊎_elim, Ordering, Less, Equal, Greater, arith, Contains, option_and_then, option_or, nat_cmp, ordering_then, slice_cmp, cases_eq, is_eq-slice_cmp, slice_get_within, push_last, push_before, append_at_left, bytes_eq, and_parts, length-append, length-take-le, take_all, drop_all, take-append-le, Contains-push, Contains-append_left, Contains-append_right, Contains-push_cases, Contains-append_cases, bytes_eq-Decides}
+use Rattle.base_lists.proofs.Common.{◌≡◌, ◌∙◌, sym, ap, refl, ℕ, zero, suc, ◌+◌, ◌<◌, ◌≤◌, List, [], ◌∷◌, ◌++◌, map, take, drop, length, Bool, true, false, cond, Option, Some, None, slice_get, subst, ap₂, ◌&&◌, inl, inr, ⊎_elim, arith, Contains, option_and_then, option_or, nat_cmp, ordering_then, slice_cmp, cases_eq, is_eq-slice_cmp, slice_get_within, push_last, push_before, append_at_left, bytes_eq, and_parts, length-append, length-take-le, take_all, drop_all, take-append-le, Contains-push, Contains-append_left, Contains-append_right, Contains-push_cases, Contains-append_cases, bytes_eq-Decides}
+use Rattle.base_lists.proofs.Bools.{both_equal}
 use Rattle.std.specs.BTreeMap.{BTreeMap}
 use Rattle.std.specs.Ordering.{is_eq}
 use denote.Ref.{Bor}
@@ -176,11 +177,6 @@ pub meeting_ends : (nodes : List GraphNode) (test : GraphNode → Bool) (next : 
 meeting_ends nodes test next old s m is = subst (λ ps. Spread old (map Node ps) s) (none_before test nodes m.from m.there (sym m.next_is ∙ is)) m.spread
 
 -- ---- the tables ----
-
-both_equal : (o p : Ordering) → is_eq (ordering_then o p) ≡ is_eq o && is_eq p
-both_equal Less p = refl
-both_equal Equal p = refl
-both_equal Greater p = refl
 
 pub pair_tested : (m f a b : Text) (pair : ImportPair) → m ≡ pair.«module» → f ≡ pair.base → is_eq (ordering_then (slice_cmp nat_cmp m a) (slice_cmp nat_cmp f b)) ≡ pair_is a b (Some pair)
 pair_tested m f a b pair is_m is_f =

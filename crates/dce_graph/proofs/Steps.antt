@@ -1,5 +1,5 @@
 -- One step of a loop over a list.
-use Rattle.base_lists.proofs.Common.{◌≡◌, ◌∙◌, sym, ap, ℕ, ◌+◌, ◌-◌, ◌<◌, ◌≤◌, arith, List, [], ◌∷◌, ◌++◌, length, take, drop, get_or, take_more, drop_more}
+use Rattle.base_lists.proofs.Common.{◌≡◌, ◌∙◌, sym, ap, ℕ, ◌+◌, ◌<◌, List, [], ◌∷◌, ◌++◌, length, take, drop, get_or, take_more, drop_more}
 
 -- what is left before the step
 pub left_more : {A : Type 0} (xs : List A) (i : ℕ) (x : A) → i < length xs → x ≡ get_or xs i x → drop i xs ≡ x ∷ drop (i + 1) xs
@@ -8,7 +8,3 @@ left_more xs i x within is = drop_more xs i x within ∙ ap (λ y. y ∷ drop (i
 -- what is done after it
 pub done_more : {A : Type 0} (xs : List A) (i : ℕ) (x : A) → i < length xs → x ≡ get_or xs i x → take (i + 1) xs ≡ take i xs ++ x ∷ []
 done_more xs i x within is = take_more xs i x within ∙ ap (λ y. take i xs ++ y ∷ []) (sym is)
-
--- what is left before a step from the end
-pub left_back : {A : Type 0} (xs : List A) (i : ℕ) (x : A) → 0 < i → i ≤ length xs → x ≡ get_or xs (i - 1) x → drop (i - 1) xs ≡ x ∷ drop i xs
-left_back xs i x above within is = left_more xs (i - 1) x (omega arith) is ∙ ap (λ n. x ∷ drop n xs) (let e : i - 1 + 1 ≡ i = omega arith in e)

@@ -1,5 +1,7 @@
 -- Marks that are exactly on what is reached are closed.
 use Rattle.base_lists.proofs.Common.{◌≡◌, ◌∙◌, ap, ap₂, sym, subst, refl, ℕ, zero, suc, ◌+◌, ◌<◌, List, [], ◌∷◌, map, length, Option, Some, None, Bool, true, false, ◌&&◌, ⊎_elim, nat_lt, arith, slice_get, true≢false, Contains, option_map, cons_option, flat_map, list_all, ltb-true, lt-ltb, length-map, list_all-append, Contains-append_left, Contains-append_right, Contains-append_cases, slice_get_within, same_tests, list_all_each, list_all_from, kept_is, place_back, place_there, places_many, length-numbers, map_at, map_from, append_at_left, append_right, append_from}
+use Rattle.base_lists.proofs.Each.{there_contains}
+use Rattle.base_lists.proofs.Filtered.{places_apart}
 use Rattle.std.proofs.Common.{filter_map}
 use Rattle.base_lists.specs.Places.{numbers, places}
 use Rattle.wasm_tree_spec.specs.Prelude.{Space, Types, Functions, Tables, Memories, Globals, ElementSegments, DataSegments, Instr, ConstExpr, DataMode, ElemMode, ElemSeg, ExportDesc, GlobalDef, ImportDesc, Module, same_space, all_operands_pass, PassesLayerByLayer, ListLayers, func_of, global_of, space_of_import, imported_funcs, imported_globals, funcs_of, tables_of, memories_of, globals_of}
@@ -29,7 +31,7 @@ use Rattle.dce_graph.specs.declared.point.Point.TheVariants.{Node, Export, Impor
 use Rattle.dce_graph.specs.Prelude.{marked, IsReached, root, along, routes, roots, edges, place_in_kind, point_count, body_points, const_point, const_points, imports_into, from_node, from_import, export_of_node, elem_points, data_points, root_nodes, start_points, import_points, stays_imported, denotes_import, export_place}
 use Rattle.dce_graph.specs.Reach.{IsThere, edges_of, point_of, from_export, from_funcs, from_globals, module_roots}
 use Rattle.dce_sweep_spec.specs.Reached.{AreExact, marks_of}
-use Rattle.dce_reach_proof.proofs.Points.{has, contains, contains_joined, contains_chosen, none_fails, all_mapped, all_joined, all_chosen, places_apart, point_passes, passes, body_passes}
+use Rattle.dce_reach_proof.proofs.Points.{has, contains_joined, contains_chosen, none_fails, all_mapped, all_joined, all_chosen, point_passes, passes, body_passes}
 
 -- ---- imports ----
 
@@ -158,7 +160,7 @@ module _ (g : Graph) (m : Module) (r : Reached) (exact : AreExact g m r) (law : 
   const_marked (const.Global x) h c = c (Global x) (in_globals m x h) refl
 
   one_point : (e : ConstExpr) (q : Point) → const_point e ≡ Some q → Contains (const_points e) q
-  one_point e q h = contains (const_points e) 0 q (ap (λ o. slice_get (cons_option o []) 0) h)
+  one_point e q h = there_contains (const_points e) 0 q (ap (λ o. slice_get (cons_option o []) 0) h)
 
   abbrev is_there : Point → Bool
   is_there p = nat_lt (place_in_kind p) (point_count g m p)
@@ -187,14 +189,14 @@ module _ (g : Graph) (m : Module) (r : Reached) (exact : AreExact g m r) (law : 
   body_marked : (body : List Instr) → ListLayers (LayerNamesOnly (with_entry (spaces m))) body → ((q : Point) → There q → Contains (body_points body) q → marked r q ≡ true) → ListLayers (LayerNamesOnly (stays k)) body
   body_marked body h c =
       let all_there : list_all is_there (body_points body) ≡ true = body_passes is_there body ∙ passes_more (λ o. with_entry (spaces m) o.space o.index) (passes is_there) (λ o p. there_passes o.space o.index p) body (passes_there body h) in
-      let all_marked : list_all (marked r) (body_points body) ≡ true = list_all_from (marked r) (body_points body) (λ n q at. c q (ltb-true _ _ (list_all_each is_there (body_points body) all_there n q at)) (contains (body_points body) n q at)) in
+      let all_marked : list_all (marked r) (body_points body) ≡ true = list_all_from (marked r) (body_points body) (λ n q at. c q (ltb-true _ _ (list_all_each is_there (body_points body) all_there n q at)) (there_contains (body_points body) n q at)) in
       (law (λ o. stays k o.space o.index) body).0 (passes_more (passes (marked r)) (λ o. stays k o.space o.index) (λ o p. marked_stays o.space o.index p) body (sym (body_passes (marked r) body) ∙ all_marked))
 
   export_marked : (d : ExportDesc) → ExportNamesOnly (with_entry (spaces m)) d → ((q : Point) → There q → Contains (from_export d) q → marked r q ≡ true) → ExportNamesOnly (stays k) d
-  export_marked (ex.Func f) h c = c (Func f) (in_funcs m f h) (contains (Func f ∷ []) 0 (Func f) refl)
+  export_marked (ex.Func f) h c = c (Func f) (in_funcs m f h) (there_contains (Func f ∷ []) 0 (Func f) refl)
   export_marked (ex.Table t) h c = refl
   export_marked (ex.Memory l) h c = refl
-  export_marked (ex.Global x) h c = c (Global x) (in_globals m x h) (contains (Global x ∷ []) 0 (Global x) refl)
+  export_marked (ex.Global x) h c = c (Global x) (in_globals m x h) (there_contains (Global x ∷ []) 0 (Global x) refl)
 
   ref_marked : (e : ConstExpr) → is_kept_ref k e ≡ true → ConstNamesOnly (stays k) e
   ref_marked (const.I32 v) h = tt
@@ -241,7 +243,7 @@ module _ (g : Graph) (m : Module) (r : Reached) (exact : AreExact g m r) (law : 
     exports = λ i e at.
         let p = kept_from k.exports m.exports i e at in
         export_marked e.desc (N.exports p.place e p.is) (λ q t c. goes (Export p.place) q p.yes t (subst (λ o. Contains (edges_of (option_map (λ (x : ModuleExport). from_export x.desc) o)) q) (sym p.is) c));
-    start = λ f at. begins (Func f) (in_funcs m f (N.start f at)) (in_start (Func f) (contains (start_points m.start) 0 (Func f) (ap (λ o. slice_get (start_points o) 0) at)));
+    start = λ f at. begins (Func f) (in_funcs m f (N.start f at)) (in_start (Func f) (there_contains (start_points m.start) 0 (Func f) (ap (λ o. slice_get (start_points o) 0) at)));
     items = λ i p a e at got.
         let b = map_from (kept_elem k) m.elems i a at in
         item_marked b.0.mode b.0.items (elem_root i b.0 b.1) (λ p e h. N.items i p b.0 e b.1 h) p e (subst (λ (z : ElemSeg). slice_get z.items p ≡ Some e) (sym b.2) got);
@@ -404,7 +406,7 @@ module _ (g : Graph) (m : Module) (r : Reached) (exact : AreExact g m r) (law : 
   import_there s n p = slice_get_within m.imports n p.import p.at
 
   func_imported : (i n : ℕ) → slice_get (imports_of Functions m) i ≡ Some n → is_marked k.imports n ≡ is_marked k.funcs i
-  func_imported i n h = same_tests (is_marked k.imports n) (is_marked k.funcs i) (λ e. by (source n e)) (λ e. goes (Func i) (Import n) e (import_there Functions n (placed Functions i n h)) (subst (λ ps. Contains ps (Import n)) (sym edge) (contains (Import n ∷ []) 0 (Import n) refl)))
+  func_imported i n h = same_tests (is_marked k.imports n) (is_marked k.funcs i) (λ e. by (source n e)) (λ e. goes (Func i) (Import n) e (import_there Functions n (placed Functions i n h)) (subst (λ ps. Contains ps (Import n)) (sym edge) (there_contains (Import n ∷ []) 0 (Import n) refl)))
     where
       edge : edges g m (Func i) ≡ Import n ∷ []
       edge = ap edges_of (append_at_left (import_edges m Functions) (map (λ f. body_points f.body) m.funcs) i (Import n ∷ []) (map_at (λ place. Import place ∷ []) (imports_into Functions m.imports) i n h))
@@ -415,7 +417,7 @@ module _ (g : Graph) (m : Module) (r : Reached) (exact : AreExact g m r) (law : 
       by (by_global j at e) = conflict Functions Globals n (placed Functions i n h) (placed Globals j n at) (λ z. cc)
 
   global_imported : (i n : ℕ) → slice_get (imports_of Globals m) i ≡ Some n → is_marked k.imports n ≡ is_marked k.globals i
-  global_imported i n h = same_tests (is_marked k.imports n) (is_marked k.globals i) (λ e. by (source n e)) (λ e. goes (Global i) (Import n) e (import_there Globals n (placed Globals i n h)) (subst (λ ps. Contains ps (Import n)) (sym edge) (contains (Import n ∷ []) 0 (Import n) refl)))
+  global_imported i n h = same_tests (is_marked k.imports n) (is_marked k.globals i) (λ e. by (source n e)) (λ e. goes (Global i) (Import n) e (import_there Globals n (placed Globals i n h)) (subst (λ ps. Contains ps (Import n)) (sym edge) (there_contains (Import n ∷ []) 0 (Import n) refl)))
     where
       edge : edges g m (Global i) ≡ Import n ∷ []
       edge = ap edges_of (append_at_left (import_edges m Globals) (map (λ x. const_points x.init) m.globals) i (Import n ∷ []) (map_at (λ place. Import place ∷ []) (imports_into Globals m.imports) i n h))
@@ -430,7 +432,7 @@ module _ (g : Graph) (m : Module) (r : Reached) (exact : AreExact g m r) (law : 
   always_imported s i n h stay =
       let p = placed s i n h in
       let q = place_there (λ i. stays_imported (space_of_import i.desc)) m.imports 0 n p.import p.at (stays_too p.import.desc s p.is stay) in
-      begins (Import n) (import_there s n p) (in_imports (Import n) (contains (import_points m.imports) q.0 (Import n) (map_at Import (places (λ i. stays_imported (space_of_import i.desc)) m.imports 0) q.0 (0 + n) q.1 ∙ ap (λ x. Some (Import x)) (let z : 0 + n ≡ n = omega arith in z))))
+      begins (Import n) (import_there s n p) (in_imports (Import n) (there_contains (import_points m.imports) q.0 (Import n) (map_at Import (places (λ i. stays_imported (space_of_import i.desc)) m.imports 0) q.0 (0 + n) q.1 ∙ ap (λ x. Some (Import x)) (let z : 0 + n ≡ n = omega arith in z))))
 
   imported : (s : Space) (i n : ℕ) → slice_get (imports_of s m) i ≡ Some n → is_marked k.imports n ≡ stays k s i
   imported Functions i n h = func_imported i n h

@@ -1,8 +1,8 @@
 -- What lists of points have in them, and the points that a body names.
-use Rattle.base_lists.proofs.Common.{◌≡◌, ◌∙◌, ap, ap₂, sym, refl, ℕ, zero, suc, List, [], ◌∷◌, Option, Some, None, Bool, true, false, ◌&&◌, cond, arith, slice_get, map, Contains, cons_option, flat_map, list_all, list_all-append, Contains-append_left, Contains-append_right, filter_map-append, slice_get_within, slice_get-get_or, get_or_from_slice_get, left_true, list_all_each, place_back, Has}
+use Rattle.base_lists.proofs.Common.{◌≡◌, ◌∙◌, ap, ap₂, sym, refl, ℕ, zero, suc, List, [], ◌∷◌, Option, Some, None, Bool, true, ◌&&◌, slice_get, map, Contains, cons_option, flat_map, list_all, list_all-append, Contains-append_left, Contains-append_right, filter_map-append, slice_get-get_or, left_true, list_all_each, Has}
+use Rattle.base_lists.proofs.Each.{there_contains}
 use Rattle.std.proofs.Common.{filter_map}
 use Rattle.base_lists.specs.Every.{Every}
-use Rattle.base_lists.specs.Places.{places}
 use Rattle.wasm_tree_spec.specs.Prelude.{Operand, Instr, out-Instr, operands_of, held, operands_pass, all_operands_pass}
 use Rattle.wasm_tree.proofs.OperandLaws.{by_held, passes_inside}
 use Rattle.dce_graph.specs.declared.point.Point.{Point}
@@ -15,9 +15,6 @@ use Rattle.dce_graph.proofs.Walking.{named_inside}
 pub has : {A : Type 0} (xs : List A) (x : A) → Contains xs x → Has xs x
 has xs x (k, lt, e) = (k, slice_get-get_or xs k x lt ∙ ap Some e)
 
-pub contains : {A : Type 0} (xs : List A) (n : ℕ) (x : A) → slice_get xs n ≡ Some x → Contains xs x
-contains xs n x e = (n, slice_get_within xs n x e, get_or_from_slice_get xs n x x e)
-
 pub contains_joined : {A B : Type 0} (f : A → List B) (xs : List A) (n : ℕ) (x : A) (y : B) → slice_get xs n ≡ Some x → Contains (f x) y → Contains (flat_map f xs) y
 contains_joined f [] n x y e h = cc
 contains_joined f (z ∷ zs) zero x y e h = let same : z ≡ x = cc in Contains-append_left (f z) (flat_map f zs) y (rw same h)
@@ -25,7 +22,7 @@ contains_joined f (z ∷ zs) (suc n) x y e h = Contains-append_right (f z) (flat
 
 pub contains_chosen : {A B : Type 0} (f : A → Option B) (xs : List A) (n : ℕ) (x : A) (y : B) → slice_get xs n ≡ Some x → f x ≡ Some y → Contains (filter_map f xs) y
 contains_chosen f [] n x y e h = cc
-contains_chosen f (z ∷ zs) zero x y e h = let same : z ≡ x = cc in let there : cons_option (f z) (filter_map f zs) ≡ y ∷ filter_map f zs = ap (λ o. cons_option o (filter_map f zs)) (ap f same ∙ h) in contains (filter_map f (z ∷ zs)) 0 y (ap (λ ys. slice_get ys 0) there)
+contains_chosen f (z ∷ zs) zero x y e h = let same : z ≡ x = cc in let there : cons_option (f z) (filter_map f zs) ≡ y ∷ filter_map f zs = ap (λ o. cons_option o (filter_map f zs)) (ap f same ∙ h) in there_contains (filter_map f (z ∷ zs)) 0 y (ap (λ ys. slice_get ys 0) there)
 contains_chosen {A} {B} f (z ∷ zs) (suc n) x y e h = by (f z) (contains_chosen f zs n x y e h)
   where
     by : (o : Option B) → Contains (filter_map f zs) y → Contains (cons_option o (filter_map f zs)) y
@@ -51,22 +48,6 @@ all_chosen {A} {B} test f (x ∷ xs) h = by (f x) (h x) (all_chosen test f xs h)
     by : (o : Option B) → list_all test (cons_option o []) ≡ true → list_all test (filter_map f xs) ≡ true → list_all test (cons_option o (filter_map f xs)) ≡ true
     by None a b = b
     by (Some y) a b = ap₂ (λ p q. p && q) (left_true (test y) true a) b
-
--- a place stands once among places
-pub places_apart : {A : Type 0} (test : A → Bool) (xs : List A) (from i j n : ℕ) → slice_get (places test xs from) i ≡ Some n → slice_get (places test xs from) j ≡ Some n → i ≡ j
-places_apart test [] from i j n e h = cc
-places_apart {A} test (x ∷ xs) from i j n e h = by (test x) (places_apart test xs (suc from)) i j e h
-  where
-    later : (i : ℕ) → slice_get (places test xs (suc from)) i ≡ Some from → ⊥
-    later i e = let r = place_back test xs (suc from) i from e in let z = r.2 in absurd (omega (arith, z))
-
-    by : (b : Bool) → ((i j n : ℕ) → slice_get (places test xs (suc from)) i ≡ Some n → slice_get (places test xs (suc from)) j ≡ Some n → i ≡ j) →
-        (i j : ℕ) → slice_get (cond b (from ∷ places test xs (suc from)) (places test xs (suc from))) i ≡ Some n → slice_get (cond b (from ∷ places test xs (suc from)) (places test xs (suc from))) j ≡ Some n → i ≡ j
-    by true on zero zero e h = refl
-    by true on zero (suc j) e h = let same : from ≡ n = cc in absurd (later j (h ∙ ap Some (sym same)))
-    by true on (suc i) zero e h = let same : from ≡ n = cc in absurd (later i (e ∙ ap Some (sym same)))
-    by true on (suc i) (suc j) e h = ap suc (on i j n e h)
-    by false on i j e h = on i j n e h
 
 -- ---- what a body names ----
 

@@ -1,5 +1,5 @@
 -- The map of a sweep has an entry for each index that is named in what is kept.
-use Rattle.base_lists.proofs.Common.{◌≡◌, subst, List, map, length, Bool, true, IsTrue, arith, list_all, length-map, left_true, right_true, list_all_each, list_all_from, kept_is, length-numbers, map_from}
+use Rattle.base_lists.proofs.Common.{◌≡◌, subst, List, map, length, Bool, true, IsTrue, arith, list_all, length-map, left_true, right_true, list_all_each, list_all_from, kept_is, length-numbers, map_from, and_from}
 use Rattle.base_lists.specs.Places.{numbers}
 use Rattle.wasm_tree_spec.specs.Prelude.{ConstExpr, ElemMode, ElemSeg, Module, tables_of, memories_of}
 use Rattle.wasm_tree.specs.declared.module.ElemMode.TheVariants as elem
@@ -7,7 +7,6 @@ use Rattle.wasm_valid.specs.Prelude.{IsValid}
 use Rattle.index_remap.specs.declared.remap.Remap.{Remap}
 use Rattle.index_remap.specs.Prelude.{fits_const, fits_elem, fits_elem_mode, fits_export, fits_func, fits_global, fits_import, fits_start, fits_tree}
 use Rattle.index_remap_proof.specs.Trees.{Covers}
-use Rattle.index_remap_proof.proofs.Lists.{both_true}
 use Rattle.base_kept.specs.Kept.{kept, kept_before}
 use Rattle.dce_sweep_spec.specs.Marks.{Marks}
 use Rattle.dce_sweep_spec.specs.Swept.{defined_funcs, defined_globals, is_kept_ref, kept_elem, kept_items, kept_tree, sweep_map}
@@ -55,7 +54,7 @@ module _ (k : Marks) (m : Module) where
       list_all_from (fits_const r) (kept_items k elem.Declarative items) (λ n e at. let p = kept_is (is_kept_ref k) items n e at in list_all_each (fits_const r) items h p.1.0 e p.1.1)
 
   elem_fits : (e : ElemSeg) → fits_elem r e ≡ true → fits_elem r (kept_elem k e) ≡ true
-  elem_fits e h = both_true (fits_elem_mode r e.mode) (list_all (fits_const r) (kept_items k e.mode e.items)) (left_true _ _ h) (items_fit e.mode e.items (right_true (fits_elem_mode r e.mode) _ h))
+  elem_fits e h = and_from (fits_elem_mode r e.mode) (list_all (fits_const r) (kept_items k e.mode e.items)) (left_true _ _ h) (items_fit e.mode e.items (right_true (fits_elem_mode r e.mode) _ h))
 
   elems_fit : list_all (fits_elem r) m.elems ≡ true → list_all (fits_elem r) (map (kept_elem k) m.elems) ≡ true
   elems_fit h =
@@ -70,12 +69,12 @@ module _ (k : Marks) (m : Module) where
       let h3 = right_true (list_all (fits_global r) m.globals) _ h2 in
       let h4 = right_true (list_all (fits_export r) m.exports) _ h3 in
       let h5 = right_true (fits_start r m.start) _ h4 in
-      both_true _ _ (kept_all_pass (fits_import r) k.imports m.imports (left_true _ _ h0))
-      (both_true _ _ (kept_all_pass (fits_func r) (defined_funcs k m) m.funcs (left_true _ _ h1))
-      (both_true _ _ (kept_all_pass (fits_global r) (defined_globals k m) m.globals (left_true _ _ h2))
-      (both_true _ _ (kept_all_pass (fits_export r) k.exports m.exports (left_true _ _ h3))
-      (both_true _ _ (left_true _ _ h4)
-      (both_true _ _ (elems_fit (left_true _ _ h5)) (right_true (list_all (fits_elem r) m.elems) _ h5))))))
+      and_from _ _ (kept_all_pass (fits_import r) k.imports m.imports (left_true _ _ h0))
+      (and_from _ _ (kept_all_pass (fits_func r) (defined_funcs k m) m.funcs (left_true _ _ h1))
+      (and_from _ _ (kept_all_pass (fits_global r) (defined_globals k m) m.globals (left_true _ _ h2))
+      (and_from _ _ (kept_all_pass (fits_export r) k.exports m.exports (left_true _ _ h3))
+      (and_from _ _ (left_true _ _ h4)
+      (and_from _ _ (elems_fit (left_true _ _ h5)) (right_true (list_all (fits_elem r) m.elems) _ h5))))))
 
   pub kept_fits : EntriesAreThere → IsValid m → AreClosed k m → IsTrue (fits_tree (sweep_map k m) (kept_tree k m))
   kept_fits law valid c = tree_kept (law r m valid (covers c))

@@ -1,5 +1,5 @@
 -- The index spaces of what is left of a module: what is kept of those of the module.
-use Rattle.base_lists.proofs.Common.{◌≡◌, ◌∙◌, ap, ap₂, sym, subst, refl, ℕ, suc, ◌+◌, ◌<◌, List, [], ◌∷◌, ◌++◌, map, length, replicate, Option, Some, is_some, true, arith, slice_get, slice_index, length-append, get_or-replicate, length-replicate, slice_get_within, numbers_index}
+use Rattle.base_lists.proofs.Common.{◌≡◌, ◌∙◌, ap, ap₂, sym, subst, refl, ℕ, suc, ◌+◌, ◌<◌, List, [], ◌∷◌, ◌++◌, map, length, replicate, Option, Some, is_some, true, arith, slice_get, slice_index, length-append, get_or-replicate, length-replicate, slice_get_within, numbers_index, map_stays}
 use Rattle.std.proofs.Common.{filter_map}
 use Rattle.wasm_tree_spec.specs.Prelude.{Space, Functions, Tables, Memories, Globals, Import, ImportDesc, Module, func_of, table_of, memory_of, global_of, imported_funcs, imported_tables, imported_memories, imported_globals, funcs_of, tables_of, memories_of, globals_of}
 use Rattle.wasm_tree.specs.declared.module.ImportDesc.TheVariants as im
@@ -19,11 +19,6 @@ use Rattle.base_kept.proofs.Laws.{kept_from, kept_map, kept_append, kept_all, ke
 -- each item of a module holds
 abbrev pub ItemsHold : Module → Type 0
 ItemsHold m = (n : ItemKind) (i : ℕ) → i < count_of m true n → HoldsAt m n i
-
--- a list whose elements all stay
-pub map_stays : {A : Type 0} (f : A → A) (xs : List A) → ((n : ℕ) (x : A) → slice_get xs n ≡ Some x → f x ≡ x) → map f xs ≡ xs
-map_stays f [] h = refl
-map_stays f (x ∷ xs) h = ap₂ (λ y ys. y ∷ ys) (h 0 x refl) (map_stays f xs (λ n. h (suc n)))
 
 pub map_same : {A B : Type 0} (g : A → B) (f : A → A) (xs : List A) → ((n : ℕ) (x : A) → slice_get xs n ≡ Some x → g (f x) ≡ g x) → map g (map f xs) ≡ map g xs
 map_same g f [] h = refl

@@ -1,12 +1,13 @@
 -- What is allocated for the quiet run, and for the module with one function more in an environment, is related but for what is unknown at first.
 use Rattle.base_lists.proofs.Common.{◌≡◌, ◌∙◌, sym, ap, subst, refl, ℕ, zero, suc, ◌+◌, ◌<◌, List, [], ◌∷◌, map, length, Bool, true, false, not, Option, Some, None, arith, slice_get, option_and_then, get_or, nat_eq, ◌&&◌, and_from, eq-eqb, not-true, get_or_from_slice_get, same_Some, slice_get_past, slice_get_within, place_there, numbers_is, all_there_at, all_there_length, and_then_is, append_at_left, append_right, map_at, slice_get_none, slice_get_there}
+use Rattle.base_lists.specs.Members.{is_among}
 use Rattle.std.proofs.lemmas.List.Folds.{list_any_at}
 use Rattle.base_lists.specs.Places.{places}
 use Rattle.wasm_tree_spec.specs.Prelude.{Space, Tables, Memories, Globals, ElementSegments, DataSegments, ConstExpr, ElemMode, ElemSeg, GlobalDef, Module, imported_globals, imported_memories, imported_tables}
 use Rattle.wasm_tree.specs.declared.module.ElemMode.TheVariants as elem
 use Rattle.wasm_tree.specs.declared.module.Func as tree
 use Rattle.wasm_meaning.specs.Prelude.{RefVal, Inst, Store, Global, Elem, null_of, ref_of, imports_of, Environment, own_globals, own_memories, own_tables, all_there, defined_count, elem_with, global_with, joined_stores, new_elem, own_count, own_store, space}
-use Rattle.index_remap.specs.Prelude.{is_among, Pairing, OptRel, none, some, BothRel, RefRel, is_written, GlobalOff, RefsOff, StoreRelOff, TableOff, is_place_among}
+use Rattle.index_remap.specs.Prelude.{Pairing, OptRel, none, some, BothRel, RefRel, is_written, GlobalOff, RefsOff, StoreRelOff, TableOff, is_place_among}
 use Rattle.index_remap.proofs.Rel.{copies_rel, get_rel}
 use Rattle.index_remap_proof.specs.Indices.{TreeNamesOnly, with_entry}
 use Rattle.world_simulation.specs.Prelude.{one, new_memory, new_table}

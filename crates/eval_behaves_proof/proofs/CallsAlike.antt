@@ -1,10 +1,11 @@
 -- A quiet call leads the same call of the machine over any store that is related to its own: it ends, in no more steps than a call may make.
 use Rattle.base_lists.proofs.Common.{◌≡◌, ◌∙◌, sym, ap, refl, subst, ℕ, suc, ◌+◌, ◌-◌, ◌<◌, ◌≤◌, List, [], ◌∷◌, length, Bool, true, Option, Some, None, arith, slice_get, same_Some}
+use Rattle.base_lists.specs.Members.{is_among}
 use Rattle.wasm_tree_spec.specs.Prelude.{Space, Functions, ValType, RefType, Module}
 use Rattle.wasm_tree.specs.declared.types.ValType.TheVariants as valt
 use Rattle.wasm_tree.specs.declared.types.RefType.TheVariants as reft
 use Rattle.wasm_meaning.specs.Prelude.{Outcome, Gives, bind, or_ill_typed, Val, Func, Code, Store, Entry, Running, Mark, Next, Ran, EndsCall, zeros, zero_of, null_of, enter, step}
-use Rattle.index_remap.specs.Prelude.{Pairing, OneToOneWhereWritten, ResRel, done, none, BothRel, both, ListRel, nil, cons, RefRel, func, extern, ValRel, number, reference, end, FuncRel, defined, own, slot, EntryRel, running, mark, returned, is_among, passed, Above, Unknowns, StoreRelOff, StepsAgreeOff, RunsAgreeOff, NextOff, left_unknown}
+use Rattle.index_remap.specs.Prelude.{Pairing, OneToOneWhereWritten, ResRel, done, none, BothRel, both, ListRel, nil, cons, RefRel, func, extern, ValRel, number, reference, end, FuncRel, defined, own, slot, EntryRel, running, mark, returned, passed, Above, Unknowns, StoreRelOff, StepsAgreeOff, RunsAgreeOff, NextOff, left_unknown}
 use Rattle.index_remap.proofs.AboveSteps.{whole}
 use Rattle.index_remap.proofs.SameRuns.{touches}
 use Rattle.eval_spec.specs.declared.limits.TheConstants.{MOST_TURNS}

@@ -1,9 +1,10 @@
 -- The segments of a memory's contents are copied over zeros: then the bytes stand there.
 use Rattle.base_lists.proofs.Common.{◌≡◌, ◌∙◌, sym, ap, refl, ℕ, zero, suc, ◌+◌, ◌-◌, ◌<◌, ◌≤◌, List, [], ◌∷◌, ◌++◌, length, take, drop, Bool, true, false, cond, not, Option, Some, ◌⊎◌, inl, inr, arith, slice_get, get_or, nat_eq, cases_lt, eqb-true, length-drop, length-take-le, length-append, get_or-drop, get_or-take, get_or_append_left, slice_get-get_or, place_there}
+use Rattle.wasm_meaning.proofs.Slices.{split_take}
 use Rattle.std.proofs.lemmas.List.{get_or-append-add}
 use Rattle.base_lists.specs.Places.{places}
 use Rattle.block_pool.specs.Pages.{part}
-use Rattle.wasm_meaning.specs.Prelude.{split_at, overwrite}
+use Rattle.wasm_meaning.specs.Prelude.{overwrite}
 use Rattle.eval_snapshot_spec.specs.Contents.{Stretch, is_joined, is_nonzero, nonzero_places, stretches, stretches_from, stretches_over}
 
 -- ---- one part ----
@@ -12,11 +13,6 @@ written : {A : Type 0} (xs : List A) (place : ℕ) (ys : List A) → place + len
 written {A = A} xs place ys fits =
     let rest : length (drop place xs) ≡ length xs - place = length-drop place xs in
     rw (split_take place xs (omega (arith, fits)), split_take (length ys) (drop place xs) (omega (arith, fits, rest))) refl
-  where
-    split_take : (n : ℕ) (zs : List A) → n ≤ length zs → split_at n zs ≡ Some (take n zs, drop n zs)
-    split_take zero zs le = refl
-    split_take (suc n) [] le = absurd (omega (arith, le))
-    split_take (suc n) (z ∷ zs) le = rw (split_take n zs (omega (arith, le))) refl
 
 -- both lists have the same at a place, or both have nothing there, which counts as 0
 abbrev pub Agrees : (xs ys : List ℕ) → ℕ → Type 0

@@ -1,6 +1,6 @@
 -- The functions that the quiet run has at first and those at their addresses in an environment are the same: imported ones are the environment's own of equal pair and type,
 -- and defined ones have the same code over both instances.
-use Rattle.base_lists.proofs.Common.{◌≡◌, ◌∙◌, sym, ap, ap₂, subst, refl, ℕ, suc, ◌+◌, ◌<◌, List, [], ◌∷◌, ◌++◌, map, length, true, Option, Some, is_some, inl, inr, arith, slice_get, option_and_then, cons_option, filter_map, ltb-true, and_parts, length-append, same_Some, chosen_from, place_of, places_many, length-numbers, all_there_at, and_then_is, append_at_left, append_from, append_right, slice_get_there}
+use Rattle.base_lists.proofs.Common.{◌≡◌, ◌∙◌, sym, ap, ap₂, subst, refl, ℕ, suc, ◌+◌, ◌<◌, List, [], ◌∷◌, ◌++◌, map, length, true, Option, Some, is_some, inl, inr, arith, slice_get, option_and_then, cons_option, filter_map, ltb-true, and_parts, length-append, same_Some, chosen_from, place_of, places_many, length-numbers, all_there_at, and_then_is, append_at_left, append_from, append_right, slice_get_there, all_there_back}
 use Rattle.std.specs.Prelude.{unwrap_or}
 use Rattle.wasm_tree_spec.specs.Prelude.{Functions, same_space, FuncType, Import, ImportDesc, Module, func_of, funcs_of, imported_funcs, space_of_import}
 use Rattle.wasm_tree.specs.declared.module.ImportDesc.TheVariants as im
@@ -8,7 +8,6 @@ use Rattle.wasm_tree.specs.declared.module.Func as tree
 use Rattle.wasm_meaning.specs.Prelude.{Pair, Inst, Func, Own, Store, has_kind, imports_of, pair_of, Environment, FuncKey, owned_at, owned_of, own_funcs, address_of, imported_external_value, joined_stores, new_func, own_store}
 use Rattle.index_remap.specs.Prelude.{BothRel, FuncRel, own}
 use Rattle.index_remap_proof.specs.Indices.{ImportNamesOnly, TreeNamesOnly, with_entry}
-use Rattle.index_remap_proof.proofs.Lists.{all_there_back}
 use Rattle.world_simulation.specs.Prelude.{key_in, one, site, external_value_in, FuncsCorrespond}
 use Rattle.world_simulation.proofs.Alone.{funcs_counted, thing_is}
 use Rattle.world_simulation.proofs.Allocated.{AddsWith}

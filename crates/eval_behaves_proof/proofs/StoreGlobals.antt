@@ -1,10 +1,11 @@
 -- Globals of the machine's run and of the snapshot: each known one holds its constant's value, and each unknown one what its initialiser gives in both.
 use Rattle.base_lists.proofs.Common.{◌≡◌, ◌∙◌, sym, ap, refl, subst, ℕ, zero, suc, ◌+◌, ◌-◌, ◌<◌, List, [], ◌∷◌, length, Bool, true, false, not, ◌||◌, Option, Some, None, inl, inr, arith, slice_get, cases_lt, length-append, length-map, same_Some, slice_get_within, and_then_is, slice_get_there}
+use Rattle.base_lists.specs.Members.{is_among}
 use Rattle.std.specs.Prelude.{unwrap_or}
 use Rattle.base_lists.specs.Options.{◌>>=◌}
 use Rattle.wasm_tree_spec.specs.Prelude.{Globals, ConstExpr, GlobalDef, Module, imported_globals, globals_of}
 use Rattle.wasm_meaning.specs.Prelude.{Text, Inst, Val, Global, Store, imports_of, Environment, own_globals, own_count, own_store}
-use Rattle.index_remap.specs.Prelude.{is_among, Pairing, BothRel, both, ValRel, GlobalRel, GlobalOff, StoreRelOff}
+use Rattle.index_remap.specs.Prelude.{Pairing, BothRel, both, ValRel, GlobalRel, GlobalOff, StoreRelOff}
 use Rattle.index_remap.proofs.Rel.{get_rel}
 use Rattle.index_remap_proof.specs.Indices.{TreeNamesOnly, with_entry}
 use Rattle.world_simulation.specs.Prelude.{one}

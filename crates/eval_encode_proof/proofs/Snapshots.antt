@@ -1,5 +1,6 @@
 -- A snapshot has the numbers of its module and those of the state.
 use Rattle.base_lists.proofs.Common.{◌≡◌, ℕ, suc, ◌+◌, ◌-◌, ◌^◌, ◌<◌, ◌≤◌, arith, sym, subst, refl, List, [], ◌∷◌, length, Bool, true, false, not, ◌&&◌, cond, Option, Some, None, slice_get, unwrap_or, inl, inr, IsUtf8, list_any, cons_option, cases_lt, lt-ltb, le-ltb, ints, slice_get_within, right_true, place_back}
+use Rattle.base_lists.proofs.Every.{every_of, every_with, every_placed, every_map, every_append}
 use Rattle.std.proofs.Common.{filter_map}
 use Rattle.std.specs.Option.{IfSome}
 use Rattle.base_lists.specs.Every.{Every}
@@ -13,14 +14,10 @@ use Rattle.wasm_tree.specs.declared.module.ImportDesc.TheVariants as im
 use Rattle.wasm_num.specs.Operations.{W32, W64, signed}
 use Rattle.wasm_valid.specs.Prelude.{IsSingle, IsValid}
 use Rattle.wasm_write_proof.specs.Ranges.{small_operand, all_numbers_in, ConstInRange, DataModeInRange, ElemInRange, ElemModeInRange, ExportInRange, FuncInRange, ImportDescInRange, ImportInRange, InRange}
-use Rattle.wasm_write_proof.proofs.Parts.{every_of, every_with}
 use Rattle.wasm_meaning.specs.Prelude.{Text, RefVal, FuncRef, ExternRef, Val, Num, Ref, Memory, Global}
 use Rattle.index_remap.specs.Prelude.{declared_refs}
-use Rattle.merge_spec.proofs.FaultParts.{every_append}
 use Rattle.merge_encode_proof.proofs.Numbers.{ConstNumberInRange, DataOffsetInRange, ElemNumbersInRange, ElemOffsetInRange, FuncNumbersInRange, ImportLimitsInRange, ImportNumbersInRange, NumbersInRange}
 use Rattle.merge_encode_proof.proofs.Consts.{number_of}
-use Rattle.merge_encode_proof.proofs.ItemRanges.{every_from}
-use Rattle.merge_encode_proof.proofs.Lists.{every_map}
 use Rattle.merge_encode_proof.proofs.Modules.{declared_numbers}
 use Rattle.eval_spec.specs.declared.limits.TheConstants.{MOST_TURNS}
 use Rattle.eval_spec.specs.Prelude.{State, constant, is_dropped, is_unknown_global, memory_bytes, value_of_global}
@@ -96,7 +93,7 @@ module _ (most : ℕ) where
   over_below (n ∷ ns) h = from_below n n ns h.0 h.1
 
 nonzero_below : (bytes : List ℕ) → Every (Below (length bytes)) (nonzero_places bytes)
-nonzero_below bytes = every_from (λ n. Unit {0}) (Below (length bytes)) (nonzero_places bytes) (every_of (λ n. Unit {0}) (nonzero_places bytes) (λ n. tt)) (λ i n at u.
+nonzero_below bytes = every_placed (λ n. Unit {0}) (Below (length bytes)) (nonzero_places bytes) (every_of (λ n. Unit {0}) (nonzero_places bytes) (λ n. tt)) (λ i n at u.
     let p = place_back is_nonzero bytes 0 i n at in
     let is : n ≡ 0 + p.0 = p.2 in
     let within = slice_get_within bytes p.0 p.1 p.3 in omega (arith, is, within))

@@ -1,12 +1,12 @@
 -- Instructions on globals and references to functions, and which globals are unknown.
 use Rattle.base_lists.proofs.Common.{◌≡◌, ℕ, zero, suc, ◌+◌, ◌<◌, ◌≤◌, arith, List, [], ◌∷◌, length, map, slice_get, slice_set, Bool, true, false, cond, not, ◌&&◌, Option, Some, None, Ok, Err, refl, sym, ap, ap₂, ◌∙◌, IsSome, nat_eq, filter, le-ltb, ne_eqb, eq-eqb, length-append, length-map, slice_get_past, slice_get_within, length-numbers, map_at, none_past}
+use Rattle.base_lists.specs.Members.{is_among}
 use Rattle.std.specs.Prelude.{MatchOption}
 use Rattle.base_lists.specs.Places.{places}
 use Rattle.wasm_tree_spec.specs.Prelude.{Globals, Instr, Module, globals_of, imported_globals, same_type}
 use Rattle.wasm_tree.specs.declared.instr.Instr.TheVariants as i
 use Rattle.wasm_tree.specs.declared.instr.Instr.TheOpen.{Instr-F}
 use Rattle.wasm_meaning.specs.Prelude.{Outcome, Gives, Val, Entry, Running, Act, Goes, SetGlobal, global_put, type_of}
-use Rattle.index_remap.specs.Prelude.{is_among}
 use Rattle.eval_spec.specs.declared.stop.Stop.{Stop}
 use Rattle.eval_spec.specs.declared.stop.Stop.TheVariants as why
 use Rattle.eval_spec.specs.Prelude.{Going, Stopped, is_imported, own_inst}

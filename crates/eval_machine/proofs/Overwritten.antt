@@ -1,15 +1,11 @@
 -- Lists that are written over a part of others: where they fit, and what stands there then.
 use Rattle.base_lists.proofs.Common.{◌≡◌, ℕ, zero, suc, ◌+◌, ◌-◌, ◌<◌, ◌≤◌, List, [], ◌∷◌, ◌++◌, length, take, drop, true, false, cond, ◌&&◌, Some, None, refl, sym, ap, ◌∙◌, inl, inr, arith, nat_le, nat_lt, slice_get, cases_lt, lt-ltb, le-ltb, le-leb, lt-leb, drop-drop, length-drop, length-take-le, length-append, append_left, append_right, drop_at}
-use Rattle.wasm_meaning.specs.Prelude.{split_at, overwrite}
+use Rattle.wasm_meaning.proofs.Slices.{split_take}
+use Rattle.wasm_meaning.specs.Prelude.{overwrite}
 use Rattle.eval_machine.proofs.Stacks.{split_short}
 
 abbrev pub put_over : {A : Type 0} → List A → (at : ℕ) → List A → List A
 put_over xs at ys = take at xs ++ (ys ++ drop (at + length ys) xs)
-
-pub split_take : {A : Type 0} (n : ℕ) (xs : List A) → n ≤ length xs → split_at n xs ≡ Some (take n xs, drop n xs)
-split_take zero xs le = refl
-split_take (suc n) [] le = absurd (omega (arith, le))
-split_take (suc n) (x ∷ xs) le = let less : n ≤ length xs = omega (arith, le) in rw (split_take n xs less) refl
 
 pub overwrite_in : {A : Type 0} (xs : List A) (at : ℕ) (ys : List A) → at + length ys ≤ length xs → overwrite xs at ys ≡ Some (put_over xs at ys)
 overwrite_in xs at ys le =

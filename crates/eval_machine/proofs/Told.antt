@@ -1,11 +1,11 @@
 -- What is told of a machine is told of its state.
 use Rattle.base_lists.proofs.Common.{◌≡◌, ℕ, zero, suc, ◌+◌, ◌*◌, ◌<◌, List, [], ◌∷◌, map, length, Bool, true, false, cond, ◌||◌, Option, Some, None, refl, sym, ap, ◌∙◌, arith, slice_get, same_Some, length-map, map_at, push_last}
+use Rattle.base_lists.specs.Members.{is_among}
 use Rattle.std.specs.Prelude.{unwrap_or}
 use Rattle.base_lists.specs.Options.{◌>>=◌}
 use Rattle.base_lists.specs.Places.{places}
 use Rattle.wasm_tree_spec.specs.Prelude.{Globals, Limits, DataSeg, Module, imported_memories}
 use Rattle.block_pool.specs.Pages.{Pages, little, part}
-use Rattle.index_remap.specs.Prelude.{is_among}
 use Rattle.eval_spec.specs.Prelude.{is_imported, constant, value_of_global, is_dropped, memory_bytes, imported_store}
 use Rattle.eval_machine.specs.declared.globals.GlobalSlot.{GlobalSlot}
 use Rattle.eval_machine.specs.declared.globals.Standing.{Standing}

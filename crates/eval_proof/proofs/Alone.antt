@@ -1,5 +1,7 @@
 -- A step over another store writes at addresses that are related to those at which the quiet step writes.
 use Rattle.base_lists.proofs.Common.{◌≡◌, ◌∙◌, ℕ, List, [], ◌∷◌, Option, Some, None, Bool, true, false, cond, not, refl, sym, subst, slice_get, nat_eq, filter, eqb-false, ne_eqb, set_other}
+use Rattle.base_lists.specs.Members.{is_among}
+use Rattle.base_lists.proofs.Every.{every_with}
 use Rattle.std.proofs.lemmas.Bool.{true≢false}
 use Rattle.base_lists.specs.Every.{Every}
 use Rattle.wasm_tree_spec.specs.Prelude.{Space, Memories, Globals, DataSegments, Instr, out-Instr, Module, operands}
@@ -10,14 +12,14 @@ use Rattle.wasm_meaning.specs.Touched
 use Rattle.wasm_meaning.specs.Touched.{OneElem, OneData, WritesTold}
 use Rattle.wasm_meaning.proofs.Outcomes.{AllOf, ill_typed, just, with_is, with_found, all_at, then_found}
 use Rattle.index_remap.specs.Related
-use Rattle.index_remap.specs.Prelude.{Pairing, OptRel, none, some, ListRel, nil, cons, OpRel, CodeRel, end, then, instead, LevelRel, FrameRel, EntryRel, running, is_among, Unknowns, left_by, left_after, left_unknown}
+use Rattle.index_remap.specs.Prelude.{Pairing, OptRel, none, some, ListRel, nil, cons, OpRel, CodeRel, end, then, instead, LevelRel, FrameRel, EntryRel, running, Unknowns, left_by, left_after, left_unknown}
 use Rattle.index_remap.specs.Unknown.{learnt}
 use Rattle.eval_spec.specs.Prelude.{State, Going, first_held, changes_table, is_unknown_import, instruction_tests, tests_at, tests, quiet_step, own_inst}
 use Rattle.eval_spec.specs.Stops.{beginning_in, beginning_of}
 use Rattle.eval_proof.specs.Known.{RelatesAllButImports, FramesOf}
 use Rattle.eval_proof.specs.Alone.{LeavesAlone, QuietStepsPreserveUnrelated}
 use Rattle.eval_proof.proofs.Operands.{Known, op_known}
-use Rattle.eval_proof.proofs.Quiet.{neither, every_false, every_to, none_held, goes_on_quietly}
+use Rattle.eval_proof.proofs.Quiet.{neither, every_false, none_held, goes_on_quietly}
 use Rattle.eval_proof.proofs.KnownSteps as steps
 
 -- ---- what the other step touches ----
@@ -239,7 +241,7 @@ module _ (m : Module) (of named : Space → ℕ → ℕ → Bool) (all : Relates
   next_in s es i j vs [] is e = tt
   next_in s es i j vs (o ∷ rest) is e =
       let none = none_held (instruction_tests m s es (out-Instr o) (record { store = s.store; inst = i }) vs) e in
-      (none.1.1.0, every_to (operands (out-Instr o)) (λ x h. steps.operand_known m of named all i j is x h) (every_false (is_unknown_import m) (operands (out-Instr o)) (neither _ _ none.1.1.1.0).0))
+      (none.1.1.0, every_with _ _ (operands (out-Instr o)) (λ x h. steps.operand_known m of named all i j is x h) (every_false (is_unknown_import m) (operands (out-Instr o)) (neither _ _ none.1.1.1.0).0))
 
   next_top : (s : State) (es : List Entry) (i j : Inst) (ls : List Level) → i ≡ own_inst m → first_held (tests_at m s es (beginning_of i ls)) ≡ None → NextTop i j ls
   next_top s es i j [] is e = tt

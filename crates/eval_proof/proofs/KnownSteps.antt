@@ -1,5 +1,6 @@
 -- Quiet steps that go on read no unknown place and name related addresses.
 use Rattle.base_lists.proofs.Common.{◌≡◌, ℕ, suc, List, [], ◌∷◌, Some, Bool, false, not, ◌&&◌, refl, sym, subst, None, numbers_is}
+use Rattle.base_lists.proofs.Every.{every_with}
 use Rattle.std.proofs.lemmas.Bool.{true≢false}
 use Rattle.wasm_tree_spec.specs.Prelude.{Space, Types, Functions, Tables, Memories, Globals, ElementSegments, DataSegments, Operand, Instr, out-Instr, Module, same_space, operands}
 use Rattle.wasm_meaning.specs.Prelude.{Inst, Val, Level, Store, Entry, Running, Mark, Opening, Waiting, Ended, Growing}
@@ -9,7 +10,7 @@ use Rattle.eval_spec.specs.Prelude.{State, Stage, Going, Stopped, Finished, firs
 use Rattle.eval_proof.specs.Known.{RelatesAllButImports, FramesOf, FuncsOf, QuietStepsAreKnown}
 use Rattle.eval_proof.proofs.Operands.{address_at, Known, op_known}
 use Rattle.eval_proof.proofs.Frames.{step_keeps}
-use Rattle.eval_proof.proofs.Quiet.{neither, every_false, every_to, UsesKnownIn, UsesKnown, uses_known, reads_levels, goes_on_quietly}
+use Rattle.eval_proof.proofs.Quiet.{neither, every_false, UsesKnownIn, UsesKnown, uses_known, reads_levels, goes_on_quietly}
 
 -- each index is its own address
 own_address : (m : Module) (k : Space) (n a : ℕ) → address_at (own_inst m) k n ≡ Some a → a ≡ n
@@ -31,7 +32,7 @@ module _ (m : Module) (of named : Space → ℕ → ℕ → Bool) (all : Relates
       all x.space a b (subst (λ n. not (same_space x.space Functions) && is_imported m x.space n ≡ false) (sym same) e) p
 
   next_known : (s : State) (i j : Inst) (vs : List Val) (c d : List Instr) → i ≡ own_inst m → UsesKnownIn m s i vs c → NextKnown R i j c d
-  next_known s i j vs (o ∷ c) (p ∷ d) is n = λ r. op_known R i j (every_to (operands (out-Instr o)) (λ x h. operand_known i j is x h) (every_false (is_unknown_import m) (operands (out-Instr o)) (neither _ _ n).0)) r
+  next_known s i j vs (o ∷ c) (p ∷ d) is n = λ r. op_known R i j (every_with _ _ (operands (out-Instr o)) (λ x h. operand_known i j is x h) (every_false (is_unknown_import m) (operands (out-Instr o)) (neither _ _ n).0)) r
   next_known s i j vs [] d is n = tt
   next_known s i j vs (o ∷ c) [] is n = tt
 

@@ -19,10 +19,6 @@ pub every_false : {A : Type 0} (is : A → Bool) (xs : List A) → list_any is x
 every_false is [] e = tt
 every_false is (x ∷ xs) e = let n = neither (is x) (list_any is xs) e in (n.0, every_false is xs n.1)
 
-pub every_to : {A : Type 0} {P Q : A → Type 0} (xs : List A) → ((x : A) → P x → Q x) → Every P xs → Every Q xs
-every_to [] f p = tt
-every_to (x ∷ xs) f p = (f x p.0, every_to xs f p.1)
-
 -- ---- what is read is known ----
 
 -- a place of a row in which none is unknown

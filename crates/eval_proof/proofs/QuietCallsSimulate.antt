@@ -1,8 +1,9 @@
 -- A quiet call leads the same call over a related store, and leaves the rest of it alone.
 use Rattle.base_lists.proofs.Common.{None, ◌≡◌, ◌∙◌, ℕ, suc, List, [], ◌∷◌, Bool, true, false, cond, not, ◌||◌, refl, sym, subst, nat_eq, filter}
+use Rattle.base_lists.specs.Members.{is_among}
 use Rattle.wasm_tree_spec.specs.Prelude.{Space, Module}
 use Rattle.wasm_meaning.specs.Prelude.{Outcome, Gives, Traps, IllTyped, Val, Store, Change, Keep, SetGlobal, SetMemory, SetTable, DropElem, DropData, Entry, Running, Mark, Opening, Waiting, Ended, Growing, Act, Goes, Calls, AsksGrow, Ends, Next, Ran, EndsCall, act, step, StepsWriteWhatTheyTouch}
-use Rattle.index_remap.specs.Prelude.{Pairing, OneToOneWhereWritten, ResRel, done, ListRel, EntryRel, ran, returned, is_among, passed, Above, Unknowns, StoreRelOff, left_by, left_after, left_unknown, NextOff, here, step_on, StepsAgreeOff}
+use Rattle.index_remap.specs.Prelude.{Pairing, OneToOneWhereWritten, ResRel, done, ListRel, EntryRel, ran, returned, passed, Above, Unknowns, StoreRelOff, left_by, left_after, left_unknown, NextOff, here, step_on, StepsAgreeOff}
 use Rattle.index_remap.proofs.AboveSteps.{whole, entries_of}
 use Rattle.index_remap.proofs.SameRuns.{touches}
 use Rattle.eval_spec.specs.Prelude.{State, Stage, Going, Stopped, Finished, first_held, tests, ComesTo, on, quiet_step, own_inst}

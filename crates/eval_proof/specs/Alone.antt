@@ -1,8 +1,9 @@
 -- What a quiet step leaves unchanged in another store, over which the machine makes it too.
 use Rattle.std.specs.Prelude.{◌≡◌, ℕ, true, List, [], slice_get, Bool}
+use Rattle.base_lists.specs.Members.{is_among}
 use Rattle.wasm_tree_spec.specs.Prelude.{Space, Memories, Globals, DataSegments, Module}
 use Rattle.wasm_meaning.specs.Prelude.{Gives, Store, Entry, Ran, step}
-use Rattle.index_remap.specs.Prelude.{Pairing, ListRel, EntryRel, is_among, passed, Unknowns}
+use Rattle.index_remap.specs.Prelude.{Pairing, ListRel, EntryRel, passed, Unknowns}
 use Rattle.eval_spec.specs.Prelude.{State, Going, quiet_step, own_inst}
 use Rattle.eval_proof.specs.Known.{RelatesAllButImports, FramesOf}
 

@@ -1,7 +1,7 @@
 -- Names that are looked up: one name more.
 use Rattle.base_lists.proofs.Common.{◌≡◌, ◌∙◌, ap, sym, refl, ℕ, ◌+◌, ◌<◌, List, [], ◌∷◌, ◌++◌, take, length, get_or, Bool, true, false, ◌||◌, cond, Option, Some, None, list_any, bytes_eq, take_more, list_any-append, bytes_eq-Decides, same_tests}
+use Rattle.base_lists.proofs.Same.{text_is, text_self}
 use Rattle.wasm_meaning.specs.Prelude.{Text, same_text}
-use Rattle.index_remap_proof.proofs.Lists.{text_is, text_self}
 use Rattle.eval_snapshot_spec.specs.Snapshot.{is_among_names}
 
 same_bytes : (q x : Text) → same_text q x ≡ bytes_eq x q

@@ -1,5 +1,5 @@
 -- Code that stays well typed where there are more functions, others may be named, and there are other data segments, as many as before if it names one.
-use Rattle.base_lists.proofs.Common.{◌≡◌, ◌∙◌, ap, refl, ℕ, Bool, true, false, not, ◌&&◌, ◌||◌, List, [], ◌∷◌, ◌++◌, Some, slice_get, arith, nat_lt, nat_le, list_all, list_any, append_at_left}
+use Rattle.base_lists.proofs.Common.{◌≡◌, ◌∙◌, ap, refl, ℕ, Bool, true, false, not, ◌&&◌, ◌||◌, List, [], ◌∷◌, ◌++◌, Some, slice_get, arith, nat_lt, nat_le, list_all, list_any, append_at_left, and_from, left_either, right_either}
 use Rattle.base_lists.specs.Every.{Every}
 use Rattle.wasm_tree_spec.specs.Prelude.{Operand, ValType, Instr, Row_of-Instr, end_of-Instr, more_of-Instr, Block', Loop', If', Call, RefFunc, MemoryInit, DataDrop, names_data, uses_data, uses_data_in, Layers, RowLayers, ListLayers, all_operands_pass, held, operands, operands_of, operands_pass, AnyInside, PassesInside, PassesLayerByLayer}
 use Rattle.wasm_tree.specs.declared.instr.Instr.{out-Instr}
@@ -8,7 +8,6 @@ use Rattle.wasm_tree.proofs.OperandLaws.{by_held}
 use Rattle.wasm_valid_bodies.specs.Typing.{Context, Effect, Fits, Leads, LeadsAll, Stack, WellTyped, effect_of}
 use Rattle.index_remap.specs.Prelude.{Keeps, labelled}
 use Rattle.index_remap.proofs.Keeping.{keeps_map, keeps_only, keeps_signature, keeps_then, named_keeps}
-use Rattle.index_remap_proof.proofs.Lists.{both_true, left_either, right_either}
 
 -- ---- code that names a data segment only where there are as many ----
 
@@ -24,7 +23,7 @@ module _ (inside : PassesInside) (any : AnyInside) (so : Bool) where
   own_pass : (os : List Operand) → (list_any names_data os ≡ true → so ≡ true) → list_all (no_data_or so) os ≡ true
   own_pass [] h = refl
   own_pass (o ∷ os) h =
-      both_true (no_data_or so o) (list_all (no_data_or so) os) (either_so (names_data o) so (λ e. h (left_either (names_data o) (list_any names_data os) e)))
+      and_from (no_data_or so o) (list_all (no_data_or so) os) (either_so (names_data o) so (λ e. h (left_either (names_data o) (list_any names_data os) e)))
       (own_pass os (λ e. h (right_either (names_data o) (list_any names_data os) e)))
 
   abbrev Passes : Instr → Type 0
@@ -33,12 +32,12 @@ module _ (inside : PassesInside) (any : AnyInside) (so : Bool) where
   all_pass : (is : List Instr) → Every Passes is → (uses_data is ≡ true → so ≡ true) → all_operands_pass (no_data_or so) is ≡ true
   all_pass [] p h = refl
   all_pass (i ∷ is) p h =
-      both_true (operands_pass (no_data_or so) i) (all_operands_pass (no_data_or so) is) (p.0 (λ e. h (left_either (uses_data_in i) (uses_data is) e))) (all_pass is p.1 (λ e. h (right_either (uses_data_in i) (uses_data is) e)))
+      and_from (operands_pass (no_data_or so) i) (all_operands_pass (no_data_or so) is) (p.0 (λ e. h (left_either (uses_data_in i) (uses_data is) e))) (all_pass is p.1 (λ e. h (right_either (uses_data_in i) (uses_data is) e)))
 
   one_passes : (i : Instr) → Passes i
   one_passes = by_held Passes (λ i p h.
       inside (no_data_or so) i
-      ∙ both_true (list_all (no_data_or so) (operands_of i)) (all_operands_pass (no_data_or so) (held (out-Instr i)))
+      ∙ and_from (list_all (no_data_or so) (operands_of i)) (all_operands_pass (no_data_or so) (held (out-Instr i)))
       (own_pass (operands_of i) (λ e. h (any names_data i ∙ left_either (list_any names_data (operands_of i)) (uses_data (held (out-Instr i))) e)))
       (all_pass (held (out-Instr i)) p (λ e. h (any names_data i ∙ right_either (list_any names_data (operands_of i)) (uses_data (held (out-Instr i))) e))))
 

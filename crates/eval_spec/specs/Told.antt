@@ -1,13 +1,13 @@
 -- What can be read of a state: the value of a global, the bytes of the memory, and whether a data
 -- segment is dropped.
 use Rattle.std.specs.Prelude.{ℕ, List, [], length, Bool, false, cond, ◌||◌, Option, Some, None, slice_get, unwrap_or}
+use Rattle.base_lists.specs.Members.{is_among}
 use Rattle.base_lists.specs.Options.{◌>>=◌}
 use Rattle.wasm_tree_spec.specs.Prelude.{Globals, ConstExpr, Module, imported_memories}
 use Rattle.wasm_tree.specs.declared.types.RefType.TheVariants as reft
 use Rattle.wasm_tree.specs.declared.module.ConstExpr.TheVariants as const
 use Rattle.wasm_num.specs.Operations.{W32, W64, signed}
 use Rattle.wasm_meaning.specs.Prelude.{RefVal, FuncRef, ExternRef, Val, Num, Ref, Memory}
-use Rattle.index_remap.specs.Prelude.{is_among}
 use Rattle.eval_spec.specs.State.{State}
 use Rattle.eval_spec.specs.Stops.{is_imported}
 

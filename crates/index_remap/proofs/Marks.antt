@@ -1,11 +1,12 @@
 -- Marks at the functions that bodies name, and the list of those that are to be declared.
 use Rattle.base_lists.proofs.Common.{◌≡◌, ℕ, zero, suc, ◌+◌, ◌<◌, Bool, true, false, ◌&&◌, not, cond, List, [], ◌∷◌, ◌++◌, map, length, drop, get_or, refl, sym, ap, ap₂, ◌∙◌, arith, zero-add, add-zero, append-nil, rules, replicate, map-append, filter, flat_map, range_with_len}
+use Rattle.base_lists.specs.Members.{is_among}
 use Rattle.wasm_tree_spec.specs.Prelude.{BlockType, Instr, the_lemmas, ConstExpr, Func}
 use Rattle.wasm_tree.specs.declared.instr.Instr.{If}
 use Rattle.wasm_tree.specs.declared.module.ConstExpr.TheVariants as const
 use Rattle.wasm_valid.specs.Prelude.{named_from, marked_all}
 use Rattle.wasm_valid.proofs.Marked.{segment_step, marked_append, all_marks, no_marks}
-use Rattle.index_remap.specs.Prelude.{refs, refs_all, body_refs, is_among, marked_only}
+use Rattle.index_remap.specs.Prelude.{refs, refs_all, body_refs, marked_only}
 
 joined : {X : Type 0} (f : X → List ℕ) (xs : List X) → flat_map (λ ys. ys) (map f xs) ≡ flat_map f xs
 joined f [] = refl

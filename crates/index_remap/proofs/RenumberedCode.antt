@@ -1,5 +1,6 @@
 -- Code with other indices, in which code stands in place of calls of listed functions, is related to what it was.
 use Rattle.base_lists.proofs.Common.{◌≡◌, ℕ, List, [], ◌∷◌, ◌++◌, Bool, true, false, ◌&&◌, refl, sym, subst}
+use Rattle.base_lists.specs.Members.{is_among}
 use Rattle.wasm_tree_spec.specs.Prelude.{FuncType, BlockType, Instr, fold_out-Instr, map-Instr, Row_of-Instr, end_of-Instr, more_of-Instr, items-the_row-Instr, items_shown-the_row-Instr-0, Block, Block', Loop, Loop', If, If', Call, Space, Functions, block_operands, map_operands, Layers, RowLayers, ListLayers}
 use Rattle.wasm_tree.specs.declared.types.BlockType.TheVariants as bt
 use Rattle.wasm_tree.specs.declared.instr.Instr.{out-Instr}
@@ -10,7 +11,7 @@ use Rattle.wasm_meaning.specs.Prelude.{Inst}
 use Rattle.base_lists.specs.Every.{Every}
 use Rattle.index_remap.specs.declared.remap.Remap.{Remap}
 use Rattle.index_remap.specs.Related
-use Rattle.index_remap.specs.Prelude.{Pairing, BlockRel, empty, value, indexed, OpRel, CodeRel, end, then, instead, entry, new_type, renumbered, renumbered_all, is_among, EntryNames, LayerNames, Labels, Codes, CallReplaced, DenotesOne, RowReplaced, Replaced, is_opaque_call, OtherNamed, OthersNamed, ReplacementCodesFit}
+use Rattle.index_remap.specs.Prelude.{Pairing, BlockRel, empty, value, indexed, OpRel, CodeRel, end, then, instead, entry, new_type, renumbered, renumbered_all, EntryNames, LayerNames, Labels, Codes, CallReplaced, DenotesOne, RowReplaced, Replaced, is_opaque_call, OtherNamed, OthersNamed, ReplacementCodesFit}
 use Rattle.index_remap.proofs.NotOpaque.{operands_follow, unlisted_renumbered}
 
 module _ (R : Pairing) (m : Remap) (x y : Inst) where

@@ -1,7 +1,7 @@
 -- A function that is called directly, through a trampoline and through the two instructions, computed; slots in which there is none, or one of another type; and a call
 -- that ends under a frame of a trampoline.
 use Rattle.base_lists.proofs.Common.{◌≡◌, ◌∙◌, subst, refl, sym, ℕ, zero, suc, List, [], ◌∷◌, Some, None, Bool, true, false, slice_get, pos}
-use Rattle.std.proofs.lemmas.Bool.{true≢false}
+use Rattle.index_remap.proofs.LawRows.{no_more}
 use Rattle.wasm_tree_spec.specs.Prelude.{Space, Types, Functions, Tables, Memories, Globals, ElementSegments, DataSegments, I32, FuncType, Instr}
 use Rattle.wasm_tree.specs.declared.types.RefType.TheVariants as reft
 use Rattle.wasm_tree.specs.declared.instr.Instr.{out-Instr}
@@ -92,9 +92,6 @@ zero_alone _ _ _ = false
 
 abbrev L : Pairing
 L = passed zero_alone zero_alone (0 ∷ [])
-
-no_more : {A : Type 0} → false ≡ true → A
-no_more h = absurd (true≢false (sym h))
 
 types : (a b : ℕ) → L.of Functions a b → BothRel (◌≡◌ {A = FuncType}) (type_at direct a) (type_at by_slot b)
 types zero zero h = both refl

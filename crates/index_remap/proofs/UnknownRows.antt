@@ -1,6 +1,7 @@
 -- The law of steps off unknown places, of two small stores that differ in a global and in a slot of a table: a run that reads the other slot, and the global once it
 -- was set; and a read of the global before, which breaks what the law says of steps that read no unknown place.
 use Rattle.base_lists.proofs.Common.{◌≡◌, refl, sym, subst, ◌∙◌, ℕ, zero, suc, List, [], ◌∷◌, ◌++◌, Some, None, Bool, true, false, not, arith, slice_get}
+use Rattle.base_lists.specs.Members.{is_among}
 use Rattle.std.proofs.lemmas.Bool.{true≢false}
 use Rattle.wasm_tree_spec.specs.Prelude.{Space, Types, Functions, Tables, Memories, Globals, ElementSegments, DataSegments, Instr}
 use Rattle.wasm_tree.specs.declared.types.RefType.TheVariants as reft
@@ -10,7 +11,7 @@ use Rattle.wasm_tree.specs.declared.instr.Instr.TheVariants as i
 use Rattle.wasm_num.specs.Operations.{W32}
 use Rattle.wasm_meaning.specs.Prelude.{Outcome, Gives, RefVal, FuncRef, Val, Num, Inst, Store, Entry, Ran, step}
 use Rattle.index_remap.specs.Related
-use Rattle.index_remap.specs.Prelude.{Pairing, OneToOneWhereWritten, none, some, ResRel, done, OptRel, BothRel, both, ListRel, nil, cons, RefRel, func, ValRel, number, CodeRel, end, then, EntryRel, running, ran, TopSkips, passed, Above, Touches, EntriesKnown, is_among, Unknowns, is_place_among, GlobalOff, RefsOff, TableOff, StoreRelOff, ReadPlace, ReadsNothing, ReadsGlobal, ReadsSlots, IsKnown, ReadsKnown, StepReadsKnown, left_unknown, NextOff, KnownSteps, none_left, known_step}
+use Rattle.index_remap.specs.Prelude.{Pairing, OneToOneWhereWritten, none, some, ResRel, done, OptRel, BothRel, both, ListRel, nil, cons, RefRel, func, ValRel, number, CodeRel, end, then, EntryRel, running, ran, TopSkips, passed, Above, Touches, EntriesKnown, Unknowns, is_place_among, GlobalOff, RefsOff, TableOff, StoreRelOff, ReadPlace, ReadsNothing, ReadsGlobal, ReadsSlots, IsKnown, ReadsKnown, StepReadsKnown, left_unknown, NextOff, KnownSteps, none_left, known_step}
 use Rattle.index_remap.specs.Unknown.{FollowsOff}
 use Rattle.index_remap.proofs.Known.{entries_known}
 use Rattle.index_remap.proofs.AboveSteps.{entries_of}

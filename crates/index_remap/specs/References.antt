@@ -1,8 +1,9 @@
 -- A tree in which one more declarative element segment declares the functions that `ref.func` names
 -- in bodies, if any is not declared (WebAssembly Core 2.0, sections 2.5.7 and 3.4.10, the context's
 -- refs).
-use Rattle.std.specs.Prelude.{ℕ, Bool, false, ◌&&◌, not, nat_eq, List, [], ◌∷◌, ◌++◌, map, length, get_or, Option, None}
-use Rattle.std.specs.List.{filter, filter_map, flat_map, list_any, range_with_len}
+use Rattle.std.specs.Prelude.{ℕ, Bool, false, ◌&&◌, not, List, [], ◌∷◌, ◌++◌, map, length, get_or, Option, None}
+use Rattle.base_lists.specs.Members.{is_among}
+use Rattle.std.specs.List.{filter, filter_map, flat_map, range_with_len}
 use Rattle.wasm_tree.specs.declared.types.RefType.TheVariants.{Func as func_ref}
 use Rattle.wasm_tree_spec.specs.Prelude.{Instr, fold-Instr, ElemMode, ElemSeg, Func, Module, funcs_of}
 use Rattle.wasm_tree.specs.declared.instr.Instr.TheOpen.{Instr-F}
@@ -79,9 +80,6 @@ offset_refs = filter_map (λ s. offset_func s.mode)
 -- name.
 abbrev pub outside_refs : Module → List ℕ
 outside_refs m = refs_of m ++ offset_refs m.elems
-
-abbrev pub is_among : List ℕ → ℕ → Bool
-is_among xs x = list_any (nat_eq x) xs
 
 -- The functions of the index space that `ref.func` names in a body, and that no element segment,
 -- initialiser of a global or export names, in ascending order.

@@ -1,6 +1,7 @@
 -- Code in which each index is replaced by its entry in a map, and each call of a function of a list
 -- by other code.
 use Rattle.std.specs.Prelude.{◌≡◌, ℕ, Bool, true, false, ◌&&◌, IsTrue, List, [], ◌∷◌, ◌++◌, Option, Some, None, Contains, slice_get}
+use Rattle.base_lists.specs.Members.{is_among}
 use Rattle.std.specs.List.{list_any}
 use Rattle.base_lists.specs.Every.{Every}
 use Rattle.wasm_tree_spec.specs.Prelude.{Space, Operand, operands, ValType, FuncType, Instr, Row_of-Instr, end_of-Instr, more_of-Instr, Block, Block', Loop, Loop', If, If', Call, Unreachable, Nop, Br, BrIf, BrTable, Return, CallIndirect, Drop, Select, SelectTyped, LocalGet, LocalSet, LocalTee, GlobalGet, GlobalSet, TableGet, TableSet, Load, Store, MemorySize, MemoryGrow, I32Const, I64Const, Un, Bin, RefNull, RefIsNull, RefFunc, MemoryInit, DataDrop, MemoryCopy, MemoryFill, TableInit, ElemDrop, TableCopy, TableGrow, TableSize, TableFill}
@@ -9,7 +10,6 @@ use Rattle.wasm_valid_bodies.specs.Typing.{Signature, signature_of, Context, Wel
 use Rattle.wasm_meaning.specs.Prelude.{Inst}
 use Rattle.index_remap.specs.declared.remap.Remap.{Remap}
 use Rattle.index_remap.specs.Renumbered.{new_type, renumbered}
-use Rattle.index_remap.specs.References.{is_among}
 use Rattle.index_remap.specs.CodeNames.{EntryNames}
 use Rattle.index_remap.specs.Related.{Pairing}
 use Rattle.index_remap.specs.Agreement.{LayerAgrees, func_type, labelled}

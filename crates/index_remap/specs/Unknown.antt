@@ -2,6 +2,7 @@
 -- Imported entities are no unknown places: they have addresses in the code relation in both stores,
 -- and are not related.
 use Rattle.std.proofs.Common.{◌≡◌, ℕ, suc, ◌+◌, ◌<◌, ◌≤◌, List, [], ◌∷◌, ◌++◌, length, Bool, true, false, not, slice_get, Some}
+use Rattle.base_lists.specs.Members.{is_among}
 use Rattle.std.specs.Prelude.{nat_eq, ◌↔◌, ◌&&◌}
 use Rattle.std.specs.List.{list_any, filter}
 use Rattle.wasm_tree_spec.specs.Prelude.{Space, Functions, Tables, Memories, Globals, ElementSegments, DataSegments, FuncType, Instr, out-Instr}
@@ -9,7 +10,6 @@ use Rattle.wasm_tree.specs.declared.instr.Instr.TheOpen.{Instr-F}
 use Rattle.wasm_num.specs.Operations.{W32}
 use Rattle.wasm_meaning.specs.Prelude.{Outcome, Gives, IllTyped, bind, with_entry, Val, RefVal, Inst, Table, Global, Store, Level, Entry, Running, Env, Change, SetGlobal, SetTable, Act, Goes, Next, Ran, pop_num, pop_three, type_at, own_at, act, changed, step}
 use Rattle.index_remap.specs.Related.{Pairing, OneToOneWhereWritten, OptRel, BothRel, ResRel, ListRel, RefRel, ValRel, FuncRel, StoreRel, EntryRel, ChangeRel, ActRelBy, NextRelBy, TopSkips}
-use Rattle.index_remap.specs.References.{is_among}
 use Rattle.index_remap.specs.Laws.{passed, Above, Touches, EntriesKnown}
 
 -- Unknown places, by their addresses in the first store: globals that were not set yet, and slots

@@ -1,5 +1,7 @@
 -- Trees whose references are declared.
-use Rattle.base_lists.proofs.Common.{◌≡◌, ℕ, zero, suc, ◌+◌, ◌^◌, ◌<◌, Bool, true, false, ◌&&◌, not, cond, nat_eq, nat_lt, List, [], ◌∷◌, ◌++◌, length, map, Some, ◌⊎◌, inl, inr, ⊎_elim, refl, sym, ap, ◌∙◌, subst, arith, append-nil, slice_get, replicate, filter, filter_map, range_with_len, lt-ltb, flat_map-append, map-append, slice_get_within, slice_get_there, map_from, append_at_left, replicate_at}
+use Rattle.base_lists.proofs.Common.{◌≡◌, ℕ, zero, suc, ◌+◌, ◌^◌, ◌<◌, Bool, true, false, ◌&&◌, not, cond, nat_eq, nat_lt, List, [], ◌∷◌, ◌++◌, length, map, Some, ◌⊎◌, inl, inr, ⊎_elim, refl, sym, ap, ◌∙◌, subst, arith, append-nil, slice_get, replicate, filter, filter_map, range_with_len, lt-ltb, flat_map-append, map-append, slice_get_within, slice_get_there, map_from, append_at_left, replicate_at, and_from, cases_Bool, left_either, right_either}
+use Rattle.base_lists.specs.Members.{is_among}
+use Rattle.base_lists.proofs.Members.{among_left, among_right, among_either, among_joined, joined_among, chosen_among}
 use Rattle.std.proofs.Common.{length-append, eq-eqb}
 use Rattle.wasm_tree_spec.specs.Prelude.{RefType, I32, Ref, ImportDesc, ExportDesc, ElemMode, ElemSeg, DataMode, ConstExpr, Func, Module, IsBounded, funcs_of}
 use Rattle.wasm_tree.specs.declared.types.RefType.TheVariants.{Func as func_ref}
@@ -12,10 +14,10 @@ use Rattle.wasm_valid_bodies.specs.Typing.{only}
 use Rattle.wasm_valid.specs.declared.kinds.ItemKind.{ItemKind}
 use Rattle.wasm_valid.specs.declared.kinds.ItemKind.TheVariants as kind
 use Rattle.wasm_valid.specs.Prelude.{const_type, const_func, elem_refs, global_refs, export_refs, named_of, refs_of, elem_types, HoldsAt, ImportHolds, InSpace, ElemModeHolds, DataModeHolds, IsSingle, IsValid, body_context, count_of}
-use Rattle.index_remap.specs.Prelude.{refs_all, body_refs, offset_refs, outside_refs, is_among, declared_refs, declaring, with_declared, declared, Keeps}
+use Rattle.index_remap.specs.Prelude.{refs_all, body_refs, offset_refs, outside_refs, declared_refs, declaring, with_declared, declared, Keeps}
 use Rattle.index_remap.specs.References.{offset_func}
 use Rattle.index_remap_proof.specs.ButForReferences.{any_named, HoldsButForReferences, IsValidButForReferences}
-use Rattle.index_remap_proof.proofs.Lists.{two_cases, both_true, among_left, among_right, among_either, among_joined, joined_among, chosen_among, marked, is_marked, named_within, left_either, right_either}
+use Rattle.index_remap_proof.proofs.Lists.{marked, is_marked, named_within}
 use Rattle.base_lists.proofs.Places.{push_from, replicate_within}
 use Rattle.index_remap_proof.proofs.NamedFuncs.{typed_named, typed_wider}
 use Rattle.index_remap_proof.proofs.WholeTrees.{ValidWhereItemsHold}
@@ -103,7 +105,7 @@ module _ (t : Module) where
 
   -- a function that a body names is named outside the bodies, or is to be declared
   named_or_missing : ElemsHold → (x : ℕ) → x < space → is_among (body_refs t.funcs) x ≡ true → (is_among (refs_of t) x ≡ true) ⊎ (is_among (declared_refs t) x ≡ true)
-  named_or_missing holds x lt h = here (two_cases (is_among (outside_refs t) x))
+  named_or_missing holds x lt h = here (cases_Bool (is_among (outside_refs t) x))
     where
       outside : (is_among (refs_of t) x ≡ true) ⊎ (is_among (offset_refs t.elems) x ≡ true) → (is_among (refs_of t) x ≡ true) ⊎ (is_among (declared_refs t) x ≡ true)
       outside (inl k) = inl k
@@ -111,7 +113,7 @@ module _ (t : Module) where
 
       here : (is_among (outside_refs t) x ≡ true) ⊎ (is_among (outside_refs t) x ≡ false) → (is_among (refs_of t) x ≡ true) ⊎ (is_among (declared_refs t) x ≡ true)
       here (inl k) = outside (among_either (refs_of t) (offset_refs t.elems) x k)
-      here (inr k) = inr (passed is_missing 0 space x x lt (omega arith) (both_true _ _ h (ap not k)))
+      here (inr k) = inr (passed is_missing 0 space x x lt (omega arith) (and_from _ _ h (ap not k)))
 
   abbrev rest : List ℕ
   rest = global_refs t.globals ++ export_refs t.exports

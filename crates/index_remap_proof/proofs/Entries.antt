@@ -1,5 +1,5 @@
 -- What is well typed, or valid, names only indices of its spaces, so that a map with as many entries has one for each.
-use Rattle.base_lists.proofs.Common.{◌≡◌, ℕ, true, nat_lt, List, [], ◌∷◌, Option, Some, None, refl, sym, arith, true≢false, slice_get, ltb-true, lt-ltb, and_then_is}
+use Rattle.base_lists.proofs.Common.{◌≡◌, ℕ, true, nat_lt, List, [], ◌∷◌, Option, Some, None, refl, sym, arith, true≢false, slice_get, ltb-true, lt-ltb, and_then_is, left_true, right_true, option_map_is}
 use Rattle.wasm_tree_spec.specs.Prelude.{RefType, ValType, FuncType, BlockType, Operand, Layers, RowLayers, ListLayers, PassesLayerByLayer, operands, block_operands, Instr, Row_of-Instr, end_of-Instr, more_of-Instr, Block', Loop', If', Call, CallIndirect, GlobalGet, GlobalSet, TableGet, TableSet, Load, Store, MemorySize, MemoryGrow, RefFunc, MemoryInit, DataDrop, MemoryCopy, MemoryFill, TableInit, ElemDrop, TableCopy, TableGrow, TableSize, TableFill}
 use Rattle.wasm_tree.specs.declared.types.BlockType.TheVariants as bt
 use Rattle.base_lists.specs.Every.{Every}
@@ -9,7 +9,7 @@ use Rattle.wasm_valid_bodies.specs.Typing.{Stack, Effect, Context, Signature, si
 use Rattle.index_remap.specs.declared.remap.Remap.{Remap}
 use Rattle.index_remap.specs.Prelude.{has, has_entry, fits_all, labelled}
 use Rattle.index_remap_proof.specs.Along.{CoversContext}
-use Rattle.index_remap_proof.proofs.Lists.{left_true, right_true, has_at, map_there, only_true, only_rest}
+use Rattle.index_remap_proof.proofs.Lists.{has_at, only_true, only_rest}
 
 both_there : (a b : Option RefType) → both a b ≡ true → (r : RefType) × (q : RefType) × (a ≡ Some r) × (b ≡ Some q)
 both_there None b h = absurd (true≢false (sym h))
@@ -46,19 +46,19 @@ module _ (m : Remap) (c : Context) (k : CoversContext m c) where
   plain_fits ls (Loop' bt n body) e h = cc
   plain_fits ls (If' bt n body l other) e h = cc
   plain_fits ls (Call x) e h =
-      let s = map_there _ _ e h in
+      let s = option_map_is _ _ e h in
       let t = signature_there _ s.0 s.1 in
       let f = and_then_is (slice_get c.funcs x) _ t.0 t.1 in
       (has_at c.funcs m.funcs x f.0 k.funcs f.1, tt)
   plain_fits ls (CallIndirect x y) e h =
       let r = and_then_is (slice_get c.tables y) _ e h in
-      let s = map_there _ _ e (only_rest _ _ e r.2) in
+      let s = option_map_is _ _ e (only_rest _ _ e r.2) in
       let t = signature_there _ s.0 s.1 in
       (type_has x t.0 t.1, (table_has y r.0 r.1, tt))
-  plain_fits ls (GlobalGet x) e h = let g = map_there _ (slice_get c.globals x) e h in (has_at c.globals m.globals x g.0 k.globals g.1, tt)
+  plain_fits ls (GlobalGet x) e h = let g = option_map_is _ (slice_get c.globals x) e h in (has_at c.globals m.globals x g.0 k.globals g.1, tt)
   plain_fits ls (GlobalSet x) e h = let g = and_then_is (slice_get c.globals x) _ e h in (has_at c.globals m.globals x g.0 k.globals g.1, tt)
-  plain_fits ls (TableGet x) e h = let r = map_there _ (slice_get c.tables x) e h in (table_has x r.0 r.1, tt)
-  plain_fits ls (TableSet x) e h = let r = map_there _ (slice_get c.tables x) e h in (table_has x r.0 r.1, tt)
+  plain_fits ls (TableGet x) e h = let r = option_map_is _ (slice_get c.tables x) e h in (table_has x r.0 r.1, tt)
+  plain_fits ls (TableSet x) e h = let r = option_map_is _ (slice_get c.tables x) e h in (table_has x r.0 r.1, tt)
   plain_fits ls (Load op a) e h = (memory_has a.memory (left_true _ _ (only_true _ _ e h)), tt)
   plain_fits ls (Store op a) e h = (memory_has a.memory (left_true _ _ (only_true _ _ e h)), tt)
   plain_fits ls (MemorySize x) e h = (memory_has x (only_true _ _ e h), tt)
@@ -69,11 +69,11 @@ module _ (m : Remap) (c : Context) (k : CoversContext m c) where
   plain_fits ls (MemoryCopy x y) e h = let b = only_true _ _ e h in (memory_has x (left_true _ _ b), (memory_has y (right_true _ _ b), tt))
   plain_fits ls (MemoryFill x) e h = (memory_has x (only_true _ _ e h), tt)
   plain_fits ls (TableInit x y) e h = let r = both_there (slice_get c.elems x) (slice_get c.tables y) (only_true _ _ e h) in (has_at c.elems m.elems x r.0 k.elems r.2, (table_has y r.1 r.3, tt))
-  plain_fits ls (ElemDrop x) e h = let r = map_there _ (slice_get c.elems x) e h in (has_at c.elems m.elems x r.0 k.elems r.1, tt)
+  plain_fits ls (ElemDrop x) e h = let r = option_map_is _ (slice_get c.elems x) e h in (has_at c.elems m.elems x r.0 k.elems r.1, tt)
   plain_fits ls (TableCopy x y) e h = let r = both_there (slice_get c.tables x) (slice_get c.tables y) (only_true _ _ e h) in (table_has x r.0 r.2, (table_has y r.1 r.3, tt))
-  plain_fits ls (TableGrow x) e h = let r = map_there _ (slice_get c.tables x) e h in (table_has x r.0 r.1, tt)
-  plain_fits ls (TableSize x) e h = let r = map_there _ (slice_get c.tables x) e h in (table_has x r.0 r.1, tt)
-  plain_fits ls (TableFill x) e h = let r = map_there _ (slice_get c.tables x) e h in (table_has x r.0 r.1, tt)
+  plain_fits ls (TableGrow x) e h = let r = option_map_is _ (slice_get c.tables x) e h in (table_has x r.0 r.1, tt)
+  plain_fits ls (TableSize x) e h = let r = option_map_is _ (slice_get c.tables x) e h in (table_has x r.0 r.1, tt)
+  plain_fits ls (TableFill x) e h = let r = option_map_is _ (slice_get c.tables x) e h in (table_has x r.0 r.1, tt)
   plain_fits ls _ e h = tt
 
   block_fits : (b : BlockType) (f : Signature) → signature_of c.types b ≡ Some f → AllEntries (block_operands b)

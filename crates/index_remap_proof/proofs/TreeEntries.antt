@@ -1,5 +1,5 @@
 -- A valid tree names only indices of its spaces.
-use Rattle.base_lists.proofs.Common.{◌≡◌, ℕ, zero, suc, ◌<◌, ◌≤◌, true, IsTrue, List, [], length, Option, Some, None, refl, sym, ap, subst, arith, slice_get, option_and_then, ltb-true, lt-ltb, length-map, slice_get_within, and_then_is, list_all_from}
+use Rattle.base_lists.proofs.Common.{◌≡◌, ℕ, zero, suc, ◌<◌, ◌≤◌, true, IsTrue, List, [], length, Option, Some, None, refl, sym, ap, subst, arith, slice_get, option_and_then, ltb-true, lt-ltb, length-map, slice_get_within, and_then_is, list_all_from, and_from}
 use Rattle.wasm_tree_spec.specs.Prelude.{ValType, RefType, FuncType, Import, ImportDesc, Export, ExportDesc, ElemMode, ElemSeg, DataMode, DataSeg, GlobalDef, ConstExpr, Func, Module, funcs_of, tables_of, memories_of, globals_of, type_of_func, PassesLayerByLayer}
 use Rattle.wasm_tree.specs.declared.module.ImportDesc.TheVariants as im
 use Rattle.wasm_tree.specs.declared.module.ExportDesc.TheVariants as ex
@@ -14,7 +14,7 @@ use Rattle.index_remap.specs.Prelude.{has, fits_const, fits_func, fits_import, f
 use Rattle.index_remap.specs.Renumbered.{fits_data_mode}
 use Rattle.index_remap_proof.specs.Along.{CoversContext}
 use Rattle.index_remap_proof.specs.Trees.{Covers}
-use Rattle.index_remap_proof.proofs.Lists.{both_true, has_at, only_true}
+use Rattle.index_remap_proof.proofs.Lists.{has_at, only_true}
 use Rattle.index_remap_proof.proofs.Entries.{body_fits}
 use Rattle.index_remap_proof.proofs.WholeTrees.{ValidWhereItemsHold}
 use Rattle.index_remap.proofs.Marks.{marks_length}
@@ -69,12 +69,12 @@ module _ (law : PassesLayerByLayer) (m : Remap) (t : Module) (k : Covers m t) wh
   elem_mode_fits q (elem.Active table offset) h =
       let a = length-map (tables_of t) (λ x. x.ty) in
       let lt = slice_get_within (table_types t) table q h.0 in
-      both_true _ _ (has_here m.tables (length (tables_of t)) table k.tables (omega (arith, a, lt))) (const_fits offset _ h.1)
+      and_from _ _ (has_here m.tables (length (tables_of t)) table k.tables (omega (arith, a, lt))) (const_fits offset _ h.1)
   elem_mode_fits q elem.Passive h = refl
   elem_mode_fits q elem.Declarative h = refl
 
   data_mode_fits : (mode : DataMode) → DataModeHolds t mode → fits_data_mode m mode ≡ true
-  data_mode_fits («data».Active memory offset) h = both_true _ _ (has_here m.mems (length (memories_of t)) memory k.memories h.0) (const_fits offset _ h.1)
+  data_mode_fits («data».Active memory offset) h = and_from _ _ (has_here m.mems (length (memories_of t)) memory k.memories h.0) (const_fits offset _ h.1)
   data_mode_fits «data».Passive h = refl
 
   abbrev EachHere : Type 0
@@ -93,7 +93,7 @@ module _ (law : PassesLayerByLayer) (m : Remap) (t : Module) (k : Covers m t) wh
         here : HoldsAt t kind.Body i → fits_func m f ≡ true
         here (g, ft, at, ty, w) =
             let same : g ≡ f = cc in
-            subst (λ z. fits_func m z ≡ true) same (both_true _ _ (has_at t.types m.types g.ty ft k.types ty) (body_fits m (body_context t g ft) (covers_context g ft) law g.body [] ft.results w))
+            subst (λ z. fits_func m z ≡ true) same (and_from _ _ (has_at t.types m.types g.ty ft k.types ty) (body_fits m (body_context t g ft) (covers_context g ft) law g.body [] ft.results w))
 
     globals_fit : (i : ℕ) (g : GlobalDef) → slice_get t.globals i ≡ Some g → fits_global m g ≡ true
     globals_fit i g e = here (each kind.Global i (slice_get_within t.globals i g e))
@@ -120,7 +120,7 @@ module _ (law : PassesLayerByLayer) (m : Remap) (t : Module) (k : Covers m t) wh
         here : HoldsAt t kind.Elem i → fits_elem m s ≡ true
         here (z, at, items, mode) =
             let same : z ≡ s = cc in
-            subst (λ w. fits_elem m w ≡ true) same (both_true _ _ (elem_mode_fits z.ty z.mode mode) (list_all_from (fits_const m) z.items (λ j d g. const_fits d _ (items j d g))))
+            subst (λ w. fits_elem m w ≡ true) same (and_from _ _ (elem_mode_fits z.ty z.mode mode) (list_all_from (fits_const m) z.items (λ j d g. const_fits d _ (items j d g))))
 
     datas_fit : (i : ℕ) (s : DataSeg) → slice_get t.datas i ≡ Some s → fits_data m s ≡ true
     datas_fit i s e = here (each kind.Segment i (slice_get_within t.datas i s e))
@@ -130,8 +130,8 @@ module _ (law : PassesLayerByLayer) (m : Remap) (t : Module) (k : Covers m t) wh
 
     all_fit : fits_tree m t ≡ true
     all_fit =
-        both_true _ _ (list_all_from (fits_import m) t.imports imports_fit) (both_true _ _ (list_all_from (fits_func m) t.funcs funcs_fit) (both_true _ _ (list_all_from (fits_global m) t.globals globals_fit)
-        (both_true _ _ (list_all_from (fits_export m) t.exports exports_fit) (both_true _ _ (start_fits t.start refl) (both_true _ _ (list_all_from (fits_elem m) t.elems elems_fit) (list_all_from (fits_data m) t.datas datas_fit))))))
+        and_from _ _ (list_all_from (fits_import m) t.imports imports_fit) (and_from _ _ (list_all_from (fits_func m) t.funcs funcs_fit) (and_from _ _ (list_all_from (fits_global m) t.globals globals_fit)
+        (and_from _ _ (list_all_from (fits_export m) t.exports exports_fit) (and_from _ _ (start_fits t.start refl) (and_from _ _ (list_all_from (fits_elem m) t.elems elems_fit) (list_all_from (fits_data m) t.datas datas_fit))))))
 
   pub tree_fits : ValidWhereItemsHold → IsValid t → IsTrue (fits_tree m t)
   tree_fits items valid = all_fit ((items t).0 valid)

@@ -11,7 +11,7 @@ use Rattle.merge_behaves_proof.proofs.ValueGiven.{Laws, func_typed, EachAgrees, 
 use Rattle.merge_behaves_proof.proofs.MergedAlone.{joined_keeps, names_of}
 use Rattle.world_simulation.proofs.Declared.{last_segments, last_elems}
 use Rattle.world_simulation.specs.Prelude.{one, Instantiated, DefinedAt, values_in, FuncsAt, GlobalsCorrespond, Partners, DefinitionsCorrespond}
-use Rattle.world_simulation.proofs.Places.{both_or_none, map_length, right_there, left_there}
+use Rattle.world_simulation.proofs.Places.{both_or_none, map_length, right_there, left_there, placed_rel}
 use Rattle.world_simulation.proofs.Stored.{global_placed, elem_placed, global_rel, ElemsAlike, elem_rel, alike_correspond}
 use Rattle.world_simulation.proofs.Allocated.{stores_there, part_there}
 use Rattle.merge_valid_proof.specs.Joinable.{CanBeJoined}
@@ -19,7 +19,6 @@ use Rattle.wasm_valid.specs.Prelude.{IsValid}
 use Rattle.merge_behaves_proof.specs.Shared.{sharing}
 use Rattle.merge_behaves_proof.proofs.ValueShared.{is_same}
 use Rattle.merge_behaves_proof.proofs.Values.{is_inst, func_count, const_rel}
-use Rattle.merge_behaves_proof.proofs.Lists.{placed_rel}
 use Rattle.merge_behaves_proof.proofs.Named.{funcs_correspond}
 use Rattle.world_simulation.specs.Definitions as partners
 use Rattle.world_simulation.proofs.Defined as stand

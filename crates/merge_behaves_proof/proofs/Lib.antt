@@ -5,7 +5,6 @@ pub mod Instances
 pub mod ValueShared
 pub mod ValueGiven
 pub mod Values
-pub mod Lists
 pub mod Named
 pub mod Definitions
 pub mod Starts

@@ -1,5 +1,6 @@
 -- The constant expressions of a merged module have numbers that stand in some part.
 use Rattle.base_lists.proofs.Common.{◌≡◌, ℕ, zero, suc, ◌-◌, List, length, Option, Some, None, refl, subst, option_and_then, slice_get, unwrap_or, and_then_is, every_at}
+use Rattle.base_lists.proofs.Every.{every_map}
 use Rattle.wasm_tree_spec.specs.Prelude.{Globals, ConstExpr, GlobalDef, ElemMode, ElemSeg, DataMode, DataSeg, Module, index_of_export}
 use Rattle.wasm_tree.specs.declared.module.ConstExpr.TheVariants as const
 use Rattle.wasm_tree.specs.declared.module.ElemMode.TheVariants as elem
@@ -12,7 +13,7 @@ use Rattle.merge_spec.specs.Prelude.{map_of, merged_read, merged_global, merged_
 use Rattle.merge_spec.specs.Merged.{merged_const}
 use Rattle.wasm_write_proof.specs.Ranges.{ConstInRange, ElemModeInRange, ElemInRange, DataModeInRange, InRange}
 use Rattle.merge_encode_proof.proofs.Numbers.{ConstNumberInRange, ElemOffsetInRange, ElemNumbersInRange, DataOffsetInRange}
-use Rattle.merge_encode_proof.proofs.Lists.{every_map, at_part}
+use Rattle.merge_encode_proof.proofs.Lists.{at_part}
 use Rattle.merge_encode_proof.proofs.Limits.{PartsInRange}
 
 pub number_of : (e : ConstExpr) → ConstInRange e → ConstNumberInRange e

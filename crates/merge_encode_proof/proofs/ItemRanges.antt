@@ -1,5 +1,6 @@
 -- The items of a valid module, whose other numbers are in range, are in range.
-use Rattle.base_lists.proofs.Common.{◌≡◌, ℕ, zero, suc, ◌<◌, ◌^◌, Bool, true, false, nat_lt, List, [], ◌∷◌, length, Option, Some, None, refl, sym, ap, ◌∙◌, subst, arith, slice_get, option_and_then, IsUtf8, nat_tests, slice_get_within, same_Some, length-map, and_from, list_all, IsTrue, list_all_from}
+use Rattle.base_lists.proofs.Common.{◌≡◌, ℕ, zero, suc, ◌<◌, ◌^◌, Bool, true, false, nat_lt, List, length, Option, Some, None, refl, sym, ap, ◌∙◌, subst, arith, slice_get, option_and_then, IsUtf8, nat_tests, slice_get_within, same_Some, length-map, and_from, list_all, IsTrue, list_all_from}
+use Rattle.base_lists.proofs.Every.{every_placed}
 use Rattle.wasm_tree_spec.specs.Prelude.{FuncType, TableType, ValType, ImportDesc, Import, ExportDesc, Export, ConstExpr, GlobalDef, ElemMode, ElemSeg, DataMode, DataSeg, Func, Module, funcs_of, tables_of, globals_of, IsBounded, PassesLayerByLayer, all_operands_pass, Ref, Operand, is_memory_zero, memory_zero_all, memory_zero_funcs}
 use Rattle.wasm_tree.specs.declared.module.ImportDesc.TheVariants as import
 use Rattle.wasm_tree.specs.declared.module.ExportDesc.TheVariants as export
@@ -10,7 +11,6 @@ use Rattle.wasm_valid_bodies.specs.Typing.{only}
 use Rattle.wasm_valid.specs.declared.kinds.ItemKind.{ItemKind}
 use Rattle.wasm_valid.specs.declared.kinds.ItemKind.TheVariants as kind
 use Rattle.wasm_valid.specs.Prelude.{const_type, table_types, elem_types, refs_of, named_from, named_of, ImportHolds, InSpace, ElemModeHolds, DataModeHolds, IsSingle, HoldsAt, start_count, count_of, body_context}
-use Rattle.base_lists.specs.Every.{Every}
 use Rattle.wasm_tree.proofs.OperandLaws.{passes_more}
 use Rattle.wasm_write_proof.specs.Ranges.{IsU32, small_operand, spelled_operand, all_numbers_in, MaxInRange, ConstInRange, ImportDescInRange, ImportInRange, ExportDescInRange, ExportInRange, ElemModeInRange, ElemInRange, DataModeInRange, FuncInRange, InRange}
 use Rattle.merge_encode_proof.proofs.Numbers.{ConstNumberInRange, ImportLimitsInRange, ImportNumbersInRange, FuncNumbersInRange, ElemOffsetInRange, ElemNumbersInRange, DataOffsetInRange, NumbersInRange}
@@ -19,11 +19,6 @@ use Rattle.merge_encode_proof.proofs.BodyRanges.{IsSmall, body_small}
 -- each item holds
 abbrev pub ItemsHold : Module → Type 0
 ItemsHold m = (k : ItemKind) (i : ℕ) → i < count_of m true k → HoldsAt m k i
-
--- what is so of each, at its place, is so of every one
-pub every_from : {A : Type 0} (P Q : A → Type 0) (xs : List A) → Every P xs → ((i : ℕ) (x : A) → slice_get xs i ≡ Some x → P x → Q x) → Every Q xs
-every_from P Q [] h f = tt
-every_from P Q (x ∷ xs) h f = (f 0 x refl h.0, every_from P Q xs h.1 (λ i y e p. f (suc i) y e p))
 
 module _
     (layers : PassesLayerByLayer)
@@ -110,7 +105,7 @@ module _
         from_held (y, f, items, mode) =
             let same = same_Some y x (sym f ∙ e) in
             let items' = subst (λ (z : ElemSeg). (j : ℕ) (e : ConstExpr) → slice_get z.items j ≡ Some e → const_type m e ≡ Some (Ref z.ty)) same items in
-            (elem_mode_in x.ty x.mode (subst (λ (z : ElemSeg). ElemModeHolds m z.ty z.mode) same mode) n.0, every_from ConstNumberInRange ConstInRange x.items n.1 (λ j c g k. const_in c _ (items' j c g) k))
+            (elem_mode_in x.ty x.mode (subst (λ (z : ElemSeg). ElemModeHolds m z.ty z.mode) same mode) n.0, every_placed ConstNumberInRange ConstInRange x.items n.1 (λ j c g k. const_in c _ (items' j c g) k))
 
     data_mode_in : (mode : DataMode) → DataModeHolds m mode → DataOffsetInRange mode → DataModeInRange mode
     data_mode_in (segment.Active memory offset) h n = (omega (arith, few.memories, h.0), const_in offset _ h.1 n)
@@ -174,15 +169,15 @@ module _
 
     pub tree_in : NumbersInRange m → InRange m
     tree_in n = record {
-      imports = every_from ImportNumbersInRange ImportInRange m.imports n.imports import_in;
-      funcs = every_from FuncNumbersInRange FuncInRange m.funcs n.funcs func_in;
+      imports = every_placed ImportNumbersInRange ImportInRange m.imports n.imports import_in;
+      funcs = every_placed FuncNumbersInRange FuncInRange m.funcs n.funcs func_in;
       tables = n.tables;
       mems = n.mems;
-      globals = every_from (λ (g : GlobalDef). ConstNumberInRange g.init) (λ (g : GlobalDef). ConstInRange g.init) m.globals n.globals global_in;
-      exports = every_from (λ (e : Export). IsUtf8 e.name) ExportInRange m.exports n.exports export_in;
+      globals = every_placed (λ (g : GlobalDef). ConstNumberInRange g.init) (λ (g : GlobalDef). ConstInRange g.init) m.globals n.globals global_in;
+      exports = every_placed (λ (e : Export). IsUtf8 e.name) ExportInRange m.exports n.exports export_in;
       start = start_in m.start refl;
-      elems = every_from ElemNumbersInRange ElemInRange m.elems n.elems elem_in;
-      datas = every_from (λ (s : DataSeg). DataOffsetInRange s.mode) (λ (s : DataSeg). DataModeInRange s.mode) m.datas n.datas data_in;
+      elems = every_placed ElemNumbersInRange ElemInRange m.elems n.elems elem_in;
+      datas = every_placed (λ (s : DataSeg). DataOffsetInRange s.mode) (λ (s : DataSeg). DataModeInRange s.mode) m.datas n.datas data_in;
     }
 
     pub memory_zero : IsTrue (memory_zero_funcs m.funcs)

@@ -1,22 +1,10 @@
 -- What is so of each part is so of what is looked up in the parts.
-use Rattle.base_lists.proofs.Common.{◌≡◌, ℕ, suc, List, [], ◌∷◌, ◌++◌, map, Option, Some, None, refl, subst, slice_get, filter_map, flat_map, cons_option, and_then_is, every_at}
+use Rattle.base_lists.proofs.Common.{◌≡◌, ℕ, suc, List, [], ◌∷◌, ◌++◌, Option, Some, subst, slice_get, flat_map, and_then_is, every_at}
+use Rattle.base_lists.proofs.Every.{every_append}
 use Rattle.wasm_tree_spec.specs.Prelude.{Module}
 use Rattle.base_lists.specs.Every.{Every}
 use Rattle.wasm_meaning.specs.Prelude.{Part, module_at}
 use Rattle.merge_spec.specs.Prelude.{by_part_from}
-use Rattle.merge_spec.proofs.FaultParts.{every_append}
-
-pub every_map : {A B : Type 0} (P : A → Type 0) (Q : B → Type 0) (f : A → B) → ((x : A) → P x → Q (f x)) → (xs : List A) → Every P xs → Every Q (map f xs)
-every_map P Q f keep [] h = tt
-every_map P Q f keep (x ∷ xs) h = (keep x h.0, every_map P Q f keep xs h.1)
-
-pub every_some : {A B : Type 0} (Q : B → Type 0) (f : A → Option B) → ((x : A) (y : B) → f x ≡ Some y → Q y) → (xs : List A) → Every Q (filter_map f xs)
-every_some Q f keep [] = tt
-every_some Q f keep (x ∷ xs) = with_first Q f xs (f x) (λ y e. keep x y e) (every_some Q f keep xs)
-  where
-    with_first : {A B : Type 0} (Q : B → Type 0) (f : A → Option B) (xs : List A) (o : Option B) → ((y : B) → o ≡ Some y → Q y) → Every Q (filter_map f xs) → Every Q (cons_option o (filter_map f xs))
-    with_first Q f xs None keep h = h
-    with_first Q f xs (Some y) keep h = (keep y refl, h)
 
 pub at_part : (P : Module → Type 0) (parts : List Part) (p : ℕ) (m : Module) → Every (λ (q : Part). P q.«module») parts → module_at parts p ≡ Some m → P m
 at_part P parts p m h e = found (and_then_is (slice_get parts p) (λ (q : Part). Some q.«module») m e)

@@ -1,5 +1,6 @@
 -- The merged module keeps the numbers of its parts.
 use Rattle.base_lists.proofs.Common.{◌≡◌, ℕ, List, [], ◌∷◌, map, Option, Some, subst, option_and_then, IsUtf8, and_then_is}
+use Rattle.base_lists.proofs.Every.{every_map, every_some, every_append}
 use Rattle.wasm_tree_spec.specs.Prelude.{TableType, ImportDesc, Import, Export, Func, GlobalDef, DataSeg, Module}
 use Rattle.wasm_tree.specs.declared.module.ConstExpr.TheVariants as const
 use Rattle.wasm_tree.specs.declared.module.ImportDesc.TheVariants as im
@@ -15,8 +16,7 @@ use Rattle.merge_spec.specs.Joined.{joined_module}
 use Rattle.wasm_write_proof.specs.Ranges.{LimitsInRange, ConstInRange, ExportInRange, ElemInRange, DataModeInRange, FuncInRange, InRange}
 use Rattle.merge_encode_proof.proofs.Numbers.{ConstNumberInRange, ImportLimitsInRange, ImportNumbersInRange, FuncNumbersInRange, ElemNumbersInRange, DataOffsetInRange, NumbersInRange}
 use Rattle.merge_encode_proof.proofs.Bodies.{NumbersStay, body_keeps, calls_in}
-use Rattle.merge_spec.proofs.FaultParts.{every_append}
-use Rattle.merge_encode_proof.proofs.Lists.{every_map, every_some, every_by_part, every_flat}
+use Rattle.merge_encode_proof.proofs.Lists.{every_by_part, every_flat}
 use Rattle.merge_encode_proof.proofs.Limits.{PartsInRange, import_in, met_limits_in}
 use Rattle.merge_encode_proof.proofs.Consts.{global_in, elem_in, data_in}
 use Rattle.merge_encode_proof.proofs.Names.{new_names_in, named_in}

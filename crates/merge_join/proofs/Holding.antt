@@ -1,12 +1,11 @@
 -- What the parts hold, as their validity gives it, and what has entries in a map that fits.
-use Rattle.base_lists.proofs.Common.{◌≡◌, sym, subst, refl, ℕ, zero, suc, ◌<◌, arith, slice_get, Some, List, [], ◌∷◌, length, true, IsTrue, get_or, ◌↔◌, list_all}
+use Rattle.base_lists.proofs.Common.{◌≡◌, sym, subst, refl, ℕ, zero, suc, ◌<◌, arith, slice_get, Some, List, [], ◌∷◌, length, true, IsTrue, get_or, ◌↔◌, list_all, left_true, right_true}
 use Rattle.wasm_tree_spec.specs.Prelude.{Import, Module}
 use Rattle.wasm_valid.specs.declared.kinds.ItemKind.{ItemKind}
 use Rattle.wasm_valid.specs.Prelude.{HoldsAt, IsValid, count_of}
 use Rattle.index_remap.specs.declared.remap.Remap.{Remap}
 use Rattle.index_remap.specs.Prelude.{fits_func, fits_tree, fits_import, fits_import_desc, fits_global, fits_export, fits_start, fits_elem, fits_data}
 use Rattle.index_remap.proofs.Fits.{each_at}
-use Rattle.index_remap_proof.proofs.Lists.{left_true, right_true}
 
 abbrev pub ItemsHold : Module → Type 0
 ItemsHold m = (k : ItemKind) (i : ℕ) → i < count_of m true k → HoldsAt m k i

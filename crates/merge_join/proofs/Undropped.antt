@@ -1,6 +1,7 @@
 -- Only a dropped export can leave a function undeclared that `ref.func` names in a body of the merged module: a part is valid, so what its bodies name it names outside
 -- them too, and there the merged module names it as well.
 use Rattle.base_lists.proofs.Common.{◌≡◌, ◌∙◌, refl, sym, ap, subst, ℕ, zero, suc, ◌+◌, ◌<◌, ◌≤◌, Bool, true, false, ◌&&◌, ◌||◌, not, nat_eq, nat_lt, List, [], ◌∷◌, ◌++◌, map, length, Option, Some, None, ◌⊎◌, inl, inr, ⊎_elim, arith, option_map, unwrap_or, slice_get, slice_index, filter, filter_map, flat_map, list_all, range_with_len, length-map, slice_get-get_or, eqb-true, eq-eqb, ltb-true, left_true, right_true, list_all_each, list_all_from, list_any_there, is_kept, chosen_from, has_chosen, length-numbers, Has, map_at, map_from, append_from, has_left, has_right}
+use Rattle.base_lists.specs.Members.{is_among}
 use Rattle.std.proofs.Common.{length-append}
 use Rattle.std.proofs.lemmas.List.FromFn.{get_or-range_with_len, length-range_with_len}
 use Rattle.base_lists.specs.Places.{numbers}
@@ -11,7 +12,7 @@ use Rattle.wasm_tree.specs.declared.module.ElemMode.TheVariants as elem
 use Rattle.wasm_tree.specs.declared.module.ExportDesc.TheVariants as ex
 use Rattle.wasm_valid.specs.Prelude.{const_func, export_func, elem_refs, global_refs, export_refs, refs_of, IsValid}
 use Rattle.wasm_meaning.specs.Prelude.{Text, Part, module_at}
-use Rattle.index_remap.specs.Prelude.{has, fits_all, fits_func, fits_import, fits_tree, new_func, new_export, new_export_desc, renumbered_all, refs, refs_step, refs_all, body_refs, offset_refs, outside_refs, is_among, declared_refs, declaring, with_declared, declared}
+use Rattle.index_remap.specs.Prelude.{has, fits_all, fits_func, fits_import, fits_tree, new_func, new_export, new_export_desc, renumbered_all, refs, refs_step, refs_all, body_refs, offset_refs, outside_refs, declared_refs, declaring, with_declared, declared}
 use Rattle.index_remap.specs.References.{offset_func}
 use Rattle.merge_spec.specs.Prelude.{by_part, by_part_from, new_index, merged_elem_mode, merged_const, merged_global, merged_elem, start_calls, starts, named_exports}
 use Rattle.merge_spec.specs.Merged.{map_of, defined_funcs, all_exports, merged}

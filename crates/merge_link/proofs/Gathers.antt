@@ -1,5 +1,6 @@
 -- Memories that stay, gathered: the first of a pair is found in the map.
-use Rattle.base_lists.proofs.Common.{◌≡◌, ◌∙◌, sym, ap, refl, subst, inl, inr, ℕ, suc, ◌++◌, List, [], ◌∷◌, Option, Some, None, Bool, true, false, cond, map, length, drop, slice_get, ◌-◌, ◌&&◌, Ordering, Less, Equal, Greater, nat_cmp, ordering_then, slice_cmp, is_eq-slice_cmp, cases_eq, and_false, push_last, push_before}
+use Rattle.base_lists.proofs.Common.{◌≡◌, ◌∙◌, sym, ap, refl, subst, inl, inr, ℕ, suc, ◌++◌, List, [], ◌∷◌, Option, Some, None, Bool, true, false, cond, map, length, drop, slice_get, ◌-◌, ◌&&◌, nat_cmp, ordering_then, slice_cmp, is_eq-slice_cmp, cases_eq, and_false, push_last, push_before}
+use Rattle.base_lists.proofs.Bools.{both_equal}
 use Rattle.wasm_tree_spec.specs.Prelude.{Memories, Import}
 use Rattle.std.specs.Ordering.{is_eq}
 use Rattle.wasm_meaning.specs.Prelude.{Pair}
@@ -63,14 +64,9 @@ gathered_memory ps sites s i o are at is_yes first =
 
 -- ---- pairs as keys ----
 
-both_eq : (o p : Ordering) → is_eq (ordering_then o p) ≡ is_eq o && is_eq p
-both_eq Less p = refl
-both_eq Equal p = refl
-both_eq Greater p = refl
-
 pub pair_tested : (a b c d : List ℕ) → is_eq (ordering_then (slice_cmp nat_cmp a c) (slice_cmp nat_cmp b d)) ≡ linking.same_pair (c, d) (a, b)
 pair_tested a b c d =
-    both_eq (slice_cmp nat_cmp a c) (slice_cmp nat_cmp b d)
+    both_equal (slice_cmp nat_cmp a c) (slice_cmp nat_cmp b d)
     ∙ ap (λ x. x && is_eq (slice_cmp nat_cmp b d)) (is_eq-slice_cmp a c ∙ sym (same_text_back c a ∙ same_text_is a c))
     ∙ ap (λ x. linking.same_text c a && x) (is_eq-slice_cmp b d ∙ sym (same_text_back d b ∙ same_text_is b d))
     ∙ by (linking.same_text c a) (linking.same_text d b)

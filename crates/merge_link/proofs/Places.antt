@@ -1,5 +1,5 @@
 -- Places in lists, and what is looked up by name.
-use Rattle.base_lists.proofs.Common.{◌≡◌, ◌∙◌, sym, ap, refl, ℕ, zero, suc, ◌+◌, ◌-◌, ◌<◌, ◌≤◌, List, [], ◌∷◌, ◌++◌, Some, Bool, true, false, cond, length, drop, get_or, slice_get, nat_eq, arith, inl, inr, bytes_eq, drop_more, cases_eq, nat_tests, push_last}
+use Rattle.base_lists.proofs.Common.{◌≡◌, ◌∙◌, sym, ap, refl, ℕ, zero, suc, ◌+◌, ◌<◌, List, [], ◌∷◌, ◌++◌, Some, Bool, true, false, cond, length, get_or, slice_get, nat_eq, arith, inl, inr, bytes_eq, cases_eq, nat_tests, push_last}
 use Rattle.wasm_tree_spec.specs.Prelude.{Space, Types, Functions, Tables, Memories, Globals, ElementSegments, DataSegments, same_space, space_of_import, ImportDesc, Module, Export, Import}
 use Rattle.wasm_tree.specs.declared.module.ImportDesc.TheVariants as im
 use Rattle.merge_link.specs.declared.tables.Table.{Table}
@@ -34,12 +34,6 @@ same_text_back (x ∷ xs) (y ∷ ys) = by (nat_eq x y) refl (same_text_back xs y
     by : (b : Bool) → nat_eq x y ≡ b → linking.same_text xs ys ≡ linking.same_text ys xs → linking.same_text (x ∷ xs) (y ∷ ys) ≡ linking.same_text (y ∷ ys) (x ∷ xs)
     by true e rest = let b : nat_eq y x ≡ true = grind (arith, nat_tests) in rw (e, b) rest
     by false e rest = let b : nat_eq y x ≡ false = grind (arith, nat_tests) in rw (e, b) refl
-
--- one item further from the end
-pub one_back : {A : Type 0} (xs : List A) (i : ℕ) (x : A) → 0 < i → i ≤ length xs → x ≡ get_or xs (i - 1) x → drop (i - 1) xs ≡ x ∷ drop i xs
-one_back xs i x above within is =
-    let e : i - 1 + 1 ≡ i = omega arith in
-    drop_more xs (i - 1) x (omega arith) ∙ ap (λ y. y ∷ drop (i - 1 + 1) xs) (sym is) ∙ ap (λ n. x ∷ drop n xs) e
 
 -- the number of those of a kind before the next place
 pub space_zero : (imports : List Import) (k : Space) → linking.space_index imports 0 k ≡ 0

@@ -1,5 +1,6 @@
 -- The parts that faults of linking name are there, no fault of linking is one of memory, and without a fault there is none either where several memories may be.
-use Rattle.base_lists.proofs.Common.{◌≡◌, subst, ℕ, zero, suc, ◌+◌, ◌<◌, ◌≤◌, List, [], ◌∷◌, ◌++◌, length, Option, Some, None, IfSome, Bool, true, false, cond, nat_lt, arith}
+use Rattle.base_lists.proofs.Common.{◌≡◌, subst, ℕ, zero, suc, ◌+◌, ◌<◌, ◌≤◌, List, [], ◌∷◌, length, Option, Some, None, IfSome, Bool, true, false, cond, nat_lt, arith}
+use Rattle.base_lists.proofs.Every.{every_append}
 use Rattle.base_lists.specs.Options.{◌>>=◌}
 use Rattle.base_lists.specs.Every.{Every}
 use Rattle.wasm_tree_spec.specs.Prelude.{Globals, Limits, GlobalDef}
@@ -25,10 +26,6 @@ or_else_is n (Some fault) b h k = h
 first_is : {A : Type 0} (n : ℕ) (f : A → Option LinkFault) (P : A → Type 0) → ((x : A) → P x → IfSome (f x) (IsOf n)) → (xs : List A) → Every P xs → IfSome (first_fault f xs) (IsOf n)
 first_is n f P told [] h = tt
 first_is n f P told (x ∷ xs) h = or_else_is n (f x) (first_fault f xs) (told x h.0) (first_is n f P told xs h.1)
-
-pub every_append : {A : Type 0} (P : A → Type 0) (xs ys : List A) → Every P xs → Every P ys → Every P (xs ++ ys)
-every_append P [] ys h k = k
-every_append P (x ∷ xs) ys h k = (h.0, every_append P xs ys h.1 k)
 
 -- ---- imports
 

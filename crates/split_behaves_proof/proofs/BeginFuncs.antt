@@ -1,5 +1,6 @@
 -- What functions stand in the stores in which a module and its split begin.
-use Rattle.base_lists.proofs.Common.{◌≡◌, ◌∙◌, ap, ap₂, sym, subst, refl, ℕ, zero, suc, ◌+◌, ◌-◌, ◌⊎◌, inl, inr, List, [], ◌∷◌, ◌++◌, map, length, Option, Some, None, true, arith, append-nil, option_and_then, slice_get, slice_index, pos, option_map_or, length-append, slice_get_within, same_Some, numbers_index, and_then_is, all_there_at, all_there_length, append_at_left, append_from, append_right, map_from, map_twice, slice_get_there, slice_index_is}
+use Rattle.base_lists.proofs.Common.{◌≡◌, ◌∙◌, ap, ap₂, sym, subst, refl, ℕ, zero, suc, ◌+◌, ◌-◌, ◌⊎◌, inl, inr, List, [], ◌∷◌, ◌++◌, map, length, Option, Some, None, true, arith, append-nil, option_and_then, slice_get, slice_index, pos, option_map_or, length-append, slice_get_within, same_Some, numbers_index, and_then_is, all_there_at, all_there_length, append_at_left, append_from, append_right, map_from, map_twice, slice_get_there, slice_index_is, all_there_back}
+use Rattle.base_lists.proofs.Members.{there_among, place_is, no_place}
 use Rattle.wasm_tree_spec.specs.Prelude.{FuncType, Module, funcs_of, tables_of, type_of_func, Functions}
 use Rattle.wasm_tree.specs.declared.module.Func as tree
 use Rattle.wasm_meaning.specs.Prelude.{Code, Func, Own, Pair, Placeholder, Store, Environment, own_funcs, Added, added, next_inst, LoaderWorld, begun_of, begun_under, placeholders_from, placeholders_of, primary_added, store_under, supplied, Begun, all_there, alone, const_value, insts_from, instantiate, joined_stores, new_func, own_count}
@@ -14,7 +15,6 @@ use Rattle.world_simulation.proofs.Instancing.{IsInst}
 use Rattle.world_simulation.proofs.Single.{one_inst}
 use Rattle.split_spec.specs.declared.names.SplitNames.{SplitNames}
 use Rattle.split_spec.specs.Prelude.{primary_func, params_of, place_among, slot_table, trampoline_body, type_index}
-use Rattle.split_proof.proofs.Lists.{place_is, no_place, there_among}
 use Rattle.split_proof.proofs.PrimarySpaces as spaces
 use Rattle.split_proof.proofs.Spaces.{ItemsHold, func_holds}
 use Rattle.split_proof.proofs.Typed.{trampoline_renumbered}
@@ -27,7 +27,6 @@ use Rattle.split_behaves_proof.proofs.Entries.{Laws, Q, holds, k, left_there, r,
 use Rattle.split_behaves_proof.proofs.BeginRelated.{stubs}
 use Rattle.split_behaves_proof.proofs.Bodies.{moved_defined}
 use Rattle.split_behaves_proof.proofs.Begins.{begun_store, slots_many}
-use Rattle.index_remap_proof.proofs.Lists.{all_there_back}
 
 -- ---- what a loader begins as ----
 

@@ -1,5 +1,7 @@
 -- A module alone, and its primary module with stubs in place of its placeholders: what they define, their segments, views and starts correspond.
-use Rattle.base_lists.proofs.Common.{◌≡◌, ◌∙◌, ap, sym, subst, refl, ℕ, zero, suc, ◌+◌, ◌<◌, List, [], ◌∷◌, ◌++◌, map, take, length, Option, Some, Bool, true, false, cond, arith, option_map, append-nil, ⊎_elim, slice_get, slice_index, cons_option, length-map, map-id, slice_get_within, same_Some, length-numbers, numbers_index, append_at_left, append_left, map_at, push_last, slice_get_there}
+use Rattle.base_lists.proofs.Common.{◌≡◌, ◌∙◌, ap, sym, subst, refl, ℕ, zero, suc, ◌+◌, ◌<◌, List, [], ◌∷◌, ◌++◌, map, take, length, Option, Some, Bool, true, false, cond, arith, option_map, append-nil, ⊎_elim, slice_get, slice_index, cons_option, length-map, map-id, slice_get_within, same_Some, length-numbers, numbers_index, append_at_left, append_left, map_at, push_last, slice_get_there, cases_Bool}
+use Rattle.base_lists.proofs.Same.{text_is, text_self}
+use Rattle.base_lists.proofs.Each.{there_contains}
 use Rattle.std.proofs.Common.{filter_map}
 use Rattle.base_lists.specs.Places.{numbers}
 use Rattle.wasm_num.specs.Operations.{wrapped}
@@ -12,7 +14,6 @@ use Rattle.index_remap.specs.declared.remap.Remap.{Remap}
 use Rattle.index_remap.specs.Prelude.{declared_refs, Pairing, OptRel, none, some, ListRel, nil, cons, ValRel, number, reference, func, extern, ExternalValueRel, a_func, a_table, a_memory, a_global, KeyRel, HasNoPartner, turned, new_const, new_data, new_elem, new_export_desc, new_func, new_global}
 use Rattle.index_remap.proofs.Rel.{append_rel}
 use Rattle.index_remap_proof.specs.Indices.{Indices, ConstNamesOnly, ExportNamesOnly, TreeNamesOnly}
-use Rattle.index_remap_proof.proofs.Lists.{two_cases}
 use Rattle.world_simulation.specs.Prelude.{one, FuncsAt, GlobalsCorrespond, ElemsCorrespond, Partners, DefinitionsCorrespond, Instantiated, values_in, EntriesName, only_second, ElemsPartner, ElemAlone, DatasPartner, ElemsInOrder, DatasInOrder, WorldsCorrespond}
 use Rattle.world_simulation.specs.Definitions as partners
 use Rattle.world_loader_proof.specs.Loaded.{primary_world}
@@ -27,12 +28,10 @@ use Rattle.world_simulation.proofs.Renamed as renamed
 use Rattle.world_simulation.proofs.Stored.{alike_correspond}
 use Rattle.split_spec.specs.declared.names.SplitNames.{SplitNames}
 use Rattle.split_spec.specs.Prelude.{added_exports, primary_func, in_slots, place_among, slot_segment, slot_table, slot_table_type}
-use Rattle.split_proof.proofs.Lists.{there_contains}
 use Rattle.split_proof.proofs.Spaces.{ItemsHold}
 use Rattle.split_behaves_proof.specs.Addresses.{is_partner, slot_table_address, split_pairing}
 use Rattle.split_behaves_proof.specs.Laws.{CanBeSplit}
 use Rattle.split_behaves_proof.proofs.Partners.{LeftAt, own_stays, goes, is_else, is_its_partner, left_is, partner_is, place_left, shares_own}
-use Rattle.index_remap_proof.proofs.Lists.{text_is, text_self}
 use Rattle.split_behaves_proof.proofs.Entries.{Laws, Q, consts, datas_are, elems_are, entries, globals_are, holds, k, keeps, left_func, mems_are, more_segments, named, outside, plain, r, split, start_is, stay, tables_are, types_moved}
 use Rattle.split_behaves_proof.proofs.Entries as entry_names
 use Rattle.split_behaves_proof.proofs.Bodies.{func_at, slots_there}
@@ -98,7 +97,7 @@ first_named new (x ∷ es) zero e at others =
     let is : x ≡ e = cc in
     ap (λ (x : Export). export_named (map (described new) (x ∷ es)) e.name) is ∙ ap (λ b. cond b (Some (new e.desc)) (export_named (map (described new) es) e.name)) (text_self e.name)
 first_named new (x ∷ es) (suc n) e at others =
-    let other : same_text x.name e.name ≡ false = ⊎_elim (λ h. absurd (others 0 x (omega arith) refl (text_is x.name e.name h))) (λ h. h) (two_cases (same_text x.name e.name)) in
+    let other : same_text x.name e.name ≡ false = ⊎_elim (λ h. absurd (others 0 x (omega arith) refl (text_is x.name e.name h))) (λ h. h) (cases_Bool (same_text x.name e.name)) in
     ap (λ b. cond b (Some (new x.desc)) (export_named (map (described new) es) e.name)) other ∙ first_named new es n e at (λ p y lt. others (suc p) y (omega (arith, lt)))
 
 all_chosen_are : {A B : Type 0} (f : A → Option B) (h : A → B) (xs : List A) → ((n : ℕ) (x : A) → slice_get xs n ≡ Some x → f x ≡ Some (h x)) → filter_map f xs ≡ map h xs

@@ -1,6 +1,8 @@
 -- The code of functions that stay in the primary module is related to theirs in the module, where what stands in place of calls of functions that move calls these through
 -- their slots.
-use Rattle.base_lists.proofs.Common.{◌≡◌, ◌∙◌, ap, sym, subst, refl, ℕ, suc, ◌+◌, ◌-◌, ◌<◌, ◌≤◌, ◌&&◌, ◌||◌, List, [], ◌∷◌, ◌++◌, map, length, not, Option, Some, None, Bool, true, false, cond, nat_eq, arith, true≢false, ⊎_elim, slice_get, slice_index, pos, nat_le, nat_lt, cons_option, leb-true, length-append, slice_get_within, same_Some, left_true, right_true, same_tests, every_at, numbers_at, numbers_index, append_right}
+use Rattle.base_lists.proofs.Common.{◌≡◌, ◌∙◌, ap, sym, subst, refl, ℕ, suc, ◌+◌, ◌-◌, ◌<◌, ◌≤◌, ◌&&◌, ◌||◌, List, [], ◌∷◌, ◌++◌, map, length, not, Option, Some, None, Bool, true, false, cond, nat_eq, arith, true≢false, ⊎_elim, slice_get, slice_index, pos, nat_le, nat_lt, cons_option, leb-true, length-append, slice_get_within, same_Some, left_true, right_true, same_tests, every_at, numbers_at, numbers_index, append_right, and_from, cases_Bool, either_true, left_either, right_either, same_number}
+use Rattle.base_lists.specs.Members.{is_among}
+use Rattle.base_lists.proofs.Members.{among_right, among_map, among_joined, among_there, there_among, place_is, no_place, none_among}
 use Rattle.std.proofs.Common.{eq-eqb}
 use Rattle.base_lists.specs.Places.{first_place, numbers}
 use Rattle.wasm_tree_spec.specs.Prelude.{Operand, Space, Types, Functions, Tables, Memories, Globals, ElementSegments, DataSegments, Instr, Call, Module, ListLayers, all_operands_pass, any_operand_passes, same_space, funcs_of, tables_of, imported_tables}
@@ -11,10 +13,9 @@ use Rattle.wasm_valid.specs.Prelude.{refs_of}
 use Rattle.wasm_meaning.specs.Prelude.{Inst, Environment, own_count}
 use Rattle.index_remap.specs.declared.remap.Remap.{Remap}
 use Rattle.index_remap_proof.specs.Indices.{Indices}
-use Rattle.index_remap.specs.Prelude.{body_refs, is_among, refs_all, Pairing, CodeRel, has_entry, new_func, renumbered_all, ReplacementCodesFit, OtherNamed, OthersNamed, is_opaque_call, slot_call}
+use Rattle.index_remap.specs.Prelude.{body_refs, refs_all, Pairing, CodeRel, has_entry, new_func, renumbered_all, ReplacementCodesFit, OtherNamed, OthersNamed, is_opaque_call, slot_call}
 use Rattle.index_remap.proofs.SlotCalls.{func_type_self}
 use Rattle.index_remap.proofs.NotOpaque.{operands_follow}
-use Rattle.index_remap_proof.proofs.Lists.{among_joined, among_map, among_right, both_true, either_true, left_either, right_either, same_number, two_cases}
 use Rattle.world_simulation.specs.Prelude.{one, FuncsAt, EntriesName}
 use Rattle.world_simulation.specs.Definitions.{alike, set_apart}
 use Rattle.world_simulation.proofs.Alone.{tables_counted}
@@ -27,7 +28,6 @@ use Rattle.split_spec.specs.Prelude.{with_calls, is_named_from_primary, is_neede
 use Rattle.split_proof.specs.Calls.{renumbered_codes}
 use Rattle.split_proof.proofs.Bodies.{the_one}
 use Rattle.split_proof.proofs.Fits.{body_exact}
-use Rattle.split_proof.proofs.Lists.{among_there, no_place, none_among, place_is, there_among}
 use Rattle.split_proof.proofs.Operands.{Met, all_wanted}
 use Rattle.split_proof.proofs.PrimarySpaces as spaces
 use Rattle.split_proof.proofs.SharedFuncs.{ref_named}
@@ -74,7 +74,7 @@ module _ (laws : Laws) (namespace : ℕ → List ℕ) (names : SplitNames) (m : 
       needed : o.space ≡ Functions → is_among moved o.index ≡ true → o.called ≡ false → is_needed m o.index ≡ true
       needed e among other =
           let here : same_space o.space Functions ≡ true = ap (λ s. same_space s Functions) e in
-          let passes = both_true (same_space o.space Functions) (nat_eq o.index o.index && not (o.called && is_among moved o.index)) here (both_true (nat_eq o.index o.index) (not (o.called && is_among moved o.index)) (eq-eqb o.index o.index refl) (ap (λ c. not (c && is_among moved o.index)) other)) in
+          let passes = and_from (same_space o.space Functions) (nat_eq o.index o.index && not (o.called && is_among moved o.index)) here (and_from (nat_eq o.index o.index) (not (o.called && is_among moved o.index)) (eq-eqb o.index o.index refl) (ap (λ c. not (c && is_among moved o.index)) other)) in
           let there = ref_named moved o.index among f.body (occurs (is_named_from_primary moved Functions o.index) passes) in
           among_right (refs_of m) (cons_option m.start [] ++ body_refs m.funcs) o.index (among_right (cons_option m.start []) (body_refs m.funcs) o.index (among_joined (λ f. refs_all f.body) m.funcs p f o.index at there))
 
@@ -82,11 +82,11 @@ module _ (laws : Laws) (namespace : ℕ → List ℕ) (names : SplitNames) (m : 
       by Types e = right_either (is_opaque_call moved o) true refl
       by Functions e = ⊎_elim
           (λ among. ⊎_elim
-          (λ called. left_either (is_opaque_call moved o) (stays_in Functions o.index) (both_true o.called (is_among moved o.index) called among))
+          (λ called. left_either (is_opaque_call moved o) (stays_in Functions o.index) (and_from o.called (is_among moved o.index) called among))
           (λ other. right_either (is_opaque_call moved o) (stays_in Functions o.index) (right_either (not (is_among moved o.index)) (is_needed m o.index) (needed e among other)))
-          (two_cases o.called))
+          (cases_Bool o.called))
           (λ none. right_either (is_opaque_call moved o) (stays_in Functions o.index) (left_either (not (is_among moved o.index)) (is_needed m o.index) (ap not none)))
-          (two_cases (is_among moved o.index))
+          (cases_Bool (is_among moved o.index))
       by Tables e = right_either (is_opaque_call moved o) true refl
       by Memories e = right_either (is_opaque_call moved o) true refl
       by Globals e = right_either (is_opaque_call moved o) true refl
@@ -98,7 +98,7 @@ module _ (laws : Laws) (namespace : ℕ → List ℕ) (names : SplitNames) (m : 
 
   body_passes : (p : ℕ) (f : tree.Func) → slice_get m.funcs p ≡ Some f → all_operands_pass passes f.body ≡ true
   body_passes p f at =
-      passes_both (has_entry exact_map) goes_on passes (λ o a b. both_true (has_entry exact_map o) (goes_on o) a b) f.body (body_exact laws.entries m g.valid valid p f at)
+      passes_both (has_entry exact_map) goes_on passes (λ o a b. and_from (has_entry exact_map o) (goes_on o) a b) f.body (body_exact laws.entries m g.valid valid p f at)
       (all_wanted laws.bodies.inside laws.bodies.any goes_on f.body (body_goes_on p f at))
 
   -- ---- functions that move ----
@@ -162,7 +162,7 @@ module _ (laws : Laws) (namespace : ℕ → List ℕ) (names : SplitNames) (m : 
               let p = among_there moved o.index (right_true o.called (is_among moved o.index) e) in
               (at_address o.index, moved_there p.0 o.index p.1, is_moved_address p.0 o.index p.1)
           by false e =
-              entries_named o.space o.index (both_true (has_entry exact_map o) (stays_in o.space o.index) (left_true (has_entry exact_map o) (goes_on o) h)
+              entries_named o.space o.index (and_from (has_entry exact_map o) (stays_in o.space o.index) (left_true (has_entry exact_map o) (goes_on o) h)
               (⊎_elim (λ l. absurd (true≢false (sym l ∙ e))) (λ s. s) (either_true (is_opaque_call moved o) (stays_in o.space o.index) (right_true (has_entry exact_map o) (goes_on o) h))))
 
       body_named : (p : ℕ) (f : tree.Func) → slice_get m.funcs p ≡ Some f → ListLayers (OthersNamed R map_of moved i j) f.body

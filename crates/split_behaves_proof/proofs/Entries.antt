@@ -1,5 +1,6 @@
 -- What the indices of the module name, and what their entries name in the primary module with stubs in place of its placeholders.
-use Rattle.base_lists.proofs.Common.{◌≡◌, ◌↔◌, ◌∙◌, ap, sym, subst, refl, ℕ, zero, suc, ◌+◌, ◌-◌, ◌<◌, ◌≤◌, ◌&&◌, ◌⊎◌, inl, inr, List, [], ◌∷◌, ◌++◌, map, length, drop, Option, Some, Bool, true, arith, option_and_then, slice_get, slice_index, IsTrue, cases_lt, length-append, length-map, map-append, slice_get_within, same_Some, left_true, right_true, has_chosen, numbers_at, numbers_index, append_left, append_right, map_at, slice_get_there}
+use Rattle.base_lists.proofs.Common.{◌≡◌, ◌↔◌, ◌∙◌, ap, sym, subst, refl, ℕ, zero, suc, ◌+◌, ◌-◌, ◌<◌, ◌≤◌, ◌&&◌, ◌⊎◌, inl, inr, List, [], ◌∷◌, ◌++◌, map, length, drop, Option, Some, Bool, true, arith, option_and_then, slice_get, slice_index, IsTrue, cases_lt, length-append, length-map, map-append, slice_get_within, same_Some, left_true, right_true, has_chosen, numbers_at, numbers_index, append_left, append_right, map_at, slice_get_there, and_from}
+use Rattle.base_lists.proofs.Members.{among_right, there_among}
 use Rattle.base_lists.specs.Places.{numbers}
 use Rattle.base_kept.specs.Kept.{kept}
 use Rattle.base_kept.proofs.Laws.{kept_at}
@@ -19,7 +20,6 @@ use Rattle.index_remap.specs.Prelude.{declared_refs, fits_tree, has, new_const, 
 use Rattle.index_remap.specs.Laws.{ReplacedCodeIsRelated}
 use Rattle.index_remap.proofs.Rel.{get_rel}
 use Rattle.index_remap_proof.specs.Indices.{Indices, with_entry, ConstNamesOnly, ImportNamesOnly, ExportNamesOnly, ElemModeNamesOnly, DataModeNamesOnly, TreeNamesOnly}
-use Rattle.index_remap_proof.proofs.Lists.{among_right, both_true}
 use Rattle.world_simulation.specs.Prelude.{one, addresses, Instantiated, values_in, EntriesName, SharesOwn}
 use Rattle.world_extension_proof.specs.Typed.{AddedModulesAreTyped}
 use Rattle.world_contents_proof.specs.Leaves.{PrimaryModulesLeave}
@@ -38,7 +38,6 @@ use Rattle.split_spec.specs.declared.names.SplitNames.{SplitNames}
 use Rattle.split_spec.specs.Prelude.{is_left, left_marks, primary_func, primary_funcs, primary_map, in_slots, place_among, slot_segment, slot_table, slot_table_type, type_index}
 use Rattle.split_proof.proofs.Bodies.{BodyLaws}
 use Rattle.split_proof.proofs.Fits.{EntriesAreThere, exact, covers_exact}
-use Rattle.split_proof.proofs.Lists.{there_among}
 use Rattle.split_proof.proofs.PrimaryItems as primary
 use Rattle.split_proof.proofs.PrimarySpaces as spaces
 use Rattle.split_proof.proofs.Spaces.{ItemsHold}
@@ -165,25 +164,25 @@ module _ (laws : Laws) (namespace : ℕ → List ℕ) (names : SplitNames) (m : 
   const_stays (const.I32 v) h left = tt
   const_stays (const.I64 v) h left = tt
   const_stays (const.Null ty) h left = tt
-  const_stays (const.Func f) h left = both_true (with_entry old Functions f) (is_left m moved f) h (left f refl)
-  const_stays (const.Global x) h left = both_true (with_entry old Globals x) true h refl
+  const_stays (const.Func f) h left = and_from (with_entry old Functions f) (is_left m moved f) h (left f refl)
+  const_stays (const.Global x) h left = and_from (with_entry old Globals x) true h refl
 
   no_func : (e : ConstExpr) → const_type m e ≡ Some I32 → (f : ℕ) → const_func e ≡ Some f → is_left m moved f ≡ true
   no_func = primary.no_func laws.bodies namespace names.export_prefix m holds moved g.can_move
 
   import_stays : (d : ImportDesc) → ImportNamesOnly (with_entry old) d → ImportNamesOnly stay d
-  import_stays (im.Func ty) h = both_true (with_entry old Types ty) true h refl
+  import_stays (im.Func ty) h = and_from (with_entry old Types ty) true h refl
   import_stays (im.Table t) h = tt
   import_stays (im.Memory l) h = tt
   import_stays (im.Global t) h = tt
 
   elem_mode_stays : (ty : RefType) (mode : ElemMode) → ElemModeNamesOnly (with_entry old) mode → ElemModeHolds m ty mode → ElemModeNamesOnly stay mode
-  elem_mode_stays ty (elem.Active x offset) h v = (both_true (with_entry old Tables x) true h.0 refl, const_stays offset h.1 (no_func offset v.1))
+  elem_mode_stays ty (elem.Active x offset) h v = (and_from (with_entry old Tables x) true h.0 refl, const_stays offset h.1 (no_func offset v.1))
   elem_mode_stays ty elem.Passive h v = tt
   elem_mode_stays ty elem.Declarative h v = tt
 
   data_mode_stays : (mode : DataMode) → DataModeNamesOnly (with_entry old) mode → DataModeHolds m mode → DataModeNamesOnly stay mode
-  data_mode_stays («data».Active x offset) h v = (both_true (with_entry old Memories x) true h.0 refl, const_stays offset h.1 (no_func offset v.1))
+  data_mode_stays («data».Active x offset) h v = (and_from (with_entry old Memories x) true h.0 refl, const_stays offset h.1 (no_func offset v.1))
   data_mode_stays «data».Passive h v = tt
 
   export_left : (n : ℕ) (e : Export) → slice_get m.exports n ≡ Some e → (f : ℕ) → export_func e.desc ≡ Some f → is_left m moved f ≡ true
@@ -193,10 +192,10 @@ module _ (laws : Laws) (namespace : ℕ → List ℕ) (names : SplitNames) (m : 
       (among_right (elem_refs m.elems) (global_refs m.globals ++ export_refs m.exports) f (among_right (global_refs m.globals) (export_refs m.exports) f (there_among (export_refs m.exports) c.0 f c.1)))
 
   export_stays : (d : ExportDesc) → ExportNamesOnly (with_entry old) d → ((f : ℕ) → export_func d ≡ Some f → is_left m moved f ≡ true) → ExportNamesOnly stay d
-  export_stays (ex.Func x) h left = both_true (with_entry old Functions x) (is_left m moved x) h (left x refl)
-  export_stays (ex.Table x) h left = both_true (with_entry old Tables x) true h refl
-  export_stays (ex.Memory x) h left = both_true (with_entry old Memories x) true h refl
-  export_stays (ex.Global x) h left = both_true (with_entry old Globals x) true h refl
+  export_stays (ex.Func x) h left = and_from (with_entry old Functions x) (is_left m moved x) h (left x refl)
+  export_stays (ex.Table x) h left = and_from (with_entry old Tables x) true h refl
+  export_stays (ex.Memory x) h left = and_from (with_entry old Memories x) true h refl
+  export_stays (ex.Global x) h left = and_from (with_entry old Globals x) true h refl
 
   elem_holds : (n : ℕ) (s : ElemSeg) → slice_get m.elems n ≡ Some s → ElemModeHolds m s.ty s.mode
   elem_holds n s at =
@@ -216,7 +215,7 @@ module _ (laws : Laws) (namespace : ℕ → List ℕ) (names : SplitNames) (m : 
     funcs = λ n f at. absurd (let e = at in cc);
     globals = λ n d at. const_stays d.init (named_there.globals n d at) (primary.init_left laws.bodies namespace names.export_prefix m holds moved g.can_move n d at);
     exports = λ n e at. export_stays e.desc (named_there.exports n e at) (export_left n e at);
-    start = λ f at. both_true (with_entry old Functions f) (is_left m moved f) (named_there.start f at) (primary.start_left laws.bodies namespace names.export_prefix m holds moved g.can_move f at);
+    start = λ f at. and_from (with_entry old Functions f) (is_left m moved f) (named_there.start f at) (primary.start_left laws.bodies namespace names.export_prefix m holds moved g.can_move f at);
     items = λ n p s e at here. const_stays e (named_there.items n p s e at here) (primary.item_left laws.bodies namespace names.export_prefix m holds moved g.can_move n p s e at here);
     elem_modes = λ n s at. elem_mode_stays s.ty s.mode (named_there.elem_modes n s at) (elem_holds n s at);
     data_modes = λ n s at. data_mode_stays s.mode (named_there.data_modes n s at) (data_holds n s at);

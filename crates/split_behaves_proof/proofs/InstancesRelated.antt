@@ -1,10 +1,9 @@
 -- The instances of a module alone and of the primary module of its split name partners, index by index.
-use Rattle.base_lists.proofs.Common.{◌≡◌, ◌∙◌, ap, sym, subst, refl, ℕ, suc, ◌<◌, List, [], ◌∷◌, length, Some, true, arith, slice_get, lt-ltb, same_Some, length-numbers, numbers_index, and_then_is}
+use Rattle.base_lists.proofs.Common.{◌≡◌, ◌∙◌, ap, sym, subst, refl, ℕ, suc, ◌<◌, List, [], ◌∷◌, length, Some, true, arith, slice_get, lt-ltb, same_Some, length-numbers, numbers_index, and_then_is, and_from}
 use Rattle.base_lists.specs.Places.{numbers}
 use Rattle.wasm_tree_spec.specs.Prelude.{Functions, Tables, Memories, Globals, Module, funcs_of, tables_of, memories_of, globals_of}
 use Rattle.wasm_meaning.specs.Prelude.{Inst, Environment, Added, primary_added}
 use Rattle.index_remap.specs.Prelude.{OptRel, has}
-use Rattle.index_remap_proof.proofs.Lists.{both_true}
 use Rattle.world_simulation.specs.Prelude.{one}
 use Rattle.world_loader_proof.specs.Loaded.{LoadersHaveTheirPrimarysInstance}
 use Rattle.world_loader_proof.specs.Stubbed.{stubbed, placeholders_in, LoadersAddAsStubbed}
@@ -27,16 +26,16 @@ module _ (laws : Laws) (namespace : ℕ → List ℕ) (names : SplitNames) (m : 
   from_insts i j a b = record {
     first_types = a.types;
     types = b.types ∙ types_are laws namespace names m moved owns g;
-    funcs = λ x lt left. entries_named laws namespace names m moved owns g env i j a b [] Functions x (both_true _ (is_left m moved x) (there (length (funcs_of m)) x lt) left);
+    funcs = λ x lt left. entries_named laws namespace names m moved owns g env i j a b [] Functions x (and_from _ (is_left m moved x) (there (length (funcs_of m)) x lt) left);
     tables = λ x lt.
         subst (λ n. OptRel (Partnered env m moved Tables) (slice_get i.tables x) (slice_get j.tables n)) (numbers_index (suc (length (tables_of m))) x (omega (arith, lt)))
-        (entries_named laws namespace names m moved owns g env i j a b [] Tables x (both_true _ true (there (length (tables_of m)) x lt) refl));
+        (entries_named laws namespace names m moved owns g env i j a b [] Tables x (and_from _ true (there (length (tables_of m)) x lt) refl));
     mems = λ x lt.
         subst (λ n. OptRel (Partnered env m moved Memories) (slice_get i.mems x) (slice_get j.mems n)) (numbers_index (length (memories_of m)) x lt)
-        (entries_named laws namespace names m moved owns g env i j a b [] Memories x (both_true _ true (there (length (memories_of m)) x lt) refl));
+        (entries_named laws namespace names m moved owns g env i j a b [] Memories x (and_from _ true (there (length (memories_of m)) x lt) refl));
     globals = λ x lt.
         subst (λ n. OptRel (Partnered env m moved Globals) (slice_get i.globals x) (slice_get j.globals n)) (numbers_index (length (globals_of m)) x lt)
-        (entries_named laws namespace names m moved owns g env i j a b [] Globals x (both_true _ true (there (length (globals_of m)) x lt) refl));
+        (entries_named laws namespace names m moved owns g env i j a b [] Globals x (and_from _ true (there (length (globals_of m)) x lt) refl));
     slots = slots_there laws namespace names m moved owns g env i j a b [];
     moves = moved_there laws namespace names m moved owns g env i j a b [];
   }

@@ -1,5 +1,8 @@
 -- The code of functions that are loaded is related to theirs in the module alone.
-use Rattle.base_lists.proofs.Common.{◌≡◌, ◌∙◌, ap, ap₂, sym, subst, refl, ℕ, zero, suc, ◌+◌, ◌-◌, ◌<◌, ◌&&◌, ◌||◌, List, [], ◌∷◌, ◌++◌, length, not, Option, Some, None, Bool, true, false, nat_eq, arith, true≢false, ⊎_elim, slice_get, slice_index, unwrap_or, pos, nat_lt, list_any, ltb-true, slice_get_within, same_Some, left_true, right_true, length-numbers, numbers_index, append_at_left, append_right, Has}
+use Rattle.base_lists.proofs.Common.{◌≡◌, ◌∙◌, ap, ap₂, sym, subst, refl, ℕ, zero, suc, ◌+◌, ◌-◌, ◌<◌, ◌&&◌, ◌||◌, List, [], ◌∷◌, ◌++◌, length, not, Option, Some, None, Bool, true, false, nat_eq, arith, true≢false, ⊎_elim, slice_get, slice_index, unwrap_or, pos, nat_lt, list_any, ltb-true, slice_get_within, same_Some, left_true, right_true, length-numbers, numbers_index, append_at_left, append_right, Has, and_from, cases_Bool, either_true, left_either, right_either}
+use Rattle.base_lists.proofs.Each.{any_from_place}
+use Rattle.base_lists.specs.Members.{is_among}
+use Rattle.base_lists.proofs.Members.{among_there, there_among, place_is, no_place, none_among}
 use Rattle.std.proofs.Common.{eq-eqb}
 use Rattle.base_lists.specs.Options.{◌>>=◌}
 use Rattle.base_lists.specs.Places.{numbers}
@@ -9,10 +12,9 @@ use Rattle.wasm_tree.specs.declared.module.Func as tree
 use Rattle.wasm_tree.proofs.OperandLaws.{passes_both}
 use Rattle.wasm_meaning.specs.Prelude.{Inst, Environment}
 use Rattle.index_remap.specs.declared.remap.Remap.{Remap}
-use Rattle.index_remap.specs.Prelude.{EntryNames, is_among, Pairing, CodeRel, OptRel, Names, has_entry, renumbered_all, ReplacementCodesFit, OtherNamed, OthersNamed, is_opaque_call, slot_call}
+use Rattle.index_remap.specs.Prelude.{EntryNames, Pairing, CodeRel, OptRel, Names, has_entry, renumbered_all, ReplacementCodesFit, OtherNamed, OthersNamed, is_opaque_call, slot_call}
 use Rattle.index_remap.proofs.SlotCalls.{func_type_self}
 use Rattle.index_remap.proofs.NotOpaque.{operands_follow}
-use Rattle.index_remap_proof.proofs.Lists.{both_true, either_true, left_either, right_either, two_cases}
 use Rattle.split_plan.specs.Segments.{names_segment}
 use Rattle.split_spec.specs.declared.names.SplitNames.{SplitNames}
 use Rattle.split_spec.specs.Prelude.{with_calls, is_from_primary, is_named_from_primary, primary_map, HasSlots, secondary_call, secondary_call_by_place, secondary_map, call_by_slot, defined_at, place_among, slot_table, type_index}
@@ -20,7 +22,6 @@ use Rattle.split_proof.specs.Calls.{renumbered_codes}
 use Rattle.split_proof.specs.Premises.{CanMove}
 use Rattle.split_proof.proofs.Bodies.{the_one}
 use Rattle.split_proof.proofs.Fits.{body_exact}
-use Rattle.split_proof.proofs.Lists.{among_there, list_any_at, no_place, none_among, place_is, there_among}
 use Rattle.split_proof.proofs.Operands.{Met, all_wanted}
 use Rattle.split_proof.proofs.SecondarySpaces.{own_moves}
 use Rattle.split_proof.proofs.SharedFuncs.{shared_left}
@@ -87,16 +88,16 @@ module _ (laws : Laws) (namespace : ℕ → List ℕ) (names : SplitNames) (m : 
         ⊎_elim (λ listed. left_either (is_opaque_call moved o) (is_from_primary moved (defined_at m own) o.space o.index) listed)
         (λ other.
         right_either (is_opaque_call moved o) (is_from_primary moved (defined_at m own) o.space o.index)
-        (list_any_at (λ f. any_operand_passes (is_named_from_primary moved o.space o.index) f.body) (defined_at m own) n f at
-        (occurs (is_named_from_primary moved o.space o.index) (both_true (same_space o.space o.space) (nat_eq o.index o.index && not (o.called && is_among moved o.index)) (same_space_self o.space)
-        (both_true (nat_eq o.index o.index) (not (o.called && is_among moved o.index)) (eq-eqb o.index o.index refl) (ap not other))))))
-        (two_cases (is_opaque_call moved o))
+        (any_from_place (λ f. any_operand_passes (is_named_from_primary moved o.space o.index) f.body) (defined_at m own) n f at
+        (occurs (is_named_from_primary moved o.space o.index) (and_from (same_space o.space o.space) (nat_eq o.index o.index && not (o.called && is_among moved o.index)) (same_space_self o.space)
+        (and_from (nat_eq o.index o.index) (not (o.called && is_among moved o.index)) (eq-eqb o.index o.index refl) (ap not other))))))
+        (cases_Bool (is_opaque_call moved o))
 
     body_passes : (place : ℕ) → slice_get m.funcs place ≡ Some f → any_operand_passes names_segment f.body ≡ false → all_operands_pass passes f.body ≡ true
     body_passes place there none =
-        passes_both (has_entry exact_map) (λ o. not (names_segment o) && goes_on o) passes (λ o a b. both_true (has_entry exact_map o) (not (names_segment o) && goes_on o) a b) f.body (body_exact laws.entries m g.valid (holds laws namespace names m moved owns g) place f there)
-        (passes_both (λ o. not (names_segment o)) goes_on (λ o. not (names_segment o) && goes_on o) (λ o a b. both_true (not (names_segment o)) (goes_on o) a b) f.body
-        (all_wanted laws.bodies.inside laws.bodies.any (λ o. not (names_segment o)) f.body (λ o t. ⊎_elim (λ h. absurd (true≢false (sym (t names_segment h) ∙ none))) (λ h. ap not h) (two_cases (names_segment o))))
+        passes_both (has_entry exact_map) (λ o. not (names_segment o) && goes_on o) passes (λ o a b. and_from (has_entry exact_map o) (not (names_segment o) && goes_on o) a b) f.body (body_exact laws.entries m g.valid (holds laws namespace names m moved owns g) place f there)
+        (passes_both (λ o. not (names_segment o)) goes_on (λ o. not (names_segment o) && goes_on o) (λ o a b. and_from (not (names_segment o)) (goes_on o) a b) f.body
+        (all_wanted laws.bodies.inside laws.bodies.any (λ o. not (names_segment o)) f.body (λ o t. ⊎_elim (λ h. absurd (true≢false (sym (t names_segment h) ∙ none))) (λ h. ap not h) (cases_Bool (names_segment o))))
         (all_wanted laws.bodies.inside laws.bodies.any goes_on f.body body_goes_on))
 
   -- ---- instances ----
@@ -177,9 +178,9 @@ module _ (laws : Laws) (namespace : ℕ → List ℕ) (names : SplitNames) (m : 
       unfolding out-Instr denote.Hole.Carrier.out
       direct_stands f place at =
           let pair = pairs place f at in
-          let same : nat_eq (defined_address env m f) (defined_address env m f) && nat_eq (from + place) (from + place) ≡ true = both_true _ _ (eq-eqb (defined_address env m f) (defined_address env m f) refl) (eq-eqb (from + place) (from + place) refl) in
+          let same : nat_eq (defined_address env m f) (defined_address env m f) && nat_eq (from + place) (from + place) ≡ true = and_from _ _ (eq-eqb (defined_address env m f) (defined_address env m f) refl) (eq-eqb (from + place) (from + place) refl) in
           ap (λ o. unwrap_or (o >>= λ c. Some (list_any (λ p. nat_eq p.0 (defined_address env m f) && nat_eq p.1 c) loaded)) false) (own_index place (slice_get_within own place f at))
-          ∙ list_any_at (λ p. nat_eq p.0 (defined_address env m f) && nat_eq p.1 (from + place)) loaded pair.0 (defined_address env m f, from + place) pair.1 same
+          ∙ any_from_place (λ p. nat_eq p.0 (defined_address env m f) && nat_eq p.1 (from + place)) loaded pair.0 (defined_address env m f, from + place) pair.1 same
 
       codes_stand : ReplacementCodesFit R moved (renumbered_codes second_map (secondary_call m moved own)) i k
       codes_stand labels f addr code among has at = by (place_among own f) refl
@@ -216,7 +217,7 @@ module _ (laws : Laws) (namespace : ℕ → List ℕ) (names : SplitNames) (m : 
               (λ e. let p = among_there own f e in
               absurd (true≢false (sym (there_among moved (length slots.earlier + p.0) f (ap (λ fs. slice_get fs (length slots.earlier + p.0)) slots.all ∙ append_right slots.earlier (own ++ slots.later) p.0 ∙ append_at_left own slots.later p.0 f p.1)) ∙ h)))
               (λ e. e)
-              (two_cases (is_among own f))
+              (cases_Bool (is_among own f))
 
       pub code_related : (n p f : ℕ) (at : slice_get own p ≡ Some f) → slice_get (defined_at m own) n ≡ Some (moves p f at).func → CodeRel R i k (moves p f at).func.body (renumbered_all second_map (with_calls (secondary_call m moved own) (moves p f at).func.body))
       code_related n p f at there =

@@ -1,18 +1,17 @@
 -- What the primary module exports under the names by which a secondary module imports.
-use Rattle.base_lists.proofs.Common.{◌≡◌, ◌∙◌, ap, sym, subst, refl, ℕ, zero, suc, ◌+◌, ◌-◌, ◌<◌, List, [], ◌∷◌, ◌++◌, map, take, length, Option, Some, Bool, true, false, cond, slice_get, slice_index, arith, list_any, filter_map-append, list_any-append, slice_get_within, same_Some, place_there, numbers_at, map_at, Has, has_left, has_right}
+use Rattle.base_lists.proofs.Common.{◌≡◌, ◌∙◌, ap, sym, subst, refl, ℕ, zero, suc, ◌+◌, ◌-◌, ◌<◌, List, [], ◌∷◌, ◌++◌, map, take, length, Option, Some, Bool, true, false, cond, slice_get, slice_index, arith, list_any, filter_map-append, list_any-append, slice_get_within, same_Some, place_there, numbers_at, map_at, Has, has_left, has_right, left_either, right_either}
+use Rattle.base_lists.proofs.Same.{text_is, text_self}
+use Rattle.base_lists.proofs.Each.{there_contains}
 use Rattle.base_lists.specs.Places.{numbers}
 use Rattle.wasm_tree_spec.specs.Prelude.{Space, Functions, Tables, Memories, Globals, Export, Func, ExportDesc, Module, any_operand_passes, imported_funcs}
 use Rattle.wasm_tree.specs.declared.module.ExportDesc.TheVariants as ex
 use Rattle.wasm_valid.specs.declared.kinds.ItemKind.TheVariants as kind
 use Rattle.wasm_meaning.specs.Prelude.{same_text, export_named}
 use Rattle.index_remap.specs.Prelude.{declared_refs, new_export, new_export_desc, renumbered_tree}
-use Rattle.index_remap_proof.proofs.Lists.{left_either, right_either}
 use Rattle.world_simulation.proofs.Declared.{Keeps, keeps}
 use Rattle.split_spec.specs.Prelude.{defined_at, slot_table, entities, exports_for_secondary, from_primary, is_from_primary, is_named_from_primary, marks_from_primary, name_from_primary, slots_name, added_exports, primary_map, primary_tree, HasSlots}
 use Rattle.split_spec.specs.Primary.{primary_with}
-use Rattle.split_proof.proofs.Lists.{there_contains}
 use Rattle.split_proof.proofs.Spaces.{ItemsHold}
-use Rattle.index_remap_proof.proofs.Lists.{text_is, text_self}
 
 -- ---- exports by name ----
 

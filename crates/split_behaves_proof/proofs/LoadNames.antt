@@ -1,5 +1,8 @@
 -- The indices of a secondary module's instance name what the primary module's instance has, and its own functions.
-use Rattle.base_lists.proofs.Common.{◌≡◌, ◌∙◌, ap, ap₂, sym, refl, ℕ, zero, suc, ◌+◌, ◌<◌, List, [], ◌∷◌, ◌++◌, map, length, Option, Some, None, Bool, true, false, slice_get, slice_index, arith, option_map, cons_option, length-append, length-map, filter_map-append, same_Some, every_at, length-numbers, numbers_at, numbers_index, and_then_is, append_at_left, append_right, slice_get_there}
+use Rattle.base_lists.proofs.Common.{◌≡◌, ◌∙◌, ap, ap₂, sym, refl, ℕ, zero, suc, ◌+◌, ◌<◌, List, [], ◌∷◌, ◌++◌, map, length, Option, Some, None, Bool, true, false, slice_get, slice_index, arith, option_map, cons_option, length-append, length-map, filter_map-append, same_Some, every_at, length-numbers, numbers_at, numbers_index, and_then_is, append_at_left, append_right, slice_get_there, all_counted, index_left, index_right}
+use Rattle.base_lists.proofs.Filtered.{all_chosen}
+use Rattle.base_kept.proofs.Chosen.{kept_counted}
+use Rattle.base_lists.proofs.Every.{every_from}
 use Rattle.std.proofs.Common.{filter_map}
 use Rattle.std.proofs.lemmas.List.{append-nil}
 use Rattle.base_lists.specs.Options.{◌>>=◌, all_there}
@@ -18,12 +21,10 @@ use Rattle.split_plan.specs.Plans.{body_uses_segment}
 use Rattle.split_spec.specs.declared.names.SplitNames.{SplitNames}
 use Rattle.split_spec.specs.Prelude.{defined_at, slot_table, entities, from_primary, imports_from_primary, is_from_primary, marks_from_primary, name_from_primary, primary_map, primary_with, HasSlots, secondary_func, secondary_imports, secondary_map}
 use Rattle.split_proof.specs.Premises.{CanMove}
-use Rattle.split_proof.proofs.Lists.{all_chosen, all_counted, index_left, index_right, kept_counted}
 use Rattle.split_proof.proofs.SecondarySpaces as second_spaces
 use Rattle.split_proof.proofs.SharedFuncs.{shared_within}
 use Rattle.split_proof.proofs.Spaces.{ItemsHold}
 use Rattle.split_behaves_proof.specs.Loads.{NamesWhatThePrimaryHas}
-use Rattle.split_proof.proofs.Lists.{every_from}
 use Rattle.split_behaves_proof.proofs.LoadExports.{marked_at, slots_exported, func_exported, table_exported, memory_exported, global_exported}
 use Rattle.split_behaves_proof.proofs.LoadImports.{first, func_offered, table_offered, memory_offered, global_offered, slots_offered, second, second_tree, second_keeps, supply, slots_import}
 

@@ -1,5 +1,5 @@
 -- The relation of addresses is one to one, and relates each of the environment's own entities to itself.
-use Rattle.base_lists.proofs.Common.{◌≡◌, ◌∙◌, ap, sym, refl, ℕ, suc, ◌+◌, ◌-◌, ◌<◌, ◌≤◌, ◌&&◌, List, length, drop, Some, Bool, true, false, cond, nat_eq, nat_lt, arith, slice_get, slice_index, map, lt-ltb, ltb-true, eqb-true, nat_tests, length-append, length-map, left_true, right_true, numbers_at}
+use Rattle.base_lists.proofs.Common.{◌≡◌, ◌∙◌, ap, sym, refl, ℕ, suc, ◌+◌, ◌-◌, ◌<◌, ◌≤◌, ◌&&◌, List, length, drop, Some, Bool, true, false, cond, nat_eq, nat_lt, arith, slice_get, slice_index, map, lt-ltb, ltb-true, eqb-true, nat_tests, length-append, length-map, left_true, right_true, numbers_at, and_from}
 use Rattle.std.proofs.Common.{eq-eqb}
 use Rattle.base_lists.specs.Places.{numbers}
 use Rattle.base_kept.specs.Kept.{kept, is_marked, kept_before}
@@ -7,7 +7,6 @@ use Rattle.base_kept.proofs.Laws.{kept_at}
 use Rattle.wasm_tree_spec.specs.Prelude.{Space, Types, Functions, Tables, Memories, Globals, ElementSegments, DataSegments, Module, imported_funcs, funcs_of}
 use Rattle.wasm_meaning.specs.Prelude.{Environment, own_count, defined_count}
 use Rattle.index_remap.specs.Prelude.{OneToOne}
-use Rattle.index_remap_proof.proofs.Lists.{both_true}
 use Rattle.world_simulation.specs.Prelude.{SharesOwn}
 use Rattle.split_spec.specs.Prelude.{is_left, left_marks, primary_map}
 use Rattle.split_proof.specs.Premises.{CanMove}
@@ -95,7 +94,7 @@ module _ (namespace : ℕ → List ℕ) (prefix : List ℕ) (m : Module) (holds 
     same_address bound a b h = (eqb-true a b (left_true (nat_eq a b) _ h), ltb-true a bound (right_true (nat_eq a b) _ h))
 
     address_same : (bound a : ℕ) → a < bound → nat_eq a a && nat_lt a bound ≡ true
-    address_same bound a lt = both_true (nat_eq a a) (nat_lt a bound) (eq-eqb a a refl) (lt-ltb a bound lt)
+    address_same bound a lt = and_from (nat_eq a a) (nat_lt a bound) (eq-eqb a a refl) (lt-ltb a bound lt)
 
     pub partner_is : (space : Space) → is_else space ≡ true → (a b : ℕ) → is_partner env m moved space a b ≡ true → (a ≡ b) × (a < own_count space env + defined_count space m)
     partner_is Functions e a b h = absurd (let f : false ≡ true = e in cc)

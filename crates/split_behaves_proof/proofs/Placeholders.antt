@@ -1,5 +1,7 @@
 -- The primary module of a split imports its placeholders behind all that the module imports, in the order of their slots.
-use Rattle.base_lists.proofs.Common.{◌≡◌, ◌≢◌, ◌∙◌, ap, sym, subst, refl, ℕ, zero, suc, ◌+◌, ◌^◌, ◌<◌, ◌≤◌, List, [], ◌∷◌, ◌++◌, length, map, Some, None, Bool, true, false, cond, nat_eq, arith, true≢false, ⊎_elim, slice_get, slice_index, unwrap_or, option_and_then, decimal, pos, flat_map, bytes_eq, decimal_injective, slice_get_within, bytes_eq-Decides, cond_is, left_true, right_true, length-numbers, numbers_at, pigeons, slice_get_there, slice_index_is, each_same_is, each_same_self}
+use Rattle.base_lists.proofs.Common.{◌≡◌, ◌≢◌, ◌∙◌, ap, sym, subst, refl, ℕ, zero, suc, ◌+◌, ◌^◌, ◌<◌, ◌≤◌, List, [], ◌∷◌, ◌++◌, length, map, Some, None, Bool, true, false, cond, nat_eq, arith, true≢false, ⊎_elim, slice_get, slice_index, unwrap_or, option_and_then, decimal, pos, flat_map, bytes_eq, decimal_injective, slice_get_within, bytes_eq-Decides, cond_is, left_true, right_true, length-numbers, numbers_at, pigeons, slice_get_there, slice_index_is, each_same_is, each_same_self, and_from, cases_Bool, same_number}
+use Rattle.base_lists.proofs.Same.{text_is, text_self}
+use Rattle.base_lists.proofs.Every.{every_from}
 use Rattle.std.proofs.Common.{eq-eqb}
 use Rattle.base_lists.specs.Every.{Every}
 use Rattle.base_lists.specs.Places.{first_place, numbers}
@@ -8,7 +10,6 @@ use Rattle.wasm_tree_spec.specs.Prelude.{FuncType, Import, Module, funcs_of, typ
 use Rattle.wasm_tree.specs.declared.module.ImportDesc.TheVariants as im
 use Rattle.wasm_meaning.specs.Prelude.{Text, Pair, same_pair, same_text, pair_of, flat, LoaderWorld, placeholders_of, slot_of}
 use Rattle.index_remap.specs.Prelude.{declared_refs}
-use Rattle.index_remap_proof.proofs.Lists.{both_true, same_number, two_cases}
 use Rattle.world_loader_proof.specs.Stubbed.{ArePlaceholders, ImportsThemLast}
 use Rattle.world_simulation.proofs.Declared.{Keeps, keeps}
 use Rattle.split_spec.specs.declared.names.SplitNames.{SplitNames}
@@ -18,8 +19,6 @@ use Rattle.split_proof.proofs.PrimarySpaces as spaces
 use Rattle.split_proof.proofs.Spaces.{ItemsHold, type_there}
 use Rattle.split_behaves_proof.specs.Worlds.{placeholders_for, secondaries_for, split_world, type_in}
 use Rattle.split_behaves_proof.specs.Laws.{CanBeSplit}
-use Rattle.index_remap_proof.proofs.Lists.{text_is, text_self}
-use Rattle.split_proof.proofs.Lists.{every_from}
 
 -- ---- lists ----
 
@@ -46,7 +45,7 @@ module _ (namespace : ℕ → List ℕ) where
   pair_at slot = (namespace slot, decimal slot)
 
   pair_self : (t : ℕ) → same_pair (pair_at t) (pair_at t) ≡ true
-  pair_self t = both_true (same_text (namespace t) (namespace t)) (same_text (decimal t) (decimal t)) (text_self (namespace t)) (text_self (decimal t))
+  pair_self t = and_from (same_text (namespace t) (namespace t)) (same_text (decimal t) (decimal t)) (text_self (namespace t)) (text_self (decimal t))
 
   pair_apart : (s t : ℕ) → s < 2 ^ 64 → t < 2 ^ 64 → nat_eq t s ≡ false → same_pair (pair_at t) (pair_at s) ≡ false
   pair_apart s t a b e = ⊎_elim
@@ -54,7 +53,7 @@ module _ (namespace : ℕ → List ℕ) where
       let tails = text_is (decimal t) (decimal s) (right_true (same_text (namespace t) (namespace s)) _ h) in
       absurd (true≢false (sym (eq-eqb t s (decimal_injective t s b a tails)) ∙ e)))
       (λ h. h)
-      (two_cases (same_pair (pair_at t) (pair_at s)))
+      (cases_Bool (same_pair (pair_at t) (pair_at s)))
 
   module _ (m : Module) where
     abbrev from_slot : ℕ → List ℕ → List (Pair × FuncType)
@@ -70,7 +69,7 @@ module _ (namespace : ℕ → List ℕ) where
         let other : t ≢ s = (λ z. true≢false (sym (eq-eqb t s z) ∙ e)) in
         ap (λ b. cond b (Some s) (first_place (λ p. same_pair (pair_at t) p.0) (from_slot (suc s) fs) (suc s))) (pair_apart s t (omega (arith, few)) (omega (arith, few, to)) e)
         ∙ slot_there (suc s) t fs (omega (arith, from, other)) (omega (arith, to)) (omega (arith, few)))
-        (two_cases (nat_eq t s))
+        (cases_Bool (nat_eq t s))
 
     -- and no other import's name is one of a placeholder
     no_slot : (pair : Pair) (s : ℕ) (fs : List ℕ) → ((t : ℕ) → s ≤ t → t < s + length fs → same_pair pair (pair_at t) ≡ false) → first_place (λ p. same_pair pair p.0) (from_slot s fs) s ≡ None
@@ -148,7 +147,7 @@ module _ (namespace : ℕ → List ℕ) (names : SplitNames) (m : Module) (moved
           let fails = none_passes (λ i. bytes_eq i.«module» (namespace t)) m.imports 0 (g.namespaces t (omega (arith, lt))) n i at in
           absurd (true≢false (sym ((bytes_eq-Decides i.«module» (namespace t)).1 name) ∙ fails)))
           (λ h. h)
-          (two_cases (same_pair (pair_of i) (pair_at namespace t)))
+          (cases_Bool (same_pair (pair_of i) (pair_at namespace t)))
 
   are_placeholders : (n : ℕ) (fs : List ℕ) → ((p f : ℕ) → slice_get fs p ≡ Some f → slice_get moved (n + p) ≡ Some f) → ArePlaceholders w n (placeholder_imports namespace m n fs) (placeholders_for namespace m n fs) (map (type_index m) fs)
   are_placeholders n [] h = tt

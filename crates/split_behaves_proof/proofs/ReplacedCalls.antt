@@ -1,6 +1,7 @@
 -- A call of a function that moves in the first run, where other code stands in place of it in the second: it calls what is in the function's slot, or the function that is
 -- loaded for it.
 use Rattle.base_lists.proofs.Common.{◌≡◌, ◌∙◌, refl, sym, ap, ap₂, subst, ℕ, suc, ◌+◌, ◌≤◌, ◌&&◌, List, [], ◌∷◌, ◌++◌, Option, Some, None, Bool, true, false, arith, slice_get, nat_eq, option_and_then, ℤ, and_parts, eqb-true, same_Some, and_then_is, map_from, each_same_is, unwrap_or_false_is}
+use Rattle.base_lists.proofs.Members.{place_is}
 use Rattle.std.specs.Prelude.{unwrap_or}
 use Rattle.base_lists.specs.Options.{◌>>=◌}
 use Rattle.base_simulation.specs.Machines.{Machine, noted}
@@ -17,7 +18,6 @@ use Rattle.index_remap.proofs.FramesBetween.{again, between, frames}
 use Rattle.world_loader_proof.specs.LoaderSteps.{PlaceholdersAreAnswered}
 use Rattle.split_spec.specs.declared.names.SplitNames.{SplitNames}
 use Rattle.split_spec.specs.Prelude.{place_among}
-use Rattle.split_proof.proofs.Lists.{place_is}
 use Rattle.split_behaves_proof.specs.Worlds.{type_in}
 use Rattle.split_behaves_proof.specs.Addresses.{calls_its_slot, calls_loaded, defined_address, may_stand, moved_addresses, slot_table_address, split_pairing}
 use Rattle.split_behaves_proof.specs.Answered.{StepAnswered}

@@ -1,12 +1,11 @@
 -- Where a secondary module is loaded the runs stand at the same place still, with its functions in their slots.
-use Rattle.base_lists.proofs.Common.{◌≡◌, ◌∙◌, refl, sym, ap, ap₂, subst, ℕ, suc, ◌+◌, ◌-◌, ◌<◌, ◌≤◌, ◌⊎◌, inl, inr, ⊎_elim, List, [], ◌∷◌, ◌++◌, length, Some, Bool, true, false, ◌&&◌, nat_eq, arith, slice_get, slice_set, decimal, list_any, and_parts, cases_lt, eqb-true, decimal_injective, length-append, length-map, list_any-append, slice_get_within, same_Some, length-numbers, numbers_at, and_then_is, append_at_left, append_left, append_right, map_at, set_at, set_other}
+use Rattle.base_lists.proofs.Common.{◌≡◌, ◌∙◌, refl, sym, ap, ap₂, subst, ℕ, suc, ◌+◌, ◌-◌, ◌<◌, ◌≤◌, ◌⊎◌, inl, inr, ⊎_elim, List, [], ◌∷◌, ◌++◌, length, Some, Bool, true, false, ◌&&◌, nat_eq, arith, slice_get, slice_set, decimal, list_any, and_parts, cases_lt, eqb-true, decimal_injective, length-append, length-map, list_any-append, slice_get_within, same_Some, length-numbers, numbers_at, and_then_is, append_at_left, append_left, append_right, map_at, set_at, set_other, either_true}
 use Rattle.base_lists.specs.Options.{◌>>=◌, all_there}
 use Rattle.base_lists.specs.Places.{numbers}
 use Rattle.wasm_tree_spec.specs.Prelude.{Functions, FuncType, Module}
 use Rattle.wasm_meaning.specs.Prelude.{overwrite, Pair, FuncRef, RefVal, Inst, Store, Environment, export_named, address_in, own_count, added, Run, Secondary, LoaderWorld, LoaderRun, secondary_of, store_loaded}
 use Rattle.index_remap.specs.Prelude.{Pairing, CodeAt}
 use Rattle.index_remap.specs.Wider.{CodeStaysRelated, StoresStayRelated, RunsStayRelated}
-use Rattle.index_remap_proof.proofs.Lists.{either_true}
 use Rattle.world_extension_proof.specs.Extends.{StaysIn, AddedModulesExtend}
 use Rattle.split_spec.specs.declared.names.SplitNames.{SplitNames}
 use Rattle.split_spec.specs.Prelude.{primary_with, HasSlots, secondary_with}

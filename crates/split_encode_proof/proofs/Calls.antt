@@ -1,5 +1,6 @@
 -- Code in which other code stands in place of calls has its numbers that are no operands in range where the code and what stands in it have.
 use Rattle.base_lists.proofs.Common.{◌≡◌, ◌∙◌, ap, sym, refl, ℕ, suc, ◌+◌, ◌≤◌, ◌<◌, ◌^◌, List, [], ◌∷◌, length, Option, Some, None, true, ◌&&◌, arith, pos, and_from, lt-ltb, list_all-append, slice_get_within, left_true, right_true}
+use Rattle.base_lists.proofs.Members.{place_is}
 use Rattle.wasm_tree_spec.specs.Prelude.{BlockType, ValType, Instr, fold_out-Instr, Row_of-Instr, items-the_row-Instr, end_of-Instr, more_of-Instr, Block, Block', Loop, Loop', If, If', Call, CallIndirect, I32Const, LocalGet, outs-Block, outs-Loop, outs-If, Module, held}
 use Rattle.wasm_tree.specs.declared.instr.Instr.{out-Instr}
 use Rattle.index_remap.proofs.Rows.{block_is, loop_is, if_is}
@@ -8,7 +9,6 @@ use Rattle.wasm_write_proof.specs.Ranges.{small, small_numbers, numbers_in, all_
 use Rattle.wasm_write_proof.proofs.Inside.{numbers_inside}
 use Rattle.split_spec.specs.Prelude.{calls_in, calls_step, with_calls, call_by_slot, call_through_slot, params_of, place_among, slot_table, trampoline_body, type_index}
 use Rattle.split_proof.proofs.Blocks.{block_calls, if_calls, loop_calls}
-use Rattle.split_proof.proofs.Lists.{place_is}
 
 -- ---- what a block holds ----
 

@@ -1,5 +1,6 @@
 -- The primary module keeps the numbers of the module, and those that it adds are small.
 use Rattle.base_lists.proofs.Common.{◌≡◌, ◌∙◌, ap, sym, subst, refl, ℕ, suc, ◌+◌, ◌≤◌, ◌<◌, ◌^◌, Bool, List, [], ◌∷◌, ◌++◌, drop, map, length, Option, Some, None, option_and_then, slice_get, arith, IsUtf8, option_map_or, length-append, length-map, every_at, append_right, map_at}
+use Rattle.base_lists.proofs.Every.{every_from, every_map, every_append}
 use Rattle.base_lists.specs.Every.{Every}
 use Rattle.base_kept.specs.Kept.{kept}
 use Rattle.base_kept.proofs.Laws.{kept_from}
@@ -8,9 +9,7 @@ use Rattle.wasm_tree.specs.declared.module.ExportDesc.TheVariants as ex
 use Rattle.module_limits.specs.Counts.{CountsAreWithinWhereNoneIsOver, over_limit}
 use Rattle.index_remap.specs.Prelude.{declared, declared_refs, new_import, renumbered_tree}
 use Rattle.wasm_write_proof.specs.Ranges.{InRange, LimitsInRange}
-use Rattle.merge_spec.proofs.FaultParts.{every_append}
 use Rattle.merge_encode_proof.proofs.Bodies.{NumbersStay}
-use Rattle.merge_encode_proof.proofs.Lists.{every_map}
 use Rattle.merge_encode_proof.proofs.Modules.{declared_numbers}
 use Rattle.merge_encode_proof.proofs.Numbers.{ElemNumbersInRange, FuncNumbersInRange, ImportNumbersInRange, NumbersInRange}
 use Rattle.split_spec.specs.Prelude.{call_through_slot, in_slots, params_of, place_among, slot_segment, slot_table, slot_table_type, exports_for_secondary, from_primary, name_from_primary, added_exports, left_marks, placeholder_imports, primary_func, primary_funcs, primary_map, primary_tree}
@@ -21,7 +20,6 @@ use Rattle.split_encode_proof.proofs.Calls.{calls_numbers, slot_below, through_s
 use Rattle.split_encode_proof.proofs.Names.{decimal_in, name_in, slots_name_in}
 use Rattle.split_encode_proof.proofs.Shared.{entities_few, slot_limits_in, slots_from}
 use Rattle.split_encode_proof.proofs.Trees.{numbers_of_range, renumbered_numbers}
-use Rattle.split_proof.proofs.Lists.{every_from}
 
 -- ---- parameters ----
 

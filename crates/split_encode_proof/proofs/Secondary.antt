@@ -1,14 +1,12 @@
 -- A secondary module has numbers of the module, and those that it adds are small.
 use Rattle.base_lists.proofs.Common.{◌≡◌, ℕ, ◌+◌, ◌-◌, ◌≤◌, ◌<◌, ◌^◌, List, length, Option, Some, None, true, slice_get, subst, arith, IsUtf8, option_map, slice_get_within, every_at, option_map_is}
+use Rattle.base_lists.proofs.Every.{every_of, every_map, every_some, every_append}
 use Rattle.base_lists.specs.Every.{Every}
 use Rattle.wasm_tree_spec.specs.Prelude.{Space, Types, Functions, Tables, Memories, Globals, ElementSegments, DataSegments, Limits, TableType, Import, ImportDesc, Func, Module, IsBounded, funcs_of, globals_of, imported_funcs, imported_memories, imported_tables, memories_of, memory_of, table_of, tables_of}
 use Rattle.wasm_tree.specs.declared.module.ImportDesc.TheVariants as im
 use Rattle.index_remap.specs.Prelude.{declared_refs, renumbered_tree}
 use Rattle.wasm_write_proof.specs.Ranges.{all_numbers_in, InRange, LimitsInRange}
-use Rattle.wasm_write_proof.proofs.Parts.{every_of}
-use Rattle.merge_spec.proofs.FaultParts.{every_append}
 use Rattle.merge_encode_proof.proofs.Bodies.{NumbersStay}
-use Rattle.merge_encode_proof.proofs.Lists.{every_map, every_some}
 use Rattle.merge_encode_proof.proofs.Modules.{declared_numbers}
 use Rattle.merge_encode_proof.proofs.Numbers.{FuncNumbersInRange, ImportLimitsInRange, ImportNumbersInRange, NumbersInRange}
 use Rattle.split_spec.specs.declared.names.SplitNames.{SplitNames}

@@ -1,13 +1,12 @@
 -- What both modules of a split have: the slot table and a segment of it; and how many entities of the module there are to export or import.
 use Rattle.base_lists.proofs.Common.{ℕ, ◌<◌, ◌^◌, List, length, arith, pos, ints, length-map}
+use Rattle.base_lists.proofs.Every.{every_of, every_map}
 use Rattle.base_lists.specs.Every.{Every}
 use Rattle.wasm_bytes.specs.Prelude.{IsWithin}
 use Rattle.wasm_tree_spec.specs.Prelude.{Space, Types, Functions, Tables, Memories, Globals, ElementSegments, DataSegments, Module, IsBounded, funcs_of, globals_of, memories_of, tables_of}
 use Rattle.wasm_tree.specs.declared.module.ConstExpr.TheVariants as const
 use Rattle.wasm_tree.specs.declared.module.ImportDesc.TheVariants as im
 use Rattle.wasm_write_proof.specs.Ranges.{LimitsInRange}
-use Rattle.wasm_write_proof.proofs.Parts.{every_of}
-use Rattle.merge_encode_proof.proofs.Lists.{every_map}
 use Rattle.merge_encode_proof.proofs.Numbers.{ConstNumberInRange, ElemNumbersInRange}
 use Rattle.split_spec.specs.Prelude.{slot_segment, slot_table_type, entities}
 

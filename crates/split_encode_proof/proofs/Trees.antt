@@ -1,5 +1,6 @@
 -- A module in range has its other numbers in range, and keeps them with other indices.
 use Rattle.base_lists.proofs.Common.{◌≡◌, ℕ, List, Option, Some, slice_get, IsUtf8, every_at, chosen_from, right_true, ◌∙◌}
+use Rattle.base_lists.proofs.Every.{every_with, every_from, every_map}
 use Rattle.std.proofs.Common.{filter_map}
 use Rattle.base_lists.specs.Every.{Every}
 use Rattle.wasm_tree_spec.specs.Prelude.{ImportDesc, Import, Export, Func, GlobalDef, ElemMode, ElemSeg, DataMode, DataSeg, Module, all_operands_pass}
@@ -9,12 +10,9 @@ use Rattle.wasm_tree.specs.declared.module.DataMode.TheVariants as segment
 use Rattle.index_remap.specs.declared.remap.Remap.{Remap}
 use Rattle.index_remap.specs.Prelude.{entry, new_const, new_data, new_data_mode, new_elem, new_elem_mode, new_export, new_func, new_global, new_import, new_import_desc, renumbered_tree}
 use Rattle.wasm_write_proof.specs.Ranges.{small_operand, all_numbers_in, ConstInRange, DataModeInRange, ElemInRange, ElemModeInRange, ExportInRange, FuncInRange, ImportDescInRange, ImportInRange, InRange}
-use Rattle.wasm_write_proof.proofs.Parts.{every_of, every_with}
 use Rattle.merge_encode_proof.proofs.Numbers.{ConstNumberInRange, DataOffsetInRange, ElemNumbersInRange, ElemOffsetInRange, FuncNumbersInRange, ImportLimitsInRange, ImportNumbersInRange, NumbersInRange}
 use Rattle.merge_encode_proof.proofs.Bodies.{NumbersStay}
 use Rattle.merge_encode_proof.proofs.Consts.{new_number, number_of}
-use Rattle.split_proof.proofs.Lists.{every_from}
-use Rattle.merge_encode_proof.proofs.Lists.{every_map}
 
 -- ---- lists ----
 

@@ -1,5 +1,6 @@
 -- The first fault is the one that has its cause.
 use Rattle.base_lists.proofs.Common.{◌≡◌, ℕ, ◌≤◌, List, [], ◌∷◌, ◌++◌, length, Bool, true, false, cond, ◌⊎◌, inl, inr, ⊎_elim, Option, Some, None, refl, sym, ap, ◌∙◌, subst, arith, Result, Ok, Err, IfErr, IsOk, list_any}
+use Rattle.base_lists.proofs.Every.{every_with}
 use Rattle.base_lists.specs.Every.{Every}
 use Rattle.wasm_tree_spec.specs.Prelude.{Module}
 use Rattle.wasm_names.specs.declared.func_name.FuncName.{FuncName}
@@ -19,10 +20,6 @@ or_else_twice None b c d e = e
 either : {A : Type 0} (a b : Option A) (y : A) → or_else a b ≡ Some y → (a ≡ Some y) ⊎ ((a ≡ None) × (b ≡ Some y))
 either (Some x) b y h = inl h
 either None b y h = inr (refl, h)
-
-every_as : {A : Type 0} {P Q : A → Type 0} (xs : List A) → ((x : A) → P x → Q x) → Every P xs → Every Q xs
-every_as [] to h = tt
-every_as (x ∷ xs) to h = (to x h.0, every_as xs to h.1)
 
 -- ---- the first that is given
 
@@ -151,7 +148,7 @@ module _ (m : Module) (names : List FuncName) where
     word_cause : (e : PlanFault) → first_given (word_fault m names) all_words ≡ Some e → Cause m names split keep e
     word_cause e h =
         let t = first_at (word_fault m names) all_words e h in
-        let right = every_as t.0 right_word t.4 in
+        let right = every_with _ _ t.0 right_word t.4 in
         ⊎_elim
         (λ k. subst (Cause m names split keep) (sym k.0) (t.0, t.2, t.3, right, k.1))
         (λ k. subst (Cause m names split keep) (sym k.0) (t.0, t.2, t.3, right, k.1))
@@ -161,23 +158,23 @@ module _ (m : Module) (names : List FuncName) where
     kept_cause e none h =
         let t = first_at (keeps (words_of keep)) (words_of split) e h in
         let k = at_fault_kept (words_of keep) t.1 e t.5 in
-        subst (Cause m names split keep) (sym k.0) (every_as all_words right_word (all_none (word_fault m names) all_words none), (t.0, t.2, t.3, every_as t.0 (not_kept (words_of keep)) t.4, k.1))
+        subst (Cause m names split keep) (sym k.0) (every_with _ _ all_words right_word (all_none (word_fault m names) all_words none), (t.0, t.2, t.3, every_with _ _ t.0 (not_kept (words_of keep)) t.4, k.1))
 
     causes : (e : PlanFault) → plan_fault m names split keep ≡ Some e → Cause m names split keep e
     causes e h = ⊎_elim (word_cause e) (λ k. kept_cause e k.0 k.1) (either (first_given (word_fault m names) all_words) last_fault e (sym in_order ∙ h))
 
     word_faults : (word : List ℕ) (e : PlanFault) (front back : List (List ℕ)) → all_words ≡ front ++ word ∷ back → Every (Names m names) front → word_fault m names word ≡ Some e → plan_fault m names split keep ≡ Some e
     word_faults word e front back is right h =
-        let first = ap (first_given (word_fault m names)) is ∙ at_first (word_fault m names) front word back e (every_as front word_right right) h in
+        let first = ap (first_given (word_fault m names)) is ∙ at_first (word_fault m names) front word back e (every_with _ _ front word_right right) h in
         in_order ∙ ap (λ o. or_else o last_fault) first
 
     faults : (e : PlanFault) → Cause m names split keep e → plan_fault m names split keep ≡ Some e
     faults (NoSuchFunction word) h = word_faults word (NoSuchFunction word) h.0 h.1 h.2 h.3 (none_at_fault word h.4)
     faults (AmbiguousFunction word) h = word_faults word (AmbiguousFunction word) h.0 h.1 h.2 h.3 (shared_at_fault word h.4)
     faults (KeptAndSplit word) h =
-        let none = none_all (word_fault m names) all_words (every_as all_words word_right h.0) in
+        let none = none_all (word_fault m names) all_words (every_with _ _ all_words word_right h.0) in
         let t = h.1 in
-        let kept = ap (first_given (keeps (words_of keep))) t.2 ∙ at_first (keeps (words_of keep)) t.0 word t.1 (KeptAndSplit word) (every_as t.0 (kept_not (words_of keep)) t.3) (kept_at_fault (words_of keep) word t.4) in
+        let kept = ap (first_given (keeps (words_of keep))) t.2 ∙ at_first (keeps (words_of keep)) t.0 word t.1 (KeptAndSplit word) (every_with _ _ t.0 (kept_not (words_of keep)) t.3) (kept_at_fault (words_of keep) word t.4) in
         in_order ∙ ap (λ o. or_else o last_fault) none ∙ kept
     faults NoMemory h = absurd h
 

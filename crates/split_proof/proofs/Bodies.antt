@@ -1,11 +1,13 @@
 -- Bodies in which other code stands in place of calls of some functions, and then with other indices, stay well typed.
 use Rattle.base_lists.proofs.Common.{◌≡◌, subst, refl, ℕ, List, [], ◌∷◌, Bool, true, false, Some, slice_get, slice_index, length, zero, suc, arith, Contains, list_any, and_then_is, replicate_at}
+use Rattle.base_lists.proofs.Bools.{left_false, right_false}
+use Rattle.base_lists.specs.Members.{is_among}
 use Rattle.base_lists.specs.Every.{Every}
 use Rattle.wasm_tree_spec.specs.Prelude.{Operand, Space, Types, Functions, Tables, Memories, Globals, ElementSegments, DataSegments, FuncType, Instr, Call, Func, Module, ListLayers, any_operand_passes, operands, AnyInside, PassesInside, PassesLayerByLayer, funcs_of}
 use Rattle.wasm_valid_bodies.specs.Typing.{Context, WellTyped}
 use Rattle.wasm_valid.specs.Prelude.{refs_of, table_types, body_context}
 use Rattle.index_remap.specs.declared.remap.Remap.{Remap}
-use Rattle.index_remap.specs.Prelude.{OperandAgrees, labelled, is_among, renumbered_all, CodesHaveTypes, OthersAgree, is_opaque_call}
+use Rattle.index_remap.specs.Prelude.{OperandAgrees, labelled, renumbered_all, CodesHaveTypes, OthersAgree, is_opaque_call}
 use Rattle.index_remap.specs.Laws.{TypingIsKept}
 use Rattle.index_remap.proofs.NotOpaque.{all_follow}
 use Rattle.index_remap_proof.specs.ButForReferences.{any_named}
@@ -14,7 +16,6 @@ use Rattle.index_remap_proof.specs.Trees.{TreesAgree}
 use Rattle.index_remap_proof.proofs.Lists.{named_within}
 use Rattle.split_spec.specs.Prelude.{with_calls}
 use Rattle.split_proof.specs.Calls.{CallsAreReplaced, renumbered_codes}
-use Rattle.split_proof.proofs.Lists.{left_false, right_false}
 use Rattle.split_proof.proofs.Operands.{Met, all_wanted}
 
 -- what the laws below say

@@ -1,5 +1,5 @@
 -- The maps of a split have an entry for each index that is named in the trees that they renumber.
-use Rattle.base_lists.proofs.Common.{slice_get_within, ◌≡◌, ◌∙◌, ap, sym, subst, refl, ℕ, suc, ◌<◌, ◌≤◌, List, [], ◌∷◌, ◌++◌, length, Bool, true, ◌&&◌, Some, slice_get, arith, map, ◌+◌, IsTrue, ℤ, pos, list_all, lt-ltb, ltb-true, list_all-append, left_true, right_true, list_all_each, list_all_from, length-numbers, numbers_at, slice_get_there, slice_index_is, map_from}
+use Rattle.base_lists.proofs.Common.{slice_get_within, ◌≡◌, ◌∙◌, ap, sym, subst, refl, ℕ, suc, ◌<◌, ◌≤◌, List, [], ◌∷◌, ◌++◌, length, Bool, true, ◌&&◌, Some, slice_get, arith, map, ◌+◌, IsTrue, ℤ, pos, list_all, lt-ltb, ltb-true, list_all-append, left_true, right_true, list_all_each, list_all_from, length-numbers, numbers_at, slice_get_there, slice_index_is, map_from, and_from}
 use Rattle.base_lists.specs.Places.{numbers}
 use Rattle.wasm_tree_spec.specs.Prelude.{Operand, Types, Tables, ValType, Call, CallIndirect, I32Const, LocalGet, Func, ImportDesc, Module, all_operands_pass, called, operands_pass, funcs_of, tables_of, memories_of, globals_of}
 use Rattle.wasm_tree.specs.declared.instr.Instr.{out-Instr}
@@ -11,7 +11,6 @@ use Rattle.wasm_valid.specs.Prelude.{IsValid, ImportHolds}
 use Rattle.index_remap.specs.declared.remap.Remap.{Remap}
 use Rattle.index_remap.specs.Prelude.{fits_func, fits_import, fits_tree, has, has_entry, fits_const, fits_import_desc, gets, slot_call}
 use Rattle.index_remap_proof.specs.Trees.{Covers}
-use Rattle.index_remap_proof.proofs.Lists.{both_true}
 use Rattle.split_spec.specs.Prelude.{call_by_slot, slot_table, type_index, in_slots}
 use Rattle.split_proof.proofs.Spaces.{ItemsHold, type_there}
 
@@ -51,11 +50,11 @@ slots_fit r m count all = list_all_from (fits_const r) (map const.Func (in_slots
 module _ (test : Operand → Bool) where
   pub call_passes : (f : ℕ) → test (called f) ≡ true → all_operands_pass test (Call f ∷ []) ≡ true
   unfolding out-Instr denote.Hole.Carrier.out
-  call_passes f h = both_true (operands_pass test (Call f)) true (passes_inside test (Call f) ∙ both_true (test (called f) && true) true (both_true (test (called f)) true h refl) refl) refl
+  call_passes f h = and_from (operands_pass test (Call f)) true (passes_inside test (Call f) ∙ and_from (test (called f) && true) true (and_from (test (called f)) true h refl) refl) refl
 
   indirect_passes : (ty table : ℕ) → test (named Types ty) ≡ true → test (named Tables table) ≡ true → operands_pass test (CallIndirect ty table) ≡ true
   unfolding out-Instr denote.Hole.Carrier.out
-  indirect_passes ty table h k = passes_inside test (CallIndirect ty table) ∙ both_true (test (named Types ty) && (test (named Tables table) && true)) true (both_true (test (named Types ty)) (test (named Tables table) && true) h (both_true (test (named Tables table)) true k refl)) refl
+  indirect_passes ty table h k = passes_inside test (CallIndirect ty table) ∙ and_from (test (named Types ty) && (test (named Tables table) && true)) true (and_from (test (named Types ty)) (test (named Tables table) && true) h (and_from (test (named Tables table)) true k refl)) refl
 
   const_passes : (v : ℤ) → operands_pass test (I32Const v) ≡ true
   unfolding out-Instr denote.Hole.Carrier.out
@@ -67,15 +66,15 @@ module _ (test : Operand → Bool) where
 
   pub slot_call_passes : (ty table : ℕ) (slot : ℤ) → test (named Types ty) ≡ true → test (named Tables table) ≡ true → all_operands_pass test (slot_call ty table slot) ≡ true
   slot_call_passes ty table slot h k =
-      both_true (operands_pass test (I32Const slot)) (operands_pass test (CallIndirect ty table) && true) (const_passes slot) (both_true (operands_pass test (CallIndirect ty table)) true (indirect_passes ty table h k) refl)
+      and_from (operands_pass test (I32Const slot)) (operands_pass test (CallIndirect ty table) && true) (const_passes slot) (and_from (operands_pass test (CallIndirect ty table)) true (indirect_passes ty table h k) refl)
 
   gets_pass : (n : ℕ) (ts : List ValType) → all_operands_pass test (gets n ts) ≡ true
   gets_pass n [] = refl
-  gets_pass n (t ∷ ts) = both_true (operands_pass test (LocalGet n)) (all_operands_pass test (gets (suc n) ts)) (get_passes n) (gets_pass (suc n) ts)
+  gets_pass n (t ∷ ts) = and_from (operands_pass test (LocalGet n)) (all_operands_pass test (gets (suc n) ts)) (get_passes n) (gets_pass (suc n) ts)
 
   pub trampoline_passes : (ts : List ValType) (ty table : ℕ) (slot : ℤ) → test (named Types ty) ≡ true → test (named Tables table) ≡ true → all_operands_pass test (gets 0 ts ++ slot_call ty table slot) ≡ true
   trampoline_passes ts ty table slot h k =
-      list_all-append (operands_pass test) (gets 0 ts) (slot_call ty table slot) ∙ both_true (all_operands_pass test (gets 0 ts)) (all_operands_pass test (slot_call ty table slot)) (gets_pass 0 ts) (slot_call_passes ty table slot h k)
+      list_all-append (operands_pass test) (gets 0 ts) (slot_call ty table slot) ∙ and_from (all_operands_pass test (gets 0 ts)) (all_operands_pass test (slot_call ty table slot)) (gets_pass 0 ts) (slot_call_passes ty table slot h k)
 
 module _ (entries_there : EntriesAreThere) (m : Module) (valid : IsValid m) (holds : ItemsHold m) where
   -- a map with an entry for each index that is there, and for no other

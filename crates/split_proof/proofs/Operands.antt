@@ -1,9 +1,8 @@
 -- What code names: each operand of it passes where each test that it passes is one that some operand of the code passes.
-use Rattle.base_lists.proofs.Common.{◌≡◌, ◌∙◌, List, [], ◌∷◌, Bool, true, refl, list_all, list_any}
+use Rattle.base_lists.proofs.Common.{◌≡◌, ◌∙◌, List, [], ◌∷◌, Bool, true, refl, list_all, list_any, and_from, left_either, right_either}
 use Rattle.base_lists.specs.Every.{Every}
 use Rattle.wasm_tree_spec.specs.Prelude.{Operand, Instr, out-Instr, all_operands_pass, any_operand_passes, held, operand_passes, operands_of, operands_pass, AnyInside, PassesInside}
 use Rattle.wasm_tree.proofs.OperandLaws.{by_held}
-use Rattle.index_remap_proof.proofs.Lists.{both_true, left_either, right_either}
 
 -- whatever passes a test of which such a one says so passes
 abbrev pub Met : (Operand → Bool) → ((Operand → Bool) → Bool) → Type 0
@@ -12,7 +11,7 @@ Met wanted any = (o : Operand) → ((test : Operand → Bool) → test o ≡ tru
 each_met : (wanted : Operand → Bool) (os : List Operand) → Met wanted (λ test. list_any test os) → list_all wanted os ≡ true
 each_met wanted [] h = refl
 each_met wanted (o ∷ os) h =
-    both_true (wanted o) (list_all wanted os) (h o (λ test e. left_either (test o) (list_any test os) e)) (each_met wanted os (λ p t. h p (λ test e. right_either (test o) (list_any test os) (t test e))))
+    and_from (wanted o) (list_all wanted os) (h o (λ test e. left_either (test o) (list_any test os) e)) (each_met wanted os (λ p t. h p (λ test e. right_either (test o) (list_any test os) (t test e))))
 
 module _ (inside : PassesInside) (any : AnyInside) (wanted : Operand → Bool) where
   abbrev Passes : Instr → Type 0
@@ -21,13 +20,13 @@ module _ (inside : PassesInside) (any : AnyInside) (wanted : Operand → Bool) w
   all_met : (is : List Instr) → Every Passes is → Met wanted (λ test. any_operand_passes test is) → all_operands_pass wanted is ≡ true
   all_met [] p h = refl
   all_met (i ∷ is) p h =
-      both_true (operands_pass wanted i) (all_operands_pass wanted is) (p.0 (λ o t. h o (λ test e. left_either (operand_passes test i) (any_operand_passes test is) (t test e))))
+      and_from (operands_pass wanted i) (all_operands_pass wanted is) (p.0 (λ o t. h o (λ test e. left_either (operand_passes test i) (any_operand_passes test is) (t test e))))
       (all_met is p.1 (λ o t. h o (λ test e. right_either (operand_passes test i) (any_operand_passes test is) (t test e))))
 
   instr_met : (i : Instr) → Passes i
   instr_met = by_held Passes (λ i p h.
       inside wanted i
-      ∙ both_true (list_all wanted (operands_of i)) (all_operands_pass wanted (held (out-Instr i)))
+      ∙ and_from (list_all wanted (operands_of i)) (all_operands_pass wanted (held (out-Instr i)))
       (each_met wanted (operands_of i) (λ o t. h o (λ test e. any test i ∙ left_either (list_any test (operands_of i)) (any_operand_passes test (held (out-Instr i))) (t test e))))
       (all_met (held (out-Instr i)) p (λ o t. h o (λ test e. any test i ∙ right_either (list_any test (operands_of i)) (any_operand_passes test (held (out-Instr i))) (t test e)))))
 

@@ -1,11 +1,10 @@
 -- Code in which other code stands in place of calls passes a test of operands where the code and what stands in it do.
-use Rattle.base_lists.proofs.Common.{◌≡◌, ◌∙◌, ap, sym, refl, ℕ, List, [], ◌∷◌, Bool, true, not, list_all, list_all-append, left_true, right_true}
+use Rattle.base_lists.proofs.Common.{◌≡◌, ◌∙◌, ap, sym, refl, ℕ, List, [], ◌∷◌, Bool, true, not, list_all, list_all-append, left_true, right_true, and_from}
 use Rattle.wasm_tree_spec.specs.Prelude.{Operand, BlockType, Instr, fold_out-Instr, Row_of-Instr, items-the_row-Instr, end_of-Instr, more_of-Instr, Block, Block', Loop, Loop', If, If', Call, all_operands_pass, block_operands, called, held, operands_of, operands_pass}
 use Rattle.wasm_tree.specs.declared.types.BlockType.TheVariants as block
 use Rattle.wasm_tree.specs.declared.instr.Instr.{out-Instr}
 use Rattle.wasm_tree.proofs.OperandLaws.{block_passes, if_passes, loop_passes, passes_inside}
 use Rattle.index_remap.proofs.Rows.{block_is, loop_is, if_is}
-use Rattle.index_remap_proof.proofs.Lists.{both_true}
 use Rattle.split_spec.specs.Prelude.{calls_in, calls_step, with_calls}
 use Rattle.split_proof.proofs.Blocks.{block_calls, if_calls, loop_calls}
 
@@ -13,7 +12,7 @@ module _ (old new : Operand → Bool) (code : ℕ → List Instr) (others : (o :
   each_passes : (os : List Operand) → list_all (λ o. not o.called) os ≡ true → list_all old os ≡ true → list_all new os ≡ true
   each_passes [] n h = refl
   each_passes (o ∷ os) n h =
-      both_true (new o) (list_all new os) (others o (left_true (not o.called) (list_all (λ o. not o.called) os) n) (left_true (old o) (list_all old os) h))
+      and_from (new o) (list_all new os) (others o (left_true (not o.called) (list_all (λ o. not o.called) os) n) (left_true (old o) (list_all old os) h))
       (each_passes os (right_true (not o.called) (list_all (λ o. not o.called) os) n) (right_true (old o) (list_all old os) h))
 
   type_passes : (ty : BlockType) → list_all old (block_operands ty) ≡ true → list_all new (block_operands ty) ≡ true
@@ -23,8 +22,8 @@ module _ (old new : Operand → Bool) (code : ℕ → List Instr) (others : (o :
 
   plain_passes : (i : Instr) → list_all (λ o. not o.called) (operands_of i) ≡ true → all_operands_pass new (held (out-Instr i)) ≡ true → operands_pass old i ≡ true → all_operands_pass new (i ∷ []) ≡ true
   plain_passes i n none h =
-      both_true (operands_pass new i) true
-      (passes_inside new i ∙ both_true (list_all new (operands_of i)) (all_operands_pass new (held (out-Instr i)))
+      and_from (operands_pass new i) true
+      (passes_inside new i ∙ and_from (list_all new (operands_of i)) (all_operands_pass new (held (out-Instr i)))
       (each_passes (operands_of i) n (left_true (list_all old (operands_of i)) (all_operands_pass old (held (out-Instr i))) (sym (passes_inside old i) ∙ h))) none) refl
 
   mutual
@@ -34,20 +33,20 @@ module _ (old new : Operand → Bool) (code : ℕ → List Instr) (others : (o :
     instr_passes (Block' ty n row) h =
         let is = items-the_row-Instr _ row in
         let s = sym (ap (operands_pass old) (block_is ty n row) ∙ block_passes old ty is) ∙ h in
-        let t = block_passes new ty (with_calls code is) ∙ both_true (list_all new (block_operands ty)) (all_operands_pass new (with_calls code is)) (type_passes ty (left_true (list_all old (block_operands ty)) (all_operands_pass old is) s)) (row_passes row (right_true (list_all old (block_operands ty)) (all_operands_pass old is) s)) in
-        ap (all_operands_pass new) (block_calls code ty n row) ∙ both_true (operands_pass new (Block ty (with_calls code is))) true t refl
+        let t = block_passes new ty (with_calls code is) ∙ and_from (list_all new (block_operands ty)) (all_operands_pass new (with_calls code is)) (type_passes ty (left_true (list_all old (block_operands ty)) (all_operands_pass old is) s)) (row_passes row (right_true (list_all old (block_operands ty)) (all_operands_pass old is) s)) in
+        ap (all_operands_pass new) (block_calls code ty n row) ∙ and_from (operands_pass new (Block ty (with_calls code is))) true t refl
     instr_passes (Loop' ty n row) h =
         let is = items-the_row-Instr _ row in
         let s = sym (ap (operands_pass old) (loop_is ty n row) ∙ loop_passes old ty is) ∙ h in
-        let t = loop_passes new ty (with_calls code is) ∙ both_true (list_all new (block_operands ty)) (all_operands_pass new (with_calls code is)) (type_passes ty (left_true (list_all old (block_operands ty)) (all_operands_pass old is) s)) (row_passes row (right_true (list_all old (block_operands ty)) (all_operands_pass old is) s)) in
-        ap (all_operands_pass new) (loop_calls code ty n row) ∙ both_true (operands_pass new (Loop ty (with_calls code is))) true t refl
+        let t = loop_passes new ty (with_calls code is) ∙ and_from (list_all new (block_operands ty)) (all_operands_pass new (with_calls code is)) (type_passes ty (left_true (list_all old (block_operands ty)) (all_operands_pass old is) s)) (row_passes row (right_true (list_all old (block_operands ty)) (all_operands_pass old is) s)) in
+        ap (all_operands_pass new) (loop_calls code ty n row) ∙ and_from (operands_pass new (Loop ty (with_calls code is))) true t refl
     instr_passes (If' ty n row k other) h =
         let is = items-the_row-Instr _ row in
         let os = items-the_row-Instr _ other in
         let s = sym (ap (operands_pass old) (if_is ty n row k other) ∙ if_passes old ty is os) ∙ h in
         let r = right_true (list_all old (block_operands ty)) _ s in
-        let t = if_passes new ty (with_calls code is) (with_calls code os) ∙ both_true (list_all new (block_operands ty)) _ (type_passes ty (left_true (list_all old (block_operands ty)) _ s)) (both_true (all_operands_pass new (with_calls code is)) (all_operands_pass new (with_calls code os)) (row_passes row (left_true (all_operands_pass old is) (all_operands_pass old os) r)) (row_passes other (right_true (all_operands_pass old is) (all_operands_pass old os) r))) in
-        ap (all_operands_pass new) (if_calls code ty n row k other) ∙ both_true (operands_pass new (If ty (with_calls code is) (with_calls code os))) true t refl
+        let t = if_passes new ty (with_calls code is) (with_calls code os) ∙ and_from (list_all new (block_operands ty)) _ (type_passes ty (left_true (list_all old (block_operands ty)) _ s)) (and_from (all_operands_pass new (with_calls code is)) (all_operands_pass new (with_calls code os)) (row_passes row (left_true (all_operands_pass old is) (all_operands_pass old os) r)) (row_passes other (right_true (all_operands_pass old is) (all_operands_pass old os) r))) in
+        ap (all_operands_pass new) (if_calls code ty n row k other) ∙ and_from (operands_pass new (If ty (with_calls code is) (with_calls code os))) true t refl
     instr_passes (Call f) h =
         ap (all_operands_pass new) (fold_out-Instr (List Instr) (calls_step code) (Call f))
         ∙ codes f (left_true (old (called f)) true (left_true (list_all old (called f ∷ [])) true (sym (passes_inside old (Call f)) ∙ h)))
@@ -58,10 +57,10 @@ module _ (old new : Operand → Bool) (code : ℕ → List Instr) (others : (o :
     row_passes (more_of-Instr i is) h =
         let js = items-the_row-Instr _ is in
         list_all-append (operands_pass new) (calls_in code i) (with_calls code js)
-        ∙ both_true (all_operands_pass new (calls_in code i)) (all_operands_pass new (with_calls code js)) (instr_passes i (left_true (operands_pass old i) (all_operands_pass old js) h)) (row_passes is (right_true (operands_pass old i) (all_operands_pass old js) h))
+        ∙ and_from (all_operands_pass new (calls_in code i)) (all_operands_pass new (with_calls code js)) (instr_passes i (left_true (operands_pass old i) (all_operands_pass old js) h)) (row_passes is (right_true (operands_pass old i) (all_operands_pass old js) h))
 
   pub calls_pass : (is : List Instr) → all_operands_pass old is ≡ true → all_operands_pass new (with_calls code is) ≡ true
   calls_pass [] h = refl
   calls_pass (i ∷ is) h =
       list_all-append (operands_pass new) (calls_in code i) (with_calls code is)
-      ∙ both_true (all_operands_pass new (calls_in code i)) (all_operands_pass new (with_calls code is)) (instr_passes i (left_true (operands_pass old i) (all_operands_pass old is) h)) (calls_pass is (right_true (operands_pass old i) (all_operands_pass old is) h))
+      ∙ and_from (all_operands_pass new (calls_in code i)) (all_operands_pass new (with_calls code is)) (instr_passes i (left_true (operands_pass old i) (all_operands_pass old is) h)) (calls_pass is (right_true (operands_pass old i) (all_operands_pass old is) h))

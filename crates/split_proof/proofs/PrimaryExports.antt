@@ -1,5 +1,8 @@
 -- Each export of the primary module holds: it is in its space, and none before it has its name.
 use Rattle.base_lists.proofs.Common.{◌≡◌, ◌∙◌, ap, ap₂, sym, subst, refl, ℕ, zero, suc, ◌+◌, ◌^◌, ◌<◌, ◌≤◌, List, [], ◌∷◌, ◌++◌, map, take, length, Bool, true, false, Some, None, ⊎_elim, slice_get, slice_index, arith, true≢false, Contains, list_any, bytes_eq, length-map, length-append, map-append, take-map, slice_get_within, bytes_eq-Decides, cond_is, has_chosen, length-numbers, numbers_index, append_from, map_at, map_from, map_twice, slice_get_there}
+use Rattle.base_lists.proofs.Each.{any_from_place, contains_there, there_contains}
+use Rattle.base_lists.specs.Members.{is_among}
+use Rattle.base_lists.proofs.Members.{among_right, there_among}
 use Rattle.base_lists.specs.Places.{numbers}
 use Rattle.wasm_tree_spec.specs.Prelude.{Space, Functions, Tables, Memories, Globals, Export, ExportDesc, Module, IsBounded, funcs_of, globals_of, memories_of, tables_of}
 use Rattle.wasm_tree.specs.declared.module.ExportDesc.TheVariants as ex
@@ -7,13 +10,11 @@ use Rattle.wasm_tree.specs.declared.module.ImportDesc.TheVariants as im
 use Rattle.wasm_valid.specs.declared.kinds.ItemKind.TheVariants as kind
 use Rattle.wasm_valid.specs.Prelude.{elem_refs, export_func, export_refs, global_refs, HoldsAt, InSpace}
 use Rattle.index_remap.specs.declared.remap.Remap.{Remap}
-use Rattle.index_remap.specs.Prelude.{is_among, new_export, new_export_desc}
+use Rattle.index_remap.specs.Prelude.{new_export, new_export_desc}
 use Rattle.index_remap_proof.specs.Trees.{TreesAgree}
-use Rattle.index_remap_proof.proofs.Lists.{among_right}
 use Rattle.split_spec.specs.Prelude.{defined_at, slot_table, entities, exports_for_secondary, from_primary, is_from_primary, marks_from_primary, name_from_primary, slots_name, added_exports, is_left, prefix_taken}
 use Rattle.split_spec.specs.Faults.{name_taken}
 use Rattle.split_proof.specs.Premises.{CanMove}
-use Rattle.split_proof.proofs.Lists.{contains_there, list_any_at, there_among, there_contains}
 use Rattle.split_proof.proofs.Names.{Distinct, HasLetter, distinct_append, letters_apart, named, named_distinct, named_letter}
 use Rattle.split_proof.proofs.PrimarySpaces as spaces
 use Rattle.split_proof.proofs.SharedFuncs.{shared_left, shared_within}
@@ -29,7 +30,7 @@ none_taken m (n ∷ ns) h i j x a b = ⊎_elim (λ e. let is : Some n ≡ None =
         let same : n ≡ x = cc in
         let y = map_from (λ e. e.name) m.exports j x b in
         let equal : bytes_eq y.0.name n ≡ true = (bytes_eq-Decides y.0.name n).1 (y.2 ∙ sym same) in
-        true≢false (sym (list_any_at (λ e. bytes_eq e.name n) m.exports j y.0 y.1 equal) ∙ e.0)
+        true≢false (sym (any_from_place (λ e. bytes_eq e.name n) m.exports j y.0 y.1 equal) ∙ e.0)
     later on (suc i) a e = on i a e.1
 
 module _ (namespace : ℕ → List ℕ) (prefix : List ℕ) (m : Module) (holds : ItemsHold m) (moved : List ℕ) (can : CanMove m moved) (few : IsBounded m) where

@@ -1,5 +1,5 @@
 -- The map of the primary module has an entry for each index that is named in its tree.
-use Rattle.base_lists.proofs.Common.{◌≡◌, ◌∙◌, ap, sym, refl, ℕ, suc, ◌+◌, ◌<◌, List, [], ◌∷◌, ◌++◌, drop, map, length, true, Option, Some, None, slice_get, arith, IsTrue, pos, list_all, length-append, length-drop, length-map, list_all-append, slice_get_within, left_true, right_true, list_all_from, length-numbers, map_from}
+use Rattle.base_lists.proofs.Common.{◌≡◌, ◌∙◌, ap, sym, refl, ℕ, suc, ◌+◌, ◌<◌, List, [], ◌∷◌, ◌++◌, drop, map, length, true, Option, Some, None, slice_get, arith, IsTrue, pos, list_all, length-append, length-drop, length-map, list_all-append, slice_get_within, left_true, right_true, list_all_from, length-numbers, map_from, and_from}
 use Rattle.base_lists.specs.Places.{numbers}
 use Rattle.base_kept.specs.Kept.{kept_before, new_places}
 use Rattle.base_kept.proofs.Laws.{kept_from}
@@ -10,7 +10,6 @@ use Rattle.wasm_valid.specs.Prelude.{IsValid}
 use Rattle.index_remap.specs.declared.remap.Remap.{Remap}
 use Rattle.index_remap.specs.Prelude.{entries, fits_data, fits_elem, fits_export, fits_export_desc, fits_func, fits_global, fits_import, fits_start, fits_tree, has, has_entry}
 use Rattle.index_remap_proof.specs.Trees.{Covers}
-use Rattle.index_remap_proof.proofs.Lists.{both_true}
 use Rattle.split_spec.specs.Prelude.{with_calls, call_by_slot, call_through_slot, in_slots, params_of, place_among, slot_segment, slot_table, trampoline_body, type_index, entities, exports_for_secondary, from_primary, name_from_primary, slots_name, added_exports, left_marks, placeholder_imports, primary_func, primary_funcs, primary_tree}
 use Rattle.split_proof.specs.Premises.{CanMove}
 use Rattle.split_proof.proofs.Fits.{EntriesAreThere, body_exact, call_passes, called_below, exact, desc_fits, has_below, longer, slots_fit, through_slot_passes, trampoline_passes, type_below}
@@ -86,14 +85,14 @@ module _ (entries_there : EntriesAreThere) (namespace : ℕ → List ℕ) (prefi
 
   func_fits : (o : Option ℕ) (p : ℕ) (f : Func) → slice_get m.funcs p ≡ Some f → fits_func map_of (primary_func m moved o (k + p) f) ≡ true
   func_fits None p f at =
-      both_true (has map_of.types f.ty) (all_operands_pass (has_entry map_of) (with_calls (call_through_slot m moved) f.body)) (has_below map_of.types (length m.types) f.ty types_many (func_holds m holds p f at))
+      and_from (has map_of.types f.ty) (all_operands_pass (has_entry map_of) (with_calls (call_through_slot m moved) f.body)) (has_below map_of.types (length m.types) f.ty types_many (func_holds m holds p f at))
       (calls_pass (has_entry old) (has_entry map_of) (call_through_slot m moved) (λ o n h. others o.space o.index h) call_fits f.body (body_exact entries_there m valid holds p f at))
   func_fits (Some slot) p f at =
       let within = slice_get_within m.funcs p f at in
       let all = length-append (imported_funcs m.imports) (map (λ f. f.ty) m.funcs) in
       let types = length-map m.funcs (λ f. f.ty) in
       let below = type_below entries_there m valid holds (k + p) (omega (arith, within, all, types)) in
-      both_true (has map_of.types f.ty) (all_operands_pass (has_entry map_of) (trampoline_body m (k + p) slot)) (has_below map_of.types (length m.types) f.ty types_many (func_holds m holds p f at))
+      and_from (has map_of.types f.ty) (all_operands_pass (has_entry map_of) (trampoline_body m (k + p) slot)) (has_below map_of.types (length m.types) f.ty types_many (func_holds m holds p f at))
       (trampoline_passes (has_entry map_of) (params_of m (k + p)) (type_index m (k + p)) (slot_table m) (pos slot) (has_below map_of.types (length m.types) (type_index m (k + p)) types_many below) table_fits)
 
   funcs_fit : list_all (fits_func map_of) (primary_tree namespace prefix m moved).funcs ≡ true
@@ -108,7 +107,7 @@ module _ (entries_there : EntriesAreThere) (namespace : ℕ → List ℕ) (prefi
   imports_fit = list_all_from (fits_import map_of) (m.imports ++ placeholder_imports namespace m 0 moved) (λ n x at. desc_fits map_of m types_many x.desc (imports_hold namespace prefix m holds moved can n x at))
 
   joined_fit : (xs ys : List Export) → list_all (fits_export map_of) xs ≡ true → list_all (fits_export map_of) ys ≡ true → list_all (fits_export map_of) (xs ++ ys) ≡ true
-  joined_fit xs ys h k = list_all-append (fits_export map_of) xs ys ∙ both_true (list_all (fits_export map_of) xs) (list_all (fits_export map_of) ys) h k
+  joined_fit xs ys h k = list_all-append (fits_export map_of) xs ys ∙ and_from (list_all (fits_export map_of) xs) (list_all (fits_export map_of) ys) h k
 
   shared_fit : (space : Space) (desc : ℕ → ExportDesc) → ((i : ℕ) → i < length (entities m space) → fits_export_desc map_of (desc i) ≡ true) → list_all (fits_export map_of) (exports_for_secondary prefix space desc (from_primary m moved moved space)) ≡ true
   shared_fit space desc each = list_all_from (fits_export map_of) (exports_for_secondary prefix space desc (from_primary m moved moved space)) (λ n e at.
@@ -117,7 +116,7 @@ module _ (entries_there : EntriesAreThere) (namespace : ℕ → List ℕ) (prefi
       ap (λ (x : Export). fits_export_desc map_of x.desc) (sym i.2) ∙ each i.0 s.0)
 
   last_fits : list_all (fits_export map_of) (record { name = slots_name prefix; desc = ex.Table (slot_table m) } ∷ []) ≡ true
-  last_fits = both_true (has map_of.tables (slot_table m)) true table_fits refl
+  last_fits = and_from (has map_of.tables (slot_table m)) true table_fits refl
 
   added_fit : list_all (fits_export map_of) (added_exports prefix m moved) ≡ true
   added_fit =
@@ -131,7 +130,7 @@ module _ (entries_there : EntriesAreThere) (namespace : ℕ → List ℕ) (prefi
       (joined_fit _ _ (shared_fit Globals ex.Global (λ i lt. has_below map_of.globals (length (globals_of m)) i (length-numbers 0 (length (globals_of m))) (omega (arith, globals, lt)))) last_fits)))
 
   segment_fits : list_all (fits_elem map_of) (slot_segment (slot_table m) 0 (in_slots m (length moved)) ∷ []) ≡ true
-  segment_fits = both_true _ _ (both_true _ _ (both_true _ _ table_fits refl) (slots_fit map_of m (length moved) funcs_many)) refl
+  segment_fits = and_from _ _ (and_from _ _ (and_from _ _ table_fits refl) (slots_fit map_of m (length moved) funcs_many)) refl
 
   -- ---- the tree ----
 
@@ -143,10 +142,10 @@ module _ (entries_there : EntriesAreThere) (namespace : ℕ → List ℕ) (prefi
       let h3 = right_true (list_all (fits_global map_of) m.globals) _ h2 in
       let h4 = right_true (list_all (fits_export map_of) m.exports) _ h3 in
       let h5 = right_true (fits_start map_of m.start) _ h4 in
-      both_true _ _ imports_fit
-      (both_true _ _ funcs_fit
-      (both_true _ _ (left_true (list_all (fits_global map_of) m.globals) _ h2)
-      (both_true _ _ (joined_fit m.exports (added_exports prefix m moved) (left_true (list_all (fits_export map_of) m.exports) _ h3) added_fit)
-      (both_true _ _ (left_true (fits_start map_of m.start) _ h4)
-      (both_true _ _ (list_all-append (fits_elem map_of) m.elems (slot_segment (slot_table m) 0 (in_slots m (length moved)) ∷ []) ∙ both_true _ _ (left_true (list_all (fits_elem map_of) m.elems) _ h5) segment_fits)
+      and_from _ _ imports_fit
+      (and_from _ _ funcs_fit
+      (and_from _ _ (left_true (list_all (fits_global map_of) m.globals) _ h2)
+      (and_from _ _ (joined_fit m.exports (added_exports prefix m moved) (left_true (list_all (fits_export map_of) m.exports) _ h3) added_fit)
+      (and_from _ _ (left_true (fits_start map_of m.start) _ h4)
+      (and_from _ _ (list_all-append (fits_elem map_of) m.elems (slot_segment (slot_table m) 0 (in_slots m (length moved)) ∷ []) ∙ and_from _ _ (left_true (list_all (fits_elem map_of) m.elems) _ h5) segment_fits)
       (right_true (list_all (fits_elem map_of) m.elems) (list_all (fits_data map_of) m.datas) h5))))))

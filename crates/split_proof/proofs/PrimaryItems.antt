@@ -1,5 +1,7 @@
 -- Each item of the primary module but its exports holds, but for references.
-use Rattle.base_lists.proofs.Common.{◌≡◌, ◌∙◌, ap, ap₂, sym, subst, refl, ℕ, ◌+◌, ◌<◌, List, [], ◌∷◌, ◌++◌, drop, map, length, Option, Some, None, Bool, true, false, ◌&&◌, not, ⊎_elim, option_and_then, slice_get, slice_index, arith, true≢false, nat_lt, pos, cons_option, option_map_or, lt-ltb, ltb-true, slice_get_within, has_chosen, numbers_index, and_then_is, append_at_left, append_right, map_at, map_from, slice_get_there}
+use Rattle.base_lists.proofs.Common.{◌≡◌, ◌∙◌, ap, ap₂, sym, subst, refl, ℕ, ◌+◌, ◌<◌, List, [], ◌∷◌, ◌++◌, drop, map, length, Option, Some, None, Bool, true, false, ◌&&◌, not, ⊎_elim, option_and_then, slice_get, slice_index, arith, true≢false, nat_lt, pos, cons_option, option_map_or, lt-ltb, ltb-true, slice_get_within, has_chosen, numbers_index, and_then_is, append_at_left, append_right, map_at, map_from, slice_get_there, left_either, right_either}
+use Rattle.base_lists.specs.Members.{is_among}
+use Rattle.base_lists.proofs.Members.{among_left, among_right, among_joined, there_among, no_place, none_among}
 use Rattle.std.proofs.Common.{filter_map}
 use Rattle.base_lists.proofs.Places.{push_from}
 use Rattle.base_kept.specs.Kept.{kept}
@@ -15,15 +17,14 @@ use Rattle.wasm_valid.specs.declared.kinds.ItemKind.{ItemKind}
 use Rattle.wasm_valid.specs.declared.kinds.ItemKind.TheVariants as kind
 use Rattle.wasm_valid.specs.Prelude.{const_type, const_func, elem_refs, export_refs, global_refs, named_of, refs_of, DataModeHolds, ElemModeHolds, HoldsAt, ImportHolds, LimitsHold, body_context, count_of, start_count}
 use Rattle.index_remap.specs.declared.remap.Remap.{Remap}
-use Rattle.index_remap.specs.Prelude.{OperandAgrees, body_refs, is_among, new_const, new_data, new_data_mode, new_elem, new_elem_mode, new_func, new_global, new_start, renumbered_all, gets, slot_call}
+use Rattle.index_remap.specs.Prelude.{OperandAgrees, body_refs, new_const, new_data, new_data_mode, new_elem, new_elem_mode, new_func, new_global, new_start, renumbered_all, gets, slot_call}
 use Rattle.index_remap_proof.specs.ButForReferences.{HoldsButForReferences, any_named}
 use Rattle.index_remap_proof.specs.Trees.{TreesAgree}
-use Rattle.index_remap_proof.proofs.Lists.{among_joined, among_left, among_right, is_marked, left_either, only_rest, only_true, right_either}
+use Rattle.index_remap_proof.proofs.Lists.{is_marked, only_rest, only_true}
 use Rattle.split_spec.specs.Prelude.{call_by_slot, call_through_slot, in_slots, params_of, place_among, slot_segment, slot_table, slot_table_type, trampoline_body, type_index, is_needed, is_left, left_marks, primary_func, primary_funcs}
 use Rattle.split_spec.specs.Needed.{named_other_than_by_calls}
 use Rattle.split_proof.specs.Premises.{CanMove}
 use Rattle.split_proof.proofs.Bodies.{BodyLaws, CodeIsTyped, body_typed, entry_agrees}
-use Rattle.split_proof.proofs.Lists.{no_place, none_among, there_among}
 use Rattle.split_proof.proofs.PrimarySpaces as spaces
 use Rattle.split_proof.proofs.SlotCalls.{slot_typed, slots_new, through_slot_typed, type_new}
 use Rattle.split_proof.proofs.Spaces.{ItemsHold, func_holds, table_holds}

@@ -1,5 +1,8 @@
 -- The index spaces of the primary module: what the module imports, the placeholders, and what is left of what it defines; and where each index goes.
-use Rattle.base_lists.proofs.Common.{◌≡◌, ◌∙◌, ap, ap₂, sym, subst, refl, ℕ, zero, suc, ◌+◌, ◌<◌, ◌≤◌, List, [], ◌∷◌, ◌++◌, drop, map, length, Option, Some, None, Bool, true, false, not, ⊎_elim, option_and_then, slice_get, slice_index, arith, append_assoc, decimal, nat_le, nat_lt, cons_option, leb-true, length-append, length-drop, length-map, filter_map-append, get_or_from_slice_get, slice_get_within, left_true, every_at, length-numbers, numbers_at, numbers_index, and_then_is, append_at_left, append_from, append_right, drop_at, map_at, map_from, map_twice, push_last, slice_get_there, slice_index_is}
+use Rattle.base_lists.proofs.Common.{◌≡◌, ◌∙◌, ap, ap₂, sym, subst, refl, ℕ, zero, suc, ◌+◌, ◌<◌, ◌≤◌, List, [], ◌∷◌, ◌++◌, drop, map, length, Option, Some, None, Bool, true, false, not, ⊎_elim, option_and_then, slice_get, slice_index, arith, append_assoc, decimal, nat_le, nat_lt, cons_option, leb-true, length-append, length-drop, length-map, filter_map-append, get_or_from_slice_get, slice_get_within, left_true, every_at, length-numbers, numbers_at, numbers_index, and_then_is, append_at_left, append_from, append_right, drop_at, map_at, map_from, map_twice, push_last, slice_get_there, slice_index_is, cases_Bool, left_either, map_stays, index_left, index_right}
+use Rattle.base_kept.proofs.Chosen.{before_drop}
+use Rattle.base_lists.specs.Members.{is_among}
+use Rattle.base_lists.proofs.Members.{among_there}
 use Rattle.std.proofs.Common.{filter_map}
 use Rattle.std.proofs.lemmas.List.{append-nil}
 use Rattle.base_lists.specs.Places.{numbers}
@@ -10,15 +13,13 @@ use Rattle.wasm_tree.specs.declared.types.RefType.TheVariants.{Func as func_ref}
 use Rattle.wasm_tree.specs.declared.module.ImportDesc.TheVariants as im
 use Rattle.wasm_valid.specs.Prelude.{elem_types, table_types, ImportHolds}
 use Rattle.index_remap.specs.declared.remap.Remap.{Remap}
-use Rattle.index_remap.specs.Prelude.{is_among, new_data, new_elem, new_func, new_global, new_import, new_import_desc, renumbered_tree}
+use Rattle.index_remap.specs.Prelude.{new_data, new_elem, new_func, new_global, new_import, new_import_desc, renumbered_tree}
 use Rattle.index_remap_proof.specs.Indices.{Indices}
 use Rattle.index_remap_proof.specs.Trees.{TreesAgree}
-use Rattle.index_remap_proof.proofs.Lists.{left_either, two_cases}
 use Rattle.split_plan.specs.Words.{is_defined}
 use Rattle.split_plan.specs.Plans.{body_uses_segment}
 use Rattle.split_spec.specs.Prelude.{in_slots, place_among, slot_segment, slot_table, slot_table_type, type_index, is_needed, is_left, left_marks, placeholder_imports, primary_func, primary_funcs, primary_map, primary_tree}
 use Rattle.split_proof.specs.Premises.{CanMove}
-use Rattle.split_proof.proofs.Lists.{among_there, before_drop, index_left, index_right, map_stays}
 use Rattle.split_proof.proofs.Spaces.{ItemsHold, Moves, moves, func_holds, import_holds, type_there}
 
 module _ (namespace : ℕ → List ℕ) (prefix : List ℕ) (m : Module) (holds : ItemsHold m) (moved : List ℕ) (can : CanMove m moved) where
@@ -44,7 +45,7 @@ module _ (namespace : ℕ → List ℕ) (prefix : List ℕ) (m : Module) (holds 
   moved_type p f at = let g = moved_moves p f at in subst (λ n. n < length m.types) (sym (slice_index_is (funcs_of m) f g.func.ty g.typed)) (type_there m holds f g.func.ty g.typed)
 
   not_imported : (i : ℕ) → i < k → is_among moved i ≡ false
-  not_imported i lt = ⊎_elim (λ h. absurd (there h)) (λ h. h) (two_cases (is_among moved i))
+  not_imported i lt = ⊎_elim (λ h. absurd (there h)) (λ h. h) (cases_Bool (is_among moved i))
     where
       there : is_among moved i ≡ true → ⊥
       there h =

@@ -1,9 +1,10 @@
 -- Code in which other code stands in place of calls, and then each index is replaced by its entry.
 use Rattle.base_lists.proofs.Common.{◌≡◌, ℕ, List, [], ◌∷◌, Bool, true, false, refl, sym, ap, ◌∙◌, subst, arith, rules, Contains, map-append}
+use Rattle.base_lists.specs.Members.{is_among}
 use Rattle.wasm_tree_spec.specs.Prelude.{BlockType, FuncType, Instr, fold_out-Instr, Row_of-Instr, items-the_row-Instr, end_of-Instr, more_of-Instr, the_lemmas, Block, Block', Loop, Loop', If, If', Call}
 use Rattle.wasm_tree.specs.declared.instr.Instr.{out-Instr}
 use Rattle.index_remap.specs.declared.remap.Remap.{Remap}
-use Rattle.index_remap.specs.Prelude.{is_among, new_type, renumbered, renumbered_all, CallReplaced, Labels, Replaced, RowReplaced, DenotesOne}
+use Rattle.index_remap.specs.Prelude.{new_type, renumbered, renumbered_all, CallReplaced, Labels, Replaced, RowReplaced, DenotesOne}
 use Rattle.split_spec.specs.Prelude.{calls_in, calls_step, with_calls}
 use Rattle.split_proof.specs.Calls.{renumbered_codes}
 use Rattle.split_proof.proofs.Blocks.{block_calls, if_calls, loop_calls}

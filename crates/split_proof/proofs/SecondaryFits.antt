@@ -1,5 +1,6 @@
 -- The map of a secondary module has an entry for each index that is named in its tree.
-use Rattle.base_lists.proofs.Common.{◌≡◌, ◌∙◌, ap, sym, refl, ℕ, ◌+◌, ◌-◌, ◌<◌, List, [], ◌∷◌, map, length, Bool, true, false, ◌&&◌, not, Option, Some, None, ⊎_elim, slice_get, arith, true≢false, IsTrue, list_all, length-append, length-map, slice_get_within, left_true, right_true, list_all_from, length-numbers, map_from, slice_get_there}
+use Rattle.base_lists.proofs.Common.{◌≡◌, ◌∙◌, ap, sym, refl, ℕ, ◌+◌, ◌-◌, ◌<◌, List, [], ◌∷◌, map, length, Bool, true, false, ◌&&◌, not, Option, Some, None, ⊎_elim, slice_get, arith, true≢false, IsTrue, list_all, length-append, length-map, slice_get_within, left_true, right_true, list_all_from, length-numbers, map_from, slice_get_there, and_from, cases_Bool}
+use Rattle.base_lists.proofs.Members.{place_is}
 use Rattle.base_lists.specs.Places.{numbers}
 use Rattle.base_kept.specs.Kept.{new_places}
 use Rattle.wasm_tree_spec.specs.Prelude.{Operand, Space, Types, Functions, Tables, Memories, Globals, ElementSegments, DataSegments, Func, Module, all_operands_pass, called, imported_funcs, funcs_of, tables_of, memories_of, globals_of}
@@ -8,14 +9,12 @@ use Rattle.wasm_tree.proofs.OperandLaws.{passes_both}
 use Rattle.wasm_valid.specs.Prelude.{IsValid}
 use Rattle.index_remap.specs.declared.remap.Remap.{Remap}
 use Rattle.index_remap.specs.Prelude.{entries, fits_func, fits_import, fits_tree, has, has_entry}
-use Rattle.index_remap_proof.proofs.Lists.{both_true, two_cases}
 use Rattle.split_plan.specs.Segments.{names_segment}
 use Rattle.split_spec.specs.declared.names.SplitNames.{SplitNames}
 use Rattle.split_spec.specs.Prelude.{with_calls, call_by_slot, defined_at, place_among, slot_table, from_primary, marks_from_primary, secondary_call, secondary_call_by_place, secondary_func, secondary_imports, secondary_tree}
 use Rattle.split_proof.specs.Premises.{CanMove}
 use Rattle.split_proof.proofs.Bodies.{BodyLaws}
 use Rattle.split_proof.proofs.Fits.{EntriesAreThere, body_exact, call_passes, called_below, exact, desc_fits, has_below, longer, slots_fit, through_slot_passes}
-use Rattle.split_proof.proofs.Lists.{place_is}
 use Rattle.split_proof.proofs.Operands.{all_wanted}
 use Rattle.split_proof.proofs.PassedCalls.{calls_pass}
 use Rattle.split_proof.proofs.SecondaryItems.{imports_hold}
@@ -96,14 +95,14 @@ module _ (laws : BodyLaws) (entries_there : EntriesAreThere) (names : SplitNames
   no_segments p f at =
       let g = own_moves names m holds moved own before can p f at in
       all_wanted laws.inside laws.any (λ o. not (names_segment o)) g.func.body
-      (λ o t. ⊎_elim (λ h. absurd (true≢false (sym (t names_segment h) ∙ g.names_none))) (λ h. ap not h) (two_cases (names_segment o)))
+      (λ o t. ⊎_elim (λ h. absurd (true≢false (sym (t names_segment h) ∙ g.names_none))) (λ h. ap not h) (cases_Bool (names_segment o)))
 
   body_fits : (p f : ℕ) (at : slice_get own p ≡ Some f) → fits_func map_of (secondary_func m moved own (own_moves names m holds moved own before can p f at).func) ≡ true
   body_fits p f at =
       let g = own_moves names m holds moved own before can p f at in
       let place = f - length (imported_funcs m.imports) in
-      let plain = passes_both (has_entry old) (λ o. not (names_segment o)) is_plain (λ o a b. both_true (has_entry old o) (not (names_segment o)) a b) g.func.body (body_exact entries_there m valid holds place g.func g.is) (no_segments p f at) in
-      both_true (has map_of.types g.func.ty) (all_operands_pass (has_entry map_of) (with_calls (secondary_call m moved own) g.func.body)) (has_below map_of.types (length m.types) g.func.ty types_many (func_holds m holds place g.func g.is))
+      let plain = passes_both (has_entry old) (λ o. not (names_segment o)) is_plain (λ o a b. and_from (has_entry old o) (not (names_segment o)) a b) g.func.body (body_exact entries_there m valid holds place g.func g.is) (no_segments p f at) in
+      and_from (has map_of.types g.func.ty) (all_operands_pass (has_entry map_of) (with_calls (secondary_call m moved own) g.func.body)) (has_below map_of.types (length m.types) g.func.ty types_many (func_holds m holds place g.func g.is))
       (calls_pass is_plain (has_entry map_of) (secondary_call m moved own) plain_fits call_fits g.func.body plain)
 
   funcs_fit : list_all (fits_func map_of) (map (secondary_func m moved own) (defined_at m own)) ≡ true
@@ -124,4 +123,4 @@ module _ (laws : BodyLaws) (entries_there : EntriesAreThere) (names : SplitNames
 
   pub secondary_fits : IsTrue (fits_tree map_of (secondary_tree names m moved own before))
   secondary_fits =
-      both_true _ _ imports_fit (both_true _ _ funcs_fit (both_true _ _ refl (both_true _ _ refl (both_true _ _ refl (both_true _ _ (both_true _ _ (both_true _ _ (both_true _ _ table_fits refl) (slots_fit map_of m (length own) funcs_many)) refl) refl)))))
+      and_from _ _ imports_fit (and_from _ _ funcs_fit (and_from _ _ refl (and_from _ _ refl (and_from _ _ refl (and_from _ _ (and_from _ _ (and_from _ _ (and_from _ _ table_fits refl) (slots_fit map_of m (length own) funcs_many)) refl) refl)))))

@@ -1,5 +1,9 @@
 -- Each item of a secondary module holds, but for references.
-use Rattle.base_lists.proofs.Common.{◌≡◌, ◌∙◌, ap, ap₂, sym, subst, refl, ℕ, zero, suc, ◌+◌, ◌-◌, ◌<◌, List, [], ◌∷◌, ◌++◌, map, length, Option, Some, None, Bool, true, false, ◌&&◌, ◌||◌, not, ⊎_elim, option_and_then, slice_get, slice_index, arith, true≢false, option_map, length-map, slice_get_within, chosen_from, numbers_index, option_map_is, append_from, map_at, map_from, slice_get_there}
+use Rattle.base_lists.proofs.Common.{◌≡◌, ◌∙◌, ap, ap₂, sym, subst, refl, ℕ, zero, suc, ◌+◌, ◌-◌, ◌<◌, List, [], ◌∷◌, ◌++◌, map, length, Option, Some, None, Bool, true, false, ◌&&◌, ◌||◌, not, ⊎_elim, option_and_then, slice_get, slice_index, arith, true≢false, option_map, length-map, slice_get_within, chosen_from, numbers_index, option_map_is, append_from, map_at, map_from, slice_get_there, left_either, right_either}
+use Rattle.base_lists.proofs.Bools.{left_false, right_false}
+use Rattle.base_lists.proofs.Each.{any_from_place}
+use Rattle.base_lists.specs.Members.{is_among}
+use Rattle.base_lists.proofs.Members.{among_append, place_is, no_place, none_among}
 use Rattle.std.proofs.Common.{eq-eqb}
 use Rattle.wasm_tree_spec.specs.Prelude.{Operand, Space, Types, Functions, Tables, Memories, Globals, ElementSegments, DataSegments, FuncType, Call, Func, Import, ImportDesc, Module, any_operand_passes, same_space, imported_funcs, funcs_of}
 use Rattle.wasm_tree.specs.declared.module.ImportDesc.TheVariants as im
@@ -7,15 +11,13 @@ use Rattle.wasm_valid_bodies.specs.Typing.{WellTyped}
 use Rattle.wasm_valid.specs.declared.kinds.ItemKind.TheVariants as kind
 use Rattle.wasm_valid.specs.Prelude.{ImportHolds, body_context}
 use Rattle.index_remap.specs.declared.remap.Remap.{Remap}
-use Rattle.index_remap.specs.Prelude.{func_type, is_among, new_func, new_import, new_import_desc, renumbered_all, is_opaque_call}
+use Rattle.index_remap.specs.Prelude.{func_type, new_func, new_import, new_import_desc, renumbered_all, is_opaque_call}
 use Rattle.index_remap_proof.specs.ButForReferences.{IsValidButForReferences}
-use Rattle.index_remap_proof.proofs.Lists.{among_append, left_either, right_either}
 use Rattle.split_plan.specs.Segments.{names_segment}
 use Rattle.split_spec.specs.declared.names.SplitNames.{SplitNames}
 use Rattle.split_spec.specs.Prelude.{call_by_slot, defined_at, place_among, slot_table_type, entities, from_primary, imports_from_primary, is_from_primary, is_named_from_primary, name_from_primary, slots_name, secondary_call, secondary_call_by_place, secondary_func, secondary_imports}
 use Rattle.split_proof.specs.Premises.{CanMove}
 use Rattle.split_proof.proofs.Bodies.{BodyLaws, CodeIsTyped, MetAgrees, body_typed, entry_agrees}
-use Rattle.split_proof.proofs.Lists.{left_false, list_any_at, right_false, no_place, none_among, place_is}
 use Rattle.split_proof.proofs.Operands.{Met}
 use Rattle.split_proof.proofs.SecondarySpaces.{agree, funcs_many, own_at, own_entry, own_many, own_moves, own_type, r, slot_table_at, stays, u}
 use Rattle.split_proof.proofs.Spaces.{ItemsHold, entity_holds, func_holds}
@@ -117,7 +119,7 @@ module _ (laws : BodyLaws) (names : SplitNames) (m : Module) (holds : ItemsHold 
   body_met p f at o t = by (is_opaque_call moved o) refl
     where
       there : is_opaque_call moved o ≡ false → is_from_primary moved (defined_at m own) o.space o.index ≡ true
-      there e = list_any_at (λ f. any_operand_passes (is_named_from_primary moved o.space o.index) f.body) (defined_at m own) p (own_moves names m holds moved own before can p f at).func (own_at names m holds moved own before can p f at) (t (is_named_from_primary moved o.space o.index) (names_itself moved o e))
+      there e = any_from_place (λ f. any_operand_passes (is_named_from_primary moved o.space o.index) f.body) (defined_at m own) p (own_moves names m holds moved own before can p f at).func (own_at names m holds moved own before can p f at) (t (is_named_from_primary moved o.space o.index) (names_itself moved o e))
 
       no_segment : names_segment o ≡ true → ⊥
       no_segment h = true≢false (sym (t names_segment h) ∙ (own_moves names m holds moved own before can p f at).names_none)

@@ -1,5 +1,7 @@
 -- The index spaces of a secondary module: what it imports from the primary one and then the functions of its own, and where each index of the module goes.
-use Rattle.base_lists.proofs.Common.{◌≡◌, ◌∙◌, ap, ap₂, sym, refl, ℕ, ◌+◌, ◌-◌, ◌<◌, List, [], ◌∷◌, ◌++◌, map, length, Option, Some, None, Bool, true, false, option_and_then, slice_get, slice_index, arith, true≢false, option_map, cons_option, length-append, length-map, map-append, filter_map-append, get_or_from_slice_get, slice_get_within, every_at, length-numbers, numbers_at, numbers_index, and_then_is, append_at_left, append_right, map_at, map_from, push_last, slice_get_there}
+use Rattle.base_lists.proofs.Common.{◌≡◌, ◌∙◌, ap, ap₂, sym, refl, ℕ, ◌+◌, ◌-◌, ◌<◌, List, [], ◌∷◌, ◌++◌, map, length, Option, Some, None, Bool, true, false, option_and_then, slice_get, slice_index, arith, true≢false, option_map, cons_option, length-append, length-map, map-append, filter_map-append, get_or_from_slice_get, slice_get_within, every_at, length-numbers, numbers_at, numbers_index, and_then_is, append_at_left, append_right, map_at, map_from, push_last, slice_get_there, all_counted, map_stays, index_left, index_right}
+use Rattle.base_lists.proofs.Filtered.{all_chosen}
+use Rattle.base_kept.proofs.Chosen.{chosen_kept, kept_counted, kept_given, kept_themselves, kept_none}
 use Rattle.std.proofs.Common.{filter_map}
 use Rattle.std.proofs.lemmas.List.{append-nil}
 use Rattle.base_lists.specs.Places.{numbers}
@@ -18,7 +20,6 @@ use Rattle.split_plan.specs.Plans.{body_uses_segment}
 use Rattle.split_spec.specs.declared.names.SplitNames.{SplitNames}
 use Rattle.split_spec.specs.Prelude.{defined_at, slot_table, slot_table_type, entities, from_primary, imports_from_primary, is_from_primary, marks_from_primary, name_from_primary, secondary_func, secondary_map, secondary_tree}
 use Rattle.split_proof.specs.Premises.{CanMove}
-use Rattle.split_proof.proofs.Lists.{all_chosen, all_counted, chosen_kept, index_left, index_right, kept_counted, kept_given, kept_none, kept_themselves, map_stays}
 use Rattle.split_proof.proofs.Spaces.{ItemsHold, Moves, moves, func_holds, type_there}
 
 module _ (names : SplitNames) (m : Module) (holds : ItemsHold m) (moved own : List ℕ) (before : ℕ) where

@@ -1,5 +1,7 @@
 -- A function that a secondary module imports is left in the primary one: one that moves is imported only where a body names it by `ref.func`.
-use Rattle.base_lists.proofs.Common.{◌≡◌, ◌∙◌, ap, sym, refl, ℕ, ◌-◌, ◌<◌, Some, arith, length, List, [], ◌∷◌, ◌++◌, map, Bool, true, false, ◌&&◌, ◌||◌, not, nat_eq, ⊎_elim, slice_get, true≢false, cons_option, flat_map, list_any, flat_map-append, map-append, list_any_there, chosen_from, place_back, numbers_is, map_from}
+use Rattle.base_lists.proofs.Common.{◌≡◌, ◌∙◌, ap, sym, refl, ℕ, ◌-◌, ◌<◌, Some, arith, length, List, [], ◌∷◌, ◌++◌, map, Bool, true, false, ◌&&◌, ◌||◌, not, nat_eq, ⊎_elim, slice_get, true≢false, cons_option, flat_map, list_any, flat_map-append, map-append, list_any_there, chosen_from, place_back, numbers_is, map_from, cases_Bool, either_true, left_either, right_either, same_number}
+use Rattle.base_lists.specs.Members.{is_among}
+use Rattle.base_lists.proofs.Members.{among_left, among_right, among_joined}
 use Rattle.std.proofs.Common.{eq-eqb}
 use Rattle.base_lists.specs.Every.{Every}
 use Rattle.base_lists.specs.Places.{numbers}
@@ -8,8 +10,7 @@ use Rattle.wasm_tree.specs.declared.types.BlockType.TheVariants as block
 use Rattle.wasm_tree.specs.declared.instr.Instr.TheOpen.{Instr-F}
 use Rattle.wasm_tree.proofs.OperandLaws.{any_inside, by_held}
 use Rattle.wasm_valid.specs.Prelude.{refs_of}
-use Rattle.index_remap.specs.Prelude.{body_refs, is_among, refs, refs_all, refs_step}
-use Rattle.index_remap_proof.proofs.Lists.{among_joined, among_left, among_right, either_true, left_either, right_either, same_number, two_cases}
+use Rattle.index_remap.specs.Prelude.{body_refs, refs, refs_all, refs_step}
 use Rattle.split_spec.specs.Prelude.{defined_at, is_needed, entities, from_primary, is_from_primary, is_named_from_primary, marks_from_primary, is_left}
 
 module _ (moved : List ℕ) (x : ℕ) (moves : is_among moved x ≡ true) where
@@ -72,7 +73,7 @@ shared_left m moved x h =
     let among = among_joined (λ f. refs_all f.body) m.funcs (g.0 - length (imported_funcs m.imports)) f.0 x g.2 (ref_named moved x e f.0.body f.2) in
     right_either (not (is_among moved x)) (is_needed m x) (among_right (refs_of m) (cons_option m.start [] ++ body_refs m.funcs) x (among_right (cons_option m.start []) (body_refs m.funcs) x among)))
     (λ e. left_either (not (is_among moved x)) (is_needed m x) (ap not e))
-    (two_cases (is_among moved x))
+    (cases_Bool (is_among moved x))
 
 -- an index that is imported is one of the space
 pub shared_within : (m : Module) (moved own : List ℕ) (space : Space) (n i : ℕ) → slice_get (from_primary m moved own space) n ≡ Some i → (i < length (entities m space)) × (is_from_primary moved (defined_at m own) space i ≡ true)

@@ -1,9 +1,10 @@
 -- Replacing calls in code and then renumbering it gives the renumbered code, in which the
 -- renumbered replacements are in place of the calls.
 use Rattle.std.specs.Prelude.{◌≡◌, ℕ, List, [], ◌∷◌, false}
+use Rattle.base_lists.specs.Members.{is_among}
 use Rattle.wasm_tree_spec.specs.Prelude.{FuncType, Instr, Call}
 use Rattle.index_remap.specs.declared.remap.Remap.{Remap}
-use Rattle.index_remap.specs.Prelude.{is_among, renumbered_all, Codes, Labels, Replaced}
+use Rattle.index_remap.specs.Prelude.{renumbered_all, Codes, Labels, Replaced}
 use Rattle.split_spec.specs.Prelude.{with_calls}
 
 -- the one replacement of a call of each function, whatever labels are around the call

@@ -1,10 +1,11 @@
 -- What the first counts of the primary module tell before it is built: no more defined functions are left out than move.
 use Rattle.base_lists.proofs.Common.{◌≡◌, ℕ, zero, suc, ◌+◌, ◌<◌, ◌≤◌, arith, Bool, true, false, ◌||◌, not, cond, List, [], ◌∷◌, ◌++◌, drop, map, length, nat_eq, nat_lt, Option, Some, None, refl, sym, ap, ap₂, ◌∙◌, eqb-true, ltb-true, ltb-false, lt-ltb, length-append, length-drop, length-map, filter_map_most, length-numbers}
+use Rattle.base_lists.specs.Members.{is_among}
 use Rattle.base_lists.specs.Places.{count_of, numbers}
 use Rattle.base_kept.specs.Kept.{kept}
 use Rattle.wasm_tree_spec.specs.Prelude.{Func, Module, Which, limit, func_of, funcs_of, imported_funcs}
 use Rattle.wasm_tree.specs.declared.which.Which.TheVariants as which
-use Rattle.index_remap.specs.Prelude.{declared, declared_refs, is_among, with_declared, new_func, new_import, renumbered_tree}
+use Rattle.index_remap.specs.Prelude.{declared, declared_refs, with_declared, new_func, new_import, renumbered_tree}
 use Rattle.module_limits.specs.Counts.{or_above, over_limit}
 use Rattle.split_spec.specs.Prelude.{is_needed, is_left, left_marks, placeholder_imports, primary_funcs, primary_map, primary_tree}
 use Rattle.split_spec.specs.Primary.{primary_with}

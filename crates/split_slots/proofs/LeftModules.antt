@@ -1,11 +1,11 @@
 -- What is left of a module that is split, and the functions that moved, are what the definitions of a split say.
 use Rattle.base_lists.proofs.Common.{◌≡◌, ℕ, suc, ◌+◌, ◌<◌, ◌≤◌, ◌^◌, arith, Bool, List, [], ◌∷◌, ◌++◌, drop, map, length, is_some, Option, Some, None, refl, sym, ap, ap₂, ◌∙◌, slice_get, option_map_or, IsStrictlyIncreasing, length-append, length-map, every_at, length-numbers, append_right, map_at}
+use Rattle.base_lists.proofs.Members.{place_is}
 use Rattle.base_kept.specs.Kept.{kept}
 use Rattle.base_lists.specs.Every.{Every}
 use Rattle.base_lists.specs.Places.{numbers}
 use Rattle.wasm_tree_spec.specs.Prelude.{FuncType, ElemSeg, Export, Func, Import, Module, IsBounded, declared_count, param_count, funcs_of, imported_funcs}
 use Rattle.split_proof.specs.Premises.{CanMove}
-use Rattle.split_proof.proofs.Lists.{place_is}
 use Rattle.split_spec.specs.Prelude.{added_exports, is_left, left_marks, placeholder_imports, primary_funcs, primary_tree, defined_at, place_among, slot_segment, slot_table, slot_table_type}
 use Rattle.split_slots.specs.declared.calls.Calls.{Calls}
 use Rattle.split_slots.specs.Looking.{slot_at}

@@ -1,16 +1,18 @@
 -- In a valid module what `ref.func` names in a body is named outside the bodies too, so that marks of that tell of which functions a trampoline is needed.
-use Rattle.base_lists.proofs.Common.{◌≡◌, ℕ, ◌<◌, Bool, true, false, ◌||◌, List, [], ◌∷◌, ◌++◌, length, cond, unwrap_or, Option, Some, None, refl, sym, ap, ap₂, ◌∙◌, subst, slice_get, zero-add, append-nil, cons_option, nat_le, nat_lt, ltb-true, slice_get_within}
+use Rattle.base_lists.proofs.Common.{◌≡◌, ℕ, ◌<◌, Bool, true, false, ◌||◌, List, [], ◌∷◌, ◌++◌, length, cond, unwrap_or, Option, Some, None, refl, sym, ap, ap₂, ◌∙◌, subst, slice_get, zero-add, append-nil, cons_option, nat_le, nat_lt, ltb-true, slice_get_within, right_true}
+use Rattle.base_lists.specs.Members.{is_among}
+use Rattle.base_lists.proofs.Members.{among_append, joined_among}
 use Rattle.std.proofs.Common.{filter}
 use Rattle.base_lists.specs.Every.{Every}
 use Rattle.wasm_tree_spec.specs.Prelude.{Func, Module, funcs_of, imported_funcs}
 use Rattle.wasm_valid.specs.declared.kinds.ItemKind.TheVariants as kind
 use Rattle.wasm_valid.specs.Prelude.{named_from, named_of, refs_of, HoldsAt, body_context}
 use Rattle.wasm_valid.specs.Named.{marked_at}
-use Rattle.index_remap.specs.Prelude.{body_refs, is_among, refs_all}
+use Rattle.index_remap.specs.Prelude.{body_refs, refs_all}
 use Rattle.index_remap.proofs.Marks.{more_marks}
 use Rattle.split_plan.specs.Words.{is_defined}
 use Rattle.split_plan.specs.Plans.{body_uses_segment}
-use Rattle.index_remap_proof.proofs.Lists.{right_true, among_append, is_marked, joined_among, named_get}
+use Rattle.index_remap_proof.proofs.Lists.{is_marked, named_get}
 use Rattle.index_remap_proof.proofs.NamedFuncs.{typed_named}
 use Rattle.split_spec.specs.Prelude.{is_needed}
 use Rattle.split_spec.specs.Needed.{needed}

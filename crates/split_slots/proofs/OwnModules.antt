@@ -1,5 +1,5 @@
 -- The secondary module is what the definitions of a split say.
-use Rattle.base_lists.proofs.Common.{◌≡◌, ℕ, ◌<◌, ◌^◌, ◌+◌, ◌-◌, true, false, slice_get, arith, List, [], ◌∷◌, map, length, None, ap, ap₂, ◌∙◌, fun_ext, length-map, every_at}
+use Rattle.base_lists.proofs.Common.{◌≡◌, ℕ, ◌<◌, ◌^◌, ◌+◌, ◌-◌, true, false, slice_get, arith, List, [], ◌∷◌, map, length, None, ap, ap₂, ◌∙◌, fun_ext, length-map, every_at, all_counted}
 use Rattle.base_lists.specs.Every.{Every}
 use Rattle.base_lists.specs.Places.{numbers}
 use Rattle.wasm_tree_spec.specs.Prelude.{IsBounded, funcs_of, imported_funcs, globals_of, memories_of, tables_of, ElemSeg, Func, Import, Module, Functions, Tables, Memories, Globals, FuncType}
@@ -9,7 +9,6 @@ use Rattle.split_spec.specs.Prelude.{secondary_func, secondary_imports, secondar
 use Rattle.split_plan.specs.Plans.{body_uses_segment}
 use Rattle.split_plan.specs.Words.{is_defined}
 use Rattle.split_proof.specs.Premises.{CanMove}
-use Rattle.split_proof.proofs.Lists.{all_counted}
 use Rattle.split_proof.proofs.Spaces.{moves}
 use Rattle.split_slots.specs.declared.calls.Calls.{Calls}
 use Rattle.split_slots.specs.declared.sharing.Marks.{Marks}

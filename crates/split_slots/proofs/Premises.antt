@@ -1,8 +1,7 @@
 -- What follows for the functions of a plan.
-use Rattle.base_lists.proofs.Common.{◌≡◌, ℕ, suc, ◌+◌, ◌<◌, ◌≤◌, arith, List, [], ◌∷◌, length, ◌∙◌, nat_le, nat_lt, IsStrictlyIncreasing, leb-true, length-map, length-numbers}
+use Rattle.base_lists.proofs.Common.{◌≡◌, ℕ, suc, ◌+◌, ◌<◌, ◌≤◌, arith, List, [], ◌∷◌, length, ◌∙◌, nat_le, nat_lt, IsStrictlyIncreasing, leb-true, length-map, length-numbers, left_true}
 use Rattle.base_lists.specs.Every.{Every}
 use Rattle.wasm_tree_spec.specs.Prelude.{Space, Module, funcs_of, imported_funcs}
-use Rattle.index_remap_proof.proofs.Lists.{left_true}
 use Rattle.split_proof.specs.Premises.{CanMove}
 use Rattle.split_spec.specs.Prelude.{entities, is_from_primary, marks_from_primary, defined_at}
 use Rattle.split_slots.proofs.OwnFuncs.{Ascends, ascends}

@@ -1,12 +1,12 @@
 -- What is made by marks is what the definitions of a split say, where the marks are of what the functions that move name.
 use Rattle.base_lists.proofs.Common.{◌≡◌, ℕ, ◌<◌, Bool, ◌&&◌, not, List, [], ◌∷◌, ◌++◌, map, length, nat_eq, Option, is_some, ap, ◌∙◌, list_any, fun_ext}
+use Rattle.base_lists.specs.Members.{is_among}
 use Rattle.base_lists.specs.Every.{Every}
 use Rattle.base_lists.specs.Places.{numbers, places}
 use Rattle.base_kept.specs.Kept.{new_places}
 use Rattle.wasm_tree_spec.specs.Prelude.{any_operand_passes, same_space, Space, Functions, Tables, Memories, Globals, Module, funcs_of}
 use Rattle.wasm_tree.specs.declared.module.ExportDesc.TheVariants as ex
 use Rattle.wasm_tree.specs.declared.module.ImportDesc.TheVariants as im
-use Rattle.index_remap.specs.Prelude.{is_among}
 use Rattle.index_remap.specs.declared.remap.Remap.{Remap}
 use Rattle.split_spec.specs.declared.names.SplitNames.{SplitNames}
 use Rattle.split_spec.specs.Prelude.{defined_at, place_among, slot_table, slot_table_type, entities, exports_for_secondary, imports_from_primary, marks_from_primary, slots_name}

@@ -1,9 +1,10 @@
 -- Which moved functions need a trampoline: those that anything but a `call` names.
 use Rattle.std.specs.Prelude.{ℕ, Bool, List, [], ◌++◌, filter}
+use Rattle.base_lists.specs.Members.{is_among}
 use Rattle.std.specs.List.{cons_option}
 use Rattle.wasm_tree_spec.specs.Prelude.{Module}
 use Rattle.wasm_valid.specs.Prelude.{refs_of}
-use Rattle.index_remap.specs.Prelude.{body_refs, is_among}
+use Rattle.index_remap.specs.Prelude.{body_refs}
 
 -- the functions that an item of an element segment, the initialiser of a global, an export, the
 -- start, or a `ref.func` in a body names

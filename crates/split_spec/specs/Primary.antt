@@ -2,13 +2,14 @@
 -- slots. The slots hold placeholders until a secondary module puts its functions there (WebAssembly
 -- Core 2.0, section 2.5).
 use Rattle.std.specs.Prelude.{ℕ, suc, ◌+◌, Bool, ◌||◌, not, List, [], ◌∷◌, ◌++◌, drop, map, length, decimal, Option, Some, None}
+use Rattle.base_lists.specs.Members.{is_among}
 use Rattle.base_lists.specs.Places.{numbers}
 use Rattle.base_kept.specs.Kept.{kept, new_places}
 use Rattle.wasm_tree_spec.specs.Prelude.{Functions, Tables, Memories, Globals, Import, Export, Func, Module, imported_funcs, funcs_of, tables_of, memories_of, globals_of}
 use Rattle.wasm_tree.specs.declared.module.ImportDesc.TheVariants as im
 use Rattle.wasm_tree.specs.declared.module.ExportDesc.TheVariants as ex
 use Rattle.index_remap.specs.declared.remap.Remap.{Remap}
-use Rattle.index_remap.specs.Prelude.{declared, is_among, renumbered_tree}
+use Rattle.index_remap.specs.Prelude.{declared, renumbered_tree}
 use Rattle.split_spec.specs.declared.names.SplitNames.{SplitNames}
 use Rattle.split_spec.specs.Calls.{with_calls}
 use Rattle.split_spec.specs.Slots.{type_index, place_among, slot_table, in_slots, slot_table_type, slot_segment, call_through_slot, trampoline_body}

@@ -1,5 +1,6 @@
 -- Exports and functions that are looked up by their names.
 use Rattle.base_lists.proofs.Common.{◌≡◌, ◌∙◌, ap, sym, refl, subst, ℕ, zero, suc, ◌+◌, ◌-◌, ◌<◌, ◌≤◌, arith, List, [], ◌∷◌, ◌++◌, append_assoc, length, drop, get_or, slice_get, is_some, Bool, true, false, cond, Option, Some, None, bytes_eq, at_drop_more, drop_more, same_Some, bytes_eq-Decides, same_tests}
+use Rattle.base_lists.proofs.Same.{text_is, text_self}
 use Rattle.base_lists.specs.Options.{◌>>=◌}
 use Rattle.wasm_tree_spec.specs.Prelude.{Export, ExportDesc, Module, funcs_of}
 use Rattle.wasm_tree.specs.declared.module.ExportDesc.TheVariants as ex
@@ -7,7 +8,6 @@ use Rattle.wasm_valid.specs.declared.kinds.ItemKind.{ItemKind}
 use Rattle.wasm_valid.specs.declared.kinds.ItemKind.TheVariants as kind
 use Rattle.wasm_valid.specs.Prelude.{HoldsAt, InSpace, count_of}
 use Rattle.wasm_meaning.specs.Prelude.{Text, export_named, same_text}
-use Rattle.index_remap_proof.proofs.Lists.{text_is, text_self}
 use Rattle.eval_snapshot_spec.specs.Evaluated.{first_missing, func_exported, func_named, funcs_named}
 use Rattle.tools_cli_eval.specs.Named.{AreFuncsOf}
 

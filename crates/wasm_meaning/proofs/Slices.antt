@@ -1,6 +1,12 @@
--- Lengths of parts of lists.
-use Rattle.std.proofs.Common.{◌≡◌, ℕ, zero, suc, ◌+◌, List, [], ◌∷◌, length, Option, Some, None, option_and_then, refl, sym, ap, arith}
+-- Parts of lists, and their lengths.
+use Rattle.std.proofs.Common.{◌≡◌, ℕ, zero, suc, ◌+◌, ◌≤◌, List, [], ◌∷◌, length, take, drop, Option, Some, None, option_and_then, refl, sym, ap, arith}
 use Rattle.wasm_meaning.specs.Outcomes.{split_at, slice, copies}
+
+-- a list that is long enough is split
+pub split_take : {A : Type 0} (n : ℕ) (xs : List A) → n ≤ length xs → split_at n xs ≡ Some (take n xs, drop n xs)
+split_take zero xs le = refl
+split_take (suc n) [] le = absurd (omega (arith, le))
+split_take (suc n) (x ∷ xs) le = rw (split_take n xs (omega (arith, le))) refl
 
 pub split_lengths : {A : Type 0} (n : ℕ) (xs : List A) (p : List A × List A) → split_at n xs ≡ Some p → (length p.0 ≡ n) × (length p.0 + length p.1 ≡ length xs)
 split_lengths zero xs p e = let i : ([], xs) ≡ p = cc in rw (← i) (refl, omega arith)

@@ -1,5 +1,5 @@
 -- Marks at the functions that are named.
-use Rattle.base_lists.proofs.Common.{◌≡◌, ℕ, zero, suc, ◌+◌, ◌<◌, ◌≢◌, Bool, true, false, ◌||◌, nat_eq, List, [], ◌∷◌, ◌++◌, length, drop, get_or, refl, sym, ap, ◌∙◌, arith, append_assoc, append-nil, zero-add, slice_set, replicate, flat_map, list_any, at_drop_more, list_any-append, nat_tests}
+use Rattle.base_lists.proofs.Common.{◌≡◌, ℕ, zero, suc, ◌+◌, ◌<◌, ◌≢◌, Bool, true, false, ◌||◌, nat_eq, List, [], ◌∷◌, ◌++◌, length, drop, get_or, refl, sym, ap, ◌∙◌, arith, append_assoc, append-nil, zero-add, slice_set, replicate, flat_map, list_any, at_drop_more, list_any-append, nat_tests, or-true, or-false}
 use Rattle.std.proofs.Common.{eq-eqb}
 use Rattle.wasm_valid.specs.Prelude.{named_from, marked_all}
 
@@ -20,23 +20,15 @@ pub no_marks : (a n : ℕ) → named_from [] a n ≡ replicate n false
 no_marks a zero = refl
 no_marks a (suc n) = ap (λ z. false ∷ z) (no_marks (suc a) n)
 
-or_false : (b : Bool) → (b || false) ≡ b
-or_false false = refl
-or_false true = refl
-
-or_true : (b : Bool) → (b || true) ≡ true
-or_true false = refl
-or_true true = refl
-
 other : (refs : List ℕ) (a r : ℕ) → a ≢ r → list_any (nat_eq a) (refs ++ r ∷ []) ≡ list_any (nat_eq a) refs
 other refs a r ne =
     let no : nat_eq a r ≡ false = grind (arith, nat_tests) in
-    list_any-append (nat_eq a) refs (r ∷ []) ∙ ap (λ b. list_any (nat_eq a) refs || (b || false)) no ∙ or_false (list_any (nat_eq a) refs)
+    list_any-append (nat_eq a) refs (r ∷ []) ∙ ap (λ b. list_any (nat_eq a) refs || (b || false)) no ∙ or-false (list_any (nat_eq a) refs)
 
 itself : (refs : List ℕ) (a : ℕ) → list_any (nat_eq a) (refs ++ a ∷ []) ≡ true
 itself refs a =
     let yes : nat_eq a a ≡ true = eq-eqb a a refl in
-    list_any-append (nat_eq a) refs (a ∷ []) ∙ ap (λ b. list_any (nat_eq a) refs || (b || false)) yes ∙ or_true (list_any (nat_eq a) refs)
+    list_any-append (nat_eq a) refs (a ∷ []) ∙ ap (λ b. list_any (nat_eq a) refs || (b || false)) yes ∙ or-true (list_any (nat_eq a) refs)
 
 above : (refs : List ℕ) (r a n : ℕ) → r < a → named_from (refs ++ r ∷ []) a n ≡ named_from refs a n
 above refs r a zero lt = refl

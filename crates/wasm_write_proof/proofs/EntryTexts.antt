@@ -1,5 +1,6 @@
 -- The plain texts of code entries spell them, and data is used in them as in the functions.
 use Rattle.base_lists.proofs.Common.{◌≡◌, ◌<◌, ◌^◌, List, [], ◌∷◌, map, length, true, false, ◌||◌, refl, ap, arith, left_true, right_true}
+use Rattle.base_lists.proofs.Every.{every_with}
 use Rattle.std.proofs.Common.{length-append}
 use Rattle.base_lists.specs.Every.{Every}
 use Rattle.wasm_bytes.specs.Prelude.{u32_text}
@@ -8,7 +9,7 @@ use Rattle.wasm_read_spec.specs.Prelude.{SpellsGroup, SpellsCode, SpellsEntry}
 use Rattle.wasm_write_spec.specs.PlainValues.{vector_text, val_text}
 use Rattle.wasm_write_spec.specs.PlainCode.{group_text, body_text, code_text, entry_text}
 use Rattle.wasm_write_proof.specs.Ranges.{IsU32, FuncInRange}
-use Rattle.wasm_write_proof.proofs.Parts.{u32_some, u32_spells, sized_spells, vector_spells, every_with}
+use Rattle.wasm_write_proof.proofs.Parts.{u32_some, u32_spells, sized_spells, vector_spells}
 use Rattle.wasm_write_proof.proofs.ItemTexts.{val_spells}
 use Rattle.wasm_write_proof.proofs.BodyTexts.{body_spells}
 use Rattle.wasm_write_proof.proofs.Inside.{spellable_of}

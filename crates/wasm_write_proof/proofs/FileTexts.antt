@@ -1,5 +1,6 @@
 -- The plain text of a module spells it.
 use Rattle.base_lists.proofs.Common.{◌≡◌, ℕ, zero, suc, ◌/◌, ◌<◌, ◌≤◌, ◌^◌, List, [], ◌∷◌, ◌++◌, map, length, Bool, true, false, Option, Some, None, refl, sym, ap, ◌∙◌, subst, arith, append_assoc, append-nil, ⊎_elim, if◌then◌else◌, IsTrue, lt-ltb, le-ltb, cases_lt, length-map}
+use Rattle.base_lists.proofs.Every.{every_of, every_with}
 use Rattle.std.proofs.Common.{length-append}
 use Rattle.wasm_bytes.specs.Prelude.{u32_text, sized_text, U32, Vector, Section, header, may_follow, order_after, Frames}
 use Rattle.wasm_bytes.specs.Writing.{unsigned_text}
@@ -20,7 +21,7 @@ use Rattle.wasm_read_spec.proofs.SectionLaws.{one_whole, type_clear}
 use Rattle.wasm_read_spec.proofs.FileLaws.{one_framing}
 use Rattle.wasm_write_proof.specs.SmallSizes.{SmallSizes}
 use Rattle.wasm_write_proof.specs.TreeLimits.{WithinLimits}
-use Rattle.wasm_write_proof.proofs.Parts.{u32_some, u32_spells, sized_spells, vector_mapped, every_with, every_of, every_short}
+use Rattle.wasm_write_proof.proofs.Parts.{u32_some, u32_spells, sized_spells, vector_mapped, every_short}
 use Rattle.wasm_write_proof.proofs.ItemTexts.{func_type_spells, func_type_some, table_spells, table_some, limits_spells, limits_some, import_spells, import_some, global_spells, global_some, export_spells, export_some}
 use Rattle.wasm_write_proof.proofs.SegmentTexts.{elem_spells, elem_some, data_spells, data_some}
 use Rattle.wasm_write_proof.proofs.EntryTexts.{untyped, Spellable, all_spellable, entry_spells, entry_some, funcs_use_same}

@@ -1,5 +1,6 @@
 -- The plain texts of types, constant expressions and what the sections hold spell them.
 use Rattle.base_lists.proofs.Common.{◌≡◌, ℕ, ◌<◌, ◌^◌, List, [], ◌∷◌, ◌++◌, length, Bool, true, false, Option, Some, None, refl, arith, append_assoc, IsUtf8}
+use Rattle.base_lists.proofs.Every.{every_of}
 use Rattle.std.proofs.Common.{length-append}
 use Rattle.wasm_bytes.specs.Prelude.{u32_text, s32_text, s64_text, sized_text, Then, Vector, Named}
 use Rattle.wasm_tree_spec.specs.Prelude.{RefType, ValType, I32, I64, Ref, FuncType, Limits, TableType, GlobalType, BlockType, ImportDesc, Import, ExportDesc, Export, ConstExpr, GlobalDef, block_operands}
@@ -15,7 +16,7 @@ use Rattle.wasm_read_spec.specs.Sections.{import_form, export_form}
 use Rattle.wasm_write_spec.specs.PlainValues.{vector_text, ref_code, val_code, ref_text, val_text, func_type_text, max_text, limits_text, table_text, mutable_code, global_type_text, block_type_text, const_text, import_desc_text, import_text, global_text, export_desc_text, export_text}
 use Rattle.base_lists.specs.Every.{Every}
 use Rattle.wasm_write_proof.specs.Ranges.{spelled_operand, IsU32, MaxInRange, LimitsInRange, ConstInRange, ImportDescInRange, ImportInRange, ExportDescInRange, ExportInRange}
-use Rattle.wasm_write_proof.proofs.Parts.{below, u32_some, u32_spells, index_spells, s32_spells, s64_spells, sized_spells, vector_spells, every_of}
+use Rattle.wasm_write_proof.proofs.Parts.{below, u32_some, u32_spells, index_spells, s32_spells, s64_spells, sized_spells, vector_spells}
 
 -- ---- types
 

@@ -76,14 +76,6 @@ vector_mapped f spells text xs some few h =
 
 -- ---- what holds of every item
 
-pub every_with : {A : Type 0} (P Q : A → Type 0) (xs : List A) → ((x : A) → P x → Q x) → Every P xs → Every Q xs
-every_with P Q [] f h = tt
-every_with P Q (x ∷ xs) f h = (f x h.0, every_with P Q xs f h.1)
-
-pub every_of : {A : Type 0} (Q : A → Type 0) (xs : List A) → ((x : A) → Q x) → Every Q xs
-every_of Q [] f = tt
-every_of Q (x ∷ xs) f = (f x, every_of Q xs f)
-
 -- where each is known, and each text is part of a short one
 pub every_short : {A : Type 0} (P Q : A → Type 0) (text : A → List ℕ) (xs : List A) → ((x : A) → P x → length (text x) < 2 ^ 32 → Q x) → length (each_text text xs) < 2 ^ 32 → Every P xs → Every Q xs
 every_short P Q text [] f few h = tt

@@ -1,5 +1,6 @@
 -- The plain texts of element and data segments spell them.
 use Rattle.base_lists.proofs.Common.{◌≡◌, ℕ, ◌<◌, ◌≤◌, ◌^◌, List, [], ◌∷◌, ◌++◌, length, true, true≢false, ◌&&◌, ⊎_elim, refl, sym, arith, append_assoc, ◌==◌, eqb-true, cases_Bool, left_true, right_true}
+use Rattle.base_lists.proofs.Every.{every_with}
 use Rattle.std.proofs.Common.{length-append}
 use Rattle.wasm_bytes.specs.Prelude.{u32_text, sized_text, U32, Sized}
 use Rattle.wasm_tree_spec.specs.Prelude.{RefType, ConstExpr, ElemMode, ElemSeg, DataMode, DataSeg}
@@ -12,7 +13,7 @@ use Rattle.wasm_read_spec.specs.Prelude.{Made, SpellsConst, FuncItems, ConstItem
 use Rattle.wasm_read_spec.specs.Sections.{elem_of, elem_form, data_form}
 use Rattle.wasm_write_spec.specs.PlainValues.{ref_code, ref_text, const_text, is_func, func_of, is_funcref, all_funcs, by_index, index_items, const_items, active_by_index, active_by_const, mode_by_index, mode_by_const, elem_text, data_mode_text, data_text}
 use Rattle.wasm_write_proof.specs.Ranges.{IsU32, ConstInRange, ElemModeInRange, ElemInRange, DataModeInRange}
-use Rattle.wasm_write_proof.proofs.Parts.{u32_some, u32_spells, flag_spells, sized_spells, vector_spells, every_with}
+use Rattle.wasm_write_proof.proofs.Parts.{u32_some, u32_spells, flag_spells, sized_spells, vector_spells}
 use Rattle.wasm_write_proof.proofs.ItemTexts.{ref_spells, const_spells, const_some}
 
 -- ---- items

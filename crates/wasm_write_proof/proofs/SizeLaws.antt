@@ -1,5 +1,6 @@
 -- Where the canonical encoding of a module has fewer than 2^32 bytes, each vector and each written size is below 2^32.
 use Rattle.base_lists.proofs.Common.{◌≡◌, ℕ, suc, ◌+◌, ◌<◌, ◌^◌, List, [], ◌∷◌, ◌++◌, map, length, Bool, true, refl, ap, ◌∙◌, subst, arith, append-nil, ⊎_elim, list_all, list_all-map, and_from, cases_Bool}
+use Rattle.base_lists.proofs.Every.{every_of}
 use Rattle.std.proofs.Common.{length-append}
 use Rattle.wasm_bytes.specs.Prelude.{u32_text, sized_text}
 use Rattle.wasm_bytes.specs.Writing.{unsigned_text}
@@ -12,7 +13,7 @@ use Rattle.wasm_write_spec.specs.PlainValues.{vector_text, val_text, block_type_
 use Rattle.wasm_write_spec.specs.PlainCode.{instr_step, instr_text, instrs_text, body_text, group_text, code_text, entry_text}
 use Rattle.wasm_write_spec.specs.Plain.{list_section, plain}
 use Rattle.wasm_write_proof.specs.SmallSizes.{IsShort, lists_step, has_short_lists, all_have_short_lists, SmallSection, FuncTypeIsSmall, ImportIsSmall, FuncIsSmall, SmallSizes}
-use Rattle.wasm_write_proof.proofs.Parts.{u32_some, vector_count, every_of, every_short}
+use Rattle.wasm_write_proof.proofs.Parts.{u32_some, vector_count, every_short}
 use Rattle.wasm_write_proof.proofs.NumberRanges.{is_small}
 use Rattle.wasm_write_proof.proofs.ItemTexts.{val_some, func_type_some, import_some, table_some, limits_some, global_some, export_some, const_some}
 use Rattle.wasm_write_proof.proofs.SegmentTexts.{index_long, const_long, elem_some, data_some}

@@ -1,5 +1,5 @@
 -- A store that refers to nothing beyond what the environment and the first parts have, and what a part adds to it.
-use Rattle.base_lists.proofs.Common.{◌≡◌, refl, ℕ, suc, ◌<◌, List, [], ◌∷◌, Some, true, slice_get, and_then_is, same_Some}
+use Rattle.base_lists.proofs.Common.{◌≡◌, refl, ℕ, suc, ◌<◌, List, [], ◌∷◌, Some, true, slice_get, and_then_is, same_Some, all_there_back}
 use Rattle.wasm_tree_spec.specs.Prelude.{Space, Functions, Tables, Memories, Globals, ElementSegments, DataSegments, FuncType, Instr, ConstExpr, Module}
 use Rattle.wasm_tree.specs.declared.module.ConstExpr.TheVariants as const
 use Rattle.wasm_meaning.specs.Prelude.{base, RefVal, Val, Inst, Func, Code, Own, Table, Global, Elem, Store, Part, Environment, new_func, store_with, const_value}
@@ -11,7 +11,6 @@ use Rattle.world_simulation.proofs.Owned.{null_rel}
 use Rattle.world_simulation.proofs.Allocated.{new_table, adds_with}
 use Rattle.world_simulation.proofs.Places.{then_same, opt_self, self_rel, all_rel, maps_rel}
 use Rattle.world_simulation.proofs.Stored.{global_rel, elem_rel}
-use Rattle.index_remap_proof.proofs.Lists.{all_there_back}
 
 -- ---- more is reached later ----
 

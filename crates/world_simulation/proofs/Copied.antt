@@ -1,18 +1,13 @@
 -- Lists that are overwritten, stores with room for the segments that are copied, and what is kept where segments without partners are copied.
-use Rattle.base_lists.proofs.Common.{◌≡◌, ℕ, suc, ◌+◌, ◌*◌, ◌≤◌, List, ◌∷◌, length, take, drop, Option, Some, true, arith, option_and_then, slice_get, slice_set, length-append, length-drop, and_then_is, is_some_there}
+use Rattle.base_lists.proofs.Common.{◌≡◌, ℕ, ◌+◌, ◌*◌, ◌≤◌, List, length, Option, Some, true, arith, option_and_then, slice_get, slice_set, length-append, length-drop, and_then_is, is_some_there}
 use native.Mathlib.Decide.{ℕ_discrete}
 use Rattle.wasm_tree_spec.specs.Prelude.{Space, Tables, Memories, ElementSegments, DataSegments}
 use Rattle.wasm_meaning.specs.Prelude.{split_at, overwrite, Store, Environment, Filled, or_trapped}
 use Rattle.index_remap.proofs.Rel.{at_put_here, at_put_there}
 use Rattle.world_simulation.specs.Prelude.{Instantiated, DefinedAt}
-use Rattle.wasm_meaning.proofs.Slices.{split_lengths}
+use Rattle.wasm_meaning.proofs.Slices.{split_lengths, split_take}
 
 -- ---- lists ----
-
--- a list that is long enough is split
-split_take : {A : Type 0} (n : ℕ) (xs : List A) → n ≤ length xs → split_at n xs ≡ Some (take n xs, drop n xs)
-split_take (suc n) (x ∷ xs) h = rw (split_take n xs (omega arith))
-split_take n xs h = grind arith
 
 pub overwritten_length : {A : Type 0} (xs : List A) (n : ℕ) (ys zs : List A) → overwrite xs n ys ≡ Some zs → length zs ≡ length xs
 overwritten_length xs n ys zs e = let p = and_then_is (split_at n xs) _ zs e in grind (arith, length-append, split_lengths n xs, split_lengths (length ys) p.0.1)

@@ -1,6 +1,6 @@
 use Rattle.base_lists.proofs.Common.{◌≡◌, ◌∙◌, ◌∷◌, ◌-◌, suc, ap, sym, drop, get_or, cond, Some, arith, bytes_eq, btree_map_updates_str, get_or_default}
+use Rattle.base_lists.proofs.Walk.{left_back}
 use Rattle.base_lists.specs.Places.{first_place}
-use Rattle.dce_graph.proofs.Steps.{left_back}
 use Rattle.dce_graph.proofs.NamePlaces.{same_back}
 use Rattle.dce_graph.proofs.lookups.export_places.Goals as goal
 

@@ -1,4 +1,5 @@
 use Rattle.base_lists.proofs.Common.{◌≡◌, ◌∙◌, ◌∷◌, ◌-◌, ◌<◌, ap, List, ℕ, Some, Bool, cond, drop, length, get_or, arith, get_by, nat_cmp, ordering_then, slice_cmp, get_or_default, slice_get-get_or}
+use Rattle.base_lists.proofs.Walk.{left_back}
 use Rattle.wasm_meaning.specs.Linking as linking
 use Rattle.merge_link.specs.declared.sites.Site.{Site}
 use Rattle.merge_link.specs.declared.part_tables.Ending.{Ending}
@@ -7,7 +8,6 @@ use Rattle.wasm_tree.specs.declared.module.ExportDesc.TheVariants.{Func}
 use Rattle.merge_link.specs.Prelude.{the_end}
 use Rattle.merge_link.proofs.Found.{there_at, known_at, known_size}
 use Rattle.merge_link.proofs.Gathers.{firsts_new, firsts_same, pair_tested, passed, taken}
-use Rattle.merge_link.proofs.Places.{one_back}
 use Rattle.merge_link.proofs.part_tables.PartTables.first_memories.Goals as goal
 
 pub staying_memory-requires : goal.staying_memory-requires
@@ -23,7 +23,7 @@ loop-at-preserved-in-None c = λ a b.
     let d : Site = record { part = 0; import = 0 } in
     let e : Ending = Defined (record { part = 0; what = Func 0 }) in
     let within : n < length sites = omega arith in
-    let back : drop n sites ≡ get_or sites n d ∷ drop c.loop-at.at sites = one_back sites c.loop-at.at (get_or sites n d) (omega arith) (omega arith) (get_or_default sites n d (get_or sites n d) within) in
+    let back : drop n sites ≡ get_or sites n d ∷ drop c.loop-at.at sites = left_back sites c.loop-at.at (get_or sites n d) (omega arith) (omega arith) (get_or_default sites n d (get_or sites n d) within) in
     let end = known_at ps sites c.args.ends.now n (get_or sites n d) (get_or c.args.ends.now n e) c.requires.ends (slice_get-get_or sites n d within) (slice_get-get_or c.args.ends.now n e (omega (arith, known_size ps sites c.args.ends.now c.requires.ends))) in
     firsts_same ps (a, b) sites c.loop-at.at (get_or sites n d) _ back (passed ps (a, b) (get_or sites n d) (the_end (get_or c.args.ends.now n e)) end c.in-None.ensures) (c.loop-at.invariant a b)
 
@@ -36,7 +36,7 @@ loop-at-preserved c = λ a b.
     let d : Site = record { part = 0; import = 0 } in
     let e : Ending = Defined (record { part = 0; what = Func 0 }) in
     let within : n < length sites = omega arith in
-    let back : drop n sites ≡ get_or sites n d ∷ drop c.loop-at.at sites = one_back sites c.loop-at.at (get_or sites n d) (omega arith) (omega arith) (get_or_default sites n d (get_or sites n d) within) in
+    let back : drop n sites ≡ get_or sites n d ∷ drop c.loop-at.at sites = left_back sites c.loop-at.at (get_or sites n d) (omega arith) (omega arith) (get_or_default sites n d (get_or sites n d) within) in
     let end = known_at ps sites c.args.ends.now n (get_or sites n d) (get_or c.args.ends.now n e) c.requires.ends (slice_get-get_or sites n d within) (slice_get-get_or c.args.ends.now n e (omega (arith, known_size ps sites c.args.ends.now c.requires.ends))) in
     let is = taken ps (a, b) (get_or sites n d) (the_end (get_or c.args.ends.now n e)) i end c.in-Some.ensures.0 c.in-Some.ensures.1 c.in-Some.ensures.2 in
     let test : linking.same_pair (a, b) (c.as_str.result.now, c.as_str-in-Some.result.now) ≡ linking.same_pair (a, b) (linking.pair_of i) =

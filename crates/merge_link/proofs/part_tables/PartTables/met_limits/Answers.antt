@@ -1,4 +1,5 @@
 use Rattle.base_lists.proofs.Common.{◌≡◌, ◌∙◌, ◌∷◌, ◌-◌, ◌<◌, sym, ap, refl, List, ℕ, map, drop, length, get_or, arith, drop_all, get_or_default, length-map, slice_get-get_or, slice_get_read}
+use Rattle.base_lists.proofs.Walk.{left_back}
 use Rattle.wasm_tree.specs.declared.module.ExportDesc.TheVariants.{Func}
 use Rattle.merge_spec.specs.Prelude.{named_modules}
 use Rattle.merge_link.specs.declared.sites.Site.{Site}
@@ -7,7 +8,6 @@ use Rattle.merge_link.specs.declared.part_tables.Ending.TheVariants.{Defined}
 use Rattle.merge_link.specs.Prelude.{the_site, the_end, met_of}
 use Rattle.merge_link.proofs.Found.{there_at}
 use Rattle.merge_link.proofs.Meets.{all_met, all_none, all_same, all_set, demand_there, linked_known, linked_size}
-use Rattle.merge_link.proofs.Places.{one_back}
 use Rattle.merge_link.proofs.part_tables.PartTables.met_limits.Goals as goal
 
 pub loop-at-init : goal.loop-at-init
@@ -34,7 +34,7 @@ loop-at-preserved-in-None c =
     let d : Site = record { part = 0; import = 0 } in
     let e : Ending = Defined (record { part = 0; what = Func 0 }) in
     let within : n < length sites = omega arith in
-    let back : drop n sites ≡ get_or sites n d ∷ drop c.loop-at.at sites = one_back sites c.loop-at.at (get_or sites n d) (omega arith) (omega arith) (get_or_default sites n d (get_or sites n d) within) in
+    let back : drop n sites ≡ get_or sites n d ∷ drop c.loop-at.at sites = left_back sites c.loop-at.at (get_or sites n d) (omega arith) (omega arith) (get_or_default sites n d (get_or sites n d) within) in
     let end = linked_known ps sites c.args.linked.now n (get_or sites n d) (get_or c.args.linked.now n e) c.requires.linked (slice_get-get_or sites n d within) (slice_get-get_or c.args.linked.now n e (omega (arith, linked_size ps sites c.args.linked.now c.requires.linked))) in
     c.loop-at.invariant ∙ sym (ap (λ (ts : List Site). map (met_of ps ts) sites) back ∙ all_same ps (drop c.loop-at.at sites) (get_or sites n d) (the_end (get_or c.args.linked.now n e)) sites end c.in-None.ensures)
 
@@ -59,7 +59,7 @@ loop-at-preserved c =
     let d : Site = record { part = 0; import = 0 } in
     let e : Ending = Defined (record { part = 0; what = Func 0 }) in
     let within : n < length sites = omega arith in
-    let back : drop n sites ≡ get_or sites n d ∷ drop c.loop-at.at sites = one_back sites c.loop-at.at (get_or sites n d) (omega arith) (omega arith) (get_or_default sites n d (get_or sites n d) within) in
+    let back : drop n sites ≡ get_or sites n d ∷ drop c.loop-at.at sites = left_back sites c.loop-at.at (get_or sites n d) (omega arith) (omega arith) (get_or_default sites n d (get_or sites n d) within) in
     let end = linked_known ps sites c.args.linked.now n (get_or sites n d) (get_or c.args.linked.now n e) c.requires.linked (slice_get-get_or sites n d within) (slice_get-get_or c.args.linked.now n e (omega (arith, linked_size ps sites c.args.linked.now c.requires.linked))) in
     let there = demand_there (named_modules ps) _ _ (c.in-Some.number, c.in-Some.limits) c.in-Some.ensures in
     let inside : c.in-Some.number < length all = omega (arith, there, ap length c.requires.sites, length-map sites the_site, ap length c.loop-at.invariant, length-map sites (met_of ps (drop c.loop-at.at sites))) in
