@@ -4,9 +4,11 @@
     python3 scripts/claims.py [TOP OF THE REPOSITORY]
 
 A contract is cited as `crate::function` or `crate::Type::function`, and its clauses as `: `one`, `two`` behind it. `clause.field` cites a
-field of the record that the clause promises. In all pages
+field of the record that the clause promises; whether it is one of that record is not checked, only that a record of the crate has it. In all
+pages
 
-- each such function stands in src/ of the crate as a public function, with each clause that is cited of it (`ensures NAME {`);
+- each such function stands in src/ of the crate as a public function, at the top or in a block of that type or trait, with each clause that is
+  cited of it (`ensures NAME {`);
 - each file that is cited with its path from the top or from crates/, and each file and heading that is linked, is there;
 - each name that is cited as `NAME` in `FILE` stands in that file.
 
@@ -27,8 +29,9 @@ import sys
 PAGES = ("README.md", "docs/THEOREMS.md")
 CONTRACT = re.compile(r"`([a-z]\w*)((?:::\w+)+)`((?:: `[\w.]+`(?:(?:, | and )`[\w.]+`)*)?)")
 SPAN = re.compile(r"`([^`]+)`")
-FUNCTION = r"\bpub (?:const )?fn {}\b"
-METHOD = r"\bfn {}\b"
+FUNCTION = r"^{}(?:const )?fn {}\b"
+# a block of a type or a trait: whether it has the functions of a trait, which are as public as that, and what stands in it
+BLOCK = r"^(?:pub )?(?:impl(?:<[^\n]*?>)? (?:[^\n]* (for) )?|(trait) ){}\b[^\n]*\{{\n(.*?)^\}}"
 QUOTED = re.compile(r"^From `([^`]+)`:\n\n((?:    .*\n|\n(?=    ))+)", re.M)
 NEXT = re.compile(r"^ *(?:pub(?:\(\w+\))? )?(?:const )?fn \w+", re.M)
 FILE = re.compile(r"^[\w.-]+(?:/[\w.-]+)+\.(?:antt|rt|md|mjs|py|sh|wat|wasm|html|json|edit)$")
@@ -43,12 +46,18 @@ def text_below(folder, ending):
     return "\n".join(open(file, encoding="utf-8").read() for file in files)
 
 
-def contracts_of(code, name, is_method):
-    """The text behind each function of this name, up to the next one."""
-    head = re.compile((METHOD if is_method else FUNCTION).format(name))
-    for found in head.finditer(code):
-        following = NEXT.search(code, found.end())
-        yield code[found.end(): following.start() if following else len(code)]
+def blocks_of(code, owner):
+    """The blocks of a type or a trait, each with what stands before a public function in it."""
+    for is_for, is_trait, text in re.findall(BLOCK.format(owner), code, re.M | re.S):
+        yield text, " *" if is_for or is_trait else " *pub "
+
+
+def contracts_of(code, owners, name):
+    """The text behind each public function of this name, up to the next one."""
+    for text, before in blocks_of(code, owners[-1]) if owners else [(code, "pub ")]:
+        for found in re.finditer(FUNCTION.format(before, name), text, re.M):
+            following = NEXT.search(text, found.end())
+            yield text[found.end(): following.start() if following else len(text)]
 
 
 def is_clause(contract, clause, crate):
@@ -66,13 +75,9 @@ def faults_of_contract(top, crate, path, clauses):
         return
     *owners, name = path.split("::")
     code = text_below(f"{folder}/src", ".rt")
-    for owner in owners:
-        if not re.search(rf"\b(?:struct|enum|trait|mod) {owner}\b", code):
-            yield f"{crate} has no {owner}"
-            return
-    contracts = list(contracts_of(code, name, bool(owners)))
+    contracts = list(contracts_of(code, owners, name))
     if not contracts:
-        yield f"{crate} has no public function {name}"
+        yield f"{crate} has no public function {path}"
     for clause in clauses if contracts else ():
         if not any(is_clause(contract, clause, folder) for contract in contracts):
             yield f"{crate}::{path} has no clause {clause}"
@@ -96,7 +101,7 @@ def tables_of(text):
 def asks(top, crate, path):
     """Whether the function that is cited asks for something: its contract ends where its body opens."""
     *owners, name = path.split("::")
-    found = list(contracts_of(text_below(f"{top}/crates/{crate}/src", ".rt"), name, bool(owners)))
+    found = list(contracts_of(text_below(f"{top}/crates/{crate}/src", ".rt"), owners, name))
     return bool(found) and all(re.search(r"\brequires\b", re.split(r"^ *\{$", contract, flags=re.M)[0]) for contract in found)
 
 
