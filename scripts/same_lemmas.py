@@ -8,13 +8,15 @@ Prints each group with its places, and at the end `N groups, M surplus`: M
 statements could go if each group kept one.
 
 Not counted: what a proof file says of a goal of its function (`goal.`), which
-is no lemma; definitions (`data`, `record`, `abbrev`); statements that are the
-same only once a definition unfolds, the arguments change places, or the
-arguments are implicit in one of the two.
+is no lemma; definitions and the like (`data`, `record`, `abbrev`, `unfoldable`,
+`syntax`, `use`, `mod`); statements that are the same only once a definition
+unfolds, the arguments change places, or the arguments are implicit in one of the
+two.
 
     python3 scripts/same_lemmas.py [--most K] [TOP OF THE REPOSITORY]
 
-With `--most K` the script ends with status 1 where there are more than K groups.
+With `--most K` the script ends with status 1 where there are more than K groups,
+and in any case where there is no lemma at all.
 """
 import argparse
 import collections
@@ -132,6 +134,8 @@ def groups(top):
             lemma = statement(declaration)
             if lemma:
                 found[normal(lemma[1])].append((os.path.relpath(path, crates), lemma[0]))
+    if not found:
+        sys.exit("no lemma below %s" % crates)
     same = [(text, places) for text, places in found.items() if len(places) > 1]
     return sorted(same, key=lambda group: -len(group[1]))
 
