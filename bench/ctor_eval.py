@@ -16,7 +16,7 @@ import sys
 import tempfile
 
 from metadce import HEADER, MIB, TOP, print_ratios, row
-from read_write import instructions, leb, section, timed, vector
+from read_write import begin, instructions, leb, section, timed, vector
 from shapes import write_apart
 from split import calling
 
@@ -150,8 +150,7 @@ def measure_empty(folder):
 
 
 def main():
-    if not shutil.which(PROGRAM):
-        sys.exit("no program")
+    begin(PROGRAM)
     with tempfile.TemporaryDirectory() as folder:
         print("| MiB | the constructor | tool | seconds | MiB of memory | instructions a byte |\n|---|---|---|---|---|---|")
         for mib in 1, 4, 16:

@@ -3,13 +3,15 @@
 
     bench/marked_pages.py [PROGRAM]
 
-PROGRAM is that of the crate marked_pages, which repeats a call. Instructions are those that callgrind of valgrind counts. Each number is the difference
+PROGRAM is that of the crate marked_pages, which repeats a call. Instructions are those that callgrind of valgrind counts. A number is the difference
 of two runs that repeat the call more and fewer times, for each time, less that of the loop alone. Each call stands in a function of its own; that it is
-called, with its place worked out, and what it answers is looked at, is counted with it. callgrind counts each byte that one instruction of the C library's
-memset or memcpy repeats (rep stosb, rep movsb) as an instruction.
+called, with its place worked out, and what it answers is looked at, is counted with it. Only the two numbers "within its function" are of one run: what
+callgrind counts for whole calls of that function, for each call. callgrind counts each byte that one instruction of the C library's memset or memcpy
+repeats (rep stosb, rep movsb) as an instruction.
 """
 import os
 import re
+import shutil
 import subprocess
 import sys
 import tempfile
@@ -50,6 +52,9 @@ def within(word, function, count, folder):
 
 
 def main():
+    for needed, what in (PROGRAM, "program"), ("valgrind", "valgrind"):
+        if not shutil.which(needed):
+            sys.exit(f"no {what}")
     with tempfile.TemporaryDirectory() as folder:
         loop = each("nothing", 100_000, 200_000, folder)
         print("| what | instructions |\n|---|---|")

@@ -3,8 +3,9 @@
 
     bench/merge_parts.py [PROGRAM]
 
-Makes parts in a temporary folder, merges them, and merges the output once more alone: the last column is how many times as long the merge of
-the parts took as that of the one module with about as many bytes. Prints a line for each kind of merge.
+Makes parts in a temporary folder, merges them, and merges the output once more alone. Prints a line for each kind of merge: the bytes in and out,
+the seconds of both, and how many times as long the merge of the parts took as that of the output, which may have far fewer bytes. Of the merge that
+is refused it prints the bytes in and the seconds.
 """
 import os
 import subprocess

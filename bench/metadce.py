@@ -17,7 +17,7 @@ import subprocess
 import sys
 import tempfile
 
-from read_write import body, instructions, leb, section, timed, vector
+from read_write import begin, body, instructions, leb, section, timed, vector
 
 TOP = os.path.dirname(os.path.dirname(os.path.abspath(__file__)))
 PROGRAM = os.path.abspath(sys.argv[1]) if len(sys.argv) > 1 else os.path.join(TOP, "crates/binkit/out/binkit")
@@ -159,6 +159,7 @@ def time_graph(title, module, graph, folder):
 
 
 def main():
+    begin(PROGRAM)
     with tempfile.TemporaryDirectory() as folder:
         print("| MiB | reached | tool | seconds | MiB of memory | instructions a byte |\n|---|---|---|---|---|---|")
         for mib, reached in (1, "half"), (1, "all"), (1, "nothing"), (4, "half"), (16, "half"):

@@ -77,6 +77,14 @@ def module(size):
     return b"\0asm\1\0\0\0" + b"".join(parts)
 
 
+def begin(program):
+    """Ends where there is no program, and tells where no instructions are counted."""
+    if not shutil.which(program):
+        sys.exit("no program")
+    if not shutil.which("valgrind"):
+        print("instructions: skipped: valgrind is not installed")
+
+
 def timed(command):
     """Seconds of processor time and greatest resident MiB of one run."""
     child = subprocess.Popen(command, stdout=subprocess.DEVNULL, stderr=subprocess.DEVNULL)
@@ -113,6 +121,7 @@ def parts(command, size, folder):
 
 
 def main():
+    begin(PROGRAM)
     with tempfile.TemporaryDirectory() as folder:
         print("| MiB | tool | seconds | MiB of memory | instructions a byte |")
         print("|---|---|---|---|---|")

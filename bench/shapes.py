@@ -79,6 +79,8 @@ def write_apart(make, name):
 
 
 def main():
+    if not shutil.which(PROGRAM):
+        sys.exit("no program")
     print("| shape | MiB | tool | seconds | MiB of memory |\n|---|---|---|---|---|")
     with tempfile.TemporaryDirectory() as folder:
         name, out = os.path.join(folder, "in.wasm"), os.path.join(folder, "out.wasm")
