@@ -3,9 +3,10 @@
 
     scripts/page_examples.py PROGRAM
 
-In docs/commands/*.md and README.md a line `    $ COMMAND` is run, in the copy of examples/ and tests/samples/ that the page has for itself; the
-lines behind it, up to the next command or the end of the block, are what it prints on standard output and standard error. A block begins at the
-top. Commands that begin with `rt` are not run. Without wabt (`wat2wasm`, `wasm2wat`, `wasm-objdump`) the blocks that call it are passed over.
+In docs/commands/*.md and README.md a line `    $ COMMAND` is run, in the copy of examples/, tests/samples/ and loader/ that its block has for
+itself; the lines behind it, up to the next command or the end of the block, are what it prints on standard output and standard error. A block
+begins at the top. Commands that begin with `rt` are not run. Without wabt (`wat2wasm`, `wasm2wat`, `wasm-objdump`) the blocks that call it are
+passed over. How many commands these are is told.
 """
 import glob
 import os
@@ -37,17 +38,23 @@ def blocks_of(text):
             yield steps
 
 
+def lacks_wabt(steps):
+    return any(tool in command for tool in WABT if not shutil.which(tool) for command, _ in steps)
+
+
+def is_left_out(command):
+    return command.startswith("rt ")
+
+
 def script_of(steps):
     """The block as one script of bash, with a line of its own behind each command."""
     lines = []
     for command, _ in steps:
-        lines += [":" if command.startswith("rt ") else command, "echo '<end>'"]
+        lines += [":" if is_left_out(command) else command, "echo '<end>'"]
     return "\n".join(lines)
 
 
 def faults_of(steps, folder, program):
-    if any(tool in command for tool in WABT if not shutil.which(tool) for command, _ in steps):
-        return
     with tempfile.TemporaryDirectory() as tools:
         # (the block calls the program by its name)
         os.symlink(program, f"{tools}/binkit")
@@ -56,6 +63,8 @@ def faults_of(steps, folder, program):
         how = {"cwd": folder, "env": environment, "stdin": subprocess.DEVNULL, "stdout": subprocess.PIPE, "stderr": subprocess.STDOUT}
         ran = subprocess.run(["bash", "-c", text], text=True, timeout=600, **how)
     printed = ran.stdout.split("<end>\n")
+    if len(printed) != len(steps) + 1:
+        yield f"{steps[0][0].splitlines()[0]}: of {len(steps)} commands of the block {len(printed) - 1} come to an end"
     for (command, shown), got in zip(steps, printed):
         wanted = "".join(line + "\n" for line in shown if not line.startswith(BUILDS))
         if [line.strip() for line in got.split("\n")] != [line.strip() for line in wanted.split("\n")]:
@@ -63,19 +72,25 @@ def faults_of(steps, folder, program):
 
 
 def main(program):
-    count = failed = 0
+    count = no_wabt = left_out = failed = 0
     pages = [f"{TOP}/README.md", *sorted(glob.glob(f"{TOP}/docs/commands/*.md"))]
     for page in pages:
         for steps in blocks_of(open(page, encoding="utf-8").read()):
+            not_here = sum(is_left_out(command) for command, _ in steps)
+            left_out += not_here
+            if lacks_wabt(steps):
+                no_wabt += len(steps) - not_here
+                continue
             with tempfile.TemporaryDirectory() as folder:
                 for part in ("examples", "tests/samples", "loader"):
                     shutil.copytree(f"{TOP}/{part}", f"{folder}/{part}")
-                count += len(steps)
+                count += len(steps) - not_here
                 for fault in faults_of(steps, folder, os.path.abspath(program)):
                     print(f"{os.path.relpath(page, TOP)}: {fault}")
                     failed += 1
-    print(f"examples of the pages: {count} commands, {failed} print something else")
-    return 1 if failed else 0
+    skipped = f"{no_wabt + left_out} skipped ({no_wabt}: no wabt, {left_out}: rt is not run here)"
+    print(f"examples of the pages: {count} commands run, {skipped}, {failed} wrong")
+    return 1 if failed or not count else 0
 
 
 if __name__ == "__main__":
