@@ -15,7 +15,7 @@ import sys
 import tempfile
 
 TOP = os.path.dirname(os.path.dirname(os.path.abspath(__file__)))
-PROGRAM = os.path.abspath(sys.argv[1]) if len(sys.argv) > 1 else os.path.join(TOP, "binkit")
+PROGRAM = os.path.abspath(sys.argv[1]) if len(sys.argv) > 1 else os.path.join(TOP, "crates", "binkit", "out", "binkit")
 HEADER = bytes.fromhex("0061736d01000000")
 MODULE = HEADER + bytes.fromhex("0105016000017f03020100070501016600000a0601040041070b")
 REFUSAL = re.compile(
@@ -88,17 +88,19 @@ def outside_faults():
 
 
 def main():
-    if not os.path.exists("/dev/full"):
-        print("bad input: skipped: no /dev/full here")
-        return 0
     cases = list(contents())
     with concurrent.futures.ThreadPoolExecutor(os.cpu_count()) as pool:
         found = list(pool.map(fault_of, (content for _, content in cases)))
     faults = [f"{name}: {fault}" for (name, _), fault in zip(cases, found) if fault]
-    faults += outside_faults()
+    count = len(cases)
+    if os.path.exists("/dev/full"):
+        count += 6
+        faults += outside_faults()
+    else:
+        print("bad input: files and streams that fail: skipped: no /dev/full here")
     for fault in faults[:20]:
         print(fault)
-    print(f"bad input: {len(cases) + 6} runs, {len(faults)} wrong")
+    print(f"bad input: {count} runs, {len(faults)} wrong")
     return 1 if faults else 0
 
 
