@@ -1,5 +1,5 @@
 #!/usr/bin/env python3
-"""Runs the program on real modules and compares each answer with what is expected of it.
+"""Runs the built program on real modules and compares each answer with what is expected of it.
 
     scripts/merge_samples.py FOLDER [PROGRAM]
 
@@ -28,6 +28,14 @@ def unescaped(text):
     return text.replace("\\n", "\n")
 
 
+def content_of(path):
+    """The bytes of a file, or None where there is none."""
+    if not os.path.exists(path):
+        return None
+    with open(path, "rb") as file:
+        return file.read()
+
+
 def faults_of(program, validator, samples, row):
     """What is wrong with one line's run."""
     sample, words, status, out, err, length, digest = (row + [""] * 7)[:7]
@@ -40,28 +48,26 @@ def faults_of(program, validator, samples, row):
         if got != (int(status), unescaped(out), unescaped(err)):
             yield f"answers {got}"
         output = os.path.join(folder, "o.wasm")
+        content = content_of(output)
         if digest in ("", "-"):
-            if os.path.exists(output):
+            if content is not None:
                 yield "writes an output"
             return
-        if not os.path.exists(output):
+        if content is None:
             yield "writes no output"
             return
-        with open(output, "rb") as file:
-            content = file.read()
         if (str(len(content)), hashlib.sha256(content).hexdigest()) != (length, digest):
             yield f"writes {len(content)} bytes with SHA-256 {hashlib.sha256(content).hexdigest()}"
         if validator and subprocess.run([validator, output], capture_output=True).returncode != 0:
             yield "writes a module that wasm-validate refuses"
         again = run(program, ["merge", "o.wasm", "m", "-o", "again.wasm"], folder)
-        with open(os.path.join(folder, "again.wasm"), "rb") as file:
-            if again != (0, "", "") or file.read() != content:
-                yield "merges its own output to other bytes"
+        if again != (0, "", "") or content_of(os.path.join(folder, "again.wasm")) != content:
+            yield f"does not merge its own output to the same bytes: {again}"
 
 
 def main():
     samples = os.path.abspath(sys.argv[1])
-    program = os.path.abspath(sys.argv[2]) if len(sys.argv) > 2 else os.path.join(TOP, "binkit")
+    program = os.path.abspath(sys.argv[2]) if len(sys.argv) > 2 else os.path.join(TOP, "crates", "binkit", "out", "binkit")
     validator = shutil.which("wasm-validate")
     if not validator:
         print("samples: wasm-validate: skipped: wabt is not installed")
@@ -73,7 +79,7 @@ def main():
             wrong += 1
             print(f"{row[0]}: {row[1]}: {fault}")
     print(f"samples: {len(rows)} runs, {wrong} wrong")
-    return 1 if wrong else 0
+    return 1 if wrong or not rows else 0
 
 
 if __name__ == "__main__":
