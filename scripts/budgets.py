@@ -73,9 +73,10 @@ def main():
     for name, content, constructors, lines, expected in rows:
         told, written = evaluated(sys.argv[1], content, constructors)
         expected = content if expected == "same" else expected
-        if told != (0, lines, "") or written is None or expected is not None and written != expected:
+        output = "no output" if written is None else "another output" if expected not in (None, written) else "an output"
+        if told != (0, lines, "") or output != "an output":
             wrong += 1
-            print(f"budgets: {name}: {told}, and {'another' if told == (0, lines, '') else 'not looked at its'} output")
+            print(f"budgets: {name}: {told}, and {output}")
     print(f"budgets: {len(rows)} runs, {wrong} wrong")
     sys.exit(wrong > 0)
 
