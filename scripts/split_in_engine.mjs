@@ -9,7 +9,8 @@
 // but the named ones) and, without its name section, by its exports; those without a start function also with one of their own exports as start.
 // Whatever a module imports is made here, the same for both: functions that log and count, memories, tables, globals. The pair must then show what
 // the module shows: its exports, the result or the trap of each call of an export and of each function in a table, what it calls with which values,
-// and after each call all memories, globals and tables. A module outside the integer profile, which the program refuses, is passed over.
+// and after each call all memories, globals and tables. A module outside the integer profile must be refused: SAMPLES holds EXPECT.tsv,
+// which tells which ones `merge` refuses.
 import { execFileSync } from "node:child_process";
 import { mkdtempSync, readFileSync, rmSync, writeFileSync } from "node:fs";
 import { tmpdir } from "node:os";
@@ -20,9 +21,10 @@ import { canBeListed, read, takesAndGivesNothing, withStart, withoutCustom } fro
 import { Shown, VALUES, callsOf, instantiated, modulesIn, showsTheSame, surroundings } from "./module_shown.mjs";
 
 const [samples, program] = process.argv.slice(2);
+const expect = readFileSync(join(samples, "EXPECT.tsv"), "utf8").split("\n").map((line) => line.split("\t"));
 const ALONE = 6; // functions of a module that are split off alone
 const ROUNDS = 3;
-const seen = { pairs: 0, "loaded at a call": 0, "loaded in a start": 0, "never loaded": 0, "not instantiated": 0, calls: 0, traps: 0, "calls through tables": 0 };
+const seen = { modules: 0, refused: 0, pairs: 0, "loaded at a call": 0, "loaded in a start": 0, "never loaded": 0, "not instantiated": 0, calls: 0, traps: 0, "calls through tables": 0 };
 
 // The arguments of a call are of a round.
 const argsOf = ([params], round) => params.map((type, at) => VALUES[type][(round * 2 + at) % VALUES[type].length]);
@@ -87,13 +89,12 @@ function listsByExport({ exports, firstDefined }) {
   return words.length === 0 ? [] : [`--split-funcs=${words}`, `--split-funcs=${words.filter((_, at) => at % 2 === 0)}`, `--keep-funcs=${words}`];
 }
 
-function trySplits(what, module, lists) {
+function trySplits(what, module, lists, isRefused) {
   for (const list of lists) {
     const which = `${what} ${list.slice(0, 60)}`;
     try {
       const pair = split(module.bytes, list);
-      if (pair === null) return;
-      compare(which, module, pair);
+      if (check(`${which}: refused`, pair === null, isRefused) && !isRefused) compare(which, module, pair);
     } catch (error) {
       report(`${which}: ${error.message}`);
     }
@@ -102,13 +103,16 @@ function trySplits(what, module, lists) {
 
 function trySample(what, bytes) {
   const module = read(bytes);
-  trySplits(what, module, listsByName(module));
+  const isRefused = expect.some(([sample, , status]) => sample === what && status === "1");
+  seen.modules += 1;
+  if (isRefused) seen.refused += 1;
+  trySplits(what, module, listsByName(module), isRefused);
   const nameless = read(withoutCustom(bytes));
-  trySplits(`${what} without names`, nameless, listsByExport(nameless));
+  trySplits(`${what} without names`, nameless, listsByExport(nameless), isRefused);
   const plain = module.exports.find(({ kind, index }) => kind === 0 && index < 128 && takesAndGivesNothing(module.funcs[index]));
   if (module.hasStart || !plain) return;
   const started = read(withStart(bytes, plain.index));
-  trySplits(`${what} started`, started, listsByName(started).slice(0, 3));
+  trySplits(`${what} started`, started, listsByName(started).slice(0, 3), isRefused);
 }
 
 try {
