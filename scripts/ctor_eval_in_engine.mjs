@@ -9,8 +9,10 @@
 // exports kept.
 // The module after the constructors that the lines call evaluated, which are called here, must then show what the output shows without any call: the
 // result or the trap of each call of the other exports and of each function in a table, what it calls with which values, and after each call all
-// memories, globals and tables. A constructor that is evaluated calls no import and does not trap; what stops one is compared with what it does here.
-// Where nothing is evaluated, the output is that of `merge`. A module outside the integer profile must be refused as `merge` refuses it.
+// memories, globals and tables. A constructor that is evaluated calls no import and does not trap. One that is stopped by `import` calls one here, one
+// that is stopped by `trap` traps and calls none, `unknown` needs a table, memory or global that is imported, and `signature` stops those that take or
+// give something and no others; `grow`, `table write`, `steps` and `depth` are only counted. Where nothing is evaluated, the output is that of `merge`.
+// A module outside the integer profile must be refused as `merge` refuses it.
 import { mkdtempSync, readFileSync, rmSync, writeFileSync } from "node:fs";
 import { tmpdir } from "node:os";
 import { basename, dirname, join, relative } from "node:path";
