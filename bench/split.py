@@ -6,16 +6,16 @@
 Makes modules with a name section, whose functions call one another. Of those of 1 and 4 MiB half of the functions move (every second one, which
 --split-funcs lists), of those of 4 and 16 MiB three quarters (--keep-funcs lists the others: one word of a command line has at most 128 KiB). Prints for each
 tool the processor time (the least of three runs), the greatest resident memory, and for 1 MiB the machine instructions, as callgrind of valgrind
-counts them, with their ratios. Then it times modules of 100,000 small functions that all move. A tool that is not installed is skipped.
+counts them, with their ratios. Then it times modules of 100,000 small functions, of which all but the exported one move. A tool that is not installed
+is skipped.
 """
 import os
 import random
-import shutil
 import sys
 import tempfile
 
 from metadce import HEADER, MIB, TOP, print_ratios, row, write
-from read_write import body, leb, section, timed, vector
+from read_write import begin, body, leb, section, timed, vector
 
 PROGRAM = os.path.abspath(sys.argv[1]) if len(sys.argv) > 1 else os.path.join(TOP, "crates/binkit/out/binkit")
 DIGITS = "0123456789abcdefghijklmnopqrstuvwxyzABCDEFGHIJKLMNOPQRSTUVWXYZ"
@@ -72,13 +72,12 @@ def time_all(title, bodies, folder):
     content = named(bodies, "run")
     name = write(folder, "m.wasm", content)
     outputs = [f"--{which}-output={os.path.join(folder, which)}" for which in ("primary", "secondary")]
-    seconds, memory, status = timed([PROGRAM, "split", name, "--keep-funcs=run", *outputs])
+    seconds, memory, status = timed([PROGRAM, "split", name, f"--keep-funcs={name_of(0)}", *outputs])
     print(f"| {title} | {len(content)} | {f'{seconds:.2f}' if status == 0 else f'status {status}'} | {memory:.0f} |", flush=True)
 
 
 def main():
-    if not shutil.which(PROGRAM):
-        sys.exit("no program")
+    begin(PROGRAM)
     with tempfile.TemporaryDirectory() as folder:
         print("| MiB | moved | tool | seconds | MiB of memory | instructions a byte |\n|---|---|---|---|---|---|")
         for mib, part in (1, "half"), (4, "half"), (4, "three quarters"), (16, "three quarters"):
