@@ -11,7 +11,6 @@ from typing import NamedTuple, Optional
 
 TOP = os.path.dirname(os.path.dirname(os.path.abspath(__file__)))
 SAMPLES = os.path.join(TOP, "tests", "samples")
-ALL_USAGE = b"usage: binkit merge|split|metadce|ctor-eval|sample\n"
 NO_MEMORY = b"binkit: no memory\n"
 
 
@@ -122,25 +121,6 @@ def real_cases():
     yield Case("metadce of a Rust application", words, files, ["rs_app.wasm", "g.json"], [("o.wasm", None)], None)
     words = ["ctor-eval", "cxx.wasm", "--ctors=__wasm_call_ctors", "-o", "o.wasm"]
     yield Case("ctor-eval of a C++ module", words, {"cxx.wasm": sample_file("cxx.wasm")}, ["cxx.wasm"], [("o.wasm", None)], None)
-
-
-def is_command(program, word):
-    """Whether the program knows the first word: one that it does not know is answered with the usage line of all commands."""
-    done = subprocess.run([program, word], stdin=subprocess.DEVNULL, stdout=subprocess.DEVNULL, stderr=subprocess.PIPE, timeout=60)
-    return done.stderr != ALL_USAGE
-
-
-def standing(program, cases):
-    """The cases of the commands that stand; the others are told."""
-    known = {}
-    for case in cases:
-        word = case.words[0]
-        if word not in known:
-            known[word] = is_command(program, word)
-        if known[word]:
-            yield case
-        else:
-            print(f"{case.name}: skipped: {word} is no command yet")
 
 
 class Ended(NamedTuple):

@@ -2,13 +2,13 @@
 """Damaged real modules get an answer of the program, and what is written of them is valid.
 
 Takes the modules of a folder, flips bits, cuts, inserts and moves pieces, in the whole file or in the contents of one section whose size is
-then put right, and runs every command on what comes out. The same number makes the same modules. Each run must end with status 0 or 1; its
-text must be one that this command has for a module; a refused run must leave all files as they were; a run that is done must write its
-outputs, which wasm-validate of wabt, where it is installed, must accept.
+then put right, and runs one command on each module that comes out, the commands in turn. The same seed makes the same runs. Each run must end
+with status 0 or 1; its text must be one that this command has for a module; a refused run must leave all files as they were; a run that is
+done must write its outputs, which wasm-validate of wabt, where it is installed, must accept.
 
     scripts/damaged_modules.py [FOLDER] [PROGRAM] [--runs N] [--seed N]
 
-There are about N runs, 6,000 unless it is given.
+There are N runs, 6,000 unless it is given.
 """
 import argparse
 import concurrent.futures
@@ -20,7 +20,7 @@ import subprocess
 import sys
 import tempfile
 
-from cases import SAMPLES, TOP, is_command, run_in
+from cases import SAMPLES, TOP, run_in
 
 WHICH = (
     "input bytes|types|imports|functions|tables|memories|globals|exports|element segments|data segments|nesting|locals|parameters|results"
@@ -246,10 +246,10 @@ def answer_to(program, validator, command, words, files):
     return 1, None, 0
 
 
-def runs_of(count, seed, folder, commands):
+def runs_of(count, seed, folder):
     """So many runs: a name, a command, its words and its files."""
     draw = random.Random(seed)
-    samples = list(modules_below(folder))
+    samples, commands = list(modules_below(folder)), list(TEXTS)
     for number in range(count):
         sample, files = samples[number % len(samples)]
         command = commands[number // len(samples) % len(commands)]
@@ -271,10 +271,7 @@ def main():
     validator = shutil.which("wasm-validate")
     if not validator:
         print("damaged modules: wasm-validate: skipped: wabt is not installed")
-    commands = [command for command in TEXTS if is_command(program, command)]
-    for command in sorted(set(TEXTS) - set(commands)):
-        print(f"damaged modules: {command}: skipped: it is no command yet")
-    runs = list(runs_of(chosen.runs, chosen.seed, chosen.folder, commands))
+    runs = list(runs_of(chosen.runs, chosen.seed, chosen.folder))
     done, wrong, passed_over = 0, 0, 0
     with concurrent.futures.ThreadPoolExecutor(os.cpu_count()) as pool:
         answers = pool.map(lambda run: answer_to(program, validator, *run[1:]), runs)

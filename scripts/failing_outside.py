@@ -20,7 +20,7 @@ import sys
 import tempfile
 
 from cases import TOP, counts_of, fault_of_done, fault_of_part, laid_out, library_of_faults, real_cases, run_case, run_in, small_cases
-from cases import standing, told
+from cases import told
 
 LONG = "--long" in sys.argv
 WORDS = [word for word in sys.argv[1:] if word != "--long"]
@@ -201,7 +201,6 @@ def main():
         print("failing files and streams: skipped: no /dev/full here")
         return 0
     runs, wrong = 0, 0
-    cases = list(standing(PROGRAM, [*small_cases(), *real_cases()]))
     with tempfile.TemporaryDirectory() as folder, concurrent.futures.ThreadPoolExecutor(os.cpu_count()) as pool:
         # others may run the copy
         os.chmod(folder, 0o755)
@@ -209,7 +208,7 @@ def main():
         library = library_of_faults(PROGRAM, folder)
         if not library:
             print("failing files and streams: one call by its number: skipped: no C compiler, or a library of its own is not loaded")
-        for case in cases:
+        for case in [*small_cases(), *real_cases()]:
             case = told(PROGRAM, case)
             checks = checks_of(case, copy, library, pool) if case else [("undisturbed", "is not done")]
             for name, fault in checks:
@@ -218,7 +217,7 @@ def main():
                     wrong += 1
                     print(f"{case.name if case else 'a case'}: {name}: {fault}")
     print(f"failing files and streams: {runs} runs, {wrong} wrong")
-    return 1 if wrong or not cases else 0
+    return 1 if wrong else 0
 
 
 if __name__ == "__main__":

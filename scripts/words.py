@@ -3,12 +3,10 @@
 
 Runs the built program on each line of tests/words.tsv, in a folder with the files below. A line has, separated by tabs, the words as a
 shell reads them (`\\xFF` in quotes is that byte, `\\n` a line's end), the status, standard output, standard error, the names of the files
-that are written and no others, and a mark. A line with the mark `later` is passed over while its first word is no command. Lines that begin
-with `# ` say what follows.
+that are written and no others. Lines that begin with `# ` say what follows.
 
     scripts/words.py [PROGRAM] [TABLE]
 """
-import collections
 import concurrent.futures
 import os
 import shlex
@@ -16,7 +14,7 @@ import sys
 import tempfile
 from typing import NamedTuple
 
-from cases import ADDS, CALLS, CALLS_BACK, CONSTRUCTORS, GIVES, HOST, TOP, is_command, module, run_in
+from cases import ADDS, CALLS, CALLS_BACK, CONSTRUCTORS, GIVES, HOST, TOP, module, run_in
 
 PROGRAM = os.path.abspath(sys.argv[1]) if len(sys.argv) > 1 else os.path.join(TOP, "crates", "binkit", "out", "binkit")
 TABLE = sys.argv[2] if len(sys.argv) > 2 else os.path.join(TOP, "tests", "words.tsv")
@@ -40,7 +38,6 @@ class Line(NamedTuple):
     out: str
     err: str
     written: str
-    mark: str
 
 
 def split_words(text):
@@ -75,20 +72,15 @@ def lines_of_table():
 
 def main():
     lines = lines_of_table()
-    unknown = {word for word in {line.words.split(" ")[0] for line in lines if line.mark == "later"} if not is_command(PROGRAM, word)}
-    passed_over = collections.Counter(line.words.split(" ")[0] for line in lines if line.mark == "later")
-    for word in sorted(unknown):
-        print(f"words: {word}: {passed_over[word]} lines skipped: it is no command yet")
-    tried = [line for line in lines if line.mark != "later" or line.words.split(" ")[0] not in unknown]
     with concurrent.futures.ThreadPoolExecutor(os.cpu_count()) as pool:
-        faults = list(pool.map(fault_of, tried))
+        faults = list(pool.map(fault_of, lines))
     wrong = 0
-    for line, fault in zip(tried, faults):
+    for line, fault in zip(lines, faults):
         if fault:
             wrong += 1
             print(f"{line.words}: {fault}")
-    print(f"words: {len(tried)} runs, {wrong} wrong")
-    return 1 if wrong or not tried else 0
+    print(f"words: {len(lines)} runs, {wrong} wrong")
+    return 1 if wrong or not lines else 0
 
 
 if __name__ == "__main__":
