@@ -3,9 +3,10 @@
 
 Runs every command over a small module and over a real one. Each file that is read is missing, a directory, one that may not be read, or
 one whose reading fails; each file that is written is a directory, stands in a folder that is not there, is full, or may not grow; standard
-output and standard error are full, closed, or may not grow. Then each opening, each read and each write of the built program fails by its
-number, and once all of them move one byte at a time. A run that fails must end with status 3 and its text; where reading failed nothing is
-written, and elsewhere some first writes of the job are made and at most the next name holds a prefix of its bytes.
+output and standard error are full, closed, may only be read, or are a pipe that nobody reads. Then each opening, each read and each write of
+the built program fails by its number, and once all of them move one byte at a time. A run that fails must end with status 3 and its text;
+where reading failed no file is changed, and elsewhere some first writes of the job are made and at most the next name holds a prefix of its
+bytes.
 
     scripts/failing_outside.py [PROGRAM] [--long]
 
@@ -39,6 +40,11 @@ def fault_of_outside(case, ended, texts, most=None):
     return fault_of_part(case, ended, most)
 
 
+def unwritten(case):
+    """The case as one whose run changes no file and prints nothing."""
+    return case._replace(writes=[], lines=b"")
+
+
 def renamed(case, old, new):
     """The case with another name for one of its files."""
     def change(word):
@@ -50,14 +56,13 @@ def renamed(case, old, new):
 
 
 def run_as_another(case, name, program):
-    """Runs a case as one who may not read the file of that name, or gives None where the system lets nobody run so."""
+    """Runs a case as one who may not read the file of that name, or gives None where one may not run as another."""
     with tempfile.TemporaryDirectory() as folder:
         laid_out(case, folder)
         os.chmod(os.path.join(folder, name), 0)
         os.chmod(folder, 0o777)
-        who = {"user": NOBODY, "group": NOBODY, "extra_groups": []} if os.geteuid() == 0 else {}
         try:
-            return run_in(folder, program, case.words, **who)
+            return run_in(folder, program, case.words, user=NOBODY, group=NOBODY, extra_groups=[])
         except PermissionError:
             return None
 
@@ -66,16 +71,20 @@ def failing_reads(case, copy):
     """What is wrong where a file of the case cannot be read: a name of the run and a fault or None, for each."""
     for name in case.reads:
         for other in "none.wasm", "folder", "a.wasm/x", "/proc/self/mem", "x" * 300:
+            if other == "/proc/self/mem" and not os.path.exists(other):
+                print(f"{case.name}: {other} is read in place of {name}: skipped: it is not here")
+                continue
             changed = renamed(case, name, other)
             with tempfile.TemporaryDirectory() as folder:
                 laid_out(changed, folder)
                 os.mkdir(os.path.join(folder, "folder"))
                 ended = run_in(folder, PROGRAM, changed.words)
-            if other != "/proc/self/mem" or os.path.exists(other):
-                yield f"{other} is read in place of {name}", fault_of_outside(changed, ended, [line("read", other)], 0)
+            yield f"{other} is read in place of {name}", fault_of_outside(unwritten(changed), ended, [line("read", other)])
         ended = run_as_another(case, name, copy)
         if ended:
-            yield f"{name} may not be read", fault_of_outside(case, ended, [line("read", name)], 0)
+            yield f"{name} may not be read", fault_of_outside(unwritten(case), ended, [line("read", name)])
+        else:
+            print(f"{case.name}: {name} may not be read: skipped: one may not run as another here")
 
 
 def failing_writes(case):
@@ -152,7 +161,7 @@ def failing_errors(case):
         changed = case._replace(words=words, files=files)
         for way, options in failing_streams():
             ended = run_with_stream(changed, "stderr", 2, options)
-            yield f"standard error {way}, for {what}", fault_of_outside(changed, ended, [b""], 0)
+            yield f"standard error {way}, for {what}", fault_of_outside(unwritten(changed), ended, [b""])
 
 
 def failing_numbers(case, library, pool):
@@ -171,8 +180,7 @@ def failing_numbers(case, library, pool):
         seen = []
         for number, ended in zip(numbers, answers):
             at = texts.index(ended.err) if ended.err in among else -1
-            most = max(0, at - writing)
-            fault = fault_of_outside(case, ended, among, most)
+            fault = fault_of_outside(case if at >= writing else unwritten(case), ended, among, max(0, at - writing))
             if not fault and seen and at < seen[-1]:
                 fault = f"{ended.err!r} comes after {texts[seen[-1]]!r}"
             seen.append(at)
