@@ -9,8 +9,6 @@ use std::fs;
 use std::io::{self, ErrorKind, Read, Write};
 use std::rt::Files as FileAccess;
 
-const PIECE: usize = 4096;
-
 /// Files of the system, through the runtime's file access. Their contents are not known.
 #[derive(Drop)]
 pub struct HostFiles<R> {
@@ -35,57 +33,34 @@ fn fault_of(error: &io::Error) -> IoFault {
     }
 }
 
-// Reads the first `most` bytes of a file. The loop ends when these are read or the file ends.
+// Reads the first `most` bytes of a file, or all of a shorter one.
 fn read_first<R: FileAccess>(
     access: &R,
     alloc: Global,
     name: &str,
     most: usize,
 ) -> Result<Vec<u8>, IoFault> {
-    let mut file = match fs::open(access, name) {
+    let file = match fs::open(access, name) {
         Ok(file) => file,
         Err(error) => return Err(fault_of(&error)),
     };
     let mut bytes = Vec::new(alloc);
-    let mut piece = [0u8; PIECE];
-    'pieces: while bytes.len() < most {
-        let wanted = PIECE.min(most - bytes.len());
-        let count = match file.read(&mut piece[..wanted]) {
-            Ok(count) => count,
-            Err(error) => return Err(fault_of(&error)),
-        };
-        if count == 0 {
-            break;
-        }
-        if bytes.extend_from_slice(&piece[..count]).is_err() {
-            return Err(IoFault::NoMemory);
-        }
+    match file.take(most as u64).read_to_end(&mut bytes) {
+        Ok(_) => Ok(bytes),
+        Err(error) => Err(fault_of(&error)),
     }
-    Ok(bytes)
-}
-
-// Writes all of the bytes. It is a failure if the writer accepts none of those that are left.
-fn write_all<W: Write>(writer: &mut W, bytes: &[u8]) -> Result<(), IoFault> {
-    let mut done = 0;
-    'pieces: while done < bytes.len() {
-        match writer.write(&bytes[done..]) {
-            Ok(count) if count > 0 => done += count,
-            Ok(_) => return Err(IoFault::Failed),
-            Err(error) => return Err(fault_of(&error)),
-        }
-    }
-    Ok(())
 }
 
 // Writes all of the bytes to a new file of this name. Once the file is created, its old contents
 // are gone, so each later error is a failure.
 fn write_file<R: FileAccess>(access: &R, name: &str, bytes: &[u8]) -> Result<(), IoFault> {
-    match fs::create(access, name) {
-        Ok(mut file) => match write_all(&mut file, bytes) {
-            Ok(()) => Ok(()),
-            Err(_) => Err(IoFault::Failed),
-        },
-        Err(error) => Err(fault_of(&error)),
+    let mut file = match fs::create(access, name) {
+        Ok(file) => file,
+        Err(error) => return Err(fault_of(&error)),
+    };
+    match file.write_all(bytes) {
+        Ok(()) => Ok(()),
+        Err(_) => Err(IoFault::Failed),
     }
 }
 
@@ -149,7 +124,10 @@ impl<W: Write> Sink for HostSink<W> {
         // also if memory ran out
         ensures cause { IsErr result → Rose self.old.faults self.new.faults }
     {
-        let put = write_all(&mut self.stream, piece);
+        let put = match self.stream.write_all(piece) {
+            Ok(()) => Ok(()),
+            Err(error) => Err(fault_of(&error)),
+        };
         if put.is_err() {
             self.faults = self.faults.saturating_add(1);
         }
