@@ -1,5 +1,5 @@
 -- A call between a mark and what commits or takes back.
-use Rattle.base_lists.proofs.Common.{◌≡◌, ℕ, List, [], ◌∷◌, map, length, Bool, Option, Some, None, refl, sym, ap, ◌∙◌, arith, slice_get, subst, min, same_Some}
+use Rattle.base_lists.proofs.Common.{◌≡◌, ℕ, List, [], ◌∷◌, map, length, length-map, Bool, Option, Some, None, refl, sym, ap, ◌∙◌, arith, slice_get, subst, min, same_Some}
 use Rattle.wasm_tree_spec.specs.Prelude.{Limits, Module}
 use Rattle.wasm_valid.specs.Prelude.{IsValid}
 use Rattle.block_pool.specs.Pages.{Pages}
@@ -10,7 +10,8 @@ use Rattle.eval_references_proof.specs.References.{CallsKeepRefs, CallsKeepTypes
 use Rattle.eval_machine.specs.declared.globals.GlobalSlot.{GlobalSlot}
 use Rattle.eval_machine.specs.declared.kept.Kept.{Kept}
 use Rattle.eval_machine.specs.Prelude.{CallEnds, IsLeft, StopsCall, global_of, Fits, IsUnmarked, MemoryFits, Rests, memory_in, state_in, written_in, MemoryStays, Stays}
-use Rattle.eval_machine.specs.Marks.{AreMarked, IsMarked, KeepsMarked, RollsMarked}
+use Rattle.eval_machine.specs.Undo.{AreGlobalsBefore, AreSegmentsBefore, FlagsAreRight, segment_before, global_before}
+use Rattle.eval_machine.specs.Marks.{AreMarked, IsMarked, KeepsMarked, NothingToUndo, RollsMarked}
 use Rattle.eval_machine.proofs.References.{still_rests}
 use Rattle.eval_machine.proofs.Stays.{fits_still}
 
@@ -45,8 +46,8 @@ fits_alike (l ∷ k ∷ ls) p q a f = elim f [ ]
 state_alike : (m : Module) (k j : Kept) (n : ℕ) → j.globals ≡ k.globals → j.dropped ≡ k.dropped → Alike k.memory j.memory → j.turns ≡ n → state_in m j ≡ record (state_in m k) { turns = n }
 state_alike m k j n g d a t = rw (g, d, t, memory_alike m.mems k.memory j.memory a, written_alike k.memory j.memory a) refl
 
-machine_fits : (m : Module) (k j : Kept) → Fits m k → j.globals ≡ k.globals → j.dropped ≡ k.dropped → Alike k.memory j.memory → j.slots ≡ k.slots → j.imports ≡ k.imports → Fits m j
-machine_fits m k j f g d a s i = record {
+machine_fits : (m : Module) (k j : Kept) → Fits m k → j.globals ≡ k.globals → j.dropped ≡ k.dropped → Alike k.memory j.memory → j.slots ≡ k.slots → j.imports ≡ k.imports → FlagsAreRight j.undo.globals j.undo.noted → Fits m j
+machine_fits m k j f g d a s i n = record {
   ready = f.ready;
   types = ap (map (λ g. g.ty)) g ∙ f.types;
   imported = λ n x at. f.imported n x (ap (λ gs. slice_get gs n) (sym g) ∙ at);
@@ -55,6 +56,7 @@ machine_fits m k j f g d a s i = record {
   slots = λ t p lt. rw s (f.slots t p lt);
   sizes = f.sizes;
   imports = i ∙ f.imports;
+  flags = n;
 }
 
 marked_alike : (p q : Option Pages) → AreMarked p q → Alike p q
@@ -100,25 +102,37 @@ rolled_unmarked None (Some q) a = elim a [ ]
 rolled_unmarked (Some p) None a = elim a [ ]
 rolled_unmarked (Some p) (Some q) a = a.cleared
 
-pub only_is : (inside old marked : Kept) → marked ≡ record inside { memory = marked.memory } → inside ≡ old → marked ≡ record old { memory = marked.memory }
-only_is inside old marked a e = rw (← e) a
+-- the globals and data segments at the mark, which a call does not change
+before_globals : (marked after : Kept) → NothingToUndo marked.undo → Stays marked after → AreGlobalsBefore after.undo.globals after.globals marked.globals
+before_globals marked after none stays = record {
+  many = sym (sym (length-map after.globals (λ g. g.ty)) ∙ (ap length stays.types ∙ length-map marked.globals (λ g. g.ty)));
+  each = λ n. sym (stays.undo.globals n ∙ ap (λ es. global_before es marked.globals n) none.globals);
+}
 
-pub put_is : (after new old : Kept) (gs : List GlobalSlot) (ds : List Bool) → new ≡ record after { memory = new.memory; globals = gs; dropped = ds } → gs ≡ old.globals → ds ≡ old.dropped →
-    new ≡ record after { memory = new.memory; globals = old.globals; dropped = old.dropped }
-put_is after new old gs ds a g d = rw (← g, ← d) a
+before_segments : (marked after : Kept) → NothingToUndo marked.undo → Stays marked after → AreSegmentsBefore after.undo.dropped after.dropped marked.dropped
+before_segments marked after none stays = record {
+  many = sym stays.dropped;
+  each = λ n. sym (stays.undo.segments n ∙ ap (λ ds. segment_before ds marked.dropped n) none.dropped);
+}
+
+pub only_is : (inside old marked : Kept) → marked ≡ record inside { memory = marked.memory; undo = marked.undo } → inside ≡ old → marked ≡ record old { memory = marked.memory; undo = marked.undo }
+only_is inside old marked a e = rw (← e) a
 
 -- ---- the machine before the mark, with it, after the call and at the end ----
 
-module _ (m : Module) (func : ℕ) (old marked : Kept) (rests : Rests m old) (only : marked ≡ record old { memory = marked.memory }) (are : AreMarked old.memory marked.memory) where
+module _ (m : Module) (func : ℕ) (old marked : Kept) (rests : Rests m old) (only : marked ≡ record old { memory = marked.memory; undo = marked.undo }) (are : AreMarked old.memory marked.memory) (none : NothingToUndo marked.undo) where
   same_state : state_in m marked ≡ state_in m old
   same_state = state_alike m old marked old.turns (ap (λ k. k.globals) only) (ap (λ k. k.dropped) only) (marked_alike old.memory marked.memory are) (ap (λ k. k.turns) only)
 
   pub marked_fits : Fits m marked
-  marked_fits = machine_fits m old marked rests.fits (ap (λ k. k.globals) only) (ap (λ k. k.dropped) only) (marked_alike old.memory marked.memory are) (ap (λ k. k.slots) only) (ap (λ k. k.imports) only)
+  marked_fits = machine_fits m old marked rests.fits (ap (λ k. k.globals) only) (ap (λ k. k.dropped) only) (marked_alike old.memory marked.memory are) (ap (λ k. k.slots) only) (ap (λ k. k.imports) only) none.flags
 
   module _ (after new : Kept) (stays : Stays marked after) where
     pub is_marked : IsMarked after.memory
     is_marked = still_marked old.memory marked.memory after.memory are stays.memory
+
+    pub still_noted : FlagsAreRight after.undo.globals after.undo.noted
+    still_noted = stays.undo.flags none.flags
 
     -- it was done
     module _ (rest : new ≡ record after { memory = new.memory }) (keeps : KeepsMarked after.memory new.memory) where
@@ -129,24 +143,32 @@ module _ (m : Module) (func : ℕ) (old marked : Kept) (rests : Rests m old) (on
 
       pub done_rests : CallsKeepRefs → CallsKeepTypes → IsValid m → CallEnds m func marked None after → Rests m new
       done_rests refs types valid ends =
-          let fits = machine_fits m after new (fits_still m marked after marked_fits stays) (ap (λ k. k.globals) rest) (ap (λ k. k.dropped) rest) (kept_alike after.memory new.memory keeps) (ap (λ k. k.slots) rest) (ap (λ k. k.imports) rest) in
+          let noted : FlagsAreRight new.undo.globals new.undo.noted = subst (λ c. FlagsAreRight c.globals c.noted) (ap (λ k. k.undo) (sym rest)) still_noted in
+          let fits = machine_fits m after new (fits_still m marked after marked_fits stays) (ap (λ k. k.globals) rest) (ap (λ k. k.dropped) rest) (kept_alike after.memory new.memory keeps) (ap (λ k. k.slots) rest) (ap (λ k. k.imports) rest) noted in
           still_rests m valid refs types old new func rests fits (kept_unmarked after.memory new.memory keeps) (done ends)
 
     -- it was not
-    module _ (rest : new ≡ record after { memory = new.memory; globals = old.globals; dropped = old.dropped }) (rolls : RollsMarked after.memory new.memory) where
+    module _ (rest : new ≡ record after { memory = new.memory; globals = new.globals; dropped = new.dropped; undo = new.undo }) (rolls : RollsMarked after.memory new.memory)
+        (globals_back : (gs : List GlobalSlot) → AreGlobalsBefore after.undo.globals after.globals gs → new.globals ≡ gs) (segments_back : (flags : List Bool) → AreSegmentsBefore after.undo.dropped after.dropped flags → new.dropped ≡ flags) where
       alike : Alike old.memory new.memory
       alike = rolled_alike old.memory marked.memory after.memory new.memory are stays.memory rolls
 
-      pub back_rests : Rests m new
-      back_rests = record {
-        fits = machine_fits m old new rests.fits (ap (λ k. k.globals) rest) (ap (λ k. k.dropped) rest) alike (ap (λ k. k.slots) rest ∙ (stays.slots ∙ ap (λ k. k.slots) only)) (ap (λ k. k.imports) rest ∙ (stays.imports ∙ ap (λ k. k.imports) only));
+      globals : new.globals ≡ old.globals
+      globals = globals_back marked.globals (before_globals marked after none stays) ∙ ap (λ k. k.globals) only
+
+      dropped : new.dropped ≡ old.dropped
+      dropped = segments_back marked.dropped (before_segments marked after none stays) ∙ ap (λ k. k.dropped) only
+
+      pub back_rests : FlagsAreRight new.undo.globals new.undo.noted → Rests m new
+      back_rests noted = record {
+        fits = machine_fits m old new rests.fits globals dropped alike (ap (λ k. k.slots) rest ∙ (stays.slots ∙ ap (λ k. k.slots) only)) (ap (λ k. k.imports) rest ∙ (stays.imports ∙ ap (λ k. k.imports) only)) noted;
         unmarked = rolled_unmarked after.memory new.memory rolls;
-        typed = λ n g e. rests.typed n g (ap (λ gs. slice_get (map global_of gs) n) (sym (ap (λ k. k.globals) rest)) ∙ e);
-        references = λ n g e. rests.references n g (ap (λ gs. slice_get (map global_of gs) n) (sym (ap (λ k. k.globals) rest)) ∙ e);
+        typed = λ n g e. rests.typed n g (ap (λ gs. slice_get (map global_of gs) n) (sym globals) ∙ e);
+        references = λ n g e. rests.references n g (ap (λ gs. slice_get (map global_of gs) n) (sym globals) ∙ e);
       }
 
       back_state : state_in m new ≡ record (state_in m old) { turns = after.turns }
-      back_state = state_alike m old new after.turns (ap (λ k. k.globals) rest) (ap (λ k. k.dropped) rest) alike (ap (λ k. k.turns) rest)
+      back_state = state_alike m old new after.turns globals dropped alike (ap (λ k. k.turns) rest)
 
       pub stopped : (x : Stop) → CallEnds m func marked (Some x) after → StopsCall m func old x new
       stopped x ends =
@@ -158,11 +180,3 @@ module _ (m : Module) (func : ℕ) (old marked : Kept) (rests : Rests m old) (on
           let turns : new.turns ≡ after.turns = ap (λ k. k.turns) rest in
           let first : marked.turns ≡ old.turns = ap (λ k. k.turns) only in
           record { state = back_state ∙ ap (λ n. record (state_in m old) { turns = n }) (sym turns); turns = omega (arith, turns, first, stays.turns) }
-
--- a machine to which the globals and flags of before and the memory of the mark are put back
-pub put_back_rests : (m : Module) (func : ℕ) (inside old marked after new : Kept) (gs : List GlobalSlot) (ds : List Bool) → inside ≡ old →
-    marked ≡ record inside { memory = marked.memory } → AreMarked inside.memory marked.memory → gs ≡ inside.globals → ds ≡ inside.dropped → Stays marked after →
-    new ≡ record after { memory = new.memory; globals = gs; dropped = ds } → RollsMarked after.memory new.memory → Rests m old → Rests m new
-put_back_rests m func inside old marked after new gs ds view a are g d stays b rolls rests =
-    let marks : AreMarked old.memory marked.memory = subst (λ k. AreMarked k.memory marked.memory) view are in
-    back_rests m func old marked rests (only_is inside old marked a view) marks after new stays (put_is after new old gs ds b (g ∙ ap (λ k. k.globals) view) (d ∙ ap (λ k. k.dropped) view)) rolls

@@ -1,5 +1,5 @@
 -- Data segments: their bytes, and data.drop.
-use Rattle.base_lists.proofs.Common.{◌≡◌, ℕ, arith, List, ◌∷◌, length, slice_get, slice_set, Bool, true, false, Option, Some, None, refl, sym, ap, ◌∙◌, nat_lt, le-ltb, slice_get_past, slice_get_within, length-numbers, none_past}
+use Rattle.base_lists.proofs.Common.{◌≡◌, ℕ, arith, List, [], ◌∷◌, ◌++◌, length, subst, slice_get, slice_set, Bool, true, false, Option, Some, None, refl, sym, ap, ◌∙◌, nat_lt, le-ltb, slice_get_past, slice_get_within, length-numbers, length-set, none_past}
 use Rattle.wasm_tree_spec.specs.Prelude.{DataSegments, ImportDesc, Module, Instr, same_space, space_of_import}
 use Rattle.wasm_tree.specs.declared.module.ImportDesc.TheVariants as im
 use Rattle.wasm_tree.specs.declared.instr.Instr.TheVariants as i
@@ -7,13 +7,17 @@ use Rattle.wasm_tree.specs.declared.instr.Instr.TheOpen.{Instr-F}
 use Rattle.wasm_meaning.specs.Prelude.{Gives, Val, Entry, Running, Goes, DropData}
 use Rattle.eval_spec.specs.declared.stop.Stop.TheVariants as why
 use Rattle.eval_spec.specs.Prelude.{Going, own_inst}
+use Rattle.eval_machine.specs.declared.undo.UndoLog.{UndoLog}
 use Rattle.eval_machine.specs.declared.kept.Kept.{Kept}
 use Rattle.eval_machine.specs.declared.registers.Registers.{Registers}
-use Rattle.eval_machine.specs.Prelude.{Place, body_at, frame_at, Fits, state_in, store_in, BeginsWith, done_by}
+use Rattle.eval_machine.specs.Prelude.{Place, body_at, frame_at, Fits, state_in, store_in, Stays, BeginsWith, done_by}
 use Rattle.eval_machine.proofs.Imports.{address_of}
 use Rattle.eval_machine.proofs.Instructions.{IsStill, by_layer, ends_trap, still}
 use Rattle.eval_machine.proofs.Openings.{none_of}
+use Rattle.eval_machine.specs.Undo.{UndoStays}
+use Rattle.eval_machine.proofs.Undone.{segment_dropped, set_same}
 use Rattle.eval_machine.proofs.PouredState.{data_dropped}
+use Rattle.eval_machine.proofs.Stays.{memory_stays}
 
 pub data_kind : (d : ImportDesc) → same_space DataSegments (space_of_import d) ≡ false
 data_kind (im.Func t) = refl
@@ -41,3 +45,25 @@ module _ (m : Module) (k : Kept) (f : Fits m k) (n : ℕ) (vs : List Val) where
       let done : done_by m now (Instr-F.DataDrop n) rest p ≡ Gives (Goes (DropData n) (body_at now rest p)) = rw at in
       by_layer m now (i.DataDrop n) (Instr-F.DataDrop n) rest p es _ (i.outs-DataDrop n) (still m now (i.DataDrop n) (Instr-F.DataDrop n) rest p es (drop_still ls rest p es (Some n) at) (done_by m now (Instr-F.DataDrop n) rest p)
       ∙ rw done (ap (λ a. Going (record (state_in m k) { store = record (store_in m k) { datas = a } }) (Running (frame_at m now rest p) ∷ es)) (data_dropped m.datas k.dropped n)))
+
+  -- a segment that was dropped before
+  pub drop_again : slice_get k.dropped n ≡ Some true → BeginsWith m (i.DataDrop n) k vs None k vs
+  drop_again e = subst (λ ds. BeginsWith m (i.DataDrop n) k vs None (record k { dropped = ds }) vs) (set_same k.dropped n true e) (drop_goes true e)
+
+  -- the undo log does not change what `data.drop` does
+  pub drop_noted : (undo : UndoLog) → slice_get k.dropped n ≡ Some false → BeginsWith m (i.DataDrop n) k vs None (record k { dropped = slice_set k.dropped n true; undo = undo }) vs
+  drop_noted undo e = drop_goes false e
+
+-- ---- what stays where a segment is dropped ----
+
+pub dropping_stays : (k : Kept) (undo : UndoLog) (n : ℕ) → slice_get k.dropped n ≡ Some false → undo ≡ record k.undo { dropped = k.undo.dropped ++ n ∷ [] } → Stays k (record k { dropped = slice_set k.dropped n true; undo = undo })
+dropping_stays k undo n at is = record {
+  slots = refl;
+  imports = refl;
+  dropped = length-set k.dropped n true;
+  types = refl;
+  imported = refl;
+  memory = memory_stays k.memory;
+  turns = omega arith;
+  undo = subst (λ c. UndoStays k.undo k.globals k.dropped c k.globals (slice_set k.dropped n true)) (sym is) (record { flags = λ h. h; globals = λ i. refl; segments = segment_dropped k.undo.dropped k.dropped n at });
+}

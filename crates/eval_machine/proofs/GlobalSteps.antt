@@ -10,6 +10,7 @@ use Rattle.wasm_meaning.specs.Prelude.{Outcome, Gives, Val, Entry, Running, Act,
 use Rattle.eval_spec.specs.declared.stop.Stop.{Stop}
 use Rattle.eval_spec.specs.declared.stop.Stop.TheVariants as why
 use Rattle.eval_spec.specs.Prelude.{Going, Stopped, is_imported, own_inst}
+use Rattle.eval_machine.specs.declared.undo.UndoLog.{UndoLog}
 use Rattle.eval_machine.specs.declared.globals.GlobalSlot.{GlobalSlot}
 use Rattle.eval_machine.specs.declared.globals.Standing.{Standing}
 use Rattle.eval_machine.specs.declared.globals.Standing.TheVariants as standing
@@ -17,9 +18,11 @@ use Rattle.eval_machine.specs.declared.kept.Kept.{Kept}
 use Rattle.eval_machine.specs.declared.registers.Registers.{Registers}
 use Rattle.eval_machine.specs.declared.value.Value.{Value}
 use Rattle.eval_machine.specs.Prelude.{ended, global_of, is_of_import, is_unset, val_of, Fits, base_of, state_in, store_in, Stays, Place, body_at, frame_at, running, BeginsWith, begun, done_by}
+use Rattle.eval_machine.specs.Undo.{FlagsAreRight, IsNoted, segment_before, noted_global, global_before}
 use Rattle.eval_machine.specs.Held.{Meets, global_written, slot_written, read_of}
+use Rattle.eval_machine.proofs.Undone.{before_set}
 use Rattle.eval_machine.proofs.Chosen.{set_mapped}
-use Rattle.eval_machine.proofs.Stays.{memory_stays, stays_same}
+use Rattle.eval_machine.proofs.Stays.{memory_stays}
 use Rattle.eval_machine.proofs.Imports.{address_of, globals_many}
 use Rattle.eval_machine.proofs.Instructions.{IsStill, by_layer, ends_unknown, still, still_goes, still_stops, unknown_stops}
 
@@ -249,27 +252,71 @@ map_set f [] n x y e h = refl
 map_set f (z ∷ zs) zero x y e h = let same : z ≡ x = cc in ap (λ b. b ∷ map f zs) (h ∙ ap f (sym same))
 map_set f (z ∷ zs) (suc n) x y e h = ap (λ l. f z ∷ l) (map_set f zs n x y e h)
 
-abbrev SameKinds : List GlobalSlot → List GlobalSlot → Type 0
-SameKinds gs hs = (map (λ g. g.ty) hs ≡ map (λ g. g.ty) gs) × (map (λ g. is_of_import g.standing) hs ≡ map (λ g. is_of_import g.standing) gs)
+-- what `global.set` leaves: one global is another, of its type, and imported or not as before
+record SetsOne (gs hs : List GlobalSlot) (n : ℕ) : Type 0 where
+  before : GlobalSlot
+  after : GlobalSlot
+  at : slice_get gs n ≡ Some before
+  ty : after.ty ≡ before.ty
+  kind : is_of_import after.standing ≡ is_of_import before.standing
+  is : hs ≡ slice_set gs n after
 
-kinds_by_types : (gs hs : List GlobalSlot) (n : ℕ) (g : GlobalSlot) (v : Value) → slice_get gs n ≡ Some g → is_of_import g.standing ≡ false → (b : Bool) → Meets (cond b (Ok (slice_set gs n (set_known g v))) (Err why.Trap)) None hs → SameKinds gs hs
-kinds_by_types gs hs n g v e h true q =
-    let same : slice_set gs n (set_known g v) ≡ hs = cc in rw (← same) (map_set (λ g. g.ty) gs n g (set_known g v) e refl, map_set (λ g. is_of_import g.standing) gs n g (set_known g v) e (sym h))
-kinds_by_types gs hs n g v e h false q = absurd (let z = q in cc)
+set_by_types : (gs hs : List GlobalSlot) (n : ℕ) (g : GlobalSlot) (v : Value) → slice_get gs n ≡ Some g → is_of_import g.standing ≡ false → (b : Bool) → Meets (cond b (Ok (slice_set gs n (set_known g v))) (Err why.Trap)) None hs → SetsOne gs hs n
+set_by_types gs hs n g v e h true q = let same : slice_set gs n (set_known g v) ≡ hs = cc in record { before = g; after = set_known g v; at = e; ty = refl; kind = sym h; is = sym same }
+set_by_types gs hs n g v e h false q = absurd (let z = q in cc)
 
-kinds_by_value : (gs hs : List GlobalSlot) (n : ℕ) (g : GlobalSlot) (value : Option Value) → slice_get gs n ≡ Some g → is_of_import g.standing ≡ false → Meets (slot_written gs n g value) None hs → SameKinds gs hs
-kinds_by_value gs hs n g None e h q = absurd (let z = q in cc)
-kinds_by_value gs hs n g (Some v) e h q = kinds_by_types gs hs n g v e h (g.ty.mutable && same_type g.ty.ty (type_of (val_of v))) q
+set_by_value : (gs hs : List GlobalSlot) (n : ℕ) (g : GlobalSlot) (value : Option Value) → slice_get gs n ≡ Some g → is_of_import g.standing ≡ false → Meets (slot_written gs n g value) None hs → SetsOne gs hs n
+set_by_value gs hs n g None e h q = absurd (let z = q in cc)
+set_by_value gs hs n g (Some v) e h q = set_by_types gs hs n g v e h (g.ty.mutable && same_type g.ty.ty (type_of (val_of v))) q
 
-kinds_by_standing : (gs hs : List GlobalSlot) (n : ℕ) (g : GlobalSlot) (value : Option Value) → slice_get gs n ≡ Some g → (b : Bool) → is_of_import g.standing ≡ b → Meets (cond b (Err why.Unknown) (slot_written gs n g value)) None hs → SameKinds gs hs
-kinds_by_standing gs hs n g value e true h q = absurd (let z = q in cc)
-kinds_by_standing gs hs n g value e false h q = kinds_by_value gs hs n g value e h q
+set_by_standing : (gs hs : List GlobalSlot) (n : ℕ) (g : GlobalSlot) (value : Option Value) → slice_get gs n ≡ Some g → (b : Bool) → is_of_import g.standing ≡ b → Meets (cond b (Err why.Unknown) (slot_written gs n g value)) None hs → SetsOne gs hs n
+set_by_standing gs hs n g value e true h q = absurd (let z = q in cc)
+set_by_standing gs hs n g value e false h q = set_by_value gs hs n g value e h q
 
-kinds_by_slot : (gs hs : List GlobalSlot) (n : ℕ) (value : Option Value) (o : Option GlobalSlot) → slice_get gs n ≡ o → Meets (global_written gs n value o) None hs → SameKinds gs hs
-kinds_by_slot gs hs n value None e q = absurd (let z = q in cc)
-kinds_by_slot gs hs n value (Some g) e q = kinds_by_standing gs hs n g value e (is_of_import g.standing) refl q
+set_by_slot : (gs hs : List GlobalSlot) (n : ℕ) (value : Option Value) (o : Option GlobalSlot) → slice_get gs n ≡ o → Meets (global_written gs n value o) None hs → SetsOne gs hs n
+set_by_slot gs hs n value None e q = absurd (let z = q in cc)
+set_by_slot gs hs n value (Some g) e q = set_by_standing gs hs n g value e (is_of_import g.standing) refl q
 
-pub globals_stay : (k : Kept) (gs : List GlobalSlot) (n : ℕ) (value : Option Value) (stop : Option Stop) → Meets (global_written k.globals n value (slice_get k.globals n)) stop gs → (IsSome stop → gs ≡ k.globals) → Stays k (record k { globals = gs })
-globals_stay k gs n value None q h =
-    let s = kinds_by_slot k.globals gs n value (slice_get k.globals n) refl q in record { slots = refl; imports = refl; dropped = refl; types = s.0; imported = s.1; memory = memory_stays k.memory; turns = omega arith }
-globals_stay k gs n value (Some x) q h = rw (h refl) (stays_same k)
+-- the undo log says of the state at the mark what that of the machine says
+pub record KeepsUndo (k : Kept) (undo : UndoLog) : Type 0 where
+  pub flags : FlagsAreRight undo.globals undo.noted
+  pub globals : (i : ℕ) → global_before undo.globals k.globals i ≡ global_before k.undo.globals k.globals i
+  pub dropped : undo.dropped ≡ k.undo.dropped
+
+noting_stays : (k : Kept) (undo : UndoLog) → KeepsUndo k undo → Stays k (record k { undo = undo })
+noting_stays k undo notes = record {
+  slots = refl;
+  imports = refl;
+  dropped = refl;
+  types = refl;
+  imported = refl;
+  memory = memory_stays k.memory;
+  turns = omega arith;
+  undo = record { flags = λ h. notes.flags; globals = notes.globals; segments = λ i. ap (λ ds. segment_before ds k.dropped i) notes.dropped };
+}
+
+pub globals_stay : (k : Kept) (undo : UndoLog) (gs : List GlobalSlot) (n : ℕ) (value : Option Value) (stop : Option Stop) → KeepsUndo k undo → IsNoted undo.globals k.globals n →
+    Meets (global_written k.globals n value (slice_get k.globals n)) stop gs → (IsSome stop → gs ≡ k.globals) → Stays k (record k { globals = gs; undo = undo })
+globals_stay k undo gs n value None notes there q h =
+    let s = set_by_slot k.globals gs n value (slice_get k.globals n) refl q in
+    let some : IsSome (noted_global undo.globals n) = there (slice_get_within k.globals n s.before s.at) in
+    record {
+      slots = refl;
+      imports = refl;
+      dropped = refl;
+      types = ap (map (λ g. g.ty)) s.is ∙ map_set (λ g. g.ty) k.globals n s.before s.after s.at s.ty;
+      imported = ap (map (λ g. is_of_import g.standing)) s.is ∙ map_set (λ g. is_of_import g.standing) k.globals n s.before s.after s.at s.kind;
+      memory = memory_stays k.memory;
+      turns = omega arith;
+      undo = record {
+        flags = λ h. notes.flags;
+        globals = λ i. ap (λ hs. global_before undo.globals hs i) s.is ∙ (before_set undo.globals k.globals n s.after some i ∙ notes.globals i);
+        segments = λ i. ap (λ ds. segment_before ds k.dropped i) notes.dropped;
+      };
+    }
+globals_stay k undo gs n value (Some x) notes there q h = rw (h refl) (noting_stays k undo notes)
+
+-- the undo log does not change what `global.set` does
+pub noted_begins : (m : Module) (k : Kept) (n : ℕ) (vs us : List Val) (gs : List GlobalSlot) (undo : UndoLog) (stop : Option Stop) → BeginsWith m (i.GlobalSet n) k vs stop (record k { globals = gs }) us → BeginsWith m (i.GlobalSet n) k vs stop (record k { globals = gs; undo = undo }) us
+noted_begins m k n vs us gs undo None begins = begins
+noted_begins m k n vs us gs undo (Some x) begins = begins

@@ -1,5 +1,5 @@
 -- A call that the host makes, as the machine makes it.
-use Rattle.base_lists.proofs.Common.{◌≡◌, ℕ, zero, suc, ◌+◌, ◌-◌, ◌/◌, ◌<◌, ◌≤◌, List, [], ◌∷◌, map, length, Bool, true, false, Option, Some, None, refl, sym, ap, ◌∙◌, inl, inr, arith, slice_get, nat_lt, IsSome, filter_map, cases_lt, same_Some, slice_get_within, length-map, and_then_is, chosen_from, append_at_left, append_left, append_right, map_at, slice_get_none, slice_get_there}
+use Rattle.base_lists.proofs.Common.{◌≡◌, ℕ, zero, suc, ◌+◌, ◌-◌, ◌/◌, ◌<◌, ◌≤◌, List, [], ◌∷◌, map, length, Bool, true, false, Option, Some, None, refl, sym, ap, ◌∙◌, inl, inr, arith, slice_get, nat_lt, IsSome, filter_map, option_and_then, option_map, cases_lt, same_Some, slice_get_within, slice_get-map, length-map, and_then_is, chosen_from, append_at_left, append_left, append_right, map_at, slice_get_none, slice_get_there}
 use Rattle.std.proofs.Common.{length-append}
 use Rattle.wasm_tree_spec.specs.Prelude.{FuncType, ValType, Instr, Import, ImportDesc, Module, func_of, funcs_of, imported_funcs, type_of_func}
 use Rattle.wasm_tree.specs.declared.module.Func.{Func as FuncDef}
@@ -56,6 +56,17 @@ own_typed m (i ∷ is) h n ty t e f = by (λ n e. own_typed m is (λ n j e. h (s
         (o : Option ℕ) → func_of i.desc ≡ o → (n : ℕ) → slice_get (imported_funcs (i ∷ is)) n ≡ Some ty → (p : Pair) × (slice_get (filter_map (imported_func m) (i ∷ is)) n ≡ Some (Own p t))
     by on None g n e = let r = on n (rw g at e) in (r.0, rw g r.1)
     by on (Some u) g n e = by_type on u g (slice_get m.types u) refl n (rw g at e)
+
+-- the type of a function that the module defines
+own_index : (m : Module) (func : ℕ) → length (imported_funcs m.imports) ≤ func → slice_get (funcs_of m) func ≡ option_map (λ f. f.ty) (slice_get m.funcs (func - length (imported_funcs m.imports)))
+own_index m func le =
+    let z : length (imported_funcs m.imports) + (func - length (imported_funcs m.imports)) ≡ func = omega (arith, le) in
+    ap (slice_get (funcs_of m)) (sym z)
+    ∙ (append_right (imported_funcs m.imports) (map (λ f. f.ty) m.funcs) (func - length (imported_funcs m.imports)) ∙ slice_get-map (λ f. f.ty) m.funcs (func - length (imported_funcs m.imports)))
+
+pub own_type : (m : Module) (func : ℕ) → length (imported_funcs m.imports) ≤ func → (o : Option FuncDef) → slice_get m.funcs (func - length (imported_funcs m.imports)) ≡ o → type_of_func m func ≡ option_and_then (λ f. slice_get m.types f.ty) o
+own_type m func le None at = ap (option_and_then (slice_get m.types)) (own_index m func le ∙ ap (option_map (λ f. f.ty)) at)
+own_type m func le (Some f) at = ap (option_and_then (slice_get m.types)) (own_index m func le ∙ ap (option_map (λ f. f.ty)) at)
 
 module _ (m : Module) (hold : ItemsHold m) (k : Kept) (fits : Fits m k) (func : ℕ) (t : FuncType) (typed : type_of_func m func ≡ Some t) where
   begin : FuncsBegin m (base_of m).store.funcs

@@ -1,5 +1,5 @@
 -- The instantiation of a valid module, from its state at first to the last data segment.
-use Rattle.base_lists.proofs.Common.{◌≡◌, ℕ, suc, ◌+◌, ◌*◌, ◌<◌, ◌≤◌, List, [], ◌∷◌, ◌++◌, map, length, replicate, Bool, false, Option, Some, None, refl, sym, ap, ◌∙◌, arith, nat_lt, slice_get, le-ltb, same_Some, slice_get_within}
+use Rattle.base_lists.proofs.Common.{◌≡◌, ℕ, suc, ◌+◌, ◌*◌, ◌≤◌, List, [], ◌∷◌, ◌++◌, map, length, replicate, Bool, false, Option, Some, None, refl, sym, ap, ◌∙◌, arith, nat_lt, slice_get, le-ltb, same_Some, slice_get_within}
 use Rattle.std.proofs.Common.{length-append}
 use Rattle.base_lists.specs.Places.{places}
 use Rattle.wasm_tree_spec.specs.Prelude.{Limits, GlobalDef, Module, imported_memories, memories_of}
@@ -9,13 +9,13 @@ use Rattle.wasm_meaning.specs.Prelude.{copies}
 use Rattle.block_pool.specs.Pages.{Pages}
 use Rattle.eval_spec.specs.declared.limits.TheConstants.{MOST_TURNS}
 use Rattle.eval_spec.specs.declared.stop.Stop.{Stop}
-use Rattle.eval_spec.specs.declared.stop.Stop.TheVariants as why
 use Rattle.eval_spec.specs.Prelude.{State, Stage, Finished, Stopped, Going, stop_of, imported_store, instantiated, in_order, none_written, state_at_first, with_data}
 use Rattle.eval_machine.specs.declared.globals.GlobalSlot.{GlobalSlot}
 use Rattle.eval_machine.specs.declared.slots.Slot.{Slot}
 use Rattle.eval_machine.specs.declared.kept.Kept.{Kept}
 use Rattle.eval_machine.specs.Prelude.{FillsTables, IsFilled, IsInstantiated, PoursDatas, StartsAs, elems_end, global_of, is_unset, IsUnmarked, MemoryFits, datas_in, memory_in, state_in, written_in}
 use Rattle.eval_machine.specs.Begun.{AreFirst, IsBlank, LimitsFew, data_state, datas_end, datas_from}
+use Rattle.eval_machine.specs.Undo.{FlagsAreRight}
 use Rattle.eval_machine.specs.Kept.{base_of, counts_of}
 use Rattle.eval_machine.proofs.First.{ItemsHold, elems_there, first_state, funcs_there, is_at_first, starts_as}
 use Rattle.eval_machine.proofs.FirstGlobals.{copies_are, none_dropped}
@@ -118,8 +118,8 @@ module _ (m : Module) (hold : ItemsHold m) (single : length (memories_of m) ≤ 
           let spent : k.turns ≡ s.turns = turns ∙ sym f.turns in
           rw (based, globals, unset, spent) refl
 
-      pub is_instantiated : MemoryFits m.mems k.memory → IsUnmarked k.memory → length k.dropped ≡ length m.datas → k.imports ≡ counts_of m → IsInstantiated m k
-      is_instantiated memory unmarked many imports = record {
+      pub is_instantiated : MemoryFits m.mems k.memory → IsUnmarked k.memory → length k.dropped ≡ length m.datas → k.imports ≡ counts_of m → FlagsAreRight k.undo.globals k.undo.noted → IsInstantiated m k
+      is_instantiated memory unmarked many imports noted = record {
         fits = record {
           ready = rw ends refl;
           types = ap (map (λ g. g.ty)) same ∙ g.types;
@@ -129,6 +129,7 @@ module _ (m : Module) (hold : ItemsHold m) (single : length (memories_of m) ≤ 
           slots = λ t q lt. rw (based, held) (f.slots t q lt);
           sizes = λ t. rw based (f.counts t ∙ starts.counts t);
           imports = imports;
+          flags = noted;
         };
         unmarked = unmarked;
         ends = ends ∙ ap Finished (sym state_is);

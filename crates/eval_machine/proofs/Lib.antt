@@ -39,5 +39,6 @@ pub mod StoreSteps
 pub mod TableSteps
 pub mod Told
 pub mod Typed
+pub mod Undone
 pub mod WriteSteps
 pub mod Writes

@@ -8,6 +8,7 @@ use Rattle.eval_machine.specs.declared.globals.GlobalSlot.{GlobalSlot}
 use Rattle.eval_machine.specs.declared.kept.Kept.{Kept}
 use Rattle.eval_machine.specs.Prelude.{is_of_import, Fits, MemoryFits, MemoryStays, Stays, HoldsMost}
 use Rattle.eval_machine.specs.Stays.{PagesStay}
+use Rattle.eval_machine.proofs.Undone.{undo_same, undo_then}
 
 pub pages_stay : (p : Pages) → PagesStay p p
 pages_stay p = record { size = refl; blocks = refl; most = refl; mark = refl }
@@ -26,10 +27,10 @@ memory_then (Some p) (Some q) None a b = elim b [ ]
 
 -- nothing but turns is gone
 pub stays_less : (k : Kept) (turns : ℕ) → turns ≤ k.turns → Stays k (record k { turns = turns })
-stays_less k turns le = record { slots = refl; imports = refl; dropped = refl; types = refl; imported = refl; memory = memory_stays k.memory; turns = le }
+stays_less k turns le = record { slots = refl; imports = refl; dropped = refl; types = refl; imported = refl; memory = memory_stays k.memory; turns = le; undo = undo_same k.undo k.globals k.dropped }
 
 pub stays_same : (k : Kept) → Stays k k
-stays_same k = record { slots = refl; imports = refl; dropped = refl; types = refl; imported = refl; memory = memory_stays k.memory; turns = omega arith }
+stays_same k = record { slots = refl; imports = refl; dropped = refl; types = refl; imported = refl; memory = memory_stays k.memory; turns = omega arith; undo = undo_same k.undo k.globals k.dropped }
 
 pub stays_then : (i j k : Kept) → Stays i j → Stays j k → Stays i k
 stays_then i j k a b = record {
@@ -40,6 +41,7 @@ stays_then i j k a b = record {
   imported = b.imported ∙ a.imported;
   memory = memory_then i.memory j.memory k.memory a.memory b.memory;
   turns = omega (arith, a.turns, b.turns);
+  undo = undo_then i.undo i.globals i.dropped j.undo j.globals j.dropped k.undo k.globals k.dropped a.undo b.undo;
 }
 
 pub holds_most : (p q : Pages) → PagesStay p q → HoldsMost p → HoldsMost q
@@ -72,6 +74,7 @@ fits_still m k j f a = record {
   slots = λ table place lt. rw a.slots (f.slots table place lt);
   sizes = f.sizes;
   imports = a.imports ∙ f.imports;
+  flags = a.undo.flags f.flags;
 }
 
 -- ---- writes ----

@@ -12,6 +12,7 @@ use Rattle.eval_references_proof.specs.References.{GlobalsAreTyped, RefsAreThere
 use Rattle.eval_machine.specs.declared.globals.GlobalSlot.{GlobalSlot}
 use Rattle.eval_machine.specs.declared.kept.ImportCounts.{ImportCounts}
 use Rattle.eval_machine.specs.declared.kept.Kept.{Kept}
+use Rattle.eval_machine.specs.Undo.{FlagsAreRight}
 use Rattle.eval_machine.specs.Written.{HoldsMost}
 use Rattle.eval_machine.specs.Held.{global_of, is_of_import, is_unset}
 use Rattle.eval_machine.specs.Slots.{IsSlot, slot_at, slot_count, slots_declared}
@@ -69,7 +70,8 @@ MemoryFits (l ∷ []) (Some p) = (size p ≡ 65536 * l.min) × HoldsMost p
 MemoryFits _ _ = ⊥
 
 -- Nothing stops the instantiation of `m`; `k` has the types of its globals, the size of its memory,
--- the number of its data segments, its slots after the instantiation, and its import counts.
+-- the number of its data segments, its slots after the instantiation, and its import counts; and
+-- each global whose flag in the undo log is set is noted there.
 pub record Fits (m : Module) (k : Kept) : Type 0 where
   pub ready : is_finished (instantiated m MOST_TURNS) ≡ true
   pub types : map (λ g. g.ty) k.globals ≡ globals_of m
@@ -79,6 +81,7 @@ pub record Fits (m : Module) (k : Kept) : Type 0 where
   pub slots : (table place : ℕ) → place < 4294967296 → IsSlot (base_of m) table place (slot_at m k.slots table place)
   pub sizes : (table : ℕ) → slot_count (base_of m) table ≡ slots_declared m table
   pub imports : k.imports ≡ counts_of m
+  pub flags : FlagsAreRight k.undo.globals k.undo.noted
 
 -- No mark is set in the memory, if there is one.
 abbrev pub IsUnmarked : Option Pages → Type 0

@@ -9,5 +9,6 @@ pub mod Marks
 pub mod Read
 pub mod Slots
 pub mod Stays
+pub mod Undo
 pub mod Written
 pub mod Prelude

@@ -1,6 +1,8 @@
--- The mark in a memory, if there is one, before and after the call of a constructor.
-use Rattle.std.specs.Prelude.{◌≡◌, Option, Some, None, IsSome}
+-- The mark in a memory, if there is one, before and after the call of a constructor, and that nothing is noted at a mark.
+use Rattle.std.specs.Prelude.{◌≡◌, [], Option, Some, None, IsSome}
 use Rattle.block_pool.specs.Pages.{Pages, Commits, RollsBack}
+use Rattle.eval_machine.specs.declared.undo.UndoLog.{UndoLog}
+use Rattle.eval_machine.specs.Undo.{FlagsAreRight}
 
 abbrev pub IsMarked : Option Pages → Type 0
 IsMarked (Some p) = IsSome p.mark
@@ -23,3 +25,9 @@ abbrev pub RollsMarked : (old new : Option Pages) → Type 0
 RollsMarked None None = Unit {0}
 RollsMarked (Some p) (Some q) = RollsBack p q
 RollsMarked _ _ = ⊥
+
+-- Nothing was noted since the mark.
+pub record NothingToUndo (c : UndoLog) : Type 0 where
+  pub flags : FlagsAreRight c.globals c.noted
+  pub globals : c.globals ≡ []
+  pub dropped : c.dropped ≡ []

@@ -2,6 +2,7 @@
 use Rattle.std.specs.Prelude.{◌≡◌, ◌≤◌, length, map, Option, Some, None}
 use Rattle.block_pool.specs.Pages.{Pages, size}
 use Rattle.eval_machine.specs.declared.kept.Kept.{Kept}
+use Rattle.eval_machine.specs.Undo.{UndoStays}
 use Rattle.eval_machine.specs.Held.{is_of_import}
 
 -- The size, the number of blocks, the most that may be written and the mark are unchanged.
@@ -18,7 +19,7 @@ MemoryStays _ _ = ⊥
 
 -- The slots, the import counts, the number of data segments, the types of globals, which of them
 -- are imported, and the size and the mark of the memory are unchanged. The turns that are left do
--- not increase.
+-- not increase. The undo log still says what globals and data segments were at the mark.
 pub record Stays (old new : Kept) : Type 0 where
   pub slots : new.slots ≡ old.slots
   pub imports : new.imports ≡ old.imports
@@ -27,3 +28,4 @@ pub record Stays (old new : Kept) : Type 0 where
   pub imported : map (λ g. is_of_import g.standing) new.globals ≡ map (λ g. is_of_import g.standing) old.globals
   pub memory : MemoryStays old.memory new.memory
   pub turns : new.turns ≤ old.turns
+  pub undo : UndoStays old.undo old.globals old.dropped new.undo new.globals new.dropped

@@ -18,6 +18,7 @@ ghost use Rattle.eval_machine.specs.Stays.{Stays};
 use crate::kept::Kept;
 use crate::memory::{copy, fill, init, store};
 use crate::operands::Operands;
+use crate::undo::write_flag;
 use crate::value::Value;
 use eval_spec::Stop;
 use wasm_bytes::{Items, NoMemory};
@@ -313,18 +314,24 @@ impl Kept {
         init(paged, &mut self.turns, range.to, taken)
     }
 
-    pub(crate) fn data_drop(&mut self, input: &Module, segment: u32) -> Option<Stop>
+    pub(crate) fn data_drop(
+        &mut self,
+        input: &Module,
+        segment: u32,
+    ) -> Result<Option<Stop>, NoMemory>
         requires fits { Fits input.now self.old }
-        ensures begins { (vs : List Val) → BeginsWith input.now (i.DataDrop segment) self.old vs result self.new vs }
+        ensures begins { IfOk result (λ stop. (vs : List Val) → BeginsWith input.now (i.DataDrop segment) self.old vs stop self.new vs) }
         ensures stays { Stays self.old self.new }
     {
-        match self.dropped.get_mut(segment as usize) {
-            Some(dropped) => {
-                *dropped = true;
-                None
-            }
-            None => Some(Stop::Trap),
+        let Some(dropped) = self.dropped.get(segment as usize) else {
+            return Ok(Some(Stop::Trap));
+        };
+        if *dropped {
+            return Ok(None);
         }
+        self.undo.dropped.keep(segment)?;
+        write_flag(&mut self.dropped, segment as usize, true);
+        Ok(None)
     }
 }
 

@@ -123,7 +123,7 @@ impl Registers {
         let operands = &mut self.operands;
         match instr {
             Instr::GlobalGet(global) => Ok(kept.global_get(input, operands, *global)?),
-            Instr::GlobalSet(global) => Ok(kept.global_set(input, operands, *global)),
+            Instr::GlobalSet(global) => Ok(kept.global_set(input, operands, *global)?),
             Instr::RefFunc(func) => Ok(kept.ref_func(input, operands, *func)?),
             Instr::Load(op, arg) => Ok(kept.load(input, operands, *op, *arg)?),
             Instr::Store(op, arg) => Ok(kept.store(input, operands, *op, *arg)),
@@ -132,7 +132,7 @@ impl Registers {
             Instr::MemoryInit { segment, memory } => {
                 Ok(kept.memory_init(input, operands, *segment, *memory))
             }
-            Instr::DataDrop(segment) => Ok(kept.data_drop(input, *segment)),
+            Instr::DataDrop(segment) => Ok(kept.data_drop(input, *segment)?),
             Instr::MemoryCopy { to, from } => Ok(kept.memory_copy(input, operands, *to, *from)),
             Instr::MemoryFill(memory) => Ok(kept.memory_fill(input, operands, *memory)),
             Instr::TableGet(table) => Ok(kept.table_get(input, operands, *table)?),

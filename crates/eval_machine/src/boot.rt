@@ -1,11 +1,12 @@
-ghost use Rattle.std.specs.Prelude.{◌≡◌, ◌<◌, ◌≤◌, ℕ, IfOk, IsNone, Some, false, true, length, replicate, slice_get, slice_set};
+ghost use Rattle.std.specs.Prelude.{◌≡◌, ◌<◌, ◌≤◌, ℕ, IfOk, IsNone, Some, false, length, replicate, slice_get};
 ghost use Rattle.wasm_tree.specs.Spaces.{imported_memories, memories_of};
 ghost use Rattle.eval_machine.specs.Begun.{InstantiatesTo, PoursByMode, PoursData, PoursDatas};
 ghost use Rattle.eval_machine.specs.Kept.{IsUnmarked, MemoryFits};
 
-use crate::initial::{blank_memory, first_globals, import_counts, none_dropped};
+use crate::initial::{blank_memory, first_globals, import_counts};
 use crate::kept::Kept;
 use crate::slots::{Slots, unsigned};
+use crate::undo::{UndoLog, blank_flags, write_flag};
 use block_pool::Paged;
 use eval_spec::{MOST_TURNS, Stop};
 use std::alloc::Global;
@@ -53,16 +54,6 @@ fn pour(
     }
 }
 
-fn drop_at(dropped: &mut Items<bool>, at: usize)
-    requires { at < length dropped.old }
-    ensures { dropped.new ≡ slice_set dropped.old at true }
-{
-    match dropped.get_mut(at) {
-        Some(flag) => *flag = true,
-        None => {}
-    }
-}
-
 // Writes a data segment and drops it, if it is active.
 fn pour_if_active(
     memory: &mut Option<Paged>,
@@ -94,7 +85,7 @@ fn pour_if_active(
         ) {
             Some(stop) => Some(stop),
             None => {
-                drop_at(dropped, at);
+                write_flag(dropped, at, true);
                 None
             }
         },
@@ -147,11 +138,12 @@ pub(crate) fn instantiate(alloc: Global, input: &Valid) -> Result<Result<Kept, S
         None => {}
     }
     let mut memory = blank_memory(alloc, input)?;
-    let mut dropped = none_dropped(alloc, input.datas.len())?;
+    let mut dropped = blank_flags(alloc, input.datas.len())?;
     match pour_all(&mut memory, &mut dropped, input, imports.memories) {
         Some(stop) => return Ok(Err(stop)),
         None => {}
     }
+    let undo = UndoLog::none(alloc, globals.len())?;
     Ok(Ok(Kept {
         globals,
         memory,
@@ -159,5 +151,6 @@ pub(crate) fn instantiate(alloc: Global, input: &Valid) -> Result<Result<Kept, S
         slots,
         imports,
         turns: MOST_TURNS,
+        undo,
     }))
 }

@@ -2,6 +2,7 @@
 // 4.5.5).
 
 ghost use Rattle.std.specs.Prelude.{◌≡◌, IfOk, IsSome};
+ghost use Rattle.std.specs.Option.{option_copied};
 ghost use Rattle.wasm_tree.specs.Spaces.{type_of_func};
 ghost use Rattle.wasm_valid.specs.Validity.{IsValid};
 ghost use Rattle.eval_spec.specs.Stops.{takes_and_gives_nothing};
@@ -9,6 +10,7 @@ ghost use Rattle.eval_machine.specs.Calls.{CallEnds};
 ghost use Rattle.eval_machine.specs.Kept.{Fits};
 ghost use Rattle.eval_machine.specs.Stays.{Stays};
 
+use crate::kept::Kept;
 use crate::locals::Locals;
 use crate::operands::Operands;
 use crate::registers::Registers;
@@ -24,6 +26,24 @@ fn is_bare(ty: &FuncType) -> bool
     ensures { result ≡ takes_and_gives_nothing ty.now }
 {
     ty.params.len() == 0 && ty.results.len() == 0
+}
+
+impl Kept {
+    // Returns the type of a function. The imports are looked through only for an imported function:
+    // its call is stopped, and an evaluation ends at its first stop.
+    fn type_of_func<'a>(&self, input: &'a Module, func: u32) -> Option<&'a FuncType>
+        requires { Fits input.now self.now }
+        ensures { option_copied result ≡ type_of_func input.now func }
+    {
+        let at = func as usize;
+        if at < self.imports.funcs {
+            return input.type_of_func(func);
+        }
+        match input.funcs.get(at - self.imports.funcs) {
+            Some(callee) => input.types.get(callee.ty as usize),
+            None => None,
+        }
+    }
 }
 
 impl Registers {
@@ -42,7 +62,7 @@ impl Registers {
     {
         valid_where_items_hold();
         quiet_runs_end();
-        let Some(ty) = input.type_of_func(func) else {
+        let Some(ty) = self.kept.type_of_func(input, func) else {
             return Ok(Some(Stop::Trap));
         };
         if !is_bare(ty) {

@@ -1,11 +1,10 @@
-ghost use Rattle.std.specs.Prelude.{◌≡◌, IfOk, IsSome, List, slice_get};
+ghost use Rattle.std.specs.Prelude.{◌≡◌, IsSome, List, length, slice_get, slice_set};
 ghost use Rattle.eval_machine.specs.Held.{Meets, constant_of, global_written, read_of};
 
 use crate::value::Value;
 use eval_spec::Stop;
-use std::alloc::Global;
 use std::marker::Model;
-use wasm_bytes::{Items, NoMemory};
+use wasm_bytes::Items;
 use wasm_tree::{ConstExpr, GlobalType};
 
 /// What is known of a global.
@@ -50,11 +49,29 @@ impl Globals {
         Globals { items }
     }
 
-    pub(crate) fn copy(&self, alloc: Global) -> Result<Globals, NoMemory>
-        ensures { IfOk result (λ globals. globals ≡ self.now) }
+    pub(crate) fn len(&self) -> usize
+        ensures { result ≡ length self.now }
     {
-        let items = Items::from_slice(alloc, self.items.as_slice())?;
-        Ok(Globals { items })
+        self.items.len()
+    }
+
+    pub(crate) fn slot(&self, global: u32) -> Option<GlobalSlot>
+        ensures { result ≡ slice_get self.now global }
+    {
+        match self.items.get(global as usize) {
+            Some(slot) => Some(*slot),
+            None => None,
+        }
+    }
+
+    /// Puts a global back to what it was, if it is there.
+    pub(crate) fn put(&mut self, global: u32, slot: GlobalSlot)
+        ensures { self.new ≡ slice_set self.old global slot }
+    {
+        match self.items.get_mut(global as usize) {
+            Some(now) => *now = slot,
+            None => {}
+        }
     }
 
     /// Executes `global.get` (WebAssembly Core 2.0, section 4.4.5). Returns the value, the stop

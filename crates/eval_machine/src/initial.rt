@@ -1,7 +1,7 @@
 // The globals, memory and data segments of a module before any segment is copied (WebAssembly Core
 // 2.0, section 4.5.3).
 
-ghost use Rattle.std.specs.Prelude.{◌≡◌, ◌+◌, ◌*◌, ◌≤◌, ◌++◌, ℕ, Some, cond, false, IfOk, length, map, min, replicate, slice_get};
+ghost use Rattle.std.specs.Prelude.{◌≡◌, ◌+◌, ◌*◌, ◌≤◌, ◌++◌, ℕ, Some, cond, IfOk, length, map, min, slice_get};
 ghost use Rattle.base_lists.specs.Options.{all_there};
 ghost use Rattle.wasm_tree.specs.declared.module.GlobalDef.{GlobalDef};
 ghost use Rattle.wasm_tree.specs.declared.module.Module.{Module};
@@ -151,14 +151,4 @@ pub(crate) fn blank_memory(alloc: Global, input: &Module) -> Result<Option<Paged
     pool.reserve(2 * most as usize)?;
     let paged = Paged::new(alloc, pool, size, most)?;
     Ok(Some(paged))
-}
-
-pub(crate) fn none_dropped(alloc: Global, count: usize) -> Result<Items<bool>, NoMemory>
-    ensures { IfOk result (λ flags. flags ≡ replicate count false) }
-{
-    let mut flags = Items::new(alloc);
-    for _ in 0..count {
-        flags.keep(false)?;
-    }
-    Ok(flags)
 }

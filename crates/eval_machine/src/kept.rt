@@ -1,5 +1,6 @@
 use crate::globals::Globals;
 use crate::slots::Slots;
+use crate::undo::UndoLog;
 use block_pool::Paged;
 use wasm_bytes::Items;
 
@@ -12,8 +13,8 @@ pub struct ImportCounts {
     pub memories: usize,
 }
 
-/// What a machine keeps from call to call: what an evaluation changes, and beside it, for fast
-/// look-up, the filled slots and the import counts of the module.
+/// What a machine keeps from call to call: what an evaluation changes, with what undoes it, and
+/// beside it, for fast look-up, the filled slots and the import counts of the module.
 #[derive(Drop)]
 pub struct Kept {
     pub globals: Globals,
@@ -25,4 +26,6 @@ pub struct Kept {
     pub imports: ImportCounts,
     /// The turns that are left.
     pub turns: u32,
+    /// What undoes the changes of globals and data segments.
+    pub undo: UndoLog,
 }

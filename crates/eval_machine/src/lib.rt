@@ -22,6 +22,7 @@ mod registers;
 mod run;
 mod slots;
 mod state;
+mod undo;
 mod value;
 
 pub use globals::{GlobalSlot, Globals, Standing};
@@ -31,4 +32,5 @@ pub use machine::{Booted, Machine, Ran};
 pub use operands::Operands;
 pub use registers::{Act, Flow, Next, Opening, Registers};
 pub use slots::{Slot, Slots};
+pub use undo::{EarlierGlobal, UndoLog};
 pub use value::Value;

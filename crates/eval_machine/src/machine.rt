@@ -24,9 +24,10 @@ use wasm_bytes::NoMemory;
 use wasm_tree::ConstExpr;
 use wasm_valid::{Valid, valid_where_items_hold};
 
-/// A machine that evaluates a module. Contracts see what it keeps from call to call. Together with
-/// a module that it fits, it represents a state (`state_in`), and what is read of the machine is
-/// read of that state.
+/// What the evaluation of a module keeps from call to call: the instance after its start and after
+/// the constructors that were run. The module itself is not in it; each call is given the same
+/// module again. With a module that it fits, the machine represents a state (`state_in`), and what
+/// is read of the machine is read of that state.
 #[derive(Drop)]
 pub struct Machine {
     alloc: Global,
@@ -60,13 +61,15 @@ pub enum Ran {
 }
 
 impl Machine {
-    /// Instantiates a valid module and runs its start, with the turns of a whole evaluation
-    /// (WebAssembly Core 2.0, sections 4.5.4 and 4.5.5). Of imports only the types of functions are
-    /// known. Element segments are copied first, then data segments; then the start runs.
+    /// Instantiates a valid module and runs its start (WebAssembly Core 2.0, sections 4.5.4 and
+    /// 4.5.5), with `MOST_TURNS` turns for the start and all later calls together; instantiation
+    /// takes none. Of what is imported, only the types of functions are known. Active element
+    /// segments are copied first, then active data segments; then the start runs.
     ///
     /// Returns `Booted::Stopped` at the first thing that stops an evaluation (see `Stop`); a module
-    /// with several memories is stopped at once. The error is `NoMemory`. The pool gets two blocks
-    /// for each block that may be written, so that later calls need no more blocks.
+    /// with several memories is stopped at once, with `Stop::Memory`. The only error is `NoMemory`.
+    /// For each block of the memory that may be written, two blocks are reserved now, so that no
+    /// later write has to allocate one.
     pub fn boot(alloc: Global, input: &Valid) -> Result<Booted, NoMemory>
         ensures ready { IfOk result (IfReady (IsReady input.now)) }
         ensures stopped { IfOk result (IfNotReady (StopsBoot input.now)) }
@@ -112,20 +115,18 @@ impl Machine {
         valid_where_items_hold();
         calls_keep_values_of_globals();
         let alloc = self.alloc;
-        let globals = self.registers.kept.globals.copy(alloc)?;
-        let dropped = self.registers.kept.copy_dropped(alloc)?;
-        self.registers.kept.mark();
+        self.registers.kept.mark(alloc);
         match self.registers.call(alloc, input.module(), func) {
             Ok(None) => {
                 self.registers.kept.commit();
                 Ok(Ran::Done)
             }
             Ok(Some(stop)) => {
-                self.registers.kept.put_back(globals, dropped);
+                self.registers.kept.rollback();
                 Ok(Ran::Stopped(stop))
             }
             Err(_) => {
-                self.registers.kept.put_back(globals, dropped);
+                self.registers.kept.rollback();
                 Err(NoMemory)
             }
         }

@@ -40,13 +40,14 @@ impl Kept {
         input: &Module,
         operands: &mut Operands,
         global: u32,
-    ) -> Option<Stop>
+    ) -> Result<Option<Stop>, NoMemory>
         requires fits { Fits input.now self.old }
-        ensures begins { BeginsWith input.now (i.GlobalSet global) self.old operands.old result self.new operands.new }
+        ensures begins { IfOk result (λ stop. BeginsWith input.now (i.GlobalSet global) self.old operands.old stop self.new operands.new) }
         ensures stays { Stays self.old self.new }
     {
+        self.undo.note_global(&self.globals, global)?;
         let value = operands.pop();
-        self.globals.set(global, value)
+        Ok(self.globals.set(global, value))
     }
 
     fn is_func(&self, input: &Module, func: u32) -> bool

@@ -40,7 +40,7 @@ returns c =
     let fills : FillsTables c.module-input.result.now (elems_end c.module-input.result.now) None c.fill.new.self = rw c.in-None.is at c.in_ok-stop.ensures in
     let none : c.in_ok-dropped.dropped ≡ replicate (length c.module-input.result.now.datas) false = c.in_ok-dropped.ensures ∙ ap (λ n. replicate n false) c.len.ensures in
     let pours : PoursDatas c.module-input.result.now c.in_ok-memory.memory c.in_ok-dropped.dropped None c.pour_all.new.memory c.pour_all.new.dropped = c.in-None-pour_all.ensures.pours in
-    let k : Kept = record { globals = c.in_ok-globals.globals; memory = c.pour_all.new.memory; dropped = c.pour_all.new.dropped; slots = c.fill.new.self; imports = c.import_counts-imports.result; turns = MOST_TURNS } in
+    let k : Kept = record { globals = c.in_ok-globals.globals; memory = c.pour_all.new.memory; dropped = c.pour_all.new.dropped; slots = c.fill.new.self; imports = c.import_counts-imports.result; turns = MOST_TURNS; undo = c.in_ok-undo.undo } in
     subst (λ m. IsInstantiated m k) c.module-input.ensures.value
     (is_instantiated c.module-input.result.now hold single c.in_ok-globals.globals c.in_ok-globals.ensures c.fill.new.self fills c.in_ok-memory.memory c.in_ok-memory.ensures c.in_ok-dropped.dropped none k pours refl refl refl
-    c.in-None-pour_all.ensures.fits c.in-None-pour_all.ensures.unmarked (c.in-None-pour_all.ensures.many refl) c.import_counts-imports.ensures)
+    c.in-None-pour_all.ensures.fits c.in-None-pour_all.ensures.unmarked (c.in-None-pour_all.ensures.many refl) c.import_counts-imports.ensures c.in_ok-undo.ensures)

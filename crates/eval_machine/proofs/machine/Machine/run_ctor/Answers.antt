@@ -1,8 +1,8 @@
-use Rattle.std.proofs.Common.{◌≡◌, ◌∙◌, None, Some, ap, subst}
+use Rattle.std.proofs.Common.{None, Some, subst}
 use Rattle.wasm_valid.specs.Validity.{IsValid}
 use Rattle.eval_machine.specs.Marks.{AreMarked}
 use Rattle.eval_machine.specs.Calls.{CallEnds}
-use Rattle.eval_machine.proofs.Ctors.{done, done_rests, only_is, put_back_rests, put_is, stopped}
+use Rattle.eval_machine.proofs.Ctors.{back_rests, done, done_rests, left, only_is, stopped}
 use Rattle.eval_machine.proofs.HostCalls.{type_there}
 use Rattle.eval_machine.proofs.machine.Machine.run_ctor.Goals as goal
 
@@ -12,40 +12,49 @@ call-requires-clause-there c =
 
 pub returns-in-Ok-None-clause-done : goal.returns-in-Ok-None-clause-done
 returns-in-Ok-None-clause-done c =
-    let only : c.mark.new.self ≡ record c.args.self.now { memory = c.mark.new.self.memory } = only_is c.self.inside.registers.kept c.args.self.now c.mark.new.self c.mark.ensures.rest c.self.view_is in
+    let only = only_is c.self.inside.registers.kept c.args.self.now c.mark.new.self c.mark.ensures.rest c.self.view_is in
     let are : AreMarked c.args.self.now.memory c.mark.new.self.memory = subst (λ k. AreMarked k.memory c.mark.new.self.memory) c.self.view_is c.mark.ensures.marked in
     let ends : CallEnds c.module.result.now c.args.func c.mark.new.self None c.call.new.self.kept = rw c.in-Ok-None.field-0-is at c.in-Ok-None.ensures.ends in
-    done c.args.input.now c.args.func c.args.self.now c.mark.new.self c.requires.rests only are c.call.new.self.kept c.commit.new.self c.in-Ok-None.ensures.stays c.commit.ensures.rest c.commit.ensures.keeps
+    done c.args.input.now c.args.func c.args.self.now c.mark.new.self c.requires.rests only are c.mark.ensures.none c.call.new.self.kept c.commit.new.self c.in-Ok-None.ensures.stays c.commit.ensures.rest c.commit.ensures.keeps
     (subst (λ m. CallEnds m c.args.func c.mark.new.self None c.call.new.self.kept) c.module.ensures.value ends)
 
 pub returns-in-Ok-None-clause-rests : goal.returns-in-Ok-None-clause-rests
 returns-in-Ok-None-clause-rests c =
-    let only : c.mark.new.self ≡ record c.args.self.now { memory = c.mark.new.self.memory } = only_is c.self.inside.registers.kept c.args.self.now c.mark.new.self c.mark.ensures.rest c.self.view_is in
+    let only = only_is c.self.inside.registers.kept c.args.self.now c.mark.new.self c.mark.ensures.rest c.self.view_is in
     let are : AreMarked c.args.self.now.memory c.mark.new.self.memory = subst (λ k. AreMarked k.memory c.mark.new.self.memory) c.self.view_is c.mark.ensures.marked in
     let ends : CallEnds c.module.result.now c.args.func c.mark.new.self None c.call.new.self.kept = rw c.in-Ok-None.field-0-is at c.in-Ok-None.ensures.ends in
     let valid : IsValid c.args.input.now = subst IsValid c.module.ensures.value c.module.ensures.valid in
-    done_rests c.args.input.now c.args.func c.args.self.now c.mark.new.self c.requires.rests only are c.call.new.self.kept c.commit.new.self c.in-Ok-None.ensures.stays c.commit.ensures.rest c.commit.ensures.keeps
-    c.calls_keep_values_of_globals.ensures.references c.calls_keep_values_of_globals.ensures.types valid
+    done_rests c.args.input.now c.args.func c.args.self.now c.mark.new.self c.requires.rests only are c.mark.ensures.none c.call.new.self.kept c.commit.new.self c.in-Ok-None.ensures.stays c.commit.ensures.rest c.commit.ensures.keeps c.calls_keep_values_of_globals.ensures.references c.calls_keep_values_of_globals.ensures.types valid
     (subst (λ m. CallEnds m c.args.func c.mark.new.self None c.call.new.self.kept) c.module.ensures.value ends)
 
 pub returns-in-Ok-Some-clause-stopped : goal.returns-in-Ok-Some-clause-stopped
 returns-in-Ok-Some-clause-stopped c =
-    let only : c.mark.new.self ≡ record c.args.self.now { memory = c.mark.new.self.memory } = only_is c.self.inside.registers.kept c.args.self.now c.mark.new.self c.mark.ensures.rest c.self.view_is in
+    let only = only_is c.self.inside.registers.kept c.args.self.now c.mark.new.self c.mark.ensures.rest c.self.view_is in
     let are : AreMarked c.args.self.now.memory c.mark.new.self.memory = subst (λ k. AreMarked k.memory c.mark.new.self.memory) c.self.view_is c.mark.ensures.marked in
     let ends : CallEnds c.module.result.now c.args.func c.mark.new.self (Some c.in-Ok-Some.stop) c.call.new.self.kept = rw c.in-Ok-Some.field-0-is at c.in-Ok-Some.ensures.ends in
-    let globals : c.in_ok-globals.globals ≡ c.args.self.now.globals = c.in_ok-globals.ensures ∙ ap (λ k. k.globals) c.self.view_is in
-    let dropped : c.in_ok-dropped.dropped ≡ c.args.self.now.dropped = c.in_ok-dropped.ensures ∙ ap (λ k. k.dropped) c.self.view_is in
-    let rest : c.put_back.new.self ≡ record c.call.new.self.kept { memory = c.put_back.new.self.memory; globals = c.args.self.now.globals; dropped = c.args.self.now.dropped } =
-    put_is c.call.new.self.kept c.put_back.new.self c.args.self.now c.in_ok-globals.globals c.in_ok-dropped.dropped c.put_back.ensures.rest globals dropped in
-    stopped c.args.input.now c.args.func c.args.self.now c.mark.new.self c.requires.rests only are c.call.new.self.kept c.put_back.new.self c.in-Ok-Some.ensures.stays rest c.put_back.ensures.rolls c.in-Ok-Some.stop
+    stopped c.args.input.now c.args.func c.args.self.now c.mark.new.self c.requires.rests only are c.mark.ensures.none c.call.new.self.kept c.rollback.new.self c.in-Ok-Some.ensures.stays c.rollback.ensures.rest c.rollback.ensures.rolls c.rollback.ensures.globals c.rollback.ensures.dropped c.in-Ok-Some.stop
     (subst (λ m. CallEnds m c.args.func c.mark.new.self (Some c.in-Ok-Some.stop) c.call.new.self.kept) c.module.ensures.value ends)
 
 pub returns-in-Ok-Some-clause-rests : goal.returns-in-Ok-Some-clause-rests
 returns-in-Ok-Some-clause-rests c =
-    put_back_rests c.args.input.now c.args.func c.self.inside.registers.kept c.args.self.now c.mark.new.self c.call.new.self.kept c.put_back.new.self c.in_ok-globals.globals c.in_ok-dropped.dropped c.self.view_is c.mark.ensures.rest c.mark.ensures.marked
-    c.in_ok-globals.ensures c.in_ok-dropped.ensures c.in-Ok-Some.ensures.stays c.put_back.ensures.rest c.put_back.ensures.rolls c.requires.rests
+    let only = only_is c.self.inside.registers.kept c.args.self.now c.mark.new.self c.mark.ensures.rest c.self.view_is in
+    let are : AreMarked c.args.self.now.memory c.mark.new.self.memory = subst (λ k. AreMarked k.memory c.mark.new.self.memory) c.self.view_is c.mark.ensures.marked in
+    back_rests c.args.input.now c.args.func c.args.self.now c.mark.new.self c.requires.rests only are c.mark.ensures.none c.call.new.self.kept c.rollback.new.self c.in-Ok-Some.ensures.stays c.rollback.ensures.rest c.rollback.ensures.rolls c.rollback.ensures.globals c.rollback.ensures.dropped c.rollback.ensures.flags
 
 pub returns-in-Err-clause-rests : goal.returns-in-Err-clause-rests
 returns-in-Err-clause-rests c =
-    put_back_rests c.args.input.now c.args.func c.self.inside.registers.kept c.args.self.now c.mark.new.self c.call.new.self.kept c.put_back-in-Err.new.self c.in_ok-globals.globals c.in_ok-dropped.dropped c.self.view_is c.mark.ensures.rest c.mark.ensures.marked
-    c.in_ok-globals.ensures c.in_ok-dropped.ensures c.in-Err.ensures.stays c.put_back-in-Err.ensures.rest c.put_back-in-Err.ensures.rolls c.requires.rests
+    let only = only_is c.self.inside.registers.kept c.args.self.now c.mark.new.self c.mark.ensures.rest c.self.view_is in
+    let are : AreMarked c.args.self.now.memory c.mark.new.self.memory = subst (λ k. AreMarked k.memory c.mark.new.self.memory) c.self.view_is c.mark.ensures.marked in
+    back_rests c.args.input.now c.args.func c.args.self.now c.mark.new.self c.requires.rests only are c.mark.ensures.none c.call.new.self.kept c.rollback-in-Err.new.self c.in-Err.ensures.stays c.rollback-in-Err.ensures.rest c.rollback-in-Err.ensures.rolls c.rollback-in-Err.ensures.globals c.rollback-in-Err.ensures.dropped c.rollback-in-Err.ensures.flags
+
+pub returns-in-Ok-Some-clause-left : goal.returns-in-Ok-Some-clause-left
+returns-in-Ok-Some-clause-left c =
+    let only = only_is c.self.inside.registers.kept c.args.self.now c.mark.new.self c.mark.ensures.rest c.self.view_is in
+    let are : AreMarked c.args.self.now.memory c.mark.new.self.memory = subst (λ k. AreMarked k.memory c.mark.new.self.memory) c.self.view_is c.mark.ensures.marked in
+    left c.args.input.now c.args.func c.args.self.now c.mark.new.self c.requires.rests only are c.mark.ensures.none c.call.new.self.kept c.rollback.new.self c.in-Ok-Some.ensures.stays c.rollback.ensures.rest c.rollback.ensures.rolls c.rollback.ensures.globals c.rollback.ensures.dropped
+
+pub returns-in-Err-clause-left : goal.returns-in-Err-clause-left
+returns-in-Err-clause-left c =
+    let only = only_is c.self.inside.registers.kept c.args.self.now c.mark.new.self c.mark.ensures.rest c.self.view_is in
+    let are : AreMarked c.args.self.now.memory c.mark.new.self.memory = subst (λ k. AreMarked k.memory c.mark.new.self.memory) c.self.view_is c.mark.ensures.marked in
+    left c.args.input.now c.args.func c.args.self.now c.mark.new.self c.requires.rests only are c.mark.ensures.none c.call.new.self.kept c.rollback-in-Err.new.self c.in-Err.ensures.stays c.rollback-in-Err.ensures.rest c.rollback-in-Err.ensures.rolls c.rollback-in-Err.ensures.globals c.rollback-in-Err.ensures.dropped

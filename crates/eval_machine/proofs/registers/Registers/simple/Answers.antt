@@ -26,9 +26,9 @@ pub returns-in_ok-table_size-in-TableSize-clause-begins : goal.returns-in_ok-tab
 returns-in_ok-table_size-in-TableSize-clause-begins c = λ e.
     begins_as c.args.input.now c.args.instr.now _ c.args.self.now _ c.args.self.now.kept c.table_size.new.operands c.in-TableSize.is c.in_ok-table_size-in-TableSize.ensures
 
-pub returns-in-GlobalSet-clause-begins : goal.returns-in-GlobalSet-clause-begins
-returns-in-GlobalSet-clause-begins c = λ e.
-    begins_as c.args.input.now c.args.instr.now _ c.args.self.now _ c.global_set.new.self c.global_set.new.operands c.in-GlobalSet.is c.global_set.ensures.begins
+pub returns-in_ok-global_set-in-GlobalSet-clause-begins : goal.returns-in_ok-global_set-in-GlobalSet-clause-begins
+returns-in_ok-global_set-in-GlobalSet-clause-begins c = λ e.
+    begins_as c.args.input.now c.args.instr.now _ c.args.self.now _ c.global_set.new.self c.global_set.new.operands c.in-GlobalSet.is c.in_ok-global_set-in-GlobalSet.ensures.begins
 
 pub returns-in-Store-clause-begins : goal.returns-in-Store-clause-begins
 returns-in-Store-clause-begins c = λ e.
@@ -46,9 +46,9 @@ pub returns-in-MemoryFill-clause-begins : goal.returns-in-MemoryFill-clause-begi
 returns-in-MemoryFill-clause-begins c = λ e.
     begins_as c.args.input.now c.args.instr.now _ c.args.self.now _ c.memory_fill.new.self c.memory_fill.new.operands c.in-MemoryFill.is c.memory_fill.ensures.begins
 
-pub returns-in-DataDrop-clause-begins : goal.returns-in-DataDrop-clause-begins
-returns-in-DataDrop-clause-begins c = λ e.
-    begins_as c.args.input.now c.args.instr.now _ c.args.self.now _ c.data_drop.new.self c.args.self.now.operands c.in-DataDrop.is (c.data_drop.ensures.begins c.args.self.now.operands)
+pub returns-in_ok-data_drop-in-DataDrop-clause-begins : goal.returns-in_ok-data_drop-in-DataDrop-clause-begins
+returns-in_ok-data_drop-in-DataDrop-clause-begins c = λ e.
+    begins_as c.args.input.now c.args.instr.now _ c.args.self.now _ c.data_drop.new.self c.args.self.now.operands c.in-DataDrop.is (c.in_ok-data_drop-in-DataDrop.ensures.begins c.args.self.now.operands)
 
 pub returns-in_ok-plain-in_default-clause-begins : goal.returns-in_ok-plain-in_default-clause-begins
 returns-in_ok-plain-in_default-clause-begins c = λ e.

@@ -1,5 +1,5 @@
 use Rattle.std.proofs.Common.{◌≡◌, false, replicate}
-use Rattle.eval_machine.proofs.initial.none_dropped.Given as goal
+use Rattle.eval_machine.proofs.undo.blank_flags.Given as goal
 
 abbrev pub invariant-loop : goal.invariant-loop
 invariant-loop l = l.flags ≡ replicate l.counter false
