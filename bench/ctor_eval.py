@@ -8,6 +8,7 @@ Makes modules of 1, 4 and 16 MiB whose functions call one another, with one cons
 Then the turns of an evaluation: a turn is the beginning of an instruction of WebAssembly. Machine instructions of a turn are the difference of two runs
 of more and of fewer rounds; seconds are those of 50,000,000 turns.
 Then one and 100 constructors, each of which stores a byte, over a memory of 16 pages that is full: with the machine instructions of each further one.
+Then the same for constructors that each set one of 100,000 globals.
 Last a memory of 64 MiB, which is nearly empty. A tool that is not installed is skipped.
 """
 import os
@@ -34,8 +35,8 @@ def signed(n):
     return bytes(out)
 
 
-def module(bodies, constructors, pages, content=b""):
-    """Functions of type [i32 i32] to [i32], of which the first is exported as run, and behind them constructors, exported as c0, c1 and so on, over an exported memory that begins with this content."""
+def module(bodies, constructors, pages, content=b"", global_count=0):
+    """Functions of type [i32 i32] to [i32], of which the first is exported as run, and behind them constructors, exported as c0, c1 and so on, over an exported memory that begins with this content, and so many mutable globals that are 0."""
     exports = [b"\6memory\2\0"] + ([b"\x03run\0\0"] if bodies else [])
     for i in range(len(constructors)):
         name = f"c{i}".encode()
@@ -44,6 +45,7 @@ def module(bodies, constructors, pages, content=b""):
         section(1, vector([b"\x60\x02\x7f\x7f\x01\x7f", b"\x60\0\0"])),
         section(3, vector([b"\0"] * len(bodies) + [b"\1"] * len(constructors))),
         section(5, b"\1\0" + leb(pages)),
+        section(6, vector([b"\x7f\1\x41\0\x0b"] * global_count)) if global_count else b"",
         section(7, vector(exports)),
         section(10, vector([leb(len(code)) + code for code in bodies + constructors])),
         section(11, vector([b"\0\x41\0\x0b" + leb(len(content)) + content])) if content else b"",
@@ -53,6 +55,11 @@ def module(bodies, constructors, pages, content=b""):
 def storing(place):
     """A constructor that stores one byte."""
     return b"\0\x41" + signed(place) + b"\x41\x2a\x3a\0\0\x0b"
+
+
+def setting(place):
+    """A constructor that sets one global."""
+    return b"\0\x41\x2a\x24" + leb(place) + b"\x0b"
 
 
 def made(folder, make):
@@ -124,13 +131,11 @@ def told(command):
     return "failed" if status else f"{min(run[0] for run in runs):.2f}", f"{max(run[1] for run in runs):.0f}"
 
 
-# ---- memories ----
+# ---- memories and globals ----
 
 
-def measure_many(folder):
-    size, many = 16 * PAGE, 100
-    places = [i * 8192 % size for i in range(many)]
-    name = made(folder, lambda: module([], [storing(place) for place in places], size // PAGE, bytes(1 + i % 255 for i in range(size))))
+def measure_further(name, many, folder):
+    """Prints a row for each tool: one constructor of a module, and the first `many`."""
     for (tool, one), (_, all_of_them) in zip(tools(name, 1, folder), tools(name, many, folder)):
         if not shutil.which(one[0]):
             print(f"| {tool} | skipped: not installed | | | |")
@@ -138,6 +143,19 @@ def measure_many(folder):
         (seconds, _), (seconds_of_all, memory) = told(one), told(all_of_them)
         further = (counted(all_of_them, folder) - counted(one, folder)) / (many - 1)
         print(f"| {tool} | {seconds} | {seconds_of_all} | {memory} | {f'{further:,.0f}' if further else ''} |", flush=True)
+
+
+def measure_many(folder):
+    size, many = 16 * PAGE, 100
+    places = [i * 8192 % size for i in range(many)]
+    name = made(folder, lambda: module([], [storing(place) for place in places], size // PAGE, bytes(1 + i % 255 for i in range(size))))
+    measure_further(name, many, folder)
+
+
+def measure_globals(folder):
+    count, many = 100_000, 100
+    name = made(folder, lambda: module([], [setting(i * (count // many)) for i in range(many)], 1, global_count=count))
+    measure_further(name, many, folder)
 
 
 def measure_empty(folder):
@@ -160,6 +178,8 @@ def main():
             measure_turns(what, inside, turns, folder)
         print("\n| constructors over 16 full pages | seconds for one | seconds for 100 | MiB of memory | instructions for each further one |\n|---|---|---|---|---|")
         measure_many(folder)
+        print("\n| constructors over 100,000 globals | seconds for one | seconds for 100 | MiB of memory | instructions for each further one |\n|---|---|---|---|---|")
+        measure_globals(folder)
         print("\n| a memory of 64 MiB, two bytes written | seconds | MiB of memory |\n|---|---|---|")
         measure_empty(folder)
 
