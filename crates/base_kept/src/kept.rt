@@ -36,7 +36,8 @@ fn backward<T: Drop>(alloc: Global, items: Items<T>) -> Result<Items<T>, NoMemor
 }
 
 /// Returns the items that are marked, in their order. They are moved, and the others are dropped.
-/// The only error is `NoMemory`.
+/// `marks` must have a mark for each item; further ones are ignored. The only error is `NoMemory`;
+/// then all items are dropped.
 pub fn keep_marked<T: Drop>(
     alloc: Global,
     items: Items<T>,

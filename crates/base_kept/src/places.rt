@@ -6,7 +6,7 @@ use std::alloc::Global;
 use wasm_bytes::{Items, NoMemory};
 
 /// Returns for each place how many marked places come before it: the new place of its element, if
-/// it is kept. The only error is `NoMemory`.
+/// it is kept. There must be fewer than 2^32 places. The only error is `NoMemory`.
 pub fn new_places(alloc: Global, marks: &[bool]) -> Result<Items<u32>, NoMemory>
     requires { length marks.now < 2 ^ 32 }
     ensures { IfOk result (λ all. all ≡ kept.new_places marks.now) }
@@ -22,8 +22,8 @@ pub fn new_places(alloc: Global, marks: &[bool]) -> Result<Items<u32>, NoMemory>
     Ok(all)
 }
 
-/// Appends `count` consecutive numbers, beginning with `first`. After `NoMemory` the list is not
-/// specified.
+/// Appends `count` consecutive numbers, beginning with `first`; each must be below 2^32. After
+/// `NoMemory` the list is not specified.
 pub fn add_numbers(all: &mut Items<u32>, first: u32, count: usize) -> Result<(), NoMemory>
     requires { first + count ≤ 2 ^ 32 }
     ensures { OnOk result (all.new ≡ all.old ++ places.numbers first count) }

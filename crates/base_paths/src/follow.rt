@@ -48,7 +48,8 @@ fn ending<E: Copy>(steps: &[Step<E>], stop: Option<u32>) -> Option<E>
 }
 
 /// Returns for each place what the path from it ends with, or `None` if the path never ends or
-/// leads nowhere. The only error is running out of memory.
+/// leads nowhere. Each `Goes` must name a place of the list, and there must be fewer than 2^32
+/// places. The only error is running out of memory.
 pub fn endings<E: Copy>(alloc: Global, steps: &[Step<E>]) -> Result<Vec<Option<E>>, AllocError>
     requires there { AreNamed steps.now }
     requires few { length steps.now < 2 ^ 32 }

@@ -1,4 +1,4 @@
-//! Computes where the paths from all places of a list end, in one pass.
+//! Computes where the paths from all places of a list end, in linear time.
 #![tactic(auto)]
 
 mod follow;

@@ -40,8 +40,9 @@ fn walk(
 /// Returns for each place the end of the path from it: the place where it stops, or `None` if it
 /// never ends.
 ///
-/// `steps` has for each place the next place, or `None` if the path stops there. Each place is
-/// followed once. The only error is running out of memory.
+/// `steps` has for each place the next place, which must be a place of the list, or `None` if the
+/// path stops there. There must be fewer than 2^32 places. Each place is followed once, so the time
+/// is linear. The only error is running out of memory.
 pub fn ends(alloc: Global, steps: &[Option<u32>]) -> Result<Vec<Option<u32>>, AllocError>
     requires there { AreThere steps.now }
     requires few { length steps.now < 2 ^ 32 }

@@ -9,7 +9,8 @@ use std::alloc::Global;
 use std::marker::Model;
 use wasm_bytes::NoMemory;
 
-/// The error of a write after which more blocks would be written than may be.
+/// The error of a write after which more blocks would be written than `new` allowed (`most`). The
+/// write changes nothing.
 #[derive(Clone, Copy, Debug, PartialEq, Eq)]
 pub struct Full;
 
@@ -45,10 +46,11 @@ fn slots(alloc: Global, count: usize) -> Result<Vec<Slot>, NoMemory>
 }
 
 impl Paged {
-    /// Returns a memory of `size` zero bytes, of which at most `most` blocks may be written. The
-    /// pool must have no live block, and two spare blocks for each that may be written; one of the
-    /// two keeps the bytes of the mark. The error is `NoMemory`, if memory runs out or a block of
-    /// the pool may have a number of 2^32 or more; the pool is dropped then.
+    /// Returns a memory of `size` zero bytes, of which at most `most` blocks may be written. `size`
+    /// must be at most 2^32. The pool must have no live block, and two spare blocks for each that
+    /// may be written; one of the two keeps the bytes of the mark. The error is `NoMemory`, if
+    /// memory runs out or a block of the pool may have a number of 2^32 or more; the pool is
+    /// dropped then.
     ///
     /// Besides the pool, the memory takes 12 bytes for each of its blocks and 4 for each block that
     /// may be written.
@@ -87,7 +89,8 @@ impl Paged {
     }
 
     /// Returns the number that the `width` bytes from `at` on encode in little-endian order
-    /// (WebAssembly Core 2.0, section 4.4.7).
+    /// (WebAssembly Core 2.0, section 4.4.7). `width` must be 1, 2, 4 or 8, and the bytes must be
+    /// inside the memory.
     pub fn load(&self, at: u64, width: u32) -> u64
         requires width { IsWidth width }
         requires inside { at + width ≤ size self.now }
@@ -97,8 +100,10 @@ impl Paged {
         self.table.load(at as usize, width as usize)
     }
 
-    /// Writes the `width` lowest bytes of `value` from `at` on, in little-endian order. Returns
-    /// `Full` exactly if more blocks would be written than may be; then nothing changes.
+    /// Writes the `width` lowest bytes of `value` from `at` on, in little-endian order. `width`
+    /// must be 1, 2, 4 or 8, and the range must be inside the memory. Returns `Full` exactly if
+    /// more blocks would be written than may be; then nothing changes. A block that is written
+    /// already does not count again.
     pub fn store(&mut self, at: u64, width: u32, value: u64) -> Result<(), Full>
         requires width { IsWidth width }
         requires inside { at + width ≤ size self.old }
@@ -117,8 +122,8 @@ impl Paged {
         Ok(())
     }
 
-    /// Writes `byte` `count` times, from `at` on (memory.fill of Core 2.0, section 4.4.7). Returns
-    /// `Full` as `store` does.
+    /// Writes `byte` `count` times, from `at` on (memory.fill of Core 2.0, section 4.4.7). The
+    /// range must be inside the memory. Returns `Full` as `store` does.
     pub fn fill(&mut self, at: u64, byte: u8, count: u64) -> Result<(), Full>
         requires inside { at + count ≤ size self.old }
         ensures ok { OnOk result (Writes self.old self.new at (replicate count byte)) }
@@ -134,8 +139,8 @@ impl Paged {
         Ok(())
     }
 
-    /// Copies the `count` bytes from `from` on to `to`; the two ranges may overlap (memory.copy of
-    /// Core 2.0, section 4.4.7). Returns `Full` as `store` does.
+    /// Copies the `count` bytes from `from` on to `to` (memory.copy of Core 2.0, section 4.4.7).
+    /// Both ranges must be inside the memory; they may overlap. Returns `Full` as `store` does.
     pub fn copy(&mut self, to: u64, from: u64, count: u64) -> Result<(), Full>
         requires inside { to + count ≤ size self.old }
         requires source { from + count ≤ size self.old }
@@ -153,8 +158,8 @@ impl Paged {
         Ok(())
     }
 
-    /// Writes `bytes` from `at` on (memory.init of Core 2.0, section 4.4.7). Returns `Full` as
-    /// `store` does.
+    /// Writes `bytes` from `at` on (memory.init of Core 2.0, section 4.4.7). The range must be
+    /// inside the memory. Returns `Full` as `store` does.
     pub fn write(&mut self, at: u64, bytes: &[u8]) -> Result<(), Full>
         requires inside { at + length bytes.now ≤ size self.old }
         ensures ok { OnOk result (Writes self.old self.new at bytes.now) }
@@ -189,8 +194,9 @@ impl Paged {
         self.table.marked = true;
     }
 
-    /// Restores the bytes and the written blocks of the mark, and clears the mark. The cost is
-    /// proportional to the blocks that were written since the mark.
+    /// Takes the memory back to the mark, which must be set: its bytes and its written blocks are
+    /// again what they were then. The mark is cleared. The cost is proportional to the blocks that
+    /// were written since the mark.
     pub fn rollback(&mut self)
         requires { IsSome self.old.mark }
         ensures { RollsBack self.old self.new }
@@ -198,8 +204,8 @@ impl Paged {
         self.table.rollback();
     }
 
-    /// Keeps what was written since the mark, and clears the mark. The cost is proportional to the
-    /// blocks that were written since the mark.
+    /// Gives up the mark, which must be set: it is cleared, and what was written since it stays.
+    /// The cost is proportional to the blocks that were written since the mark.
     pub fn commit(&mut self)
         requires { IsSome self.old.mark }
         ensures { Commits self.old self.new }

@@ -106,7 +106,8 @@ impl Pool {
         BlockId { number }
     }
 
-    /// Takes a spare block and fills it with zero bytes. It allocates no memory.
+    /// Takes a spare block, of which there must be one (`reserve`), and fills it with zero bytes.
+    /// It allocates no memory.
     pub fn take(&mut self) -> BlockId
         requires { 0 < self.old.spare }
         ensures fresh { held self.old result.number ≡ None }

@@ -12,7 +12,8 @@ use wasm_bytes::{Items, NoMemory};
 use wasm_valid::Valid;
 
 /// Marks exactly those nodes of the graph, and those exports, imports, functions and globals of the
-/// module, that a path from a root meets.
+/// module, that a path from a root meets. The graph must have fewer than 2^32 nodes. The only error
+/// is `NoMemory`.
 ///
 /// The roots are the root nodes of the graph, the start function, the imports of tables and
 /// memories, and the functions and globals that the offsets and items of active and passive

@@ -36,15 +36,16 @@ fn renumbered(alloc: Global, from: Module, marks: &Reached) -> Result<Module, No
     Ok(tree)
 }
 
-/// Removes from a module what is not marked.
+/// Removes from a module what is not marked. What is marked must name only what is marked
+/// (`closed`), so that the result is valid.
 ///
 /// Functions, globals, imports and exports that are not marked are left out, the others keep their
 /// order, and each index becomes the one in what is left. Types, tables, memories and segments
 /// stay, but a declarative segment keeps only the items that are `ref.func` of a kept function.
 /// Functions that `ref.func` names in a body and that nothing else declares any more are declared
 /// in one more element segment, the last (WebAssembly Core 2.0, sections 2.5 and 3.4.10). What is
-/// marked has to name only what is marked (`closed`), so that the module is valid. Nothing is
-/// copied: what is kept is moved, and its indices are replaced in place.
+/// kept is moved, and its indices are replaced in place; only the items that a declarative segment
+/// keeps are copied.
 ///
 /// The result is observationally equivalent, step by step, to the whole module with a view of only
 /// the kept exports, in every environment that links the latter (`behaves`).

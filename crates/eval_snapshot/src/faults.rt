@@ -7,9 +7,9 @@ use wasm_tree::Which;
 /// Why no snapshot was made.
 #[derive(Drop)]
 pub enum SnapshotFault {
-    /// The module would have more of something than a module may have.
+    /// A count of the snapshot is above its limit; `which` is the first such count.
     TooMany { which: Which },
-    /// Memory ran out.
+    /// Memory ran out, which says nothing about the snapshot.
     NoMemory,
 }
 

@@ -86,6 +86,10 @@ fn tree_after(
 /// constructors left in `machine`. If no constructor was evaluated, it is `input` unchanged, with
 /// its start.
 ///
+/// `machine` must have been booted with `input`, and then have run the constructors that
+/// `evaluated` names by their exports, these and no others, in this order, each to its end (`fits`,
+/// `after`). A constructor that was stopped was taken back and does not count.
+///
 /// Each defined global is initialised with its value; if the value is unknown, the global keeps its
 /// initialiser. The contents of the memory that the module defines become active data segments, in
 /// which fewer than 256 zero bytes are in a row. If a body has `memory.init` or `data.drop`, the
@@ -97,10 +101,15 @@ fn tree_after(
 /// are declared by an additional element segment, the last one (WebAssembly Core 2.0, sections 2.5
 /// and 3.4.10).
 ///
+/// In each environment that links `input`, the snapshot is observationally equivalent, step by
+/// step, to `input` after these constructors (`behaves`). The premise (`BeginsInRange`) is that the
+/// tables that `input` defines have fewer than 2^32 slots at first and that its data segments hold
+/// bytes, as in every module that was read from a file.
+///
 /// If memory runs out, the error is `NoMemory`, which says nothing about the snapshot. Otherwise
 /// the error is `TooMany` exactly if a count of the snapshot is above its limit; it has the first
 /// such count in the order types, imports, functions, tables, memories, globals, exports, element
-/// segments, data segments.
+/// segments, data segments. The call consumes `input`, also if it fails.
 pub fn snapshot(
     alloc: Global,
     input: Valid,

@@ -17,7 +17,10 @@ pub enum Stop {
     Trap,
     /// The constructor has a parameter or a result.
     Signature,
-    /// Too few turns are left.
+    /// The turns run out: fewer are left than the next instruction takes, or than the call of the
+    /// start or of a constructor takes. An instruction takes one turn, and one more for each 64
+    /// bytes that `memory.fill`, `memory.copy` or `memory.init` writes. Opening the frame of a
+    /// function takes one for each 64 locals that it declares.
     Steps,
     /// One more frame or label would be open than may be.
     Depth,

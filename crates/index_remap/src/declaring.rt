@@ -109,8 +109,8 @@ fn mark_offsets(marks: &mut Vec<bool>, elems: &[ElemSeg])
     }
 }
 
-// Returns, for each function, whether an element segment, an initialiser of a global or an export
-// names it.
+// Returns, for each function, whether an item or the offset of an element segment, an initialiser
+// of a global or an export names it.
 fn named_outside(alloc: Global, module: &Module, count: usize) -> Result<Vec<bool>, AllocError>
     requires { count ≡ length (funcs_of «module».now) }
     ensures { IfOk result (λ marks. marks.items ≡ named_from (outside_refs «module».now) 0 count) }
@@ -155,9 +155,13 @@ fn undeclared(alloc: Global, module: &Module) -> Result<Items<ConstExpr>, NoMemo
 }
 
 /// Appends one declarative element segment with the functions that `ref.func` names in a body and
-/// that no element segment, initialiser of a global or export names, in ascending order
-/// (WebAssembly Core 2.0, section 3.4.10). If there are no such functions, the module stays as it
-/// was. If memory runs out, the call returns `NoMemory`, and the module is as it was.
+/// that nothing else declares: no item and no offset of an element segment, no initialiser of a
+/// global and no export names them. They are in ascending order (WebAssembly Core 2.0, section
+/// 3.4.10; in a valid module no offset names a function). If there are no such functions, the
+/// module stays as it was.
+///
+/// The module must have fewer than 2^32 functions, with the imported ones. The only error is
+/// `NoMemory`, and then the module is as it was.
 pub fn declare_refs(alloc: Global, module: &mut Module) -> Result<(), NoMemory>
     requires { length (funcs_of «module».old) < 2 ^ 32 }
     ensures ok { OnOk result («module».new ≡ declared «module».old) }

@@ -1,4 +1,4 @@
--- Lists: places that are there, and tests of all of them.
+-- Places that renumbering keeps, what a test guards, and the marks of numbers that a list has.
 use Rattle.base_lists.proofs.Common.{◌≡◌, ℕ, zero, suc, ◌+◌, ◌<◌, ◌≤◌, Bool, true, false, List, length, Option, Some, refl, sym, ap, ◌∙◌, arith, add-zero, slice_get, lt-ltb, slice_get_within, slice_get_there}
 use Rattle.base_lists.specs.Members.{is_among}
 use Rattle.wasm_valid_bodies.specs.Typing.{only}

@@ -21,6 +21,10 @@ use world_sequential_proof::sequential_instantiation_equivalent;
 
 /// Joins linked parts into one module.
 ///
+/// `links` must be what `merge_link::resolve` returned for `parts` (`links`, `linked`). There must
+/// be fewer than 2^32 parts, and for each index space fewer than 2^32 imports and definitions in
+/// all parts together, with one function more for the starts (`few`).
+///
 /// The types of the module are the distinct types of the parts, its imports are the staying
 /// imports, and its functions, tables, memories, globals and segments are those that the parts
 /// define, part by part. Each index is the one in the merged index spaces, and a constant

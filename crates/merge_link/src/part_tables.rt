@@ -21,7 +21,8 @@ pub struct Entity {
     pub what: ExportDesc,
 }
 
-/// Where following an import ends: an entity that its part defines, or an import that stays.
+/// What becomes a `merge_spec::End` when the links are complete. Here an entity has its kind too,
+/// by which it is compared with what the import asks for.
 #[derive(Clone, Copy, Drop)]
 pub enum Ending {
     Defined(Entity),

@@ -121,13 +121,19 @@ impl<'a> PartTables<'a> {
 }
 
 /// Links parts by name: finds where each import ends, which limits it keeps, and what is read
-/// through it.
+/// through it (WebAssembly Core 2.0, sections 3.2.8 and 4.5.4).
+///
+/// No two parts may have the same name. There must be fewer than 2^32 parts, fewer than 2^32
+/// imports in all parts together, and fewer than 2^32 globals that the parts define.
 ///
 /// An import whose module is a part's name is joined with that part's export of its field's name,
 /// if there is one, and stays otherwise. If the export is itself an import, that one is followed in
-/// turn. Fails with the first fault in this order: `ImportMismatch` or `ImportCycle`, part by part,
-/// in the order of the imports; `LimitsClash`; `TooManyMemories`; `GlobalCycle`. `NoMemory` means
-/// that memory ran out and says nothing about the parts.
+/// turn.
+///
+/// Fails with the first fault in this order: `ImportMismatch` or `ImportCycle`, part by part, in
+/// the order of the imports; `LimitsClash`, in the same order; `TooManyMemories`; `GlobalCycle`,
+/// part by part, in the order of the defined globals. `NoMemory` means that memory ran out and says
+/// nothing about the parts.
 pub fn resolve(alloc: Global, parts: &Items<Part>) -> Result<Links, LinkFault>
     requires names { HaveDistinctNames parts.now }
     requires parts { length parts.now < 2 ^ 32 }

@@ -3,8 +3,8 @@
 use wasm_bytes::Items;
 use wasm_tree::{ConstExpr, Limits};
 
-/// Where following an import ends: an entity that a part defines, with its index in that part's
-/// index space, or a staying import, which may be the import itself.
+/// Where following an import ends, as `Links` has it: an entity that a part defines, with its index
+/// in the index space of the import's kind, or a staying import, which may be the import itself.
 #[derive(Clone, Copy, Drop)]
 pub enum End {
     Defined { part: u32, index: u32 },

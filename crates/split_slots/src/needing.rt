@@ -56,8 +56,8 @@ fn marked_among(alloc: Global, funcs: &[u32], marks: &[bool]) -> Result<Items<u3
 ///
 /// These are the functions of `plan.moved` that an export, the start, an item of an element
 /// segment, the initialiser of a global, or a `ref.func` in any body of `input` names (WebAssembly
-/// Core 2.0, section 2.5). Nothing but a call names any other moved function. The only error is
-/// `NoMemory`.
+/// Core 2.0, section 2.5). Nothing but a call names any other moved function. `plan` must be a plan
+/// of `input`, as `split_plan::plan` returns it. The only error is `NoMemory`.
 pub fn needed(alloc: Global, input: &Valid, plan: &Plan) -> Result<Items<u32>, NoMemory>
     requires plan { IsPlan input.now plan.now }
     ensures needed { IfOk result (λ all. all ≡ needed_among input.now plan.now.moved) }

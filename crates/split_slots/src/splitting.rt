@@ -170,7 +170,8 @@ fn pair_of(
     finish_both(alloc, drafts)
 }
 
-/// Splits a module by a plan into a primary and a secondary module.
+/// Splits a module by a plan into a primary and a secondary module. `plan` must be a plan of
+/// `input`, as `split_plan::plan` returns it.
 ///
 /// The slot of a function in `plan.moved` is its place in that list. The primary module keeps
 /// everything else, calls the moved functions through their slots, and has a trampoline for each
@@ -187,12 +188,17 @@ fn pair_of(
 /// module, that module links and none of its segments traps (`loads`).
 ///
 /// The error is the first of these faults, and there is an error exactly if there is such a fault,
-/// unless memory runs out (`fault`, `first`, `none`): `NamespaceTaken`, if an import of `input` has
-/// the placeholder namespace; `PrefixTaken`, if an export of `input` has the name of an added
-/// export; `TooMany`, if the moved functions have more parameters together than the limit on
-/// trampolines, or a count of the primary module is above its limit, or one of the secondary
-/// module. `NoMemory` means that memory ran out, and says nothing of `input`. `input` is consumed
-/// in each case.
+/// unless memory runs out (`fault`, `first`, `none`):
+///
+/// - `NamespaceTaken`, if an import of `input` has the placeholder namespace;
+/// - `PrefixTaken`, if an export of `input` has the name of an added export;
+/// - `TooMany`, if the moved functions have more parameters together than the limit on trampolines,
+///   or else a count of the primary module is above its limit, or else one of the secondary module.
+///   The counts of each module are tested in the order types, imports, functions, tables, memories,
+///   globals, exports, element segments, data segments.
+///
+/// `NoMemory` means that memory ran out, and says nothing of `input`. `input` is consumed in each
+/// case.
 pub fn split(
     alloc: Global,
     input: Valid,

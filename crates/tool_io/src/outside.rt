@@ -1,4 +1,4 @@
-// Files and sinks, by what they hold, if that is known, and by how often they have failed.
+// Files and sinks: what they hold, if they tell contracts, and how often they have failed.
 ghost use Rattle.std.specs.Prelude.{◌≡◌, ◌≤◌, ℕ, List, ◌++◌, Option, Some, IfOk, IfSome, OnOk, IsErrOf};
 ghost use Rattle.std.specs.FinMap.{insert};
 ghost use Rattle.tool_io.specs.FilesAndSinks.{Contents, Rose, NoneFell, Becomes, first_bytes, IsUnchangedOrCut, AppendsPrefix};
@@ -10,14 +10,16 @@ use std::alloc::Global;
 pub enum IoFault {
     /// The file or the stream failed, and the call raised its count of faults.
     Failed,
-    /// Memory ran out.
+    /// Memory ran out. After `read` or `write` the files are as before. After `put` the sink may
+    /// have gained a prefix of the piece.
     NoMemory,
 }
 
-/// A map from names to bytes, whose contents may be known. For each name it has a count of the
-/// faults of reading and one of writing. No call lowers a count.
+/// A map from names to bytes. An implementation may tell contracts its contents (`Some`) or not
+/// (`None`); no call changes this. For each name it has a count of the faults of reading and one of
+/// writing. No call lowers a count.
 pub trait Files {
-    /// The bytes of each name, if they are known.
+    /// The bytes of each name, if the implementation tells them.
     ghost contents: { Self → Option Contents };
 
     /// How often reading a name has failed.
@@ -26,7 +28,8 @@ pub trait Files {
     /// How often writing a name has failed.
     ghost write_faults: { Self → List ℕ → ℕ };
 
-    /// Returns the first `most` bytes of a file. Fails if the name is missing. It changes no file.
+    /// Returns the first `most` bytes of a file, or all of them if it has fewer. Fails if the name
+    /// is missing. It changes no file.
     fn read(&mut self, alloc: Global, name: &str, most: usize) -> Result<Vec<u8>, IoFault>
         ensures stays { contents self.new ≡ contents self.old }
         ensures bytes { IfOk result (λ v. IfSome (contents self.old) (λ files. first_bytes files name.now most ≡ Some v.items)) }
@@ -45,9 +48,10 @@ pub trait Files {
         ensures cause { IsErrOf result IoFault.Failed → Rose (write_faults self.old name.now) (write_faults self.new name.now) };
 }
 
-/// Bytes that only grow, and that may be known. It counts its faults, and no call lowers the count.
+/// Bytes that only grow. An implementation may tell contracts its bytes (`Some`) or not (`None`);
+/// no call changes this. It counts its faults, and no call lowers the count.
 pub trait Sink {
-    /// The bytes so far, if they are known.
+    /// The bytes so far, if the implementation tells them.
     ghost bytes: { Self → Option (List ℕ) };
 
     /// How often a `put` has failed.

@@ -25,7 +25,8 @@ pub(crate) fn sample_lines(
 ) -> Result<Vec<u8>, NoMemory>
     ensures { IfOk result (λ lines. lines.items ≡ sample_lines (sample_value sample.now) tree.now) }
 {
-    // the bytes are written to be counted: the writer has no other count of them
+    // the module is encoded to count its bytes: of the number, wasm_write only says whether it is
+    // at most another one (`fits`)
     let bytes = write(alloc, tree)?;
     let mut lines = String::new(alloc);
     add(&mut lines, "sample seed ", sample.seed as usize)?;

@@ -17,11 +17,12 @@ pub enum Status {
     Done,
     /// The input is refused. The line on standard error says why.
     Refused,
-    /// The arguments ask for no task.
+    /// The command line is invalid. The line on standard error is the usage line.
     Usage,
-    /// A file or a standard stream failed.
+    /// A file or a standard stream failed. Some outputs may be written, and the next one in part
+    /// (see `run`).
     Outside,
-    /// Memory ran out.
+    /// Memory ran out. Outputs may be written as after `Outside`.
     NoMemory,
 }
 

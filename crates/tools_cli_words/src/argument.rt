@@ -27,7 +27,8 @@ fn is_one_of(words: &[&str], word: &str) -> bool
 /// The output option of each command that has one output.
 pub(crate) const OUTPUT_OPTION: &str = "--output";
 
-/// Returns the long name of the option `-o`, and any other argument as it is.
+/// Returns `--output` for the option `-o`, and any other argument as it is. It keeps the hyphens;
+/// `long_name` of the module `command` takes them away.
 pub(crate) fn long_name(word: &str) -> &str
     ensures { result.now ≡ long_name word.now }
 {

@@ -9,7 +9,7 @@ use std::alloc::{AllocError, Global};
 /// The id of the positional arguments.
 pub(crate) const PLAIN: &str = "words";
 
-// The name of an option or a flag, without its hyphens.
+// The name of an option or a flag without its two hyphens, as `Arg::long` takes it.
 fn long_name<'a>(word: &'a str) -> &'a str
     ensures { result.now ≡ long_of_option word.now }
 {

@@ -2,7 +2,7 @@ ghost use Rattle.std.specs.Prelude.{◌≡◌};
 ghost use Rattle.tools_cli_words.specs.Vocabularies.{vocabulary_of};
 ghost use Rattle.tools_cli_words.specs.Meaning.{names_of};
 
-/// A tool of the program.
+/// One of the five commands of the program.
 #[derive(Clone, Copy, Debug, PartialEq, Eq)]
 pub enum Tool {
     Merge,

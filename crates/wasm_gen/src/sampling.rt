@@ -11,6 +11,7 @@ use wasm_bytes::NoMemory;
 use wasm_valid::{Valid, valid_where_items_hold};
 
 /// Makes two valid modules from numbers that a linear congruential generator draws from `seed`.
+/// `seed` must be below 2^31, and `count` from 1 to 100,000.
 ///
 /// All functions take and return an i32. The first module exports `count` functions as `f0`, `f1`
 /// and so on. Each combines its parameter and a drawn number by `i32.add`, `i32.xor` or `i32.mul`;

@@ -127,13 +127,21 @@ fn read_file(alloc: Global, bytes: &[u8], many: bool) -> Result<Module, ReadFaul
 }
 
 /// Reads the tree that a module file encodes (WebAssembly Core 2.0, chapter 5), within the limits
-/// on counts, nesting and locals.
+/// on counts, nesting and locals. The file must have fewer than 2^32 bytes.
 ///
 /// Unless memory runs out, the result is the tree exactly if the bytes encode one within the
-/// limits. Otherwise the error is the first fault of the file: `NotModule`, then the first bad
-/// frame, then the first fault in the contents of the sections, in the order of the file, and last
-/// a broken rule on the whole file. The tree is bounded, so that a u32 names each of its entries,
-/// and its bodies name no memory except memory 0.
+/// limits. Otherwise the error is the first fault of the file, in this order:
+///
+/// - `NotModule`, if the bytes do not begin with the header;
+/// - `Malformed`, for the first section whose frame is bad (its id, its place among the sections or
+///   its size), whatever the sections contain;
+/// - the first fault in the contents of the sections, in the order of the file;
+/// - `Malformed`, with the number of all sections, if the function and the code section have
+///   different lengths, if the data count is not the number of data segments, or if there is no
+///   data count although a body names a data segment (section 5.5.16).
+///
+/// `NoMemory` means that memory ran out and says nothing about the bytes. The tree is bounded, so
+/// that a u32 names each of its entries, and its bodies name no memory except memory 0.
 pub fn read(alloc: Global, bytes: &[u8]) -> Result<Module, ReadFault>
     requires { length bytes.now < 2 ^ 32 }
     ensures found { IfOk result (λ m. Spells bytes.now m false × Within bytes.now false) }

@@ -25,7 +25,10 @@ pub enum ReadFault {
     /// The first eight bytes are not the header (WebAssembly Core 2.0, section 5.5.16).
     NotModule,
     /// A section or its frame is malformed. Sections are counted from 0, with the custom ones. If
-    /// `section` is the number of all frames, a rule on the whole file is broken.
+    /// `section` is the number of all sections, each is well formed, but they do not fit together:
+    /// the function and the code section have different lengths, the data count is not the number
+    /// of data segments, or there is no data count although a body names a data segment (section
+    /// 5.5.16).
     Malformed { section: u32 },
     /// A code entry is malformed. Functions are counted from 0, with the imported ones.
     MalformedBody { func: u32 },

@@ -16,7 +16,8 @@ pub const MOST_IMPORTS: u32 = 1_000_000;
 pub const MOST_FUNCTIONS: u32 = 1_000_000;
 /// The limit on the tables that a module defines.
 pub const MOST_TABLES: u32 = 10_000;
-/// The limit on the memories that a module defines.
+/// The limit on the memories that a module defines. It is what `read` of wasm_read tests;
+/// `validate` of wasm_valid is stricter and accepts at most one memory.
 pub const MOST_MEMORIES: u32 = 10_000;
 /// The limit on the globals that a module defines.
 pub const MOST_GLOBALS: u32 = 1_000_000;
@@ -36,7 +37,7 @@ pub const MOST_PARAMETERS: u32 = 1_000;
 pub const MOST_RESULTS: u32 = 1_000;
 /// The limit on the sum of the numbers of parameters of all functions that one split moves.
 pub const MOST_TRAMPOLINES: u32 = 4_000_000;
-/// The limit on the bytes of one output, without a name section.
+/// The limit on the bytes of one output.
 pub const MOST_OUTPUT_BYTES: u32 = 268_435_456;
 
 /// A quantity that has a limit. The limit of a quantity of a module holds for input files and for

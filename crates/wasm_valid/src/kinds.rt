@@ -6,15 +6,18 @@ pub enum ItemKind {
     Import,
     /// The number of memories.
     Memories,
+    /// The type index of a function that the module defines.
     Func,
     Table,
     Memory,
     Global,
     Export,
     Start,
+    /// An element segment.
     Elem,
     /// A data segment.
     Segment,
+    /// The body of a function that the module defines.
     Body,
 }
 

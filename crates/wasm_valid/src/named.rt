@@ -8,7 +8,7 @@ ghost use Rattle.wasm_valid.specs.Named.{const_func, export_func, elem_refs, glo
 use std::alloc::{AllocError, Global};
 use wasm_tree::{ConstExpr, ElemSeg, Export, ExportDesc, GlobalDef, Module};
 
-/// Marks the function, if there is a mark for it.
+/// Sets the mark of the function `func` to true. If `marks` has no entry for it, nothing changes.
 pub fn mark(marks: &mut Vec<bool>, func: u32)
     ensures { marks.new.items ≡ slice_set marks.old.items func true }
 {
@@ -17,7 +17,8 @@ pub fn mark(marks: &mut Vec<bool>, func: u32)
     }
 }
 
-/// Marks the function that the expression names, if it names one.
+/// Marks the function that the constant expression names (`ref.func`), if it names one, as `mark`
+/// does.
 pub fn mark_const(marks: &mut Vec<bool>, expr: &ConstExpr)
     ensures { marks.new.items ≡ marked_at marks.old.items (const_func expr.now) }
 {
@@ -72,8 +73,12 @@ fn no_marks(alloc: Global, count: usize) -> Result<Vec<bool>, AllocError>
     vec![in alloc; false; count]
 }
 
-/// Returns for each of the `count` functions whether an element segment, an initialiser of a global
-/// or an export names it.
+/// Returns for each function whether an item of an element segment, an initialiser of a global or
+/// an export names it. `count` must be the number of functions of the module, with the imported
+/// ones. The only error is that memory runs out.
+///
+/// These are the functions that `ref.func` may name in a body (WebAssembly Core 2.0, section
+/// 3.4.10). Offsets of segments are not looked at: in a valid module no offset names a function.
 pub fn named_funcs(alloc: Global, module: &Module, count: usize) -> Result<Vec<bool>, AllocError>
     requires { count ≡ length (funcs_of «module».now) }
     ensures { IfOk result (λ marks. marks.items ≡ named_of «module».now) }

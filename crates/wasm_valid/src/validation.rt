@@ -34,17 +34,18 @@ impl Model for Valid {
     ghost invariant = { λ v. IsValid v.module × IsBounded v.module };
 }
 
-/// Why `validate` rejected a module: its first invalid item, or memory ran out. Both variants hand
-/// the same module back.
+/// Why `validate` rejected a module. Both variants hand the module back unchanged.
 #[derive(Drop)]
 pub enum Rejected {
+    /// The module, and its first invalid item in the order of `ItemKind`.
     Invalid(Module, Invalid),
+    /// Memory ran out. This says nothing about the module.
     NoMemory(Module),
 }
 
-/// Validates a module (WebAssembly Core 2.0, section 3.4). It is accepted exactly if it is valid
-/// and has at most one memory, unless memory runs out. Otherwise the error has the first invalid
-/// item. Each error hands the module back unchanged.
+/// Validates a module (WebAssembly Core 2.0, section 3.4), which must be bounded (see `Valid`). It
+/// is accepted exactly if it is valid and has at most one memory, unless memory runs out. Otherwise
+/// the error has the first invalid item. Each error hands the module back unchanged.
 pub fn validate(alloc: Global, module: Module) -> Result<Valid, Rejected>
     requires { IsBounded «module» }
     ensures same { IfOk result (λ valid. valid ≡ «module») }
@@ -61,7 +62,8 @@ pub fn validate(alloc: Global, module: Module) -> Result<Valid, Rejected>
 }
 
 impl Valid {
-    /// Wraps a module that is already valid, without testing it.
+    /// Wraps a module without testing it. The module must be valid and bounded; it may have several
+    /// memories.
     pub fn known(module: Module) -> Valid
         requires valid { IsValid «module» }
         requires bounded { IsBounded «module» }

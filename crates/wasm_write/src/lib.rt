@@ -29,7 +29,8 @@ use wasm_write_proof::canonical_encoding_encodes;
 
 /// Returns the canonical encoding of the module (WebAssembly Core 2.0, section 5.5.16), or
 /// `NoMemory`. It has no empty and no custom section, each number has its shortest encoding, and
-/// there is a data count exactly if a body has `memory.init` or `data.drop`.
+/// there is a data count exactly if a body has `memory.init` or `data.drop`. The recursion is as
+/// deep as the blocks of a body are nested.
 ///
 /// If each vector and each encoded size is below 2^32, and no body names a memory except memory 0,
 /// the bytes encode the module. If also the counts, the nesting and the locals of the module are
@@ -47,7 +48,7 @@ pub fn write(alloc: Global, module: &Module) -> Result<Vec<u8>, NoMemory>
 }
 
 /// Returns whether the canonical encoding of the module has at most `most` bytes. The call
-/// allocates nothing.
+/// allocates nothing. Its recursion is as deep as that of `write`.
 pub fn fits(module: &Module, most: u32) -> bool
     ensures { IsTrue result ↔ (length (plain «module».now) ≤ most) }
 {
