@@ -1,27 +1,30 @@
 // Modules that are cut, or of which one size or count is changed.
-use crate::given::{A, GIVES, module_of, run_line};
+use crate::given::{A, GIVES, Ran, merge_one, module_of};
 use std::alloc::Global;
 use std::test::Fail;
-use tool_io::MemFiles;
-use tools_cli::Status;
+
+// Expects the refusal with this text or, if the text is empty, these bytes as output.
+fn unlike_output(alloc: Global, ran: &Ran, bytes: &[u8], text: &str) -> Result<&'static str, Fail> {
+    if text.is_empty() {
+        return Ok(ran.unlike_written("o.wasm", bytes, ""));
+    }
+    let told = format!(in alloc; "binkit: a.wasm: {text}\n")?;
+    Ok(ran.unlike_refused(told.as_str(), "o.wasm"))
+}
+
+// The same; also expects a.wasm, which has these bytes, to be unchanged.
+fn unlike_ran(alloc: Global, ran: &Ran, bytes: &[u8], text: &str) -> Result<&'static str, Fail> {
+    if !ran.has("a.wasm", bytes) {
+        return Ok("the input");
+    }
+    unlike_output(alloc, ran, bytes, text)
+}
 
 // Merges the bytes alone, as a.wasm. Expects the refusal with this text or, if the text is empty,
 // the same bytes as output; a.wasm must be unchanged.
 fn unlike_told(alloc: Global, bytes: &[u8], text: &str) -> Result<&'static str, Fail> {
-    let mut files = MemFiles::new(alloc);
-    files.add("a.wasm", bytes)?;
-    let ran = run_line(alloc, files, "merge a.wasm a -o o.wasm")?;
-    if !ran.has("a.wasm", bytes) {
-        return Ok("the input");
-    }
-    if !text.is_empty() {
-        let told = format!(in alloc; "binkit: a.wasm: {text}\n")?;
-        return Ok(ran.unlike_refused(told.as_str(), "o.wasm"));
-    }
-    if !ran.has("o.wasm", bytes) {
-        return Ok("the output");
-    }
-    Ok(ran.unlike(Status::Done, "", ""))
+    let ran = merge_one(alloc, bytes)?;
+    unlike_ran(alloc, &ran, bytes, text)
 }
 
 // The refusals of the first n bytes of the 34 bytes of A, from n = 0 on: each text for this many
@@ -37,19 +40,36 @@ const CUTS: [(usize, &str); 8] = [
     (1, ""),
 ];
 
-#[test]
-fn a_module_that_is_cut_is_written_where_a_section_ends(rt: HostRuntime) -> Result<(), Fail> {
-    let alloc = rt.alloc();
-    let mut bytes = Vec::new(alloc);
-    for (counts, text) in CUTS {
-        for _ in 0..counts {
-            assert_eq!(rt; unlike_told(alloc, bytes.as_slice(), text)?, "", "{text}");
-            if let Some(byte) = A.get(bytes.len()) {
-                bytes.push(*byte)?;
-            }
+// The text for the first `count` bytes, or none if `count` is too large.
+fn text_of(count: usize) -> Option<&'static str> {
+    let mut end = 0_usize;
+    for (counts, text) in &CUTS {
+        end = end.saturating_add(*counts);
+        if count < end {
+            return Some(*text);
         }
     }
-    assert_eq!(rt; bytes.as_slice(), A.as_slice());
+    None
+}
+
+// Names the text.
+fn first_unlike_cut(alloc: Global) -> Result<(&'static str, &'static str), Fail> {
+    for count in 0..=A.len() {
+        let Some(text) = text_of(count) else {
+            return Ok(("", "the number of the texts"));
+        };
+        let unlike = unlike_told(alloc, &A[..count], text)?;
+        if !unlike.is_empty() {
+            return Ok((text, unlike));
+        }
+    }
+    Ok(("", ""))
+}
+
+#[test]
+fn a_module_that_is_cut_is_written_where_a_section_ends(rt: HostRuntime) -> Result<(), Fail> {
+    assert_eq!(rt; first_unlike_cut(rt.alloc())?, ("", ""));
+    assert_eq!(rt; text_of(A.len() + 1), None);
     Ok(())
 }
 
@@ -79,12 +99,24 @@ const CHANGES: [(&str, &str); 6] = [
     (GIVES, ""),
 ];
 
+fn unlike_changed(alloc: Global, sections: &str, text: &str) -> Result<&'static str, Fail> {
+    let bytes = module_of(alloc, sections)?;
+    unlike_told(alloc, bytes.as_slice(), text)
+}
+
+// Names the sections.
+fn first_unlike_changed(alloc: Global) -> Result<(&'static str, &'static str), Fail> {
+    for (sections, text) in &CHANGES {
+        let unlike = unlike_changed(alloc, sections, text)?;
+        if !unlike.is_empty() {
+            return Ok((*sections, unlike));
+        }
+    }
+    Ok(("", ""))
+}
+
 #[test]
 fn a_module_with_a_changed_size_or_count_is_refused(rt: HostRuntime) -> Result<(), Fail> {
-    let alloc = rt.alloc();
-    for (sections, text) in CHANGES {
-        let bytes = module_of(alloc, sections)?;
-        assert_eq!(rt; unlike_told(alloc, bytes.as_slice(), text)?, "", "{text}");
-    }
+    assert_eq!(rt; first_unlike_changed(rt.alloc())?, ("", ""));
     Ok(())
 }

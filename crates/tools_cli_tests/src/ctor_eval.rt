@@ -1,9 +1,11 @@
 // Tests of `ctor-eval`.
-use crate::given::{CUT, HEADER, LINKED, Ran, module_of, run_line, words_of};
+use crate::given::{
+    CUT, HEADER, LINKED, Ran, failing_files, run_line, run_line_failing, with_file, with_module,
+};
 use std::alloc::Global;
 use std::test::Fail;
-use tool_io::{MemFiles, MemSink};
-use tools_cli::{Status, run};
+use tool_io::MemFiles;
+use tools_cli::Status;
 
 // Three constructors: a stores 42 at 1024, b calls the import env.f, and c does nothing.
 const THREE: &str =
@@ -76,13 +78,15 @@ const ONE: &str = "evaluated a\n";
 
 const STOPPED_AT_B: &str = "evaluated a\nstopped at b: import\n";
 
+// The file m.wasm, of these sections.
+fn file_of(alloc: Global, module: &str) -> Result<MemFiles, Fail> {
+    with_module(alloc, MemFiles::new(alloc), "m.wasm", module)
+}
+
 // Evaluates the module m.wasm into o.wasm with these arguments.
 fn evaluate_by(alloc: Global, module: &str, words: &str) -> Result<Ran, Fail> {
-    let module = module_of(alloc, module)?;
-    let mut files = MemFiles::new(alloc);
-    files.add("m.wasm", module.as_slice())?;
     let line = format!(in alloc; "ctor-eval m.wasm {words} -o o.wasm")?;
-    run_line(alloc, files, line.as_str())
+    run_line(alloc, file_of(alloc, module)?, line.as_str())
 }
 
 // Expects the evaluation of a module with these arguments to print these lines and to write this
@@ -98,51 +102,64 @@ fn unlike_evaluated(
     ran.unlike_done(alloc, lines, "o.wasm", after)
 }
 
+const BOTH: &str = "evaluated a\nevaluated c\n";
+
+// Modules, arguments, and what each prints and writes.
+const EVALUATED: [(&str, &str, &str, &str); 11] = [
+    (THREE, "--ctors=a,b,c", STOPPED_AT_B, THREE_AFTER),
+    (
+        THREE,
+        "--ctors a,b,c --kept-exports=a",
+        STOPPED_AT_B,
+        THREE_KEPT,
+    ),
+    (
+        THREE,
+        "--kept-exports c,c,x --ctors=a,b,c",
+        STOPPED_AT_B,
+        THREE_AFTER,
+    ),
+    (
+        THREE,
+        "--ctors=a,c --kept-exports=c,a",
+        BOTH,
+        THREE_BOTH_KEPT,
+    ),
+    (
+        LINKED,
+        "--ctors=__wasm_call_ctors",
+        "evaluated __wasm_call_ctors\n",
+        LINKED_AFTER,
+    ),
+    (ZEROS, "--ctors=a", ONE, ZEROS_AFTER),
+    (LAST_BYTE, "--ctors=a", ONE, LAST_BYTE_AFTER),
+    (GLOBALS, "--ctors=a", ONE, GLOBALS_AFTER),
+    (SEGMENTS, "--ctors=a", ONE, SEGMENTS_AFTER),
+    (REFERENCES, "--ctors=a", ONE, REFERENCES_AFTER),
+    (
+        REFERENCES,
+        "--ctors=a --kept-exports=a",
+        ONE,
+        REFERENCES_KEPT,
+    ),
+];
+
+// Names the arguments and the lines.
+fn first_unlike_evaluated(
+    alloc: Global,
+) -> Result<(&'static str, &'static str, &'static str), Fail> {
+    for (module, words, lines, after) in &EVALUATED {
+        let unlike = unlike_evaluated(alloc, module, words, lines, after)?;
+        if !unlike.is_empty() {
+            return Ok((*words, *lines, unlike));
+        }
+    }
+    Ok(("", "", ""))
+}
+
 #[test]
 fn constructors_are_evaluated_until_one_is_stopped(rt: HostRuntime) -> Result<(), Fail> {
-    let alloc = rt.alloc();
-    let both = "evaluated a\nevaluated c\n";
-    for (module, words, lines, after) in [
-        (THREE, "--ctors=a,b,c", STOPPED_AT_B, THREE_AFTER),
-        (
-            THREE,
-            "--ctors a,b,c --kept-exports=a",
-            STOPPED_AT_B,
-            THREE_KEPT,
-        ),
-        (
-            THREE,
-            "--kept-exports c,c,x --ctors=a,b,c",
-            STOPPED_AT_B,
-            THREE_AFTER,
-        ),
-        (
-            THREE,
-            "--ctors=a,c --kept-exports=c,a",
-            both,
-            THREE_BOTH_KEPT,
-        ),
-        (
-            LINKED,
-            "--ctors=__wasm_call_ctors",
-            "evaluated __wasm_call_ctors\n",
-            LINKED_AFTER,
-        ),
-        (ZEROS, "--ctors=a", ONE, ZEROS_AFTER),
-        (LAST_BYTE, "--ctors=a", ONE, LAST_BYTE_AFTER),
-        (GLOBALS, "--ctors=a", ONE, GLOBALS_AFTER),
-        (SEGMENTS, "--ctors=a", ONE, SEGMENTS_AFTER),
-        (REFERENCES, "--ctors=a", ONE, REFERENCES_AFTER),
-        (
-            REFERENCES,
-            "--ctors=a --kept-exports=a",
-            ONE,
-            REFERENCES_KEPT,
-        ),
-    ] {
-        let unlike = unlike_evaluated(alloc, module, words, lines, after)?;
-        assert_eq!(rt; unlike, "", "{words}");
-    }
+    assert_eq!(rt; first_unlike_evaluated(rt.alloc())?, ("", "", ""));
     Ok(())
 }
 
@@ -206,128 +223,182 @@ const STOPPED: [(&str, &str); 11] = [
     ),
 ];
 
+// Names the line.
+fn first_unlike_stopped(alloc: Global) -> Result<(&'static str, &'static str), Fail> {
+    let words = "--ctors=a --kept-exports=a";
+    for (module, line) in &STOPPED {
+        let unlike = unlike_evaluated(alloc, module, words, line, module)?;
+        if !unlike.is_empty() {
+            return Ok((*line, unlike));
+        }
+    }
+    Ok(("", ""))
+}
+
 #[test]
 fn where_the_first_is_stopped_the_module_stays_as_it_is(rt: HostRuntime) -> Result<(), Fail> {
-    let alloc = rt.alloc();
-    for (module, line) in STOPPED {
-        let unlike = unlike_evaluated(alloc, module, "--ctors=a --kept-exports=a", line, module)?;
-        assert_eq!(rt; unlike, "", "{line}");
-    }
+    assert_eq!(rt; first_unlike_stopped(rt.alloc())?, ("", ""));
     Ok(())
+}
+
+// Modules, arguments with a name of no exported function, and the text of the refusal.
+const UNNAMED: [(&str, &str, &str); 4] = [
+    (THREE, "--ctors=zz", "binkit: no exported function zz\n"),
+    (
+        THREE,
+        "--ctors=a,yy,zz",
+        "binkit: no exported function yy\n",
+    ),
+    (THREE, "--ctors=a,", "binkit: no exported function \n"),
+    (
+        LINKED,
+        "--ctors=memory",
+        "binkit: no exported function memory\n",
+    ),
+];
+
+// Expects the refusal of these arguments with this text.
+fn unlike_unnamed(
+    alloc: Global,
+    module: &str,
+    words: &str,
+    text: &str,
+) -> Result<&'static str, Fail> {
+    let ran = evaluate_by(alloc, module, words)?;
+    Ok(ran.unlike_refused(text, "o.wasm"))
+}
+
+// Names the arguments.
+fn first_unlike_unnamed(alloc: Global) -> Result<(&'static str, &'static str), Fail> {
+    for (module, words, text) in &UNNAMED {
+        let unlike = unlike_unnamed(alloc, module, words, text)?;
+        if !unlike.is_empty() {
+            return Ok((*words, unlike));
+        }
+    }
+    Ok(("", ""))
 }
 
 #[test]
 fn a_name_of_no_exported_function_is_refused_before_anything_is_written(
     rt: HostRuntime,
 ) -> Result<(), Fail> {
-    let alloc = rt.alloc();
-    for (module, words, text) in [
-        (THREE, "--ctors=zz", "binkit: no exported function zz\n"),
-        (
-            THREE,
-            "--ctors=a,yy,zz",
-            "binkit: no exported function yy\n",
-        ),
-        (THREE, "--ctors=a,", "binkit: no exported function \n"),
-        (
-            LINKED,
-            "--ctors=memory",
-            "binkit: no exported function memory\n",
-        ),
-    ] {
-        let ran = evaluate_by(alloc, module, words)?;
-        assert_eq!(rt; ran.unlike_refused(text, "o.wasm"), "", "{words}");
-    }
+    assert_eq!(rt; first_unlike_unnamed(rt.alloc())?, ("", ""));
     Ok(())
+}
+
+// Evaluates THREE where this call of the files and this `put` on standard output fail.
+fn evaluate_failing(alloc: Global, call: u64, put: u64) -> Result<Ran, Fail> {
+    let files = failing_files(file_of(alloc, THREE)?, call)?;
+    let line = "ctor-eval --ctors=a,b,c m.wasm -o o.wasm";
+    run_line_failing(alloc, files, line, (put, 0))
+}
+
+// Expects this text on standard error, and the status `Outside`.
+fn unlike_fault(ran: &Ran, text: &str) -> &'static str {
+    if ran.err.text() != text.as_bytes() {
+        return "standard error";
+    }
+    if ran.ended != Status::Outside {
+        return "the status";
+    }
+    ""
+}
+
+// The same; if the output is complete, also expects o.wasm to hold what is left of THREE.
+fn unlike_outside_of(
+    alloc: Global,
+    ran: &Ran,
+    is_complete: bool,
+    text: &str,
+) -> Result<&'static str, Fail> {
+    if is_complete && !ran.has_module(alloc, "o.wasm", THREE_AFTER)? {
+        return Ok("the output");
+    }
+    Ok(unlike_fault(ran, text))
 }
 
 // Expects this text if this call of the files or this `put` on standard output fails. If `put` is
 // 1, o.wasm must be complete.
 fn unlike_outside(alloc: Global, call: u64, put: u64, text: &str) -> Result<&'static str, Fail> {
-    let module = module_of(alloc, THREE)?;
-    let words = words_of(alloc, "ctor-eval --ctors=a,b,c m.wasm -o o.wasm")?;
-    let mut files = MemFiles::new(alloc);
-    files.add("m.wasm", module.as_slice())?;
-    files.fail_at(call)?;
-    let mut out = MemSink::new(alloc);
-    let mut err = MemSink::new(alloc);
-    out.fail_at(put)?;
-    let ended = run(alloc, words.as_slice(), &mut files, &mut out, &mut err);
-    let after = module_of(alloc, THREE_AFTER)?;
-    if put == 1 && files.contents("o.wasm").unwrap_or(&[]) != after.as_slice() {
-        return Ok("the output");
-    }
-    if err.text() != text.as_bytes() {
-        return Ok("standard error");
-    }
-    if ended != Status::Outside {
-        return Ok("the status");
-    }
-    Ok("")
+    let ran = evaluate_failing(alloc, call, put)?;
+    unlike_outside_of(alloc, &ran, put == 1, text)
 }
 
 #[test]
 fn faults_of_its_file_and_of_standard_output_are_told(rt: HostRuntime) -> Result<(), Fail> {
     let alloc = rt.alloc();
-    for (call, put, text) in [
-        (1, 0, "binkit: cannot read m.wasm\n"),
-        (2, 0, "binkit: cannot write o.wasm\n"),
-        (0, 1, "binkit: cannot write standard output\n"),
-    ] {
-        assert_eq!(rt; unlike_outside(alloc, call, put, text)?, "", "{text}");
-    }
+    let read = unlike_outside(alloc, 1, 0, "binkit: cannot read m.wasm\n")?;
+    assert_eq!(rt; read, "");
+    let written = unlike_outside(alloc, 2, 0, "binkit: cannot write o.wasm\n")?;
+    assert_eq!(rt; written, "");
+    let printed = unlike_outside(alloc, 0, 1, "binkit: cannot write standard output\n")?;
+    assert_eq!(rt; printed, "");
     Ok(())
+}
+
+// Runs a line over two files, of which m.wasm is cut.
+fn run_over_two(alloc: Global, line: &str) -> Result<Ran, Fail> {
+    let files = with_file(MemFiles::new(alloc), "m.wasm", &CUT)?;
+    let files = with_file(files, "h.wasm", &HEADER)?;
+    run_line(alloc, files, line)
 }
 
 // Expects the refusal of a line over these two files with this text.
 fn unlike_refused(alloc: Global, line: &str, text: &str) -> Result<&'static str, Fail> {
-    let mut files = MemFiles::new(alloc);
-    files.add("m.wasm", &CUT)?;
-    files.add("h.wasm", &HEADER)?;
-    let ran = run_line(alloc, files, line)?;
+    let ran = run_over_two(alloc, line)?;
     Ok(ran.unlike_refused(text, "o.wasm"))
 }
 
 #[test]
 fn its_module_is_read_before_its_names_are_looked_up(rt: HostRuntime) -> Result<(), Fail> {
     let alloc = rt.alloc();
-    for (line, text) in [
-        (
-            "ctor-eval m.wasm --ctors=zz -o o.wasm",
-            "binkit: m.wasm: malformed section 3\n",
-        ),
-        (
-            "ctor-eval h.wasm --ctors=zz -o o.wasm",
-            "binkit: no exported function zz\n",
-        ),
-    ] {
-        assert_eq!(rt; unlike_refused(alloc, line, text)?, "", "{line}");
-    }
+    let line = "ctor-eval m.wasm --ctors=zz -o o.wasm";
+    let text = "binkit: m.wasm: malformed section 3\n";
+    assert_eq!(rt; unlike_refused(alloc, line, text)?, "");
+    let line = "ctor-eval h.wasm --ctors=zz -o o.wasm";
+    let text = "binkit: no exported function zz\n";
+    assert_eq!(rt; unlike_refused(alloc, line, text)?, "");
     Ok(())
+}
+
+// Lines that are no ctor-eval.
+const NO_EVALUATION: [&str; 14] = [
+    "ctor-eval",
+    "ctor-eval m.wasm -o o.wasm",
+    "ctor-eval m.wasm --ctors=a",
+    "ctor-eval --ctors=a -o o.wasm",
+    "ctor-eval m.wasm n.wasm --ctors=a -o o.wasm",
+    "ctor-eval m.wasm --ctors=a,b,a -o o.wasm",
+    "ctor-eval m.wasm --ctors=, -o o.wasm",
+    "ctor-eval m.wasm --ctors= -o o.wasm",
+    "ctor-eval m.wasm --ctors=a --ctors=b -o o.wasm",
+    "ctor-eval m.wasm --ctors=a --kept-exports=a --kept-exports=b -o o.wasm",
+    "ctor-eval m.wasm --ctors=a --kept-exports= -o o.wasm",
+    "ctor-eval m.wasm --ctors=a -o o.wasm --output=o.wasm",
+    "ctor-eval m.wasm --ctors=a --wide -o o.wasm",
+    "ctor-eval m.wasm --ctors a -o o.wasm --",
+];
+
+// Expects a line, over no file, to print the usage line alone.
+fn unlike_usage(alloc: Global, line: &str) -> Result<&'static str, Fail> {
+    let ran = run_line(alloc, MemFiles::new(alloc), line)?;
+    Ok(ran.unlike(Status::Usage, "", "usage: binkit ctor-eval\n"))
+}
+
+// Names the line.
+fn first_unlike_usage(alloc: Global) -> Result<(&'static str, &'static str), Fail> {
+    for line in &NO_EVALUATION {
+        let unlike = unlike_usage(alloc, line)?;
+        if !unlike.is_empty() {
+            return Ok((*line, unlike));
+        }
+    }
+    Ok(("", ""))
 }
 
 #[test]
 fn its_options_stand_anywhere_and_its_names_differ(rt: HostRuntime) -> Result<(), Fail> {
-    let alloc = rt.alloc();
-    for line in [
-        "ctor-eval",
-        "ctor-eval m.wasm -o o.wasm",
-        "ctor-eval m.wasm --ctors=a",
-        "ctor-eval --ctors=a -o o.wasm",
-        "ctor-eval m.wasm n.wasm --ctors=a -o o.wasm",
-        "ctor-eval m.wasm --ctors=a,b,a -o o.wasm",
-        "ctor-eval m.wasm --ctors=, -o o.wasm",
-        "ctor-eval m.wasm --ctors= -o o.wasm",
-        "ctor-eval m.wasm --ctors=a --ctors=b -o o.wasm",
-        "ctor-eval m.wasm --ctors=a --kept-exports=a --kept-exports=b -o o.wasm",
-        "ctor-eval m.wasm --ctors=a --kept-exports= -o o.wasm",
-        "ctor-eval m.wasm --ctors=a -o o.wasm --output=o.wasm",
-        "ctor-eval m.wasm --ctors=a --wide -o o.wasm",
-        "ctor-eval m.wasm --ctors a -o o.wasm --",
-    ] {
-        let ran = run_line(alloc, MemFiles::new(alloc), line)?;
-        let usage = "usage: binkit ctor-eval\n";
-        assert_eq!(rt; ran.unlike(Status::Usage, "", usage), "", "{line}");
-    }
+    assert_eq!(rt; first_unlike_usage(rt.alloc())?, ("", ""));
     Ok(())
 }

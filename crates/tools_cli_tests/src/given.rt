@@ -21,13 +21,23 @@ pub const CUT: [u8; 33] = [
     0x07,
 ];
 
+fn add_word(alloc: Global, words: &mut Vec<String>, word: &str) -> Result<(), Fail> {
+    let word = if word == "''" { "" } else { word };
+    words.push(String::from_str(alloc, word)?)?;
+    Ok(())
+}
+
+fn add_words(alloc: Global, words: &mut Vec<String>, line: &str) -> Result<(), Fail> {
+    for word in line.split_whitespace() {
+        add_word(alloc, words, word)?;
+    }
+    Ok(())
+}
+
 // The arguments of a line. The argument `''` is empty.
 pub fn words_of(alloc: Global, line: &str) -> Result<Vec<String>, Fail> {
     let mut words = Vec::new(alloc);
-    for word in line.split_whitespace() {
-        let word = if word == "''" { "" } else { word };
-        words.push(String::from_str(alloc, word)?)?;
-    }
+    add_words(alloc, &mut words, line)?;
     Ok(words)
 }
 
@@ -35,28 +45,104 @@ pub fn words_of(alloc: Global, line: &str) -> Result<Vec<String>, Fail> {
 // after it.
 #[derive(Drop)]
 pub struct Ran {
-    ended: Status,
-    out: MemSink,
-    err: MemSink,
+    pub ended: Status,
+    pub out: MemSink,
+    pub err: MemSink,
     pub files: MemFiles,
 }
 
-// Runs a line over the files.
-pub fn run_line(alloc: Global, mut files: MemFiles, line: &str) -> Result<Ran, Fail> {
-    let words = words_of(alloc, line)?;
-    let mut out = MemSink::new(alloc);
-    let mut err = MemSink::new(alloc);
-    let ended = run(alloc, words.as_slice(), &mut files, &mut out, &mut err);
-    Ok(Ran {
+// Runs these arguments over the files and streams.
+fn run_over(
+    alloc: Global,
+    words: &[String],
+    mut files: MemFiles,
+    mut out: MemSink,
+    mut err: MemSink,
+) -> Ran {
+    let ended = run(alloc, words, &mut files, &mut out, &mut err);
+    Ran {
         ended,
         out,
         err,
         files,
-    })
+    }
+}
+
+// Runs these arguments over the files.
+pub fn run_words(alloc: Global, words: &[String], files: MemFiles) -> Ran {
+    run_over(
+        alloc,
+        words,
+        files,
+        MemSink::new(alloc),
+        MemSink::new(alloc),
+    )
+}
+
+// Runs a line over the files.
+pub fn run_line(alloc: Global, files: MemFiles, line: &str) -> Result<Ran, Fail> {
+    let words = words_of(alloc, line)?;
+    Ok(run_words(alloc, words.as_slice(), files))
+}
+
+// A stream whose `put` of this number fails, or none if the number is 0.
+fn failing_sink(alloc: Global, put: u64) -> Result<MemSink, Fail> {
+    let mut sink = MemSink::new(alloc);
+    sink.fail_at(put)?;
+    Ok(sink)
+}
+
+// These files, of which the call of this number fails, or none if the number is 0.
+pub fn failing_files(mut files: MemFiles, call: u64) -> Result<MemFiles, Fail> {
+    files.fail_at(call)?;
+    Ok(files)
+}
+
+// Runs these arguments over the files, where the `put` of the first number on standard output and
+// that of the second on standard error fail.
+fn run_words_failing(
+    alloc: Global,
+    words: &[String],
+    files: MemFiles,
+    (out_put, err_put): (u64, u64),
+) -> Result<Ran, Fail> {
+    let out = failing_sink(alloc, out_put)?;
+    let err = failing_sink(alloc, err_put)?;
+    Ok(run_over(alloc, words, files, out, err))
+}
+
+// The same of a line.
+pub fn run_line_failing(
+    alloc: Global,
+    files: MemFiles,
+    line: &str,
+    puts: (u64, u64),
+) -> Result<Ran, Fail> {
+    let words = words_of(alloc, line)?;
+    run_words_failing(alloc, words.as_slice(), files, puts)
+}
+
+// Adds a file with these bytes.
+pub fn with_file(mut files: MemFiles, name: &str, bytes: &[u8]) -> Result<MemFiles, Fail> {
+    files.add(name, bytes)?;
+    Ok(files)
+}
+
+// Adds a file with this module.
+pub fn with_module(
+    alloc: Global,
+    files: MemFiles,
+    name: &str,
+    sections: &str,
+) -> Result<MemFiles, Fail> {
+    let bytes = module_of(alloc, sections)?;
+    with_file(files, name, bytes.as_slice())
 }
 
 // Functions whose names begin with `unlike` return the name of the first thing that is not as
-// expected, or the empty text if everything is.
+// expected, or the empty text if everything is. Those whose names begin with `first_unlike` return
+// the text of the first row of which something is not as expected, and the name of this thing; if
+// there is no such row, all their texts are empty.
 impl Ran {
     // Expects this status and these texts on standard output and on standard error.
     pub fn unlike(&self, ended: Status, out: &str, err: &str) -> &'static str {
@@ -108,6 +194,18 @@ impl Ran {
         }
         self.unlike(Status::Refused, "", text)
     }
+
+    // Expects the refusal with this text, and no file of this name; or, if the text is empty,
+    // status `Done`, nothing on the streams, and these bytes in the file.
+    pub fn unlike_written(&self, name: &str, bytes: &[u8], text: &str) -> &'static str {
+        if !text.is_empty() {
+            return self.unlike_refused(text, name);
+        }
+        if !self.has(name, bytes) {
+            return "the output";
+        }
+        self.unlike(Status::Done, "", "")
+    }
 }
 
 // Adds the bytes that a text has in hexadecimal.
@@ -133,6 +231,19 @@ pub fn zeros(alloc: Global, count: usize) -> Result<Vec<u8>, Fail> {
     Ok(bytes)
 }
 
+// Adds `count` tables of functions, each empty.
+fn add_tables(bytes: &mut Vec<u8>, count: usize) -> Result<(), Fail> {
+    for _ in 0..count {
+        add_bytes(bytes, "70 00 00")?;
+    }
+    Ok(())
+}
+
+fn add_tables_and_tail(bytes: &mut Vec<u8>, count: usize, tail: &str) -> Result<(), Fail> {
+    add_tables(bytes, count)?;
+    add_bytes(bytes, tail)
+}
+
 // A module of `count` tables of functions, each empty: `head` is the table section up to its count,
 // and `tail` the sections after it.
 pub fn module_of_tables(
@@ -142,28 +253,32 @@ pub fn module_of_tables(
     tail: &str,
 ) -> Result<Vec<u8>, Fail> {
     let mut bytes = module_of(alloc, head)?;
-    for _ in 0..count {
-        add_bytes(&mut bytes, "70 00 00")?;
-    }
-    add_bytes(&mut bytes, tail)?;
+    add_tables_and_tail(&mut bytes, count, tail)?;
     Ok(bytes)
 }
 
+// Merges a.wasm of these bytes alone into o.wasm.
+pub fn merge_one(alloc: Global, bytes: &[u8]) -> Result<Ran, Fail> {
+    let files = with_file(MemFiles::new(alloc), "a.wasm", bytes)?;
+    run_line(alloc, files, "merge a.wasm a -o o.wasm")
+}
+
+// Two files, a.wasm and b.wasm.
+pub fn two_files(alloc: Global, a: &[u8], b: &[u8]) -> Result<MemFiles, Fail> {
+    let files = with_file(MemFiles::new(alloc), "a.wasm", a)?;
+    with_file(files, "b.wasm", b)
+}
+
 // Two files, for the parts `a` and `b`.
-fn two_files(alloc: Global, a: &str, b: &str) -> Result<MemFiles, Fail> {
-    let a = module_of(alloc, a)?;
-    let b = module_of(alloc, b)?;
-    let mut files = MemFiles::new(alloc);
-    files.add("a.wasm", a.as_slice())?;
-    files.add("b.wasm", b.as_slice())?;
-    Ok(files)
+fn two_modules(alloc: Global, a: &str, b: &str) -> Result<MemFiles, Fail> {
+    let files = with_module(alloc, MemFiles::new(alloc), "a.wasm", a)?;
+    with_module(alloc, files, "b.wasm", b)
 }
 
 // Merges the parts `a` and `b` into o.wasm, with at most one flag.
 pub fn merge_two(alloc: Global, a: &str, b: &str, flag: &str) -> Result<Ran, Fail> {
-    let files = two_files(alloc, a, b)?;
     let line = format!(in alloc; "merge a.wasm a b.wasm b -o o.wasm {flag}")?;
-    run_line(alloc, files, line.as_str())
+    run_line(alloc, two_modules(alloc, a, b)?, line.as_str())
 }
 
 // One function, exported as f, that returns 7.

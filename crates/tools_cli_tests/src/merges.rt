@@ -1,8 +1,7 @@
-use crate::given::{GIVES, merge_two, module_of, module_of_tables, run_line};
+use crate::given::{GIVES, Ran, merge_two, module_of_tables, run_line, with_file, with_module};
 use std::alloc::Global;
 use std::test::Fail;
 use tool_io::MemFiles;
-use tools_cli::Status;
 
 // One function, exported as f and as f_1, that returns 7.
 const GIVES_TWICE: &str =
@@ -31,38 +30,54 @@ fn unlike_merge(
     ran.unlike_done(alloc, "", "o.wasm", merged)
 }
 
+// Two parts, a flag or none, and the merged module.
+type Merge = (&'static str, &'static str, &'static str, &'static str);
+
+// Names the two parts.
+fn first_unlike_merge(
+    alloc: Global,
+    rows: &[Merge],
+) -> Result<(&'static str, &'static str, &'static str), Fail> {
+    for (a, b, flag, merged) in rows {
+        let unlike = unlike_merge(alloc, a, b, flag, merged)?;
+        if !unlike.is_empty() {
+            return Ok((*a, *b, unlike));
+        }
+    }
+    Ok(("", "", ""))
+}
+
+const ONE_MODULE: [Merge; 5] = [
+    (GIVES, CALLS, "", BOTH),
+    (
+        GIVES,
+        GIVES,
+        "--rename-export-conflicts",
+        "01 05 01 60 00 01 7F 03 03 02 00 00 07 0B 02 01 66 00 00 03 66 5F 31 00 01 0A 0B 02 04 00 41 07 0B 04 00 41 07 0B",
+    ),
+    (
+        GIVES,
+        GIVES,
+        "--skip-export-conflicts",
+        "01 05 01 60 00 01 7F 03 03 02 00 00 07 05 01 01 66 00 00 0A 0B 02 04 00 41 07 0B 04 00 41 07 0B",
+    ),
+    (
+        GIVES,
+        GIVES_TWICE,
+        "--rename-export-conflicts",
+        "01 05 01 60 00 01 7F 03 03 02 00 00 07 11 03 01 66 00 00 03 66 5F 32 00 01 03 66 5F 31 00 01 0A 0B 02 04 00 41 07 0B 04 00 41 07 0B",
+    ),
+    (
+        STARTS,
+        STARTS,
+        "",
+        "01 04 01 60 00 00 03 04 03 00 00 00 08 01 02 0A 0E 03 02 00 0B 02 00 0B 06 00 10 00 10 01 0B",
+    ),
+];
+
 #[test]
 fn two_parts_are_merged_into_one_module(rt: HostRuntime) -> Result<(), Fail> {
-    let alloc = rt.alloc();
-    for (a, b, flag, merged) in [
-        (GIVES, CALLS, "", BOTH),
-        (
-            GIVES,
-            GIVES,
-            "--rename-export-conflicts",
-            "01 05 01 60 00 01 7F 03 03 02 00 00 07 0B 02 01 66 00 00 03 66 5F 31 00 01 0A 0B 02 04 00 41 07 0B 04 00 41 07 0B",
-        ),
-        (
-            GIVES,
-            GIVES,
-            "--skip-export-conflicts",
-            "01 05 01 60 00 01 7F 03 03 02 00 00 07 05 01 01 66 00 00 0A 0B 02 04 00 41 07 0B 04 00 41 07 0B",
-        ),
-        (
-            GIVES,
-            GIVES_TWICE,
-            "--rename-export-conflicts",
-            "01 05 01 60 00 01 7F 03 03 02 00 00 07 11 03 01 66 00 00 03 66 5F 32 00 01 03 66 5F 31 00 01 0A 0B 02 04 00 41 07 0B 04 00 41 07 0B",
-        ),
-        (
-            STARTS,
-            STARTS,
-            "",
-            "01 04 01 60 00 00 03 04 03 00 00 00 08 01 02 0A 0E 03 02 00 0B 02 00 0B 06 00 10 00 10 01 0B",
-        ),
-    ] {
-        assert_eq!(rt; unlike_merge(alloc, a, b, flag, merged)?, "", "{a} {b}");
-    }
+    assert_eq!(rt; first_unlike_merge(rt.alloc(), &ONE_MODULE)?, ("", "", ""));
     Ok(())
 }
 
@@ -76,21 +91,35 @@ const FIVE: &str = "06 06 01 7F 00 41 05 0B 07 05 01 01 78 03 00";
 
 const READS: &str = "02 08 01 01 61 01 78 03 7F 00 06 06 01 7F 00 23 00 0B";
 
+const JOINED: [Merge; 3] = [
+    (FROM_1, FROM_3_TO_5, "", FROM_3_TO_5),
+    (FROM_3_TO_5, FROM_1, "", FROM_3_TO_5),
+    (
+        FIVE,
+        READS,
+        "",
+        "06 0B 02 7F 00 41 05 0B 7F 00 41 05 0B 07 05 01 01 78 03 00",
+    ),
+];
+
 #[test]
 fn memories_and_globals_are_joined(rt: HostRuntime) -> Result<(), Fail> {
-    let alloc = rt.alloc();
-    for (a, b, merged) in [
-        (FROM_1, FROM_3_TO_5, FROM_3_TO_5),
-        (FROM_3_TO_5, FROM_1, FROM_3_TO_5),
-        (
-            FIVE,
-            READS,
-            "06 0B 02 7F 00 41 05 0B 7F 00 41 05 0B 07 05 01 01 78 03 00",
-        ),
-    ] {
-        assert_eq!(rt; unlike_merge(alloc, a, b, "", merged)?, "", "{a} {b}");
-    }
+    assert_eq!(rt; first_unlike_merge(rt.alloc(), &JOINED)?, ("", "", ""));
     Ok(())
+}
+
+// Expects o.wasm to hold this module still, and to be written once more, as p.wasm.
+fn unlike_copy(alloc: Global, ran: &Ran, merged: &str) -> Result<&'static str, Fail> {
+    if !ran.has_module(alloc, "o.wasm", merged)? {
+        return Ok("the input");
+    }
+    ran.unlike_done(alloc, "", "p.wasm", merged)
+}
+
+// Expects the same after a merge of o.wasm alone.
+fn unlike_merged_again(alloc: Global, files: MemFiles, merged: &str) -> Result<&'static str, Fail> {
+    let ran = run_line(alloc, files, "merge o.wasm o -o p.wasm")?;
+    unlike_copy(alloc, &ran, merged)
 }
 
 // The same as `unlike_merge`; also expects the merge of o.wasm alone to write it once more, as
@@ -104,14 +133,28 @@ fn unlike_merges(
 ) -> Result<&'static str, Fail> {
     let first = merge_two(alloc, a, b, flag)?;
     let unlike = first.unlike_done(alloc, "", "o.wasm", merged)?;
-    if !unlike.is_empty() {
-        return Ok(unlike);
+    if unlike.is_empty() {
+        unlike_merged_again(alloc, first.files, merged)
+    } else {
+        Ok(unlike)
     }
-    let second = run_line(alloc, first.files, "merge o.wasm o -o p.wasm")?;
-    if !second.has_module(alloc, "o.wasm", merged)? {
-        return Ok("the input");
+}
+
+// Two parts and the merged module.
+type Merges = (&'static str, &'static str, &'static str);
+
+// Names the two parts.
+fn first_unlike_merges(
+    alloc: Global,
+    rows: &[Merges],
+) -> Result<(&'static str, &'static str, &'static str), Fail> {
+    for (a, b, merged) in rows {
+        let unlike = unlike_merges(alloc, a, b, "", merged)?;
+        if !unlike.is_empty() {
+            return Ok((*a, *b, unlike));
+        }
     }
-    second.unlike_done(alloc, "", "p.wasm", merged)
+    Ok(("", "", ""))
 }
 
 // Part a imports its own f, which returns 7, and its g calls that import.
@@ -143,18 +186,17 @@ const E_T_TWICE: &str = "02 11 02 01 65 01 74 01 70 00 01 01 65 01 74 01 70 00 0
 // The function e.f of type [] to [], twice.
 const E_F_TWICE: &str = "01 04 01 60 00 00 02 0D 02 01 65 01 66 00 00 01 65 01 66 00 00";
 
+const STAYS: [Merges; 5] = [
+    (B_M_FROM_1, B_M_FROM_3_TO_5, B_M_FROM_3_TO_5),
+    (E_G, E_G, E_G_TWICE),
+    (E_G_TWICE, "", E_G_TWICE),
+    (E_T_TWICE, "", E_T_TWICE),
+    (E_F_TWICE, "", E_F_TWICE),
+];
+
 #[test]
 fn of_what_stays_memories_alone_become_one(rt: HostRuntime) -> Result<(), Fail> {
-    let alloc = rt.alloc();
-    for (a, b, merged) in [
-        (B_M_FROM_1, B_M_FROM_3_TO_5, B_M_FROM_3_TO_5),
-        (E_G, E_G, E_G_TWICE),
-        (E_G_TWICE, "", E_G_TWICE),
-        (E_T_TWICE, "", E_T_TWICE),
-        (E_F_TWICE, "", E_F_TWICE),
-    ] {
-        assert_eq!(rt; unlike_merges(alloc, a, b, "", merged)?, "", "{a}");
-    }
+    assert_eq!(rt; first_unlike_merges(rt.alloc(), &STAYS)?, ("", "", ""));
     Ok(())
 }
 
@@ -166,19 +208,18 @@ const OF_ONE_TYPE: &str = "01 04 01 60 00 00 03 02 01 00 0A 04 01 02 00 0B";
 // The type [i32] to [], which nothing uses.
 const UNUSED_TYPE: &str = "01 05 01 60 01 7F 00";
 
+const TYPES: [Merges; 2] = [
+    (OF_SECOND_TYPE, "", OF_ONE_TYPE),
+    (
+        UNUSED_TYPE,
+        OF_SECOND_TYPE,
+        "01 08 02 60 01 7F 00 60 00 00 03 02 01 01 0A 04 01 02 00 0B",
+    ),
+];
+
 #[test]
 fn equal_types_stand_once_and_unused_ones_stay(rt: HostRuntime) -> Result<(), Fail> {
-    let alloc = rt.alloc();
-    for (a, b, merged) in [
-        (OF_SECOND_TYPE, "", OF_ONE_TYPE),
-        (
-            UNUSED_TYPE,
-            OF_SECOND_TYPE,
-            "01 08 02 60 01 7F 00 60 00 00 03 02 01 01 0A 04 01 02 00 0B",
-        ),
-    ] {
-        assert_eq!(rt; unlike_merges(alloc, a, b, "", merged)?, "", "{a}");
-    }
+    assert_eq!(rt; first_unlike_merges(rt.alloc(), &TYPES)?, ("", "", ""));
     Ok(())
 }
 
@@ -218,28 +259,27 @@ const READS_FUNCTION: &str =
 const REFERS: &str =
     "01 04 01 60 00 00 03 02 01 00 06 06 01 70 00 D2 00 0B 07 05 01 01 78 03 00 0A 04 01 02 00 0B";
 
+const READING: [Merges; 3] = [
+    (
+        Y_READS_B_X,
+        X_READS_E_G,
+        "02 0F 02 01 65 01 68 03 7F 00 01 65 01 67 03 7F 00 06 0B 02 7F 00 23 01 0B 7F 00 23 01 0B 07 09 02 01 79 03 02 01 78 03 03",
+    ),
+    (
+        Y_READS_B_X,
+        X_IS_E_G,
+        "02 0F 02 01 65 01 68 03 7F 00 01 65 01 67 03 7F 00 06 06 01 7F 00 23 01 0B 07 09 02 01 79 03 02 01 78 03 01",
+    ),
+    (
+        READS_FUNCTION,
+        REFERS,
+        "01 04 01 60 00 00 03 03 02 00 00 06 0B 02 70 00 D2 01 0B 70 00 D2 01 0B 07 05 01 01 78 03 01 0A 07 02 02 00 0B 02 00 0B",
+    ),
+];
+
 #[test]
 fn globals_take_the_value_at_which_reading_ends(rt: HostRuntime) -> Result<(), Fail> {
-    let alloc = rt.alloc();
-    for (a, b, merged) in [
-        (
-            Y_READS_B_X,
-            X_READS_E_G,
-            "02 0F 02 01 65 01 68 03 7F 00 01 65 01 67 03 7F 00 06 0B 02 7F 00 23 01 0B 7F 00 23 01 0B 07 09 02 01 79 03 02 01 78 03 03",
-        ),
-        (
-            Y_READS_B_X,
-            X_IS_E_G,
-            "02 0F 02 01 65 01 68 03 7F 00 01 65 01 67 03 7F 00 06 06 01 7F 00 23 01 0B 07 09 02 01 79 03 02 01 78 03 01",
-        ),
-        (
-            READS_FUNCTION,
-            REFERS,
-            "01 04 01 60 00 00 03 03 02 00 00 06 0B 02 70 00 D2 01 0B 70 00 D2 01 0B 07 05 01 01 78 03 01 0A 07 02 02 00 0B 02 00 0B",
-        ),
-    ] {
-        assert_eq!(rt; unlike_merges(alloc, a, b, "", merged)?, "", "{b}");
-    }
+    assert_eq!(rt; first_unlike_merges(rt.alloc(), &READING)?, ("", "", ""));
     Ok(())
 }
 
@@ -262,16 +302,27 @@ fn a_function_whose_export_is_left_out_is_declared(rt: HostRuntime) -> Result<()
     Ok(())
 }
 
+// Merges a.wasm with itself.
+fn merge_twice(alloc: Global, part: &[u8]) -> Result<Ran, Fail> {
+    let files = with_file(MemFiles::new(alloc), "a.wasm", part)?;
+    run_line(alloc, files, "merge a.wasm a a.wasm b -o o.wasm")
+}
+
+// Expects the merge of a part with itself to write these bytes.
+fn unlike_merged_twice(alloc: Global, part: &[u8], merged: &[u8]) -> Result<&'static str, Fail> {
+    let ran = merge_twice(alloc, part)?;
+    Ok(ran.unlike_written("o.wasm", merged, ""))
+}
+
+fn unlike_tables(alloc: Global) -> Result<&'static str, Fail> {
+    let part = module_of_tables(alloc, "04 9A 75 88 27", 5000, "")?;
+    let merged = module_of_tables(alloc, "04 B2 EA 01 90 4E", 10000, "")?;
+    unlike_merged_twice(alloc, part.as_slice(), merged.as_slice())
+}
+
 #[test]
 fn as_many_tables_as_the_limit_are_written(rt: HostRuntime) -> Result<(), Fail> {
-    let alloc = rt.alloc();
-    let part = module_of_tables(alloc, "04 9A 75 88 27", 5000, "")?;
-    let mut files = MemFiles::new(alloc);
-    files.add("a.wasm", part.as_slice())?;
-    let ran = run_line(alloc, files, "merge a.wasm a a.wasm b -o o.wasm")?;
-    let merged = module_of_tables(alloc, "04 B2 EA 01 90 4E", 10000, "")?;
-    assert_eq!(rt; ran.unlike(Status::Done, "", ""), "");
-    assert!(rt; ran.has("o.wasm", merged.as_slice()));
+    assert_eq!(rt; unlike_tables(rt.alloc())?, "");
     Ok(())
 }
 
@@ -291,15 +342,22 @@ const DATA: &str = "0B 09 01 00 41 80 08 0B 02 68 69";
 const CUSTOM: &str =
     "00 32 04 6E 61 6D 65 01 2B 05 00 03 6C 6F 67 01 11 5F 5F 77 61 73 6D 5F 63 61 6C 6C 5F 63 74 6F 72 73 02 04 69 6E 69 74 03 05 74 77 69 63 65 04 03 72 75 6E 00 0B 09 70 72 6F 64 75 63 65 72 73 00";
 
+// Merges this module alone.
+fn merge_linked(alloc: Global) -> Result<Ran, Fail> {
+    let given = format!(in alloc; "{BEFORE_CODE} {PADDED_CODE} {DATA} {CUSTOM}")?;
+    let files = with_module(alloc, MemFiles::new(alloc), "l.wasm", given.as_str())?;
+    run_line(alloc, files, "merge l.wasm main -o o.wasm")
+}
+
+// Expects it to be written without padding, and without its last two sections.
+fn unlike_plain(alloc: Global) -> Result<&'static str, Fail> {
+    let plain = format!(in alloc; "{BEFORE_CODE} {SHORT_CODE} {DATA}")?;
+    let ran = merge_linked(alloc)?;
+    ran.unlike_done(alloc, "", "o.wasm", plain.as_str())
+}
+
 #[test]
 fn a_module_as_a_linker_leaves_it_is_spelled_plainly(rt: HostRuntime) -> Result<(), Fail> {
-    let alloc = rt.alloc();
-    let given = format!(in alloc; "{BEFORE_CODE} {PADDED_CODE} {DATA} {CUSTOM}")?;
-    let given = module_of(alloc, given.as_str())?;
-    let plain = format!(in alloc; "{BEFORE_CODE} {SHORT_CODE} {DATA}")?;
-    let mut files = MemFiles::new(alloc);
-    files.add("l.wasm", given.as_slice())?;
-    let ran = run_line(alloc, files, "merge l.wasm main -o o.wasm")?;
-    assert_eq!(rt; ran.unlike_done(alloc, "", "o.wasm", plain.as_str())?, "");
+    assert_eq!(rt; unlike_plain(rt.alloc())?, "");
     Ok(())
 }

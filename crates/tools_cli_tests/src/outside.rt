@@ -1,12 +1,14 @@
 // Single calls of files and streams that fail, and files that are too large.
-use crate::given::{GIVES, module_of, run_line, words_of, zeros};
+use crate::given::{
+    GIVES, Ran, failing_files, module_of, run_line, run_line_failing, two_files, with_file,
+    with_module, zeros,
+};
 use crate::merges::{BOTH, CALLS};
 use crate::metadce::{CALLS_BACK, HOST, LEFT};
 use crate::split::{ADDS, ADDS_PRIMARY, ADDS_SECONDARY, COPIES, COPIES_PRIMARY, COPIES_SECONDARY};
 use std::alloc::Global;
 use std::test::Fail;
-use tool_io::{MemFiles, MemSink};
-use tools_cli::run;
+use tool_io::MemFiles;
 
 // A function that returns 7, without its last byte.
 const GIVES_CUT: &str =
@@ -25,12 +27,18 @@ const MODULES: [(&str, &str); 7] = [
 
 fn all_files(alloc: Global) -> Result<MemFiles, Fail> {
     let mut files = MemFiles::new(alloc);
-    for (name, sections) in MODULES {
-        let bytes = module_of(alloc, sections)?;
-        files.add(name, bytes.as_slice())?;
+    for (name, sections) in &MODULES {
+        files = with_module(alloc, files, name, sections)?;
     }
-    files.add("g.json", HOST.as_bytes())?;
-    Ok(files)
+    with_file(files, "g.json", HOST.as_bytes())
+}
+
+// Whether a file is missing, if it should be, or else holds exactly these bytes.
+fn has_or_misses(files: &MemFiles, name: &str, bytes: &[u8], is_missing: bool) -> bool {
+    match files.contents(name) {
+        Some(held) => !is_missing && held == bytes,
+        None => is_missing,
+    }
 }
 
 // Whether a file holds the first `count` bytes of a module; if `count` is 0, whether it is missing.
@@ -43,21 +51,17 @@ fn holds(
 ) -> Result<bool, Fail> {
     let mut bytes = module_of(alloc, sections)?;
     bytes.truncate(count);
-    match files.contents(name) {
-        Some(held) => Ok(count > 0 && held == bytes.as_slice()),
-        None => Ok(count == 0),
-    }
+    Ok(has_or_misses(files, name, bytes.as_slice(), count == 0))
 }
 
 // Whether the input files are unchanged.
-fn inputs_stay(alloc: Global, files: &MemFiles) -> Result<bool, Fail> {
-    for (name, sections) in MODULES {
-        let bytes = module_of(alloc, sections)?;
-        if files.contents(name) != Some(bytes.as_slice()) {
+fn inputs_stay(alloc: Global, ran: &Ran) -> Result<bool, Fail> {
+    for (name, sections) in &MODULES {
+        if !ran.has_module(alloc, name, sections)? {
             return Ok(false);
         }
     }
-    Ok(files.contents("g.json") == Some(HOST.as_bytes()))
+    Ok(ran.has("g.json", HOST.as_bytes()))
 }
 
 const MERGE: &str = "merge a.wasm a b.wasm b -o o.wasm";
@@ -84,7 +88,19 @@ const NO_OUTPUT: &str = "binkit: cannot write standard output\n";
 // that on standard error, or 0 if none fails; the text on standard error; and for the first output,
 // o.wasm or q, and for the second one, p: the module of which it holds the first bytes, and how
 // many.
-const FAILING: [(&str, u64, u64, u64, &str, &str, usize, &str, usize); 24] = [
+type Row = (
+    &'static str,
+    u64,
+    u64,
+    u64,
+    &'static str,
+    &'static str,
+    usize,
+    &'static str,
+    usize,
+);
+
+const FAILING: [Row; 24] = [
     (MERGE, 1, 0, 0, "binkit: cannot read a.wasm\n", "", 0, "", 0),
     (MERGE, 2, 0, 0, "binkit: cannot read b.wasm\n", "", 0, "", 0),
     (
@@ -263,58 +279,61 @@ fn first_output(line: &str) -> &str {
     }
 }
 
-// Runs a line with these calls failing. Returns whether the run reports it, with nothing on
-// standard output unless that fails; and the files.
-fn run_failing(
-    alloc: Global,
-    line: &str,
-    call: u64,
-    out_put: u64,
-    err_put: u64,
-    told: &str,
-) -> Result<(bool, MemFiles), Fail> {
-    let words = words_of(alloc, line)?;
-    let mut files = all_files(alloc)?;
-    files.fail_at(call)?;
-    let mut out = MemSink::new(alloc);
-    out.fail_at(out_put)?;
-    let mut err = MemSink::new(alloc);
-    err.fail_at(err_put)?;
-    let ended = run(alloc, words.as_slice(), &mut files, &mut out, &mut err);
-    let is_silent = out_put > 0 || out.text().is_empty();
-    let is_told = ended.code() == 3 && err.text() == told.as_bytes();
-    Ok((is_silent && is_told, files))
+// Runs the line of a row over all files, with the calls failing that the row says.
+fn run_failing(alloc: Global, row: &Row) -> Result<Ran, Fail> {
+    let files = failing_files(all_files(alloc)?, row.1)?;
+    run_line_failing(alloc, files, row.0, (row.2, row.3))
+}
+
+// Whether a run reports what a row says, with nothing on standard output unless that fails.
+fn is_told(ran: &Ran, row: &Row) -> bool {
+    let is_silent = row.2 > 0 || ran.out.text().is_empty();
+    is_silent && ran.ended.code() == 3 && ran.err.text() == row.4.as_bytes()
 }
 
 // Expects what a row says, and the input files to be unchanged.
-fn unlike_row(
-    alloc: Global,
-    row: (&str, u64, u64, u64, &str, &str, usize, &str, usize),
-) -> Result<&'static str, Fail> {
-    let (line, call, out_put, err_put, told, output, count, second, second_count) = row;
-    let (is_told, files) = run_failing(alloc, line, call, out_put, err_put, told)?;
-    if !is_told {
+fn unlike_ran(alloc: Global, ran: &Ran, row: &Row) -> Result<&'static str, Fail> {
+    if !is_told(ran, row) {
         return Ok("what is told");
     }
-    if !holds(alloc, &files, first_output(line), output, count)? {
+    if !holds(alloc, &ran.files, first_output(row.0), row.5, row.6)? {
         return Ok("the first output");
     }
-    if !holds(alloc, &files, "p", second, second_count)? {
+    if !holds(alloc, &ran.files, "p", row.7, row.8)? {
         return Ok("the second output");
     }
-    if !inputs_stay(alloc, &files)? {
+    if !inputs_stay(alloc, ran)? {
         return Ok("the inputs");
     }
     Ok("")
 }
 
+fn unlike_row(alloc: Global, row: &Row) -> Result<&'static str, Fail> {
+    let ran = run_failing(alloc, row)?;
+    unlike_ran(alloc, &ran, row)
+}
+
+// Names the line and the text on standard error.
+fn first_unlike_row(alloc: Global) -> Result<(&'static str, &'static str, &'static str), Fail> {
+    for row in &FAILING {
+        let unlike = unlike_row(alloc, row)?;
+        if !unlike.is_empty() {
+            return Ok((row.0, row.4, unlike));
+        }
+    }
+    Ok(("", "", ""))
+}
+
 #[test]
 fn one_call_that_fails_is_told_and_the_files_are_a_first_part(rt: HostRuntime) -> Result<(), Fail> {
-    let alloc = rt.alloc();
-    for row in FAILING {
-        assert_eq!(rt; unlike_row(alloc, row)?, "", "{} {}", row.0, row.4);
-    }
+    assert_eq!(rt; first_unlike_row(rt.alloc())?, ("", "", ""));
     Ok(())
+}
+
+// Merges two files.
+fn merge_files(alloc: Global, first: &[u8], second: &[u8]) -> Result<Ran, Fail> {
+    let files = two_files(alloc, first, second)?;
+    run_line(alloc, files, "merge a.wasm a b.wasm b -o o.wasm")
 }
 
 // Expects the refusal of the merge of two files with this text.
@@ -324,27 +343,28 @@ fn unlike_refused(
     second: &[u8],
     text: &str,
 ) -> Result<&'static str, Fail> {
-    let mut files = MemFiles::new(alloc);
-    files.add("a.wasm", first)?;
-    files.add("b.wasm", second)?;
-    let ran = run_line(alloc, files, "merge a.wasm a b.wasm b -o o.wasm")?;
+    let ran = merge_files(alloc, first, second)?;
     Ok(ran.unlike_refused(text, "o.wasm"))
+}
+
+// Expects the refusal of the merge of two files of so many zeros with this text.
+fn unlike_zeros(
+    alloc: Global,
+    first: usize,
+    second: usize,
+    text: &str,
+) -> Result<&'static str, Fail> {
+    let first = zeros(alloc, first)?;
+    let second = zeros(alloc, second)?;
+    unlike_refused(alloc, first.as_slice(), second.as_slice(), text)
 }
 
 #[test]
 fn input_files_have_16_mib_at_most_together(rt: HostRuntime) -> Result<(), Fail> {
     let alloc = rt.alloc();
-    let half = zeros(alloc, 8_388_608)?;
-    let more = zeros(alloc, 8_388_609)?;
-    for (second, text) in [
-        (
-            half.as_slice(),
-            "binkit: a.wasm: not a WebAssembly module\n",
-        ),
-        (more.as_slice(), "binkit: b.wasm: limit on input bytes\n"),
-    ] {
-        let unlike = unlike_refused(alloc, half.as_slice(), second, text)?;
-        assert_eq!(rt; unlike, "", "{text}");
-    }
+    let text = "binkit: a.wasm: not a WebAssembly module\n";
+    assert_eq!(rt; unlike_zeros(alloc, 8_388_608, 8_388_608, text)?, "");
+    let text = "binkit: b.wasm: limit on input bytes\n";
+    assert_eq!(rt; unlike_zeros(alloc, 8_388_608, 8_388_609, text)?, "");
     Ok(())
 }

@@ -29,25 +29,36 @@ fn unlike_printed(alloc: Global, line: &str, lines: &str) -> Result<&'static str
     Ok(ran.unlike(Status::Done, lines, ""))
 }
 
+// Lines, and what each prints.
+const PRINTED: [(&str, &str); 5] = [
+    ("sample --seed 1 --count 1", LINES),
+    ("sample --count=1 --seed=1", LINES),
+    // leading zeros
+    ("sample --seed 0000000001 --count=0000000001", LINES),
+    (
+        "sample --seed 2147483647 --count 1",
+        "sample seed 2147483647 count 1\nparts 2\nfunctions 2\nexports 2\nbytes 56\n",
+    ),
+    (
+        "sample --seed 0 --count 3",
+        "sample seed 0 count 3\nparts 2\nfunctions 6\nexports 6\nbytes 116\n",
+    ),
+];
+
+// Names the line.
+fn first_unlike_printed(alloc: Global) -> Result<(&'static str, &'static str), Fail> {
+    for (line, lines) in &PRINTED {
+        let unlike = unlike_printed(alloc, line, lines)?;
+        if !unlike.is_empty() {
+            return Ok((*line, unlike));
+        }
+    }
+    Ok(("", ""))
+}
+
 #[test]
 fn a_sample_without_an_output_prints_its_lines(rt: HostRuntime) -> Result<(), Fail> {
-    let alloc = rt.alloc();
-    for (line, lines) in [
-        ("sample --seed 1 --count 1", LINES),
-        ("sample --count=1 --seed=1", LINES),
-        // leading zeros
-        ("sample --seed 0000000001 --count=0000000001", LINES),
-        (
-            "sample --seed 2147483647 --count 1",
-            "sample seed 2147483647 count 1\nparts 2\nfunctions 2\nexports 2\nbytes 56\n",
-        ),
-        (
-            "sample --seed 0 --count 3",
-            "sample seed 0 count 3\nparts 2\nfunctions 6\nexports 6\nbytes 116\n",
-        ),
-    ] {
-        assert_eq!(rt; unlike_printed(alloc, line, lines)?, "", "{line}");
-    }
+    assert_eq!(rt; first_unlike_printed(rt.alloc())?, ("", ""));
     Ok(())
 }
 
@@ -62,73 +73,105 @@ fn unlike_written(
     ran.unlike_done(alloc, lines, "o.wasm", merged)
 }
 
+// Lines, and what each prints and writes.
+const WRITTEN: [(&str, &str, &str); 3] = [
+    ("sample --seed 1 --count 1 -o o.wasm", LINES, MERGED),
+    ("sample --output=o.wasm --seed 1 --count 1", LINES, MERGED),
+    (
+        "sample --seed 7 -o o.wasm --count 2",
+        "sample seed 7 count 2\nparts 2\nfunctions 4\nexports 4\nbytes 87\n",
+        MERGED_OF_TWO,
+    ),
+];
+
+// Names the line.
+fn first_unlike_written(alloc: Global) -> Result<(&'static str, &'static str), Fail> {
+    for (line, lines, merged) in &WRITTEN {
+        let unlike = unlike_written(alloc, line, lines, merged)?;
+        if !unlike.is_empty() {
+            return Ok((*line, unlike));
+        }
+    }
+    Ok(("", ""))
+}
+
 #[test]
 fn a_sample_writes_what_its_modules_are_merged_into(rt: HostRuntime) -> Result<(), Fail> {
-    let alloc = rt.alloc();
-    for (line, lines, merged) in [
-        ("sample --seed 1 --count 1 -o o.wasm", LINES, MERGED),
-        ("sample --output=o.wasm --seed 1 --count 1", LINES, MERGED),
-        (
-            "sample --seed 7 -o o.wasm --count 2",
-            "sample seed 7 count 2\nparts 2\nfunctions 4\nexports 4\nbytes 87\n",
-            MERGED_OF_TWO,
-        ),
-    ] {
-        assert_eq!(rt; unlike_written(alloc, line, lines, merged)?, "", "{line}");
-    }
+    assert_eq!(rt; first_unlike_written(rt.alloc())?, ("", ""));
     Ok(())
 }
+
+// Expects a line to print this alone.
+fn unlike_answered(
+    alloc: Global,
+    line: &str,
+    ended: Status,
+    out: &str,
+    err: &str,
+) -> Result<&'static str, Fail> {
+    let ran = run_alone(alloc, line)?;
+    Ok(ran.unlike(ended, out, err))
+}
+
+// What each run of a large sample prints.
+const LARGE: &str =
+    "sample seed 1 count 2000\nparts 2\nfunctions 4000\nexports 4000\nbytes 77444\n";
 
 #[test]
 fn a_large_sample_prints_the_same_lines_at_each_run(rt: HostRuntime) -> Result<(), Fail> {
     let alloc = rt.alloc();
-    for line in [
-        "sample --seed 1 --count 2000",
-        "sample --seed 1 --count 2000 -o o.wasm",
-    ] {
-        let lines =
-            "sample seed 1 count 2000\nparts 2\nfunctions 4000\nexports 4000\nbytes 77444\n";
-        let ran = run_alone(alloc, line)?;
-        assert_eq!(rt; ran.unlike(Status::Done, lines, ""), "", "{line}");
-    }
+    let line = "sample --seed 1 --count 2000";
+    assert_eq!(rt; unlike_answered(alloc, line, Status::Done, LARGE, "")?, "");
+    let line = "sample --seed 1 --count 2000 -o o.wasm";
+    assert_eq!(rt; unlike_answered(alloc, line, Status::Done, LARGE, "")?, "");
     Ok(())
+}
+
+// Lines that are no sample.
+const NO_SAMPLE: [&str; 27] = [
+    "sample",
+    "sample --seed 1",
+    "sample --count 1",
+    "sample --seed 2147483648 --count 1",
+    "sample --seed 4294967297 --count 1",
+    "sample --seed 9999999999 --count 1",
+    "sample --seed 1 --count 0",
+    "sample --seed 1 --count 100001",
+    "sample --seed=+1 --count 1",
+    "sample --seed 1 --count=+1",
+    "sample --seed=-1 --count 1",
+    "sample --seed -1 --count 1",
+    "sample --seed 00000000001 --count 1",
+    "sample --seed 1 --count 00000000001",
+    "sample --seed 1x --count 1",
+    "sample --seed 0x1 --count 1",
+    "sample --seed= --count 1",
+    "sample --seed 1 --count",
+    "sample --seed 1 --seed 1 --count 1",
+    "sample --seed 1 --count 1 --count=2",
+    "sample --seed 1 --count 1 m.wasm",
+    "sample --seed 1 --count 1 -o o.wasm --output=p.wasm",
+    "sample --seed 1 --count 1 -o",
+    "sample --seed 1 --count 1 -o=o.wasm",
+    "sample --seed 1 --count 1 -g",
+    "sample --seed 1 --count 1 --",
+    "sample --help",
+];
+
+// Names the line.
+fn first_unlike_usage(alloc: Global) -> Result<(&'static str, &'static str), Fail> {
+    let usage = "usage: binkit sample\n";
+    for line in &NO_SAMPLE {
+        let unlike = unlike_answered(alloc, line, Status::Usage, "", usage)?;
+        if !unlike.is_empty() {
+            return Ok((*line, unlike));
+        }
+    }
+    Ok(("", ""))
 }
 
 #[test]
 fn other_words_are_answered_with_the_usage_line(rt: HostRuntime) -> Result<(), Fail> {
-    let alloc = rt.alloc();
-    for line in [
-        "sample",
-        "sample --seed 1",
-        "sample --count 1",
-        "sample --seed 2147483648 --count 1",
-        "sample --seed 4294967297 --count 1",
-        "sample --seed 9999999999 --count 1",
-        "sample --seed 1 --count 0",
-        "sample --seed 1 --count 100001",
-        "sample --seed=+1 --count 1",
-        "sample --seed 1 --count=+1",
-        "sample --seed=-1 --count 1",
-        "sample --seed -1 --count 1",
-        "sample --seed 00000000001 --count 1",
-        "sample --seed 1 --count 00000000001",
-        "sample --seed 1x --count 1",
-        "sample --seed 0x1 --count 1",
-        "sample --seed= --count 1",
-        "sample --seed 1 --count",
-        "sample --seed 1 --seed 1 --count 1",
-        "sample --seed 1 --count 1 --count=2",
-        "sample --seed 1 --count 1 m.wasm",
-        "sample --seed 1 --count 1 -o o.wasm --output=p.wasm",
-        "sample --seed 1 --count 1 -o",
-        "sample --seed 1 --count 1 -o=o.wasm",
-        "sample --seed 1 --count 1 -g",
-        "sample --seed 1 --count 1 --",
-        "sample --help",
-    ] {
-        let ran = run_alone(alloc, line)?;
-        let usage = "usage: binkit sample\n";
-        assert_eq!(rt; ran.unlike(Status::Usage, "", usage), "", "{line}");
-    }
+    assert_eq!(rt; first_unlike_usage(rt.alloc())?, ("", ""));
     Ok(())
 }

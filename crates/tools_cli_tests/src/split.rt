@@ -1,5 +1,5 @@
 use crate::given::{
-    CUT, HEADER, LINKED, NOTHING_GIVEN, Ran, module_of, module_of_tables, run_line,
+    CUT, HEADER, LINKED, NOTHING_GIVEN, Ran, module_of, module_of_tables, run_line, with_file,
 };
 use std::alloc::Global;
 use std::test::Fail;
@@ -8,17 +8,34 @@ use tools_cli::Status;
 
 // The module s.wasm, and an older file p.
 fn files_of(alloc: Global, module: &[u8]) -> Result<MemFiles, Fail> {
-    let mut files = MemFiles::new(alloc);
-    files.add("s.wasm", module)?;
-    files.add("p", &HEADER)?;
-    Ok(files)
+    let files = with_file(MemFiles::new(alloc), "s.wasm", module)?;
+    with_file(files, "p", &HEADER)
 }
 
 // Splits a module into p and q with these arguments.
 fn split_by(alloc: Global, module: &[u8], words: &str) -> Result<Ran, Fail> {
-    let files = files_of(alloc, module)?;
     let line = format!(in alloc; "split s.wasm {words} --primary-output=p --secondary-output=q")?;
-    run_line(alloc, files, line.as_str())
+    run_line(alloc, files_of(alloc, module)?, line.as_str())
+}
+
+// The same of a module of these sections.
+fn split_sections(alloc: Global, sections: &str, words: &str) -> Result<Ran, Fail> {
+    let module = module_of(alloc, sections)?;
+    split_by(alloc, module.as_slice(), words)
+}
+
+// Expects these lines, and two files that hold these modules.
+fn unlike_two(
+    alloc: Global,
+    ran: &Ran,
+    lines: &str,
+    first: (&str, &str),
+    second: (&str, &str),
+) -> Result<&'static str, Fail> {
+    if !ran.has_module(alloc, first.0, first.1)? {
+        return Ok("the first file");
+    }
+    ran.unlike_done(alloc, lines, second.0, second.1)
 }
 
 // Expects the split of a module with these arguments to print these lines and to write these
@@ -30,12 +47,8 @@ fn unlike_split(
     lines: &str,
     (primary, secondary): (&str, &str),
 ) -> Result<&'static str, Fail> {
-    let module = module_of(alloc, module)?;
-    let ran = split_by(alloc, module.as_slice(), words)?;
-    if !ran.has_module(alloc, "p", primary)? {
-        return Ok("the primary module");
-    }
-    ran.unlike_done(alloc, lines, "q", secondary)
+    let ran = split_sections(alloc, module, words)?;
+    unlike_two(alloc, &ran, lines, ("p", primary), ("q", secondary))
 }
 
 // A function, exported as add, that adds its parameters. Its primary module calls it through a
@@ -75,36 +88,46 @@ const NAMES_ALL_PRIMARY: &str =
 const NAMES_ALL_SECONDARY: &str =
     "01 04 01 60 00 00 02 51 05 07 70 72 69 6D 61 72 79 03 25 66 30 00 00 07 70 72 69 6D 61 72 79 03 25 74 30 01 70 00 01 07 70 72 69 6D 61 72 79 06 25 73 6C 6F 74 73 01 70 01 01 01 07 70 72 69 6D 61 72 79 03 25 6D 30 02 00 01 07 70 72 69 6D 61 72 79 03 25 67 30 03 7F 01 03 02 01 00 09 09 01 02 01 41 00 0B 00 01 01 0A 11 01 0F 00 10 00 41 00 25 00 1A 3F 00 1A 23 00 1A 0B";
 
+// Modules, arguments, the lines, and the primary and the secondary module.
+const MOVED: [(&str, &str, &str, &str, &str); 4] = [
+    (ADDS, "--split-funcs=add", "", ADDS_PRIMARY, ADDS_SECONDARY),
+    (
+        COPIES,
+        "--split-funcs=i",
+        "kept i: uses a segment\n",
+        COPIES_PRIMARY,
+        COPIES_SECONDARY,
+    ),
+    (
+        LINKED,
+        "--split-funcs twice",
+        "",
+        LINKED_PRIMARY,
+        LINKED_SECONDARY,
+    ),
+    (
+        NAMES_ALL,
+        "--split-funcs=r",
+        "",
+        NAMES_ALL_PRIMARY,
+        NAMES_ALL_SECONDARY,
+    ),
+];
+
+// Names the arguments.
+fn first_unlike_moved(alloc: Global) -> Result<(&'static str, &'static str), Fail> {
+    for (module, words, lines, primary, secondary) in &MOVED {
+        let unlike = unlike_split(alloc, module, words, lines, (*primary, *secondary))?;
+        if !unlike.is_empty() {
+            return Ok((*words, unlike));
+        }
+    }
+    Ok(("", ""))
+}
+
 #[test]
 fn functions_move_to_the_secondary_module(rt: HostRuntime) -> Result<(), Fail> {
-    let alloc = rt.alloc();
-    for (module, words, lines, primary, secondary) in [
-        (ADDS, "--split-funcs=add", "", ADDS_PRIMARY, ADDS_SECONDARY),
-        (
-            COPIES,
-            "--split-funcs=i",
-            "kept i: uses a segment\n",
-            COPIES_PRIMARY,
-            COPIES_SECONDARY,
-        ),
-        (
-            LINKED,
-            "--split-funcs twice",
-            "",
-            LINKED_PRIMARY,
-            LINKED_SECONDARY,
-        ),
-        (
-            NAMES_ALL,
-            "--split-funcs=r",
-            "",
-            NAMES_ALL_PRIMARY,
-            NAMES_ALL_SECONDARY,
-        ),
-    ] {
-        let unlike = unlike_split(alloc, module, words, lines, (primary, secondary))?;
-        assert_eq!(rt; unlike, "", "{words}");
-    }
+    assert_eq!(rt; first_unlike_moved(rt.alloc())?, ("", ""));
     Ok(())
 }
 
@@ -133,34 +156,44 @@ const CALLS_NAMED: &str =
 const GIVES_NAMED: &str =
     "01 05 01 60 00 01 7F 02 0F 01 01 69 06 78 73 6C 6F 74 73 01 70 01 01 01 03 02 01 00 09 07 01 00 41 00 0B 01 00 0A 06 01 04 00 41 07 0B";
 
+// Arguments, and the primary and the secondary module of CALLS.
+const THROUGH_SLOT: [(&str, &str, &str); 8] = [
+    ("--split-funcs=g", CALLS_PRIMARY, GIVES_SECONDARY),
+    ("--split-funcs=g,g", CALLS_PRIMARY, GIVES_SECONDARY),
+    ("--keep-funcs=f", CALLS_PRIMARY, GIVES_SECONDARY),
+    ("--keep-funcs f,f", CALLS_PRIMARY, GIVES_SECONDARY),
+    (
+        "--split-funcs=g --keep-funcs=f",
+        CALLS_PRIMARY,
+        GIVES_SECONDARY,
+    ),
+    (
+        "--split-funcs=g --import-namespace=primary --placeholder-namespace=placeholder --export-prefix=%",
+        CALLS_PRIMARY,
+        GIVES_SECONDARY,
+    ),
+    ("--keep-funcs=f,g", CALLS_WHOLE, EMPTY_SECONDARY),
+    (
+        "--export-prefix x --placeholder-namespace=h --split-funcs=g --import-namespace i",
+        CALLS_NAMED,
+        GIVES_NAMED,
+    ),
+];
+
+// Names the arguments.
+fn first_unlike_call(alloc: Global) -> Result<(&'static str, &'static str), Fail> {
+    for (words, primary, secondary) in &THROUGH_SLOT {
+        let unlike = unlike_split(alloc, CALLS, words, "", (*primary, *secondary))?;
+        if !unlike.is_empty() {
+            return Ok((*words, unlike));
+        }
+    }
+    Ok(("", ""))
+}
+
 #[test]
 fn a_call_goes_through_the_slot_under_default_and_given_names(rt: HostRuntime) -> Result<(), Fail> {
-    let alloc = rt.alloc();
-    for (words, primary, secondary) in [
-        ("--split-funcs=g", CALLS_PRIMARY, GIVES_SECONDARY),
-        ("--split-funcs=g,g", CALLS_PRIMARY, GIVES_SECONDARY),
-        ("--keep-funcs=f", CALLS_PRIMARY, GIVES_SECONDARY),
-        ("--keep-funcs f,f", CALLS_PRIMARY, GIVES_SECONDARY),
-        (
-            "--split-funcs=g --keep-funcs=f",
-            CALLS_PRIMARY,
-            GIVES_SECONDARY,
-        ),
-        (
-            "--split-funcs=g --import-namespace=primary --placeholder-namespace=placeholder --export-prefix=%",
-            CALLS_PRIMARY,
-            GIVES_SECONDARY,
-        ),
-        ("--keep-funcs=f,g", CALLS_WHOLE, EMPTY_SECONDARY),
-        (
-            "--export-prefix x --placeholder-namespace=h --split-funcs=g --import-namespace i",
-            CALLS_NAMED,
-            GIVES_NAMED,
-        ),
-    ] {
-        let unlike = unlike_split(alloc, CALLS, words, "", (primary, secondary))?;
-        assert_eq!(rt; unlike, "", "{words}");
-    }
+    assert_eq!(rt; first_unlike_call(rt.alloc())?, ("", ""));
     Ok(())
 }
 
@@ -226,12 +259,20 @@ fn unlike_named(alloc: Global, names: &str, word: &str, func: u32) -> Result<&'s
     unlike_split(alloc, module.as_str(), words.as_str(), "", modules)
 }
 
+// Names the name section.
+fn first_unlike_named(alloc: Global) -> Result<(&'static str, &'static str), Fail> {
+    for (names, word, func) in &NAMED {
+        let unlike = unlike_named(alloc, names, word, *func)?;
+        if !unlike.is_empty() {
+            return Ok((*names, unlike));
+        }
+    }
+    Ok(("", ""))
+}
+
 #[test]
 fn words_name_functions_by_the_name_list_and_then_by_exports(rt: HostRuntime) -> Result<(), Fail> {
-    let alloc = rt.alloc();
-    for (names, word, func) in NAMED {
-        assert_eq!(rt; unlike_named(alloc, names, word, func)?, "", "{names}");
-    }
+    assert_eq!(rt; first_unlike_named(rt.alloc())?, ("", ""));
     Ok(())
 }
 
@@ -250,26 +291,42 @@ const SEGMENTS_SECONDARY: &str =
 const ALL_LINES: &str =
     "kept one: uses a segment\nkept b: uses a segment\nkept 3: uses a segment\nkept 4: uses a segment\n";
 
+// Arguments, and what a split of SEGMENTS prints.
+const KEPT: [(&str, &str); 5] = [
+    ("--keep-funcs=m", ALL_LINES),
+    (
+        "--split-funcs=a,m,one,b,one",
+        "kept one: uses a segment\nkept b: uses a segment\n",
+    ),
+    ("--split-funcs=x", "kept one: uses a segment\n"),
+    ("--split-funcs=m", ""),
+    (
+        "--keep-funcs=one,x,b",
+        "kept 3: uses a segment\nkept 4: uses a segment\n",
+    ),
+];
+
+// Expects a split of SEGMENTS to print these lines.
+fn unlike_kept(alloc: Global, words: &str, lines: &str) -> Result<&'static str, Fail> {
+    let ran = split_sections(alloc, SEGMENTS, words)?;
+    Ok(ran.unlike(Status::Done, lines, ""))
+}
+
+// Names the arguments.
+fn first_unlike_kept(alloc: Global) -> Result<(&'static str, &'static str), Fail> {
+    for (words, lines) in &KEPT {
+        let unlike = unlike_kept(alloc, words, lines)?;
+        if !unlike.is_empty() {
+            return Ok((*words, unlike));
+        }
+    }
+    Ok(("", ""))
+}
+
 #[test]
 fn functions_that_use_a_segment_are_kept_and_told_in_order(rt: HostRuntime) -> Result<(), Fail> {
     let alloc = rt.alloc();
-    let module = module_of(alloc, SEGMENTS)?;
-    for (words, lines) in [
-        ("--keep-funcs=m", ALL_LINES),
-        (
-            "--split-funcs=a,m,one,b,one",
-            "kept one: uses a segment\nkept b: uses a segment\n",
-        ),
-        ("--split-funcs=x", "kept one: uses a segment\n"),
-        ("--split-funcs=m", ""),
-        (
-            "--keep-funcs=one,x,b",
-            "kept 3: uses a segment\nkept 4: uses a segment\n",
-        ),
-    ] {
-        let ran = split_by(alloc, module.as_slice(), words)?;
-        assert_eq!(rt; ran.unlike(Status::Done, lines, ""), "", "{words}");
-    }
+    assert_eq!(rt; first_unlike_kept(alloc)?, ("", ""));
     let modules = (SEGMENTS_PRIMARY, SEGMENTS_SECONDARY);
     let unlike = unlike_split(alloc, SEGMENTS, "--keep-funcs=m", ALL_LINES, modules)?;
     assert_eq!(rt; unlike, "");
@@ -422,6 +479,28 @@ const REFUSED: [(&str, &str, &str); 38] = [
     ),
 ];
 
+// Expects the refusal with this text.
+fn unlike_refusal(alloc: Global, ran: &Ran, text: &str) -> Result<&'static str, Fail> {
+    let text = format!(in alloc; "binkit: {text}\n")?;
+    Ok(ran.unlike_refused(text.as_str(), "q"))
+}
+
+// Expects the refusal with this text, and the files to be unchanged.
+fn unlike_refused_of(
+    alloc: Global,
+    ran: &Ran,
+    module: &str,
+    text: &str,
+) -> Result<&'static str, Fail> {
+    if !ran.has_module(alloc, "s.wasm", module)? {
+        return Ok("the module");
+    }
+    if !ran.has("p", &HEADER) {
+        return Ok("the older file");
+    }
+    unlike_refusal(alloc, ran, text)
+}
+
 // Expects the refusal of the split of a module with these arguments with this text, and the files
 // to be unchanged.
 fn unlike_refused(
@@ -430,50 +509,76 @@ fn unlike_refused(
     words: &str,
     text: &str,
 ) -> Result<&'static str, Fail> {
-    let module = module_of(alloc, module)?;
-    let ran = split_by(alloc, module.as_slice(), words)?;
-    if !ran.has("s.wasm", module.as_slice()) {
-        return Ok("the module");
+    let ran = split_sections(alloc, module, words)?;
+    unlike_refused_of(alloc, &ran, module, text)
+}
+
+// Names the arguments.
+fn first_unlike_refused(alloc: Global) -> Result<(&'static str, &'static str), Fail> {
+    for (module, words, text) in &REFUSED {
+        let unlike = unlike_refused(alloc, module, words, text)?;
+        if !unlike.is_empty() {
+            return Ok((*words, unlike));
+        }
     }
-    if !ran.has("p", &HEADER) {
-        return Ok("the older file");
-    }
-    let text = format!(in alloc; "binkit: {text}\n")?;
-    Ok(ran.unlike_refused(text.as_str(), "q"))
+    Ok(("", ""))
 }
 
 #[test]
 fn the_first_fault_is_told_and_no_file_is_written(rt: HostRuntime) -> Result<(), Fail> {
-    let alloc = rt.alloc();
-    for (module, words, text) in REFUSED {
-        assert_eq!(rt; unlike_refused(alloc, module, words, text)?, "", "{words}");
+    assert_eq!(rt; first_unlike_refused(rt.alloc())?, ("", ""));
+    Ok(())
+}
+
+// Adds so many of these bytes.
+fn add_times(bytes: &mut Vec<u8>, count: usize, added: &[u8]) -> Result<(), Fail> {
+    for _ in 0..count {
+        bytes.extend_from_slice(added)?;
     }
     Ok(())
+}
+
+// Adds the parameters of the second type, and a function of the first type and 4,001 of the second.
+fn add_types_and_funcs(bytes: &mut Vec<u8>) -> Result<(), Fail> {
+    add_times(bytes, 1000, &[0x7F])?;
+    bytes.extend_from_slice(&[0x00, 0x03, 0xA4, 0x1F, 0xA2, 0x1F, 0x00])?;
+    add_times(bytes, 4001, &[1])
+}
+
+fn add_exports_and_code(bytes: &mut Vec<u8>) -> Result<(), Fail> {
+    bytes.extend_from_slice(&[
+        0x07, 0x09, 0x02, 0x01, 0x6B, 0x00, 0x00, 0x01, 0x6C, 0x00, 0x01, 0x0A, 0xE8, 0x5D, 0xA2,
+        0x1F,
+    ])?;
+    add_times(bytes, 4002, &[0x02, 0x00, 0x0B])
+}
+
+fn add_many_params(bytes: &mut Vec<u8>) -> Result<(), Fail> {
+    add_types_and_funcs(bytes)?;
+    add_exports_and_code(bytes)
 }
 
 // A function without parameters, exported as k, and 4,001 functions of 1,000 parameters, the first
 // of which is exported as l.
 fn many_params(alloc: Global) -> Result<Vec<u8>, Fail> {
     let mut bytes = module_of(alloc, "01 F0 07 02 60 00 00 60 E8 07")?;
-    for _ in 0..1000 {
-        bytes.push(0x7F)?;
-    }
-    bytes.extend_from_slice(&[0x00, 0x03, 0xA4, 0x1F, 0xA2, 0x1F, 0x00])?;
-    for _ in 0..4001 {
-        bytes.push(1)?;
-    }
-    bytes.extend_from_slice(&[
-        0x07, 0x09, 0x02, 0x01, 0x6B, 0x00, 0x00, 0x01, 0x6C, 0x00, 0x01, 0x0A, 0xE8, 0x5D, 0xA2,
-        0x1F,
-    ])?;
-    for _ in 0..4002 {
-        bytes.extend_from_slice(&[0x02, 0x00, 0x0B])?;
-    }
+    add_many_params(&mut bytes)?;
     Ok(bytes)
 }
 
-// Splits a module with these arguments. Expects the refusal with this text, without a secondary
-// module, or, if the text is empty, a secondary module.
+// Expects the refusal with this text, without a secondary module, or, if the text is empty, a
+// secondary module.
+fn unlike_told_of(ran: &Ran, text: &str) -> &'static str {
+    if !text.is_empty() {
+        return ran.unlike_refused(text, "q");
+    }
+    if ran.files.contents("q").is_none() {
+        return "the secondary module";
+    }
+    ran.unlike(Status::Done, "", "")
+}
+
+// Splits a module with these arguments, and expects the same.
 fn unlike_told(
     alloc: Global,
     module: &[u8],
@@ -481,29 +586,20 @@ fn unlike_told(
     text: &str,
 ) -> Result<&'static str, Fail> {
     let ran = split_by(alloc, module, words)?;
-    if !text.is_empty() {
-        return Ok(ran.unlike_refused(text, "q"));
-    }
-    if ran.files.contents("q").is_none() {
-        return Ok("the secondary module");
-    }
-    Ok(ran.unlike(Status::Done, "", ""))
+    Ok(unlike_told_of(&ran, text))
+}
+
+fn unlike_many_params(alloc: Global, words: &str, text: &str) -> Result<&'static str, Fail> {
+    let module = many_params(alloc)?;
+    unlike_told(alloc, module.as_slice(), words, text)
 }
 
 #[test]
 fn too_many_parameters_of_functions_that_move_are_told(rt: HostRuntime) -> Result<(), Fail> {
     let alloc = rt.alloc();
-    let module = many_params(alloc)?;
-    for (words, text) in [
-        (
-            "--keep-funcs=k",
-            "binkit: output exceeds the limit on trampolines\n",
-        ),
-        ("--keep-funcs=k,l", ""),
-    ] {
-        let unlike = unlike_told(alloc, module.as_slice(), words, text)?;
-        assert_eq!(rt; unlike, "", "{words}");
-    }
+    let text = "binkit: output exceeds the limit on trampolines\n";
+    assert_eq!(rt; unlike_many_params(alloc, "--keep-funcs=k", text)?, "");
+    assert_eq!(rt; unlike_many_params(alloc, "--keep-funcs=k,l", "")?, "");
     Ok(())
 }
 
@@ -514,22 +610,34 @@ fn many_tables(alloc: Global, head: &str, count: usize) -> Result<Vec<u8>, Fail>
     module_of_tables(alloc, before.as_str(), count, behind)
 }
 
+// Splits a module of so many tables, whose section begins so, and expects the same as
+// `unlike_told`.
+fn unlike_many_tables(
+    alloc: Global,
+    head: &str,
+    count: usize,
+    text: &str,
+) -> Result<&'static str, Fail> {
+    let module = many_tables(alloc, head, count)?;
+    unlike_told(alloc, module.as_slice(), "--split-funcs=f", text)
+}
+
 #[test]
 fn a_table_too_many_is_told(rt: HostRuntime) -> Result<(), Fail> {
     let alloc = rt.alloc();
-    let most = many_tables(alloc, "04 B2 EA 01 90 4E", 10000)?;
-    let fewer = many_tables(alloc, "04 AF EA 01 8F 4E", 9999)?;
-    for (module, text) in [
-        (
-            most.as_slice(),
-            "binkit: output exceeds the limit on tables\n",
-        ),
-        (fewer.as_slice(), ""),
-    ] {
-        let unlike = unlike_told(alloc, module, "--split-funcs=f", text)?;
-        assert_eq!(rt; unlike, "", "{text}");
-    }
+    let text = "binkit: output exceeds the limit on tables\n";
+    let most = unlike_many_tables(alloc, "04 B2 EA 01 90 4E", 10000, text)?;
+    assert_eq!(rt; most, "");
+    let fewer = unlike_many_tables(alloc, "04 AF EA 01 8F 4E", 9999, "")?;
+    assert_eq!(rt; fewer, "");
     Ok(())
+}
+
+// Expects the refusal of this module, of a word that names no function, as invalid.
+fn unlike_invalid(alloc: Global) -> Result<&'static str, Fail> {
+    let invalid = module_of(alloc, NOTHING_GIVEN)?;
+    let text = "binkit: s.wasm: invalid body 0\n";
+    unlike_told(alloc, invalid.as_slice(), "--split-funcs=zz", text)
 }
 
 #[test]
@@ -537,52 +645,64 @@ fn the_module_is_read_and_validated_before_the_words_are_looked_up(
     rt: HostRuntime,
 ) -> Result<(), Fail> {
     let alloc = rt.alloc();
-    let invalid = module_of(alloc, NOTHING_GIVEN)?;
-    for (module, text) in [
-        (CUT.as_slice(), "binkit: s.wasm: malformed section 3\n"),
-        (invalid.as_slice(), "binkit: s.wasm: invalid body 0\n"),
-        (b"".as_slice(), "binkit: s.wasm: not a WebAssembly module\n"),
-    ] {
-        let unlike = unlike_told(alloc, module, "--split-funcs=zz", text)?;
-        assert_eq!(rt; unlike, "", "{text}");
-    }
+    let words = "--split-funcs=zz";
+    let text = "binkit: s.wasm: malformed section 3\n";
+    assert_eq!(rt; unlike_told(alloc, &CUT, words, text)?, "");
+    assert_eq!(rt; unlike_invalid(alloc)?, "");
+    let text = "binkit: s.wasm: not a WebAssembly module\n";
+    assert_eq!(rt; unlike_told(alloc, b"", words, text)?, "");
     Ok(())
 }
 
-// Expects a line over CALLS to be done and to write these modules to these files.
+// Runs a line over CALLS.
+fn run_over_calls(alloc: Global, line: &str) -> Result<Ran, Fail> {
+    let module = module_of(alloc, CALLS)?;
+    run_line(alloc, files_of(alloc, module.as_slice())?, line)
+}
+
+// Expects a line over CALLS to be done and to write the primary and the secondary module to these
+// files.
 fn unlike_files(
     alloc: Global,
     line: &str,
-    first: (&str, &str),
-    second: (&str, &str),
+    primary: &str,
+    secondary: &str,
 ) -> Result<&'static str, Fail> {
-    let module = module_of(alloc, CALLS)?;
-    let ran = run_line(alloc, files_of(alloc, module.as_slice())?, line)?;
-    if !ran.has_module(alloc, first.0, first.1)? {
-        return Ok("the first file");
-    }
-    ran.unlike_done(alloc, "", second.0, second.1)
+    let ran = run_over_calls(alloc, line)?;
+    let first = (primary, CALLS_PRIMARY);
+    unlike_two(alloc, &ran, "", first, (secondary, GIVES_SECONDARY))
 }
+
+// A line, and the files to which it writes the primary and the secondary module.
+type Line = (&'static str, &'static str, &'static str);
+
+// Names the line.
+fn first_unlike_files(alloc: Global, rows: &[Line]) -> Result<(&'static str, &'static str), Fail> {
+    for (line, primary, secondary) in rows {
+        let unlike = unlike_files(alloc, line, primary, secondary)?;
+        if !unlike.is_empty() {
+            return Ok((*line, unlike));
+        }
+    }
+    Ok(("", ""))
+}
+
+const OVERWRITING: [Line; 2] = [
+    (
+        "split s.wasm --split-funcs=g --primary-output=s.wasm --secondary-output=q",
+        "s.wasm",
+        "q",
+    ),
+    (
+        "split s.wasm --split-funcs=g --primary-output=p --secondary-output=s.wasm",
+        "p",
+        "s.wasm",
+    ),
+];
 
 #[test]
 fn an_output_may_be_the_file(rt: HostRuntime) -> Result<(), Fail> {
-    let alloc = rt.alloc();
-    for (line, primary, secondary) in [
-        (
-            "split s.wasm --split-funcs=g --primary-output=s.wasm --secondary-output=q",
-            "s.wasm",
-            "q",
-        ),
-        (
-            "split s.wasm --split-funcs=g --primary-output=p --secondary-output=s.wasm",
-            "p",
-            "s.wasm",
-        ),
-    ] {
-        let first = (primary, CALLS_PRIMARY);
-        let second = (secondary, GIVES_SECONDARY);
-        assert_eq!(rt; unlike_files(alloc, line, first, second)?, "", "{line}");
-    }
+    assert_eq!(rt; first_unlike_files(rt.alloc(), &OVERWRITING)?, ("", ""));
     Ok(())
 }
 
@@ -601,27 +721,27 @@ fn an_empty_piece_of_a_list_is_the_empty_name(rt: HostRuntime) -> Result<(), Fai
     Ok(())
 }
 
+const ANYWHERE: [Line; 3] = [
+    (
+        "split --split-funcs g --secondary-output q --primary-output p s.wasm",
+        "p",
+        "q",
+    ),
+    (
+        "split --secondary-output=q s.wasm --primary-output=p --keep-funcs=f",
+        "p",
+        "q",
+    ),
+    (
+        "split --split-funcs=g --secondary-output=q --primary-output=-p s.wasm",
+        "-p",
+        "q",
+    ),
+];
+
 #[test]
 fn its_options_stand_anywhere_and_once(rt: HostRuntime) -> Result<(), Fail> {
-    let alloc = rt.alloc();
-    for (line, primary) in [
-        (
-            "split --split-funcs g --secondary-output q --primary-output p s.wasm",
-            "p",
-        ),
-        (
-            "split --secondary-output=q s.wasm --primary-output=p --keep-funcs=f",
-            "p",
-        ),
-        (
-            "split --split-funcs=g --secondary-output=q --primary-output=-p s.wasm",
-            "-p",
-        ),
-    ] {
-        let first = (primary, CALLS_PRIMARY);
-        let second = ("q", GIVES_SECONDARY);
-        assert_eq!(rt; unlike_files(alloc, line, first, second)?, "", "{line}");
-    }
+    assert_eq!(rt; first_unlike_files(rt.alloc(), &ANYWHERE)?, ("", ""));
     Ok(())
 }
 

@@ -1,10 +1,12 @@
-use crate::given::{A, CUT, HEADER, run_line, words_of};
+use crate::given::{
+    A, CUT, HEADER, Ran, merge_one, run_line, run_words, two_files, with_file, words_of,
+};
 use crate::metadce::NO_SWEEP;
 use crate::split::NO_SPLIT;
 use std::alloc::Global;
 use std::test::Fail;
-use tool_io::{MemFiles, MemSink};
-use tools_cli::{Status, run};
+use tool_io::MemFiles;
+use tools_cli::Status;
 
 // A with an empty name section after it.
 const A_WITH_NAMES: [u8; 41] = [
@@ -63,28 +65,43 @@ const MANY_PARAMETERS: [u8; 14] = [
 
 const ALL_USAGE: &str = "usage: binkit merge|split|metadce|ctor-eval|sample\n";
 
-// Expects a line over one module without sections to write it to this file.
+// Runs a line over one module without sections.
+fn run_over_header(alloc: Global, line: &str) -> Result<Ran, Fail> {
+    let files = with_file(MemFiles::new(alloc), "h.wasm", &HEADER)?;
+    run_line(alloc, files, line)
+}
+
+// Lines over this module, and the file to which each writes it.
+const COPIED: [(&str, &str); 7] = [
+    ("merge h.wasm m -o o.wasm", "o.wasm"),
+    ("merge -o o.wasm h.wasm m", "o.wasm"),
+    ("merge h.wasm --output o.wasm m", "o.wasm"),
+    ("merge h.wasm m --output=-x", "-x"),
+    ("merge --output=a=b h.wasm m", "a=b"),
+    ("merge --skip-export-conflicts h.wasm -o o m", "o"),
+    ("merge h.wasm m -o o --rename-export-conflicts", "o"),
+];
+
+// Expects a line over this module to write it to this file.
 fn unlike_copied(alloc: Global, line: &str, output: &str) -> Result<&'static str, Fail> {
-    let mut files = MemFiles::new(alloc);
-    files.add("h.wasm", &HEADER)?;
-    let ran = run_line(alloc, files, line)?;
+    let ran = run_over_header(alloc, line)?;
     ran.unlike_done(alloc, "", output, "")
+}
+
+// Names the line.
+fn first_unlike_copied(alloc: Global) -> Result<(&'static str, &'static str), Fail> {
+    for (line, output) in &COPIED {
+        let unlike = unlike_copied(alloc, line, output)?;
+        if !unlike.is_empty() {
+            return Ok((*line, unlike));
+        }
+    }
+    Ok(("", ""))
 }
 
 #[test]
 fn options_stand_anywhere_in_a_line(rt: HostRuntime) -> Result<(), Fail> {
-    let alloc = rt.alloc();
-    for (line, output) in [
-        ("merge h.wasm m -o o.wasm", "o.wasm"),
-        ("merge -o o.wasm h.wasm m", "o.wasm"),
-        ("merge h.wasm --output o.wasm m", "o.wasm"),
-        ("merge h.wasm m --output=-x", "-x"),
-        ("merge --output=a=b h.wasm m", "a=b"),
-        ("merge --skip-export-conflicts h.wasm -o o m", "o"),
-        ("merge h.wasm m -o o --rename-export-conflicts", "o"),
-    ] {
-        assert_eq!(rt; unlike_copied(alloc, line, output)?, "", "{line}");
-    }
+    assert_eq!(rt; first_unlike_copied(rt.alloc())?, ("", ""));
     Ok(())
 }
 
@@ -121,67 +138,107 @@ const NO_MERGE: [&str; 29] = [
     "merge h.wasm m -o o --skip-export-conflicts --rename-export-conflicts",
 ];
 
+// Lines of no command.
+const NO_COMMAND: [&str; 3] = ["", "--help", "merges h.wasm m -o o.wasm"];
+
 // Expects a line to print this usage line alone.
 fn unlike_usage(alloc: Global, line: &str, usage: &str) -> Result<&'static str, Fail> {
-    let mut files = MemFiles::new(alloc);
-    files.add("h.wasm", &HEADER)?;
-    let ran = run_line(alloc, files, line)?;
+    let ran = run_over_header(alloc, line)?;
     Ok(ran.unlike(Status::Usage, "", usage))
+}
+
+// Names the line.
+fn first_unlike_usage(
+    alloc: Global,
+    lines: &[&'static str],
+    usage: &str,
+) -> Result<(&'static str, &'static str), Fail> {
+    for line in lines {
+        let unlike = unlike_usage(alloc, line, usage)?;
+        if !unlike.is_empty() {
+            return Ok((*line, unlike));
+        }
+    }
+    Ok(("", ""))
 }
 
 #[test]
 fn words_that_ask_for_nothing_are_told_what_there_is(rt: HostRuntime) -> Result<(), Fail> {
     let alloc = rt.alloc();
-    for line in NO_MERGE {
-        assert_eq!(rt;
-            unlike_usage(alloc, line, "usage: binkit merge\n")?,
-            "",
-            "{line}"
-        );
-    }
-    for line in NO_SPLIT {
-        assert_eq!(rt;
-            unlike_usage(alloc, line, "usage: binkit split\n")?,
-            "",
-            "{line}"
-        );
-    }
-    for line in NO_SWEEP {
-        assert_eq!(rt;
-            unlike_usage(alloc, line, "usage: binkit metadce\n")?,
-            "",
-            "{line}"
-        );
-    }
-    for line in ["", "--help", "merges h.wasm m -o o.wasm"] {
-        assert_eq!(rt; unlike_usage(alloc, line, ALL_USAGE)?, "", "{line}");
+    let merge = first_unlike_usage(alloc, &NO_MERGE, "usage: binkit merge\n")?;
+    assert_eq!(rt; merge, ("", ""));
+    let split = first_unlike_usage(alloc, &NO_SPLIT, "usage: binkit split\n")?;
+    assert_eq!(rt; split, ("", ""));
+    let sweep = first_unlike_usage(alloc, &NO_SWEEP, "usage: binkit metadce\n")?;
+    assert_eq!(rt; sweep, ("", ""));
+    assert_eq!(rt;
+        first_unlike_usage(alloc, &NO_COMMAND, ALL_USAGE)?,
+        ("", "")
+    );
+    Ok(())
+}
+
+// Adds a part of this number to the arguments.
+fn add_part(alloc: Global, words: &mut Vec<String>, part: usize) -> Result<(), Fail> {
+    words.push(String::from_str(alloc, "h.wasm")?)?;
+    words.push(format!(in alloc; "{part}")?)?;
+    Ok(())
+}
+
+fn add_parts(alloc: Global, words: &mut Vec<String>, count: usize) -> Result<(), Fail> {
+    for part in 0..count {
+        add_part(alloc, words, part)?;
     }
     Ok(())
 }
 
-// The arguments of a merge of `count` parts.
-fn words_of_parts(alloc: Global, count: usize) -> Result<Vec<String>, Fail> {
+// Merges `count` parts, over no file.
+fn merge_parts(alloc: Global, count: usize) -> Result<Ran, Fail> {
     let mut words = words_of(alloc, "merge -o o")?;
-    for part in 0..count {
-        words.push(String::from_str(alloc, "h.wasm")?)?;
-        words.push(format!(in alloc; "{part}")?)?;
-    }
-    Ok(words)
+    add_parts(alloc, &mut words, count)?;
+    Ok(run_words(alloc, words.as_slice(), MemFiles::new(alloc)))
+}
+
+fn unlike_parts(alloc: Global) -> Result<&'static str, Fail> {
+    let ran = merge_parts(alloc, 1001)?;
+    Ok(ran.unlike(Status::Refused, "", "binkit: limit on parts\n"))
 }
 
 #[test]
 fn a_thousand_and_one_parts_are_refused_before_a_file_is_read(rt: HostRuntime) -> Result<(), Fail> {
-    let alloc = rt.alloc();
-    let words = words_of_parts(alloc, 1001)?;
-    let mut files = MemFiles::new(alloc);
-    let mut out = MemSink::new(alloc);
-    let mut err = MemSink::new(alloc);
-    let ended = run(alloc, words.as_slice(), &mut files, &mut out, &mut err);
-    assert_eq!(rt; ended, Status::Refused);
-    assert_eq!(rt; out.text(), b"".as_slice());
-    assert_eq!(rt; err.text(), b"binkit: limit on parts\n".as_slice());
+    assert_eq!(rt; unlike_parts(rt.alloc())?, "");
     Ok(())
 }
+
+// Modules, and what the merge of each alone writes or, if there is a text, the text with which it
+// is refused.
+const WRITTEN: [(&[u8], &[u8], &str); 9] = [
+    (&A_WITH_NAMES, &A, ""),
+    (&A_PADDED, &A, ""),
+    (&A_OVERLONG, &[], "binkit: a.wasm: malformed section 3\n"),
+    (
+        &FLOAT_BODY,
+        &[],
+        "binkit: a.wasm: unsupported in function 0\n",
+    ),
+    (
+        &FLOAT_PARAMETER,
+        &[],
+        "binkit: a.wasm: unsupported in section 0\n",
+    ),
+    (
+        &UNKNOWN_OPCODE,
+        &[],
+        "binkit: a.wasm: malformed function 0\n",
+    ),
+    (&MANY_TYPES, &[], "binkit: a.wasm: limit on types\n"),
+    (
+        &MANY_PARAMETERS,
+        &[],
+        "binkit: a.wasm: limit on parameters\n",
+    ),
+    (&NOTHING_GIVEN, &[], "binkit: a.wasm: invalid body 0\n"),
+];
 
 // Expects the merge of these bytes to write those, or, if there is a text, the refusal with it and
 // no output.
@@ -191,62 +248,24 @@ fn unlike_written(
     written: &[u8],
     text: &str,
 ) -> Result<&'static str, Fail> {
-    let mut files = MemFiles::new(alloc);
-    files.add("a.wasm", bytes)?;
-    let ran = run_line(alloc, files, "merge a.wasm a -o o.wasm")?;
-    if !text.is_empty() {
-        return Ok(ran.unlike_refused(text, "o.wasm"));
+    let ran = merge_one(alloc, bytes)?;
+    Ok(ran.unlike_written("o.wasm", written, text))
+}
+
+// Returns the place of the row instead of its text.
+fn first_unlike_written(alloc: Global) -> Result<Option<(usize, &'static str)>, Fail> {
+    for (place, (bytes, written, text)) in WRITTEN.iter().enumerate() {
+        let unlike = unlike_written(alloc, bytes, written, text)?;
+        if !unlike.is_empty() {
+            return Ok(Some((place, unlike)));
+        }
     }
-    if !ran.has("o.wasm", written) {
-        return Ok("the output");
-    }
-    Ok(ran.unlike(Status::Done, "", ""))
+    Ok(None)
 }
 
 #[test]
 fn each_module_is_written_or_refused_with_its_text(rt: HostRuntime) -> Result<(), Fail> {
-    let alloc = rt.alloc();
-    for (bytes, written, text) in [
-        (A_WITH_NAMES.as_slice(), A.as_slice(), ""),
-        (A_PADDED.as_slice(), A.as_slice(), ""),
-        (
-            A_OVERLONG.as_slice(),
-            &[],
-            "binkit: a.wasm: malformed section 3\n",
-        ),
-        (
-            FLOAT_BODY.as_slice(),
-            &[],
-            "binkit: a.wasm: unsupported in function 0\n",
-        ),
-        (
-            FLOAT_PARAMETER.as_slice(),
-            &[],
-            "binkit: a.wasm: unsupported in section 0\n",
-        ),
-        (
-            UNKNOWN_OPCODE.as_slice(),
-            &[],
-            "binkit: a.wasm: malformed function 0\n",
-        ),
-        (
-            MANY_TYPES.as_slice(),
-            &[],
-            "binkit: a.wasm: limit on types\n",
-        ),
-        (
-            MANY_PARAMETERS.as_slice(),
-            &[],
-            "binkit: a.wasm: limit on parameters\n",
-        ),
-        (
-            NOTHING_GIVEN.as_slice(),
-            &[],
-            "binkit: a.wasm: invalid body 0\n",
-        ),
-    ] {
-        assert_eq!(rt; unlike_written(alloc, bytes, written, text)?, "", "{text}");
-    }
+    assert_eq!(rt; first_unlike_written(rt.alloc())?, None);
     Ok(())
 }
 
@@ -256,6 +275,29 @@ const ASKS_FOR_ANOTHER_TYPE: [u8; 23] = [
     0x01, 0x01, 0x61, 0x01, 0x66, 0x00, 0x00,
 ];
 
+// Two modules, and the text with which a merge that begins with them is refused.
+const ONE_BY_ONE: [(&[u8], &[u8], &str); 4] = [
+    (&NOTHING_GIVEN, &CUT, "binkit: a.wasm: invalid body 0\n"),
+    (
+        &CUT,
+        &NOTHING_GIVEN,
+        "binkit: a.wasm: malformed section 3\n",
+    ),
+    (&A, &NOTHING_GIVEN, "binkit: b.wasm: invalid body 0\n"),
+    (
+        &A,
+        &ASKS_FOR_ANOTHER_TYPE,
+        "binkit: b.wasm: import 0 does not match\n",
+    ),
+];
+
+// Runs a line over these two modules and a third.
+fn run_over_three(alloc: Global, line: &str, a: &[u8], b: &[u8]) -> Result<Ran, Fail> {
+    let files = two_files(alloc, a, b)?;
+    let files = with_file(files, "c.wasm", &ASKS_FOR_ANOTHER_TYPE)?;
+    run_line(alloc, files, line)
+}
+
 // Expects the refusal of a merge of these two modules and a third with this text.
 fn unlike_refused(
     alloc: Global,
@@ -264,12 +306,19 @@ fn unlike_refused(
     b: &[u8],
     text: &str,
 ) -> Result<&'static str, Fail> {
-    let mut files = MemFiles::new(alloc);
-    files.add("a.wasm", a)?;
-    files.add("b.wasm", b)?;
-    files.add("c.wasm", ASKS_FOR_ANOTHER_TYPE.as_slice())?;
-    let ran = run_line(alloc, files, line)?;
+    let ran = run_over_three(alloc, line, a, b)?;
     Ok(ran.unlike_refused(text, "o.wasm"))
+}
+
+// Names the text of the refusal.
+fn first_unlike_refused(alloc: Global, line: &str) -> Result<(&'static str, &'static str), Fail> {
+    for (a, b, text) in &ONE_BY_ONE {
+        let unlike = unlike_refused(alloc, line, a, b, text)?;
+        if !unlike.is_empty() {
+            return Ok((*text, unlike));
+        }
+    }
+    Ok(("", ""))
 }
 
 #[test]
@@ -277,34 +326,9 @@ fn modules_are_read_and_validated_one_by_one_before_they_are_linked(
     rt: HostRuntime,
 ) -> Result<(), Fail> {
     let alloc = rt.alloc();
-    for (a, b, text) in [
-        (
-            NOTHING_GIVEN.as_slice(),
-            CUT.as_slice(),
-            "binkit: a.wasm: invalid body 0\n",
-        ),
-        (
-            CUT.as_slice(),
-            NOTHING_GIVEN.as_slice(),
-            "binkit: a.wasm: malformed section 3\n",
-        ),
-        (
-            A.as_slice(),
-            NOTHING_GIVEN.as_slice(),
-            "binkit: b.wasm: invalid body 0\n",
-        ),
-        (
-            A.as_slice(),
-            ASKS_FOR_ANOTHER_TYPE.as_slice(),
-            "binkit: b.wasm: import 0 does not match\n",
-        ),
-    ] {
-        for line in [
-            "merge a.wasm a b.wasm b -o o.wasm",
-            "merge a.wasm a b.wasm b c.wasm c -o o.wasm",
-        ] {
-            assert_eq!(rt; unlike_refused(alloc, line, a, b, text)?, "", "{text}");
-        }
-    }
+    let two = first_unlike_refused(alloc, "merge a.wasm a b.wasm b -o o.wasm")?;
+    assert_eq!(rt; two, ("", ""));
+    let three = first_unlike_refused(alloc, "merge a.wasm a b.wasm b c.wasm c -o o.wasm")?;
+    assert_eq!(rt; three, ("", ""));
     Ok(())
 }

@@ -4,7 +4,7 @@ use std::alloc::Global;
 use std::test::Fail;
 use wasm_bytes::Out;
 use wasm_read::{ReadFault, read};
-use wasm_tree::{ConstExpr, ExportDesc, Instr, Which};
+use wasm_tree::{ConstExpr, ExportDesc, Instr, Module, Which};
 
 const HEADER: &[u8] = b"\x00\x61\x73\x6D\x01\x00\x00\x00";
 
@@ -17,6 +17,19 @@ fn refusal(alloc: Global, sections: &[u8]) -> Result<Option<ReadFault>, Fail> {
         return Ok(Some(ReadFault::NoMemory));
     }
     Ok(read(alloc, &bytes).err())
+}
+
+/// A file after its header, and what `read` answers for it: its refusal, or none.
+type Row = (&'static [u8], Option<ReadFault>);
+
+/// The place of the first row whose answer is not the one listed, if there is one.
+fn first_wrong(alloc: Global, rows: &[Row]) -> Result<Option<usize>, Fail> {
+    for (place, (sections, expected)) in rows.iter().enumerate() {
+        if refusal(alloc, sections)? != *expected {
+            return Ok(Some(place));
+        }
+    }
+    Ok(None)
 }
 
 const NO_MODULES: [&[u8]; 6] = [
@@ -76,55 +89,37 @@ fn body_refusal(alloc: Global, body: &[u8]) -> Result<Option<ReadFault>, Fail> {
 
 #[test]
 fn each_section_is_read(rt: HostRuntime) -> Result<(), Fail> {
-    for (sections, expected) in SECTIONS {
-        let answer = refusal(rt.alloc(), sections)?;
-        assert_eq!(rt; answer, expected, "{sections:?}");
-    }
+    assert_eq!(rt; first_wrong(rt.alloc(), &SECTIONS)?, None);
     Ok(())
 }
 
 #[test]
 fn each_form_of_segment_is_read(rt: HostRuntime) -> Result<(), Fail> {
-    for (sections, expected) in SEGMENTS {
-        let answer = refusal(rt.alloc(), sections)?;
-        assert_eq!(rt; answer, expected, "{sections:?}");
-    }
+    assert_eq!(rt; first_wrong(rt.alloc(), &SEGMENTS)?, None);
     Ok(())
 }
 
 #[test]
 fn each_limit_is_kept_at_its_number(rt: HostRuntime) -> Result<(), Fail> {
-    for (sections, expected) in LIMITS {
-        let answer = refusal(rt.alloc(), sections)?;
-        assert_eq!(rt; answer, expected, "{sections:?}");
-    }
+    assert_eq!(rt; first_wrong(rt.alloc(), &LIMITS)?, None);
     Ok(())
 }
 
 #[test]
 fn bodies_are_read(rt: HostRuntime) -> Result<(), Fail> {
-    for (sections, expected) in BODIES {
-        let answer = refusal(rt.alloc(), sections)?;
-        assert_eq!(rt; answer, expected, "{sections:?}");
-    }
+    assert_eq!(rt; first_wrong(rt.alloc(), &BODIES)?, None);
     Ok(())
 }
 
 #[test]
 fn the_first_fault_is_answered(rt: HostRuntime) -> Result<(), Fail> {
-    for (sections, expected) in ORDER {
-        let answer = refusal(rt.alloc(), sections)?;
-        assert_eq!(rt; answer, expected, "{sections:?}");
-    }
+    assert_eq!(rt; first_wrong(rt.alloc(), &ORDER)?, None);
     Ok(())
 }
 
 #[test]
 fn small_changes_are_answered(rt: HostRuntime) -> Result<(), Fail> {
-    for (sections, expected) in SMALL {
-        let answer = refusal(rt.alloc(), sections)?;
-        assert_eq!(rt; answer, expected, "{sections:?}");
-    }
+    assert_eq!(rt; first_wrong(rt.alloc(), &SMALL)?, None);
     Ok(())
 }
 
@@ -137,63 +132,78 @@ fn other_files_are_no_modules(rt: HostRuntime) -> Result<(), Fail> {
     Ok(())
 }
 
+/// Whether a token is read if an end follows it, and is refused if none does, whole or without its last byte.
+fn is_token(alloc: Global, token: &[u8]) -> Result<bool, Fail> {
+    let cut = Some(ReadFault::MalformedBody { func: 0 });
+    if body_refusal(alloc, token)? != cut {
+        return Ok(false);
+    }
+    if let Some((_, front)) = token.split_last() {
+        if body_refusal(alloc, front)? != cut {
+            return Ok(false);
+        }
+    }
+    let mut body = Out::new(alloc);
+    body.bytes(token)?;
+    body.byte(0x0B)?;
+    Ok(body_refusal(alloc, body.as_slice())? == None)
+}
+
 #[test]
 fn each_token_is_read(rt: HostRuntime) -> Result<(), Fail> {
-    let cut = Some(ReadFault::MalformedBody { func: 0 });
-    for token in TOKENS {
-        let mut body = Out::new(rt.alloc());
-        body.bytes(token)?;
-        assert_eq!(rt;
-            body_refusal(rt.alloc(), body.as_slice())?,
-            cut,
-            "{token:?}"
-        );
-        body.byte(0x0B)?;
-        assert_eq!(rt;
-            body_refusal(rt.alloc(), body.as_slice())?,
-            None,
-            "{token:?}"
-        );
-        if let Some((_, front)) = token.split_last() {
-            assert_eq!(rt; body_refusal(rt.alloc(), front)?, cut, "{token:?}");
+    for token in &TOKENS {
+        assert!(rt; is_token(rt.alloc(), token)?, "{token:?}");
+    }
+    Ok(())
+}
+
+/// The first opcode of a range, both its bounds included, for which `read` does not give the expected refusal, if there is one. The body is the opcode alone or, with `ends`, the opcode and an end.
+fn first_unlike(
+    alloc: Global,
+    (first, last): (u8, u8),
+    ends: bool,
+    expected: Option<ReadFault>,
+) -> Result<Option<u8>, Fail> {
+    for opcode in first..=last {
+        let body = [opcode, 0x0B];
+        let count = if ends { 2 } else { 1 };
+        if body_refusal(alloc, &body[..count])? != expected {
+            return Ok(Some(opcode));
         }
+    }
+    Ok(None)
+}
+
+const OUTSIDE: Option<ReadFault> = Some(ReadFault::Unsupported {
+    section: 3,
+    func: Some(0),
+});
+
+#[test]
+fn each_opcode_is_known_or_not(rt: HostRuntime) -> Result<(), Fail> {
+    for range in OPERATIONS {
+        assert_eq!(rt; first_unlike(rt.alloc(), range, true, None)?, None);
+    }
+    for range in UNSUPPORTED {
+        assert_eq!(rt; first_unlike(rt.alloc(), range, false, OUTSIDE)?, None);
+    }
+    let unknown = Some(ReadFault::MalformedBody { func: 0 });
+    for opcode in UNKNOWN {
+        assert_eq!(rt;
+            first_unlike(rt.alloc(), (opcode, opcode), true, unknown)?,
+            None
+        );
     }
     Ok(())
 }
 
 #[test]
-fn each_opcode_is_known_or_not(rt: HostRuntime) -> Result<(), Fail> {
-    for (first, last) in OPERATIONS {
-        for opcode in first..=last {
-            assert_eq!(rt;
-                body_refusal(rt.alloc(), &[opcode, 0x0B])?,
-                None,
-                "{opcode}"
-            );
-        }
-    }
-    let outside = Some(ReadFault::Unsupported {
-        section: 3,
-        func: Some(0),
-    });
-    for (first, last) in UNSUPPORTED {
-        for opcode in first..=last {
-            assert_eq!(rt; body_refusal(rt.alloc(), &[opcode])?, outside, "{opcode}");
-        }
-    }
+fn conversions_that_saturate_are_unsupported(rt: HostRuntime) -> Result<(), Fail> {
     for number in 0..=7 {
         assert_eq!(rt;
             body_refusal(rt.alloc(), &[0xFC, number])?,
-            outside,
+            OUTSIDE,
             "{number}"
-        );
-    }
-    let unknown = Some(ReadFault::MalformedBody { func: 0 });
-    for opcode in UNKNOWN {
-        assert_eq!(rt;
-            body_refusal(rt.alloc(), &[opcode, 0x0B])?,
-            unknown,
-            "{opcode}"
         );
     }
     Ok(())
@@ -241,29 +251,66 @@ fn a_thousand_blocks_may_be_open_at_once(rt: HostRuntime) -> Result<(), Fail> {
     Ok(())
 }
 
+// A function of type [] to [i32] that is exported as `f`, and an element segment that lists it.
+const TREE: &[u8] =
+    b"\x00\x61\x73\x6D\x01\x00\x00\x00\x01\x05\x01\x60\x00\x01\x7F\x03\x02\x01\x00\x07\x05\x01\x01\x66\x00\x00\x09\x07\x01\x00\x41\x02\x0B\x01\x00\x0A\x06\x01\x04\x00\x41\x07\x0B";
+
+// Whether the module has one function, of type 0, whose body is `i32.const 7`.
+fn has_function(module: &Module) -> bool {
+    match module.funcs.get(0) {
+        Some(func) => {
+            module.funcs.len() == 1
+                && func.ty == 0
+                && matches!(func.body.as_slice(), [Instr::I32Const(7)])
+        }
+        None => false,
+    }
+}
+
+fn has_export(module: &Module) -> bool {
+    match module.exports.get(0) {
+        Some(export) => {
+            module.exports.len() == 1
+                && export.name.as_str() == "f"
+                && export.desc == ExportDesc::Func(0)
+        }
+        None => false,
+    }
+}
+
+fn has_segment(module: &Module) -> bool {
+    match module.elems.get(0) {
+        Some(elem) => {
+            module.elems.len() == 1 && matches!(elem.items.as_slice(), [ConstExpr::Func(0)])
+        }
+        None => false,
+    }
+}
+
+// Names the first part of a module that is not as that file has it. If all are, the name is empty.
+fn unlike_tree(module: &Module) -> &'static str {
+    if module.types.len() != 1 {
+        return "the types";
+    }
+    if !has_function(module) {
+        return "the function";
+    }
+    if !has_export(module) {
+        return "the export";
+    }
+    if !has_segment(module) {
+        return "the element segment";
+    }
+    ""
+}
+
+fn tree_unlike(alloc: Global) -> Result<&'static str, ReadFault> {
+    let module = read(alloc, TREE)?;
+    Ok(unlike_tree(&module))
+}
+
 #[test]
 fn the_tree_has_what_the_sections_hold(rt: HostRuntime) -> Result<(), Fail> {
-    let bytes =
-        b"\x00\x61\x73\x6D\x01\x00\x00\x00\x01\x05\x01\x60\x00\x01\x7F\x03\x02\x01\x00\x07\x05\x01\x01\x66\x00\x00\x09\x07\x01\x00\x41\x02\x0B\x01\x00\x0A\x06\x01\x04\x00\x41\x07\x0B";
-    match read(rt.alloc(), bytes) {
-        Err(fault) => assert_eq!(rt; Some(fault), None),
-        Ok(module) => {
-            assert_eq!(rt; module.types.len(), 1);
-            assert_eq!(rt; module.funcs.len(), 1);
-            for func in module.funcs.as_slice() {
-                assert_eq!(rt; func.ty, 0);
-                assert!(rt; matches!(func.body.as_slice(), [Instr::I32Const(7)]));
-            }
-            assert_eq!(rt; module.exports.len(), 1);
-            for export in module.exports.as_slice() {
-                assert_eq!(rt; export.name.as_str(), "f");
-                assert_eq!(rt; export.desc, ExportDesc::Func(0));
-            }
-            assert_eq!(rt; module.elems.len(), 1);
-            for elem in module.elems.as_slice() {
-                assert!(rt; matches!(elem.items.as_slice(), [ConstExpr::Func(0)]));
-            }
-        }
-    }
+    assert_eq!(rt; tree_unlike(rt.alloc()), Ok(""));
     Ok(())
 }

@@ -1,4 +1,4 @@
-use std::alloc::{AllocError, Global};
+use std::alloc::Global;
 use std::test::Fail;
 use wasm_read::read;
 use wasm_valid::{Invalid, ItemKind, Rejected, validate};
@@ -514,47 +514,42 @@ fn is_accepted(alloc: Global, code: &[u8]) -> Result<bool, Fail> {
     }
 }
 
+// The place of the first row whose code is accepted and should not be, or is not and should be, if there is one.
+fn first_wrong(alloc: Global, rows: &[(&[u8], bool)]) -> Result<Option<usize>, Fail> {
+    for (place, (code, expected)) in rows.iter().enumerate() {
+        if is_accepted(alloc, code)? != *expected {
+            return Ok(Some(place));
+        }
+    }
+    Ok(None)
+}
+
 #[test]
 fn control_instructions_fit_their_operands(rt: HostRuntime) -> Result<(), Fail> {
-    let alloc = rt.alloc();
-    for (code, expected) in CONTROL {
-        assert_eq!(rt; is_accepted(alloc, code)?, expected, "{code:?}");
-    }
+    assert_eq!(rt; first_wrong(rt.alloc(), &CONTROL)?, None);
     Ok(())
 }
 
 #[test]
 fn instructions_of_references_fit_their_operands(rt: HostRuntime) -> Result<(), Fail> {
-    let alloc = rt.alloc();
-    for (code, expected) in REFERENCES {
-        assert_eq!(rt; is_accepted(alloc, code)?, expected, "{code:?}");
-    }
+    assert_eq!(rt; first_wrong(rt.alloc(), &REFERENCES)?, None);
     Ok(())
 }
 
 #[test]
 fn unreachable_code_fits_any_operands(rt: HostRuntime) -> Result<(), Fail> {
-    let alloc = rt.alloc();
-    for (code, expected) in UNREACHABLE {
-        assert_eq!(rt; is_accepted(alloc, code)?, expected, "{code:?}");
-    }
+    assert_eq!(rt; first_wrong(rt.alloc(), &UNREACHABLE)?, None);
     Ok(())
 }
 
-// Code that applies an operation to so many operands and keeps its result.
-fn operation(
-    alloc: Global,
-    opcode: u8,
-    operand: u8,
-    count: usize,
-    target: u8,
-) -> Result<Vec<u8>, AllocError> {
+// Whether code that applies an operation to so many operands, and keeps its result, is accepted.
+fn applies(alloc: Global, opcode: u8, operand: u8, count: usize, target: u8) -> Result<bool, Fail> {
     let mut code = Vec::new(alloc);
     for _ in 0..count {
         code.extend_from_slice(&[0x20, operand])?;
     }
     code.extend_from_slice(&[opcode, 0x21, target])?;
-    Ok(code)
+    is_accepted(alloc, &code)
 }
 
 // The i64 local for the i32 local, and back.
@@ -565,55 +560,89 @@ fn other(local: u8) -> u8 {
 #[test]
 fn operations_have_their_types(rt: HostRuntime) -> Result<(), Fail> {
     let alloc = rt.alloc();
-    for (opcode, operand, count, target) in OPERATIONS {
-        let right = operation(alloc, opcode, operand, count, target)?;
-        assert_eq!(rt; is_accepted(alloc, &right)?, true, "{opcode}");
-        let wrong = operation(alloc, opcode, other(operand), count, target)?;
-        assert_eq!(rt; is_accepted(alloc, &wrong)?, false, "{opcode}");
-        let wrong = operation(alloc, opcode, operand, count, other(target))?;
-        assert_eq!(rt; is_accepted(alloc, &wrong)?, false, "{opcode}");
+    for (opcode, operand, count, target) in &OPERATIONS {
+        let right = applies(alloc, *opcode, *operand, *count, *target)?;
+        let operands = applies(alloc, *opcode, other(*operand), *count, *target)?;
+        let result = applies(alloc, *opcode, *operand, *count, other(*target))?;
+        assert_eq!(rt; (right, operands, result), (true, false, false), "{opcode}");
+    }
+    Ok(())
+}
+
+// The first alignment below 7 with which a load is accepted and should not be, or is not and should be, if there is one.
+fn misaligned_load(alloc: Global, opcode: u8, local: u8, most: u8) -> Result<Option<u8>, Fail> {
+    for align in 0..7 {
+        let code = [0x20, 0, opcode, align, 0, 0x21, local];
+        if is_accepted(alloc, &code)? != (align <= most) {
+            return Ok(Some(align));
+        }
+    }
+    Ok(None)
+}
+
+// The same of a store.
+fn misaligned_store(alloc: Global, opcode: u8, local: u8, most: u8) -> Result<Option<u8>, Fail> {
+    for align in 0..7 {
+        let code = [0x20, 0, 0x20, local, opcode, align, 0];
+        if is_accepted(alloc, &code)? != (align <= most) {
+            return Ok(Some(align));
+        }
+    }
+    Ok(None)
+}
+
+#[test]
+fn loads_have_their_types_and_alignments(rt: HostRuntime) -> Result<(), Fail> {
+    let alloc = rt.alloc();
+    for (opcode, local, most) in &LOADS {
+        assert_eq!(rt;
+            misaligned_load(alloc, *opcode, *local, *most)?,
+            None,
+            "{opcode}"
+        );
+        let code = [0x20, 0, *opcode, 0, 0, 0x21, other(*local)];
+        assert!(rt; !is_accepted(alloc, &code)?, "{opcode}");
     }
     Ok(())
 }
 
 #[test]
-fn loads_and_stores_have_their_types_and_alignments(rt: HostRuntime) -> Result<(), Fail> {
+fn stores_have_their_types_and_alignments(rt: HostRuntime) -> Result<(), Fail> {
     let alloc = rt.alloc();
-    for (opcode, local, most) in LOADS {
-        for align in 0..7 {
-            let code = [0x20, 0, opcode, align, 0, 0x21, local];
-            assert_eq!(rt;
-                is_accepted(alloc, &code)?,
-                align <= most,
-                "{opcode} {align}"
-            );
-        }
-        let code = [0x20, 0, opcode, 0, 0, 0x21, other(local)];
-        assert_eq!(rt; is_accepted(alloc, &code)?, false, "{opcode}");
-    }
-    for (opcode, local, most) in STORES {
-        for align in 0..7 {
-            let code = [0x20, 0, 0x20, local, opcode, align, 0];
-            assert_eq!(rt;
-                is_accepted(alloc, &code)?,
-                align <= most,
-                "{opcode} {align}"
-            );
-        }
-        let code = [0x20, 0, 0x20, other(local), opcode, 0, 0];
-        assert_eq!(rt; is_accepted(alloc, &code)?, false, "{opcode}");
+    for (opcode, local, most) in &STORES {
+        assert_eq!(rt;
+            misaligned_store(alloc, *opcode, *local, *most)?,
+            None,
+            "{opcode}"
+        );
+        let code = [0x20, 0, 0x20, other(*local), *opcode, 0, 0];
+        assert!(rt; !is_accepted(alloc, &code)?, "{opcode}");
     }
     Ok(())
+}
+
+// The kind and the place of the first item of these sections that does not hold, if one does not.
+fn first_item(alloc: Global, sections: &[u8]) -> Result<Option<(ItemKind, u32)>, Fail> {
+    let mut bytes = Vec::from_slice(alloc, HEADER)?;
+    bytes.extend_from_slice(sections)?;
+    match verdict(alloc, &bytes)? {
+        Some(invalid) => Ok(Some((invalid.kind, invalid.index))),
+        None => Ok(None),
+    }
+}
+
+// The place of the first row for which another item is named, if there is one.
+fn first_other_item(alloc: Global) -> Result<Option<usize>, Fail> {
+    for (place, (sections, expected)) in ITEMS.iter().enumerate() {
+        if first_item(alloc, sections)? != *expected {
+            return Ok(Some(place));
+        }
+    }
+    Ok(None)
 }
 
 #[test]
 fn the_first_item_that_does_not_hold_is_named(rt: HostRuntime) -> Result<(), Fail> {
-    let alloc = rt.alloc();
-    for (sections, expected) in ITEMS {
-        let mut bytes = Vec::from_slice(alloc, HEADER)?;
-        bytes.extend_from_slice(sections)?;
-        let found = verdict(alloc, &bytes)?.map(|invalid| (invalid.kind, invalid.index));
-        assert_eq!(rt; found, expected, "{sections:?}");
-    }
+    assert_eq!(rt; first_other_item(rt.alloc())?, None);
     Ok(())
 }

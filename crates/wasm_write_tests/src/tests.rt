@@ -19,6 +19,11 @@ fn is_written(alloc: Global, module: &Module, expected: &[u8]) -> Result<bool, N
     Ok(bytes.as_slice() == expected && fits(module, size) && !fits(module, size.saturating_sub(1)))
 }
 
+/// What is written of a module, which is then dropped.
+fn written(alloc: Global, module: Module) -> Result<Vec<u8>, NoMemory> {
+    write(alloc, &module)
+}
+
 /// One function type, of nothing to nothing.
 fn types(alloc: Global) -> Result<Items<FuncType>, NoMemory> {
     let mut types = Items::new(alloc);
@@ -62,26 +67,35 @@ fn two(alloc: Global, first: Instr, second: Instr) -> Result<Items<Instr>, NoMem
     Ok(body)
 }
 
+/// Whether the empty module comes out as the header alone.
+fn empty_is_header(alloc: Global) -> Result<bool, NoMemory> {
+    is_written(alloc, &Module::empty(alloc), b"\0asm\x01\0\0\0")
+}
+
 #[test]
 fn no_section_is_empty(rt: HostRuntime) -> Result<(), Fail> {
-    let alloc = rt.alloc();
-    assert!(rt; is_written(alloc, &Module::empty(alloc), b"\0asm\x01\0\0\0")?);
+    assert!(rt; empty_is_header(rt.alloc())?);
     Ok(())
+}
+
+/// A module whose body has a block of type 0, in which an i64 is dropped.
+fn with_block(alloc: Global) -> Result<Module, NoMemory> {
+    let inner = two(alloc, Instr::I64Const(-1), Instr::Drop)?;
+    one_body(alloc, one(alloc, Instr::Block(BlockType::Index(0), inner))?)
+}
+
+fn block_is_written(alloc: Global) -> Result<bool, NoMemory> {
+    let module = with_block(alloc)?;
+    is_written(
+        alloc,
+        &module,
+        b"\0asm\x01\0\0\0\x01\x04\x01\x60\x00\x00\x03\x02\x01\x00\x0A\x0A\x01\x08\x00\x02\x00\x42\x7F\x1A\x0B\x0B",
+    )
 }
 
 #[test]
 fn a_block_names_its_type_by_a_signed_number(rt: HostRuntime) -> Result<(), Fail> {
-    let alloc = rt.alloc();
-    let inner = two(alloc, Instr::I64Const(-1), Instr::Drop)?;
-    let body = one(alloc, Instr::Block(BlockType::Index(0), inner))?;
-    let module = one_body(alloc, body)?;
-    assert!(rt;
-        is_written(
-            alloc,
-            &module,
-            b"\0asm\x01\0\0\0\x01\x04\x01\x60\x00\x00\x03\x02\x01\x00\x0A\x0A\x01\x08\x00\x02\x00\x42\x7F\x1A\x0B\x0B",
-        )?
-    );
+    assert!(rt; block_is_written(rt.alloc())?);
     Ok(())
 }
 
@@ -97,17 +111,14 @@ fn passive(alloc: Global) -> Result<Items<DataSeg>, NoMemory> {
 
 /// A module whose one body is this instruction, and with one passive data segment.
 fn with_data(alloc: Global, instr: Instr) -> Result<Module, NoMemory> {
-    let body = one(alloc, instr)?;
-    let datas = passive(alloc)?;
-    let mut module = one_body(alloc, body)?;
-    module.datas = datas;
+    let mut module = one_body(alloc, one(alloc, instr)?)?;
+    module.datas = passive(alloc)?;
     Ok(module)
 }
 
 /// Whether what is written of a module with this body and a data segment ends so.
 fn ends_so(alloc: Global, instr: Instr, expected: &[u8]) -> Result<bool, NoMemory> {
-    let module = with_data(alloc, instr)?;
-    let bytes = write(alloc, &module)?;
+    let bytes = written(alloc, with_data(alloc, instr)?)?;
     Ok(bytes.as_slice().ends_with(expected))
 }
 
@@ -154,7 +165,7 @@ fn is_segment(
     let elems = elems(alloc, mode, ty, items)?;
     let mut module = Module::empty(alloc);
     module.elems = elems;
-    let bytes = write(alloc, &module)?;
+    let bytes = written(alloc, module)?;
     Ok(bytes.len() == expected.len().saturating_add(8) && bytes.as_slice().ends_with(expected))
 }
 
@@ -320,26 +331,30 @@ fn put_items(alloc: Global, module: &mut Module) -> Result<(), NoMemory> {
     Ok(())
 }
 
-#[test]
-fn sections_stand_in_their_order(rt: HostRuntime) -> Result<(), Fail> {
-    let alloc = rt.alloc();
+fn with_items(alloc: Global) -> Result<Module, NoMemory> {
     let mut module = Module::empty(alloc);
     put_items(alloc, &mut module)?;
-    assert!(rt;
-        is_written(
-            alloc,
-            &module,
-            b"\0asm\x01\0\0\0\x01\x04\x01\x60\x00\x00\x02\x07\x01\x01\x61\x01\x66\x00\x00\x04\x04\x01\x6F\x00\x01\x05\x05\x01\x01\x02\xAC\x02\x06\x08\x01\x7F\x01\x41\x90\x88\x04\x0B\x07\x05\x01\x01\x67\x03\x00\x08\x01\x00",
-        )?
-    );
+    Ok(module)
+}
+
+fn items_are_written(alloc: Global) -> Result<bool, NoMemory> {
+    let module = with_items(alloc)?;
+    is_written(
+        alloc,
+        &module,
+        b"\0asm\x01\0\0\0\x01\x04\x01\x60\x00\x00\x02\x07\x01\x01\x61\x01\x66\x00\x00\x04\x04\x01\x6F\x00\x01\x05\x05\x01\x01\x02\xAC\x02\x06\x08\x01\x7F\x01\x41\x90\x88\x04\x0B\x07\x05\x01\x01\x67\x03\x00\x08\x01\x00",
+    )
+}
+
+#[test]
+fn sections_stand_in_their_order(rt: HostRuntime) -> Result<(), Fail> {
+    assert!(rt; items_are_written(rt.alloc())?);
     Ok(())
 }
 
 /// Whether a body of this one instruction comes out as these bytes, between the count of its locals and its end.
 fn is_body(alloc: Global, instr: Instr, expected: &[u8]) -> Result<bool, NoMemory> {
-    let body = one(alloc, instr)?;
-    let module = one_body(alloc, body)?;
-    let bytes = write(alloc, &module)?;
+    let bytes = written(alloc, one_body(alloc, one(alloc, instr)?)?)?;
     Ok(bytes.len() == expected.len().saturating_add(22) && bytes.as_slice().ends_with(expected))
 }
 
