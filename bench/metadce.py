@@ -11,13 +11,11 @@ one pair of names that many imports and many nodes have. A tool that is not inst
 import json
 import os
 import random
-import re
 import shutil
-import subprocess
 import sys
 import tempfile
 
-from read_write import begin, body, instructions, leb, section, timed, vector
+from read_write import begin, body, instructions, leb, part_counts, section, timed, vector
 
 TOP = os.path.dirname(os.path.dirname(os.path.abspath(__file__)))
 PROGRAM = os.path.abspath(sys.argv[1]) if len(sys.argv) > 1 else os.path.join(TOP, "crates/binkit/out/binkit")
@@ -28,14 +26,15 @@ GRAPHS = {
     "all": [{"name": "page", "root": True, "reaches": ["first", "second"]}, {"name": "first", "export": "f"}, {"name": "second", "export": "g"}],
     "nothing": [],
 }
-# a part of the job, and the function whose calls it is
+# as the PARTS of read_write.py
 PARTS = [
-    ("reading sections", "wasm_read::sections::read_section"),
-    ("typing bodies", "wasm_valid_bodies::check::is_well_typed"),
-    ("reading the graph", "dce_graph::reading::read_graph"),
-    ("what bodies name", "dce_graph::code::visit_body"),
-    ("sweeping", "dce_sweep::sweeping::renumbered"),
-    ("measuring and writing", "tools_cli::encode::encode"),
+    ("reading sections", "wasm_read::sections::read_section", 0),
+    ("typing bodies", "wasm_valid_bodies::check::is_well_typed", 0),
+    ("reading the graph", "dce_graph::reading::read_graph", 0),
+    ("what bodies name", "dce_graph::code::visit_body", 0),
+    ("sweeping", "dce_sweep::sweeping::sweep", 0),
+    ("measuring bodies", "wasm_write::code::spell_instrs", 1),
+    ("writing", "wasm_write::write", 0),
 ]
 
 
@@ -107,11 +106,8 @@ def print_ratios(ours, others):
 
 
 def print_parts(count, size, folder):
-    """Where the instructions of the run that callgrind saw last went."""
-    told = subprocess.run(["callgrind_annotate", "--inclusive=yes", "--threshold=100", f"{folder}/callgrind"], capture_output=True, text=True).stdout
-    for part, function in PARTS:
-        found = re.search(rf"([\d,]+) .*\?\?\?:{function} \[", told)
-        print(f"    {part}: {int(found.group(1).replace(',', '')) / size:.0f} a byte" if found else f"    {part}: not found")
+    for part, its_count in part_counts(PARTS, folder):
+        print(f"    {part}: not found" if its_count is None else f"    {part}: {its_count / size:.0f} a byte")
     print(f"    all: {count / size:.0f} a byte")
 
 

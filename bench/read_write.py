@@ -100,23 +100,32 @@ def instructions(command, folder):
     return int(found.group(1)) if found else None
 
 
-# a part of the job, and the function whose calls it is
+# A part of the job, and the function whose calls it is. Of a generic function, which is in the program once for each target, also which of these
+# takes how many instructions: 0 for the most.
 PARTS = [
-    ("reading sections", "wasm_read::sections::read_section"),
-    ("typing bodies", "wasm_valid_bodies::check::is_well_typed"),
-    ("joining", "merge_join::tree::joined_tree"),
-    ("renumbering bodies, in joining", "index_remap::in_place::rewrite_all"),
-    ("measuring and writing", "tools_cli::encode::encode"),
+    ("reading sections", "wasm_read::sections::read_section", 0),
+    ("typing bodies", "wasm_valid_bodies::check::is_well_typed", 0),
+    ("joining", "merge_join::tree::merged", 0),
+    ("renumbering bodies, in joining", "index_remap::in_place::rewrite_all", 0),
+    ("measuring bodies", "wasm_write::code::spell_instrs", 1),
+    ("writing", "wasm_write::write", 0),
 ]
 
 
-def parts(command, size, folder):
-    count = instructions(command, folder)
+def part_counts(parts, folder):
+    """Each part with its instructions in the run that callgrind saw last, or None where the program has no such function."""
     told = subprocess.run(["callgrind_annotate", "--inclusive=yes", "--threshold=100", f"{folder}/callgrind"], capture_output=True, text=True).stdout
+    for part, function, which in parts:
+        found = re.findall(rf"([\d,]+) .*\?\?\?:{function}(?:::<[^>]*>)? \[", told)
+        counts = sorted((int(one.replace(",", "")) for one in found), reverse=True)
+        yield part, counts[which] if which < len(counts) else None
+
+
+def print_parts(command, size, folder):
+    count = instructions(command, folder)
     print("\n| part of binkit merge | instructions a byte |\n|---|---|")
-    for part, function in PARTS:
-        found = re.search(rf"([\d,]+) .*\?\?\?:{function} \[", told)
-        print(f"| {part} | {int(found.group(1).replace(',', '')) / size:.0f} |" if found else f"| {part} | not found |")
+    for part, its_count in part_counts(PARTS, folder):
+        print(f"| {part} | not found |" if its_count is None else f"| {part} | {its_count / size:.0f} |")
     print(f"| all | {count / size:.0f} |")
 
 
@@ -150,7 +159,7 @@ def main():
                 print(f"| {mib} | {tool} | {min(run[0] for run in runs):.2f} | {max(run[1] for run in runs):.0f} | {a_byte} |", flush=True)
         if shutil.which("valgrind"):
             content = module((1 << 20) - 4096)
-            parts([PROGRAM, "merge", os.path.join(folder, "1.wasm"), "m", "-o", os.path.join(folder, "out.wasm")], len(content), folder)
+            print_parts([PROGRAM, "merge", os.path.join(folder, "1.wasm"), "m", "-o", os.path.join(folder, "out.wasm")], len(content), folder)
 
 
 if __name__ == "__main__":
