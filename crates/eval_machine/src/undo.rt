@@ -20,7 +20,8 @@ pub struct EarlierGlobal {
 /// since the instantiation).
 #[derive(Drop)]
 pub struct UndoLog {
-    /// The globals that were named by a `global.set`, each as it was before the first.
+    /// The globals that a `global.set` has named since the mark, each as it was before the first
+    /// such instruction.
     pub globals: Items<EarlierGlobal>,
     /// For each global, whether it is in `globals`.
     pub noted: Items<bool>,

@@ -88,7 +88,7 @@ fn tree_after(
 ///
 /// `machine` must have been booted with `input`, and then have run the constructors that
 /// `evaluated` names by their exports, these and no others, in this order, each to its end (`fits`,
-/// `after`). A constructor that was stopped was taken back and does not count.
+/// `after`). What a stopped constructor did was undone, and it is not among `evaluated`.
 ///
 /// Each defined global is initialised with its value; if the value is unknown, the global keeps its
 /// initialiser. The contents of the memory that the module defines become active data segments, in

@@ -48,7 +48,8 @@ pub use renumbering::renumber;
 ///   its entry denote addresses of the code relation, or equal types, or neither denotes anything.
 /// - `replaced`: the same holds if calls of opaque functions are replaced by code that may stand in
 ///   their place; an index that only such calls name needs no entry.
-/// - `not_opaque`: if no calls are replaced, the body with other indices is such code.
+/// - `not_opaque`: if the list of functions whose calls are replaced is empty, the body with other
+///   indices is the body of which `replaced` speaks.
 /// - `reflexive`: code is related to itself over an instance whose addresses are in the code
 ///   relation with themselves.
 /// - `typed`: a well-typed body stays well typed with other indices and replaced calls, over the

@@ -21,8 +21,8 @@ pub struct Entity {
     pub what: ExportDesc,
 }
 
-/// What becomes a `merge_spec::End` when the links are complete. Here an entity has its kind too,
-/// by which it is compared with what the import asks for.
+/// Where following an import ends: an entity that a part defines, with its kind, or an import that
+/// stays. When all links are found it becomes a `merge_spec::End`, which has no kind.
 #[derive(Clone, Copy, Drop)]
 pub enum Ending {
     Defined(Entity),

@@ -25,8 +25,8 @@ pub(crate) fn sample_lines(
 ) -> Result<Vec<u8>, NoMemory>
     ensures { IfOk result (λ lines. lines.items ≡ sample_lines (sample_value sample.now) tree.now) }
 {
-    // the module is encoded to count its bytes: of the number, wasm_write only says whether it is
-    // at most another one (`fits`)
+    // the module is encoded to count its bytes: wasm_write has no call that gives their number
+    // (`fits` only compares it with a limit)
     let bytes = write(alloc, tree)?;
     let mut lines = String::new(alloc);
     add(&mut lines, "sample seed ", sample.seed as usize)?;

@@ -1,8 +1,8 @@
 //! Parses the arguments of a command: a pass determines what each says and arranges them, `clap`
 //! reads them, and its matches are looked up.
 //!
-//! The pass is there since the contract of `clap` says exactly what results only for simple
-//! commands. These have other rules than this program: here a value after `=` may begin with `-`,
+//! Only for simple commands does the contract of `clap` say exactly what results, and simple
+//! commands have other rules than this program, so the pass is needed. Here a value after `=` may begin with `-`,
 //! no value is empty, and `-o=x`, `--` and `--help` do not parse (docs/DECISIONS.md).
 #![tactic(auto)]
 

@@ -37,7 +37,8 @@ pub const MOST_PARAMETERS: u32 = 1_000;
 pub const MOST_RESULTS: u32 = 1_000;
 /// The limit on the sum of the numbers of parameters of all functions that one split moves.
 pub const MOST_TRAMPOLINES: u32 = 4_000_000;
-/// The limit on the bytes of one output.
+/// The limit on the bytes of the canonical encoding of one output (custom sections, which no
+/// command adds, do not count).
 pub const MOST_OUTPUT_BYTES: u32 = 268_435_456;
 
 /// A quantity that has a limit. The limit of a quantity of a module holds for input files and for
