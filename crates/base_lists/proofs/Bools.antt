@@ -1,5 +1,5 @@
 -- Tests that are joined. Std has the rest: `and_parts`, `and_from`, `cases_Bool`, `not-true`, `or-true` and others.
-use Rattle.std.proofs.Common.{◌≡◌, ap, Bool, true, false, ◌&&◌, ◌||◌, cond, ◌⊎◌, inl, inr, refl, sym, Ordering, Less, Equal, Greater}
+use Rattle.std.proofs.Common.{◌≡◌, ◌∙◌, ap, Bool, true, false, ◌&&◌, ◌||◌, cond, ◌⊎◌, inl, inr, refl, sym, Ordering, Less, Equal, Greater, not}
 use Rattle.std.specs.Ordering.{is_eq, ordering_then}
 
 pub left_true : (a b : Bool) → a && b ≡ true → a ≡ true
@@ -49,3 +49,13 @@ pub both_equal : (o p : Ordering) → is_eq (ordering_then o p) ≡ is_eq o && i
 both_equal Less p = refl
 both_equal Equal p = refl
 both_equal Greater p = refl
+
+-- each test stays true
+pub and_keeps : (a a' b b' : Bool) → (a ≡ true → a' ≡ true) → (b ≡ true → b' ≡ true) → a && b ≡ true → a' && b' ≡ true
+and_keeps false a' b b' s t h = cc
+and_keeps true a' b b' s t h = ap (λ z. z && b') (s refl) ∙ t h
+
+-- a test that implies another does not pass with that other failing
+pub and_not : (a b : Bool) → (a ≡ true → b ≡ true) → a && not b ≡ false
+and_not false b h = refl
+and_not true b h = ap not (h refl)

@@ -1,11 +1,13 @@
 -- A test, or a fact, of each element of a list, by its place.
-use Rattle.std.proofs.Common.{◌≡◌, subst, refl, ℕ, zero, suc, List, [], ◌∷◌, Some, Bool, true, false, ◌||◌, slice_get, Contains, sym, ap, ◌∙◌, ◌<◌}
-use Rattle.std.proofs.lemmas.Option.{slice_get_within, get_or_from_slice_get}
+use Rattle.std.proofs.Common.{◌≡◌, subst, refl, ℕ, zero, suc, List, [], ◌∷◌, Some, Bool, true, false, ◌||◌, slice_get, Contains, sym, ap, ◌∙◌, ◌<◌, IsTrue, length, get_or, ◌++◌}
+use Rattle.std.proofs.lemmas.Option.{slice_get_within, get_or_from_slice_get, slice_get_read}
 use Rattle.std.specs.List.{list_any, list_all}
 use Rattle.std.proofs.lemmas.Bool.{and_from}
 use Rattle.base_lists.specs.Every.{Every}
 use Rattle.base_lists.proofs.Bools.{left_true, right_true, left_either, right_either}
 use Rattle.base_lists.proofs.Places.{Has, slice_get_there}
+use Rattle.std.proofs.Math.Bool.{or-false, or_assoc}
+use Rattle.std.proofs.lemmas.List.Folds.{list_any-append}
 
 pub every_at : {A : Type 0} (P : A → Type 0) (xs : List A) (n : ℕ) (x : A) → Every P xs → slice_get xs n ≡ Some x → P x
 every_at P [] n x e h = cc
@@ -46,3 +48,12 @@ contains_there xs x (k, lt, e) =
 
 pub there_contains : {A : Type 0} (xs : List A) (p : ℕ) (x : A) → slice_get xs p ≡ Some x → Contains xs x
 there_contains xs p x at = (p, slice_get_within xs p x at, get_or_from_slice_get xs p x x at)
+
+-- whether one passes of those before and of these, with one item more
+pub any_more : {A : Type 0} (test : A → Bool) (before after last : Bool) (items : List A) (x : A) → after ≡ (before || list_any test items) → last ≡ (after || test x) → last ≡ (before || list_any test (items ++ x ∷ []))
+any_more test before after last items x h g =
+    g ∙ ap (λ b. b || test x) h ∙ or_assoc before (list_any test items) (test x)
+    ∙ ap (λ b. before || b) (sym (list_any-append test items (x ∷ []) ∙ ap (λ b. list_any test items || b) (or-false (test x))))
+
+pub all_at_place : {A : Type 0} (test : A → Bool) (xs : List A) (i : ℕ) (x : A) → IsTrue (list_all test xs) → i < length xs → x ≡ get_or xs i x → IsTrue (test x)
+all_at_place test xs i x h lt is = list_all_each test xs h i x (slice_get_read xs _ i x refl lt is)

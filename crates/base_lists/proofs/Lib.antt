@@ -10,4 +10,8 @@ pub mod Found
 pub mod Same
 pub mod Every
 pub mod Members
+pub mod Results
+pub mod Texts
+pub mod Parts
+pub mod Related
 pub mod Common

@@ -1,5 +1,5 @@
 -- Which numbers stand in lists that are joined, mapped or chosen from others, and where one stands first.
-use Rattle.std.proofs.Common.{◌≡◌, ◌∙◌, ap, sym, subst, refl, ℕ, zero, suc, ◌+◌, List, [], ◌∷◌, ◌++◌, map, nat_eq, true≢false, true, false, cond, ◌||◌, ◌⊎◌, inl, inr, ⊎_elim, Option, Some, None, slice_get, arith, eq-eqb}
+use Rattle.std.proofs.Common.{◌≡◌, ◌∙◌, ap, sym, subst, refl, ℕ, zero, suc, ◌+◌, List, [], ◌∷◌, ◌++◌, map, nat_eq, true≢false, true, false, cond, ◌||◌, ◌⊎◌, inl, inr, ⊎_elim, Option, Some, None, slice_get, arith, eq-eqb, Contains}
 use Rattle.std.specs.List.{cons_option, filter_map, flat_map}
 use Rattle.std.proofs.lemmas.List.Folds.{list_any-append}
 use Rattle.base_lists.specs.Members.{is_among}
@@ -80,3 +80,7 @@ no_place x (y ∷ ys) n h =
 pub none_among : (x : ℕ) (xs : List ℕ) (n : ℕ) → is_among xs x ≡ false → first_place (nat_eq x) xs n ≡ None
 none_among x [] n h = refl
 none_among x (y ∷ ys) n h = ap (λ b. cond b (Some n) (first_place (nat_eq x) ys (suc n))) (left_false (nat_eq x y) (is_among ys x) h) ∙ none_among x ys (suc n) (right_false (nat_eq x y) (is_among ys x) h)
+
+pub the_one : {A : Type 0} (x y : A) → Contains (x ∷ []) y → x ≡ y
+the_one x y (zero, h, e) = e
+the_one x y (suc k, h, e) = absurd (omega (arith, h))

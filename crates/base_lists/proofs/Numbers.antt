@@ -8,6 +8,9 @@ use Rattle.base_lists.proofs.Places.{slice_index_is}
 pub same_number : (x y : ℕ) → nat_eq x y ≡ true → x ≡ y
 same_number x y h = grind (arith, nat_tests)
 
+pub add_next : (p q : ℕ) → p + suc q ≡ suc p + q
+add_next p q = omega arith
+
 pub length-numbers : (from count : ℕ) → length (numbers from count) ≡ count
 length-numbers from zero = refl
 length-numbers from (suc count) = ap suc (length-numbers (suc from) count)
@@ -19,6 +22,9 @@ numbers_at from (suc count) (suc i) l = numbers_at (suc from) count i (omega (ar
 
 pub numbers_index : (n i : ℕ) → i < n → slice_index (numbers 0 n) i ≡ i
 numbers_index n i h = slice_index_is (numbers 0 n) i i (numbers_at 0 n i h ∙ (let e : 0 + i ≡ i = omega arith in ap Some e))
+
+pub number_is : (from count n a : ℕ) → slice_get (numbers from count) n ≡ Some a → (n < count) × (a ≡ from + n)
+number_is from count n a h = grind (arith, slice_get_within, length-numbers, numbers_at)
 
 -- the number at a place of the first n is the place
 pub numbers_is : (n i v : ℕ) → slice_get (numbers 0 n) i ≡ Some v → (i < n) × (i ≡ v)

@@ -1,7 +1,7 @@
 -- What a chain of look-ups found, and what it found for each element of a list.
 use Rattle.std.proofs.Common.{◌≡◌, ◌∙◌, ap, ap₂, sym, refl, ℕ, zero, suc, List, [], ◌∷◌, length, Option, Some, None, Bool, true, false, is_some, option_and_then, option_map, unwrap_or, slice_get, arith}
 use Rattle.std.proofs.lemmas.Option.{slice_get_within}
-use Rattle.base_lists.specs.Options.{all_there}
+use Rattle.base_lists.specs.Options.{all_there, Keeps, only}
 use Rattle.base_lists.proofs.Places.{slice_get_there}
 
 pub and_then_is : {A B : Type 0} (o : Option A) (f : A → Option B) (y : B) → option_and_then f o ≡ Some y → (x : A) × (o ≡ Some x) × (f x ≡ Some y)
@@ -79,3 +79,25 @@ all_there_from {B = B} f (x ∷ xs) h =
     at_place : (y : B) → f x ≡ Some y → (ys : List B) → ((n : ℕ) → slice_get ys n ≡ option_and_then f (slice_get xs n)) → (n : ℕ) → slice_get (y ∷ ys) n ≡ option_and_then f (slice_get (x ∷ xs) n)
     at_place y e ys ih zero = sym e
     at_place y e ys ih (suc n) = ih n
+
+-- ---- what stays, and what a test lets through ----
+
+pub keeps_map : {A B : Type 0} (f : A → B) (m n : Option A) → Keeps m n → Keeps (option_map f m) (option_map f n)
+keeps_map f None n k y h = cc
+keeps_map f (Some x) n k y h = ap (option_map f) (k x refl) ∙ h
+
+pub keeps_only : {A : Type 0} (a b : Bool) (m n : Option A) → (a ≡ true → b ≡ true) → Keeps m n → Keeps (only a m) (only b n)
+keeps_only false b m n t k y h = cc
+keeps_only true b m n t k y h = ap (λ z. only z n) (t refl) ∙ k y h
+
+pub keeps_then : {A B : Type 0} (m n : Option A) (f g : A → Option B) → Keeps m n → ((x : A) → Keeps (f x) (g x)) → Keeps (option_and_then f m) (option_and_then g n)
+keeps_then None n f g k l y h = cc
+keeps_then (Some x) n f g k l y h = ap (λ z. option_and_then g z) (k x refl) ∙ l x y h
+
+pub only_rest : {A : Type 0} (b : Bool) (m : Option A) (e : A) → only b m ≡ Some e → m ≡ Some e
+only_rest false m e h = cc
+only_rest true m e h = h
+
+pub only_true : {A : Type 0} (b : Bool) (m : Option A) (e : A) → only b m ≡ Some e → b ≡ true
+only_true false m e h = cc
+only_true true m e h = refl

@@ -1,5 +1,5 @@
 -- Chains of look-ups, each of which may find nothing.
-use Rattle.std.specs.Prelude.{List, [], ◌∷◌, Option, Some, option_and_then}
+use Rattle.std.specs.Prelude.{◌≡◌, List, [], ◌∷◌, Bool, cond, Option, Some, None, option_and_then}
 
 -- What `f` gives for the value, if there is one, as `Option::and_then`.
 infixl 10 ◌>>=◌
@@ -10,3 +10,11 @@ o >>= f = option_and_then f o
 abbrev pub all_there : {A B : Type 0} → (A → Option B) → List A → Option (List B)
 all_there f [] = Some []
 all_there f (x ∷ xs) = f x >>= λ y. all_there f xs >>= λ ys. Some (y ∷ ys)
+
+-- If the first is there, the second is the same.
+abbrev pub Keeps : {A : Type 0} → Option A → Option A → Type 0
+Keeps {A} x y = (v : A) → x ≡ Some v → y ≡ Some v
+
+-- The value, if the test is true.
+abbrev pub only : {A : Type 0} → Bool → Option A → Option A
+only b m = cond b m None

@@ -1,5 +1,5 @@
 -- An environment that links a module links what is left of it.
-use Rattle.base_lists.proofs.Common.{◌≡◌, ◌∙◌, ap, ap₂, sym, subst, refl, ℕ, zero, suc, ◌+◌, ◌<◌, ◌⊎◌, inl, inr, List, [], ◌∷◌, ◌++◌, map, length, Some, true, false, arith, option_and_then, slice_get, unwrap_or, length-append, length-map, slice_get_within, and_then_is, all_there_at, all_there_from, append_from, map_at, map_from, slice_get_there}
+use Rattle.base_lists.proofs.Common.{◌≡◌, ◌∙◌, ap, ap₂, sym, subst, refl, ℕ, zero, suc, ◌+◌, ◌<◌, ◌⊎◌, inl, inr, List, [], ◌∷◌, ◌++◌, map, length, Some, true, false, arith, option_and_then, slice_get, unwrap_or, length-append, length-map, slice_get_within, and_then_is, all_there_at, all_there_from, append_from, map_at, map_from, slice_get_there, list_all_each, all_rel, right_there, then_eq, then_rel}
 use Rattle.wasm_tree_spec.specs.Prelude.{Functions, ConstExpr, ElemSeg, GlobalDef, Import, ImportDesc, Module, imported_funcs, funcs_of}
 use Rattle.wasm_tree.specs.declared.module.Func as tree
 use Rattle.wasm_tree.specs.declared.module.ImportDesc.TheVariants as im
@@ -14,7 +14,6 @@ use Rattle.world_simulation.proofs.Alone.{thing_is, funcs_counted}
 use Rattle.world_simulation.proofs.Allocated.{Adds, adds, part_there}
 use Rattle.world_simulation.proofs.Declared.{last_segments, last_elems}
 use Rattle.world_simulation.proofs.Instancing.{IsInst, is_space}
-use Rattle.world_simulation.proofs.Places.{all_each, all_rel, right_there, then_eq, then_rel}
 use Rattle.world_simulation.proofs.Renamed.{funcs_correspond}
 use Rattle.world_simulation.proofs.Single.{thing_rel, match_same, made_there}
 use Rattle.world_simulation.proofs.Stored.{func_rel, global_rel, ref_rel, stores_rel}
@@ -122,7 +121,7 @@ module _ (k : Marks) (t : Module) (c : AreClosed k t) (env : Environment) (impor
     one_matched n x h =
         let p = kept_from k.imports t.imports n x (subst (λ xs. slice_get xs n ≡ Some x) imports h) in
         let lt = slice_get_within t.imports p.place x p.is in
-        let old = all_each (is_matched env (one t) s) (sites (one t)) matched p.place (site p.place) (sites_at (length t.imports) 0 p.place lt ∙ ap (λ m. Some (site m)) (let z : 0 + p.place ≡ p.place = omega arith in z)) in
+        let old = list_all_each (is_matched env (one t) s) (sites (one t)) matched p.place (site p.place) (sites_at (length t.imports) 0 p.place lt ∙ ap (λ m. Some (site m)) (let z : 0 + p.place ≡ p.place = omega arith in z)) in
         ap (λ o. unwrap_or o false) (ap₂ (λ o y. option_and_then (λ i. option_and_then (is_match z u i.desc) y) o) h (thing_is env u n ∙ ap₂ (external_value_in env) (same k t c).types h)
         ∙ sym (then_eq (thing_rel Q env (own k t c env) t.types (Some x)) (λ _ y q. match_same Q env (own k t c env) s z like t t refl refl x.desc q ∙ types_only z x.desc y))
         ∙ sym (ap₂ (λ o y. option_and_then (λ i. option_and_then (is_match s t i.desc) y) o) p.is (thing_is env t p.place ∙ ap (external_value_in env t.types) p.is)))

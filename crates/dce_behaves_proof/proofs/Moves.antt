@@ -1,12 +1,9 @@
 -- Where addresses go when some of what a module defines is left out, and what index spaces name then.
-use Rattle.base_lists.proofs.Common.{◌≡◌, ◌∙◌, ap, sym, refl, ℕ, ◌+◌, ◌-◌, ◌<◌, ◌≤◌, ◌&&◌, ◌⊎◌, inl, inr, List, ◌++◌, length, drop, Bool, true, false, cond, nat_eq, nat_lt, arith, slice_get, cases_lt, eq-eqb, eqb-true, ltb-true, nat_tests, left_true, right_true, numbers_at, append_at_left, append_left, append_right, slice_get_there}
+use Rattle.base_lists.proofs.Common.{◌≡◌, ◌∙◌, ap, sym, refl, ℕ, ◌+◌, ◌-◌, ◌<◌, ◌≤◌, ◌&&◌, ◌⊎◌, inl, inr, List, ◌++◌, length, drop, Bool, true, false, cond, nat_eq, nat_lt, arith, slice_get, cases_lt, eq-eqb, eqb-true, ltb-true, nat_tests, left_true, right_true, numbers_at, append_at_left, append_left, append_right, slice_get_there, get_rel, opt_at, opt_self}
 use Rattle.base_lists.specs.Places.{numbers}
 use Rattle.index_remap.specs.Prelude.{OptRel, some, ListRel}
-use Rattle.index_remap.proofs.Rel.{get_rel}
-use Rattle.world_simulation.proofs.Places.{opt_at, opt_self}
 use Rattle.base_kept.specs.Kept.{kept, is_marked, kept_before}
-use Rattle.base_kept.proofs.Laws.{kept_at, marked_drop}
-use Rattle.base_kept.proofs.Laws.{marked_apart}
+use Rattle.base_kept.proofs.Laws.{kept_at, marked_drop, marked_apart}
 use Rattle.dce_behaves_proof.proofs.Marked.{kept_length, before_sum, before_less}
 
 -- ---- addresses ----

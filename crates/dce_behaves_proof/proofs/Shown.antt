@@ -1,5 +1,5 @@
 -- What is left of a module by closed marks shows what the module shows.
-use Rattle.base_lists.proofs.Common.{◌≡◌, ◌∙◌, ap, sym, ℕ, List, [], ◌∷◌, Some, true, option_and_then}
+use Rattle.base_lists.proofs.Common.{◌≡◌, ◌∙◌, ap, sym, ℕ, List, [], ◌∷◌, Some, true, option_and_then, is_some_there}
 use Rattle.wasm_tree_spec.specs.Prelude.{Functions, Tables, Memories, Globals, Module}
 use Rattle.wasm_meaning.specs.Prelude.{Inst, Environment, insts_from, starts_of, instantiate, links, alone, Move, events}
 use Rattle.index_remap.specs.Prelude.{ListRel, RenumberedCodeIsRelated}
@@ -8,7 +8,7 @@ use Rattle.world_simulation.specs.Prelude.{one, AreSimilar, StartsCorrespond, Wo
 use Rattle.world_simulation.specs.Instances.{RelatedInstancesHaveEqualTraces}
 use Rattle.world_simulation.proofs.Instancing.{IsInst, inst_is, inst_there}
 use Rattle.world_simulation.proofs.Simulated.{what_is_made, instances_rel}
-use Rattle.world_simulation.proofs.Single.{one_inst, there_is}
+use Rattle.world_simulation.proofs.Single.{one_inst}
 use Rattle.base_kept.specs.Kept.{kept}
 use Rattle.dce_sweep_spec.specs.Marks.{Marks}
 use Rattle.dce_sweep_spec.specs.Closed.{AreClosed}
@@ -34,7 +34,7 @@ module _ (k : Marks) (t : Module) (c : AreClosed k t) (imports : (swept k t).imp
 
     linked : links env (unswept k t) ≡ true → links env (alone u) ≡ true
     linked h =
-        let o = there_is (instantiate env (unswept k t)) h in
+        let o = is_some_there (instantiate env (unswept k t)) h in
         let x = what_is_made env (unswept k t) o.0 o.1 in
         let i = one_inst env t x.insts x.are_insts in
         let a = i.2 in

@@ -1,5 +1,5 @@
 -- A module and what is left of it by closed marks: its records of the law for two worlds.
-use Rattle.base_lists.proofs.Common.{◌≡◌, ◌∙◌, ap, ap₂, sym, subst, refl, ℕ, suc, ◌+◌, ◌<◌, ◌≤◌, ◌&&◌, List, [], ◌∷◌, ◌++◌, map, length, drop, replicate, Option, Some, None, Bool, true, arith, option_and_then, append-nil, slice_get, slice_index, IsTrue, ltb-true, length-append, length-map, length-replicate, length-drop, map-id, slice_get_within, same_Some, left_true, right_true, length-numbers, numbers_at, append_at_left, map_at, map_twice, slice_get_there}
+use Rattle.base_lists.proofs.Common.{◌≡◌, ◌∙◌, ap, ap₂, sym, subst, refl, ℕ, suc, ◌+◌, ◌<◌, ◌≤◌, ◌&&◌, List, [], ◌∷◌, ◌++◌, map, length, drop, replicate, Option, Some, None, Bool, true, arith, option_and_then, append-nil, slice_get, slice_index, IsTrue, ltb-true, length-append, length-map, length-replicate, length-drop, map-id, slice_get_within, same_Some, left_true, right_true, length-numbers, numbers_at, append_at_left, map_at, map_twice, slice_get_there, append_rel, get_rel, opt_at, then_rel}
 use Rattle.base_lists.specs.Places.{numbers}
 use Rattle.wasm_tree_spec.specs.Prelude.{Space, Types, Functions, Tables, Memories, Globals, ElementSegments, DataSegments, ConstExpr, ElemMode, ElemSeg, Export, GlobalDef, Module, imported_funcs, imported_tables, imported_memories, imported_globals}
 use Rattle.wasm_tree.specs.declared.module.ConstExpr.TheVariants as const
@@ -9,7 +9,6 @@ use Rattle.wasm_meaning.specs.Prelude.{Inst, Text, Val, Environment, own_globals
 use Rattle.wasm_meaning.specs.World as world
 use Rattle.index_remap.specs.declared.remap.Remap.{Remap}
 use Rattle.index_remap.specs.Prelude.{declared_refs, entries, has, new_func, new_elem, new_elem_mode, new_data, new_global, new_const, new_export, Pairing, OneToOne, OptRel, none, some, ListRel, cons, nil, ValRel, number, reference, func, KeyRel, passed, RenumberedCodeIsRelated}
-use Rattle.index_remap.proofs.Rel.{append_rel, get_rel}
 use Rattle.index_remap_proof.specs.Indices.{Indices, with_entry, ConstNamesOnly, ExportNamesOnly, FuncNamesOnly, TreeNamesOnly}
 use Rattle.world_simulation.specs.Prelude.{one, addresses, FuncsAt, GlobalsCorrespond, ElemsCorrespond, Partners, DefinitionsCorrespond, Instantiated, values_in, is_declarative, EntriesName, SharesOwn, ElemsInOrder, DatasInOrder, WorldsCorrespond}
 use Rattle.world_simulation.specs.Definitions as partners
@@ -19,7 +18,6 @@ use Rattle.world_contents_proof.proofs.Grown.{stays_at, no_more, declared_alone,
 use Rattle.world_simulation.proofs.Instancing.{IsInst}
 use Rattle.world_contents_proof.proofs.OwnValues.{const_same}
 use Rattle.world_simulation.proofs.Owned.{null_rel, own_globals_rel}
-use Rattle.world_simulation.proofs.Places.{opt_at, then_rel}
 use Rattle.world_simulation.proofs.Renamed.{funcs_correspond, elems_alike, elem_mode_named, data_mode_named, export_named, start_named, func_named}
 use Rattle.world_simulation.proofs.Single.{space_at}
 use Rattle.world_simulation.proofs.Stored.{alike_correspond}

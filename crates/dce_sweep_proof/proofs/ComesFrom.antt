@@ -1,5 +1,5 @@
 -- Each item of what is left of a module comes from one of the module.
-use Rattle.base_lists.proofs.Common.{◌≡◌, ◌∙◌, ap, sym, subst, refl, ℕ, ◌<◌, ◌≤◌, List, map, take, length, Option, Some, None, true, arith, slice_get, slice_index, option_and_then, Contains, ltb-true, length-append, length-map, take-map, slice_get_within, numbers_index, and_then_is, slice_get_there, map_at, map_from, kept_is, left_true}
+use Rattle.base_lists.proofs.Common.{◌≡◌, ◌∙◌, ap, sym, subst, refl, ℕ, ◌<◌, ◌≤◌, List, map, take, length, Option, Some, None, true, arith, slice_get, slice_index, option_and_then, Contains, ltb-true, length-append, length-map, take-map, slice_get_within, numbers_index, and_then_is, slice_get_there, map_at, map_from, kept_is, left_true, only_true}
 use Rattle.base_lists.specs.Places.{numbers}
 use Rattle.wasm_tree_spec.specs.Prelude.{ValType, FuncType, GlobalType, ConstExpr, DataMode, ElemMode, ElemSeg, Export, ImportDesc, Module, funcs_of, globals_of, tables_of, memories_of, imported_globals, type_of_func}
 use Rattle.wasm_tree.specs.declared.module.ConstExpr.TheVariants as const
@@ -12,7 +12,6 @@ use Rattle.index_remap.specs.declared.remap.Remap.{Remap}
 use Rattle.index_remap.specs.Prelude.{new_const, new_data, new_data_mode, new_elem, new_elem_mode, new_export, new_func, new_global, new_import, new_start}
 use Rattle.index_remap_proof.specs.Indices.{Indices, ConstNamesOnly, DataModeNamesOnly, ElemModeNamesOnly, ImportNamesOnly}
 use Rattle.index_remap_proof.specs.Trees.{ConstComesFrom, DataModeComesFrom, EachItemComesFrom, ElemModeComesFrom, ItemsComeFrom, ReadsImport, TreesAgree, active, passive, declarative}
-use Rattle.index_remap_proof.proofs.Lists.{only_true}
 use Rattle.base_kept.specs.Kept.{kept, is_marked, kept_before}
 use Rattle.dce_sweep_spec.specs.Marks.{Marks, stays}
 use Rattle.dce_sweep_spec.specs.Swept.{defined_funcs, defined_globals, is_kept_ref, kept_elem, kept_items, sweep_map, renumbered_kept}

@@ -1,5 +1,5 @@
 -- In an environment that links a module, what the first step makes of its constructors corresponds to what the snapshot is instantiated to.
-use Rattle.base_lists.proofs.Common.{◌≡◌, ◌∙◌, sym, ap, refl, subst, ℕ, List, [], ◌∷◌, ◌++◌, true, false, slice_get, Some, option_and_then, same_Some, and_then_is}
+use Rattle.base_lists.proofs.Common.{◌≡◌, ◌∙◌, sym, ap, refl, subst, ℕ, List, [], ◌∷◌, ◌++◌, true, false, slice_get, Some, option_and_then, same_Some, and_then_is, all_rel, opt_at, opt_both, right_there}
 use Rattle.wasm_tree_spec.specs.Prelude.{Functions, GlobalDef, Module}
 use Rattle.wasm_valid.specs.Prelude.{IsValid}
 use Rattle.wasm_meaning.specs.Prelude.{Text, Inst, Val, Store, StepsWriteWhatTheyTouch, sites, Environment, ExternalValue, all_of, Begun, all_there, alone, begun, inst_of, insts_from, instantiate, is_matched, joined_stores, own_store, part_store, seen_as, segments, start_in, stores_from, value_of}
@@ -9,7 +9,6 @@ use Rattle.world_simulation.specs.Prelude.{one, IsInstantiated}
 use Rattle.world_contents_proof.specs.Leaves.{Leaves}
 use Rattle.world_simulation.proofs.Instancing.{IsInst}
 use Rattle.world_simulation.proofs.Owned.{owned_rel}
-use Rattle.world_simulation.proofs.Places.{all_rel, opt_at, opt_both, right_there}
 use Rattle.world_simulation.proofs.Simulated.{what_is_made}
 use Rattle.eval_spec.specs.declared.limits.TheConstants.{MOST_TURNS}
 use Rattle.eval_numbers_proof.specs.Ranges.{GlobalsAreExpressible}

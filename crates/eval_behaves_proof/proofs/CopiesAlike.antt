@@ -1,18 +1,16 @@
 -- What the element segments of a module and of its snapshot copy into tables, and what is left of them: the same in both, of functions that both have.
-use Rattle.base_lists.proofs.Common.{◌≡◌, ◌∙◌, sym, ap, ap₂, refl, subst, ℕ, suc, List, [], ◌∷◌, ◌++◌, length, Bool, true, false, cond, Option, Some, None, slice_get, same_Some, and_then_is}
+use Rattle.base_lists.proofs.Common.{◌≡◌, ◌∙◌, sym, ap, ap₂, refl, subst, ℕ, suc, List, [], ◌∷◌, ◌++◌, length, Bool, true, false, cond, Option, Some, None, slice_get, same_Some, and_then_is, overwrite_rel, opt_self}
 use Rattle.base_lists.specs.Options.{◌>>=◌}
 use Rattle.wasm_tree_spec.specs.Prelude.{ConstExpr, ElemMode, ElemSeg, Module, tables_of}
 use Rattle.wasm_tree.specs.declared.module.ElemMode.TheVariants as elem
 use Rattle.wasm_num.specs.Operations.{W32}
 use Rattle.wasm_meaning.specs.Prelude.{overwrite, Text, Inst, RefVal, Val, Elem, num_of, ref_of, Environment, all_there, elem_with, new_elem}
 use Rattle.index_remap.specs.Prelude.{Pairing, ListRel, nil, cons, RefRel, ElemRel}
-use Rattle.index_remap.proofs.Rel.{overwrite_rel}
 use Rattle.index_remap_proof.specs.Indices.{ConstNamesOnly, ElemModeNamesOnly, TreeNamesOnly, with_entry}
 use Rattle.world_simulation.specs.Prelude.{one}
 use Rattle.world_contents_proof.specs.Leaves.{contents, is_address, over, all_over, elem_copy, elem_copies, elem_left}
 use Rattle.world_simulation.proofs.Declared.{last_segments}
 use Rattle.world_simulation.proofs.Instancing.{IsInst}
-use Rattle.world_simulation.proofs.Places.{opt_self}
 use Rattle.world_simulation.proofs.Stored.{ref_rel}
 use Rattle.eval_spec.specs.Prelude.{State}
 use Rattle.eval_snapshot_spec.specs.Snapshot.{snapshot}

@@ -1,5 +1,5 @@
 -- Which indices of a valid module denote addresses in an environment, and what its code and its constant expressions are in both.
-use Rattle.base_lists.proofs.Common.{◌≡◌, ◌∙◌, sym, ap, subst, refl, ℕ, ◌+◌, ◌<◌, ◌≤◌, List, [], ◌∷◌, length, false, Option, Some, arith, slice_get, option_and_then, IsTrue, nat_lt, and_from, eq-eqb, lt-ltb, same_Some, length-numbers, numbers_at, numbers_is, and_then_is, slice_get_there}
+use Rattle.base_lists.proofs.Common.{◌≡◌, ◌∙◌, sym, ap, subst, refl, ℕ, ◌+◌, ◌<◌, ◌≤◌, List, [], ◌∷◌, length, false, Option, Some, arith, slice_get, option_and_then, IsTrue, nat_lt, and_from, eq-eqb, lt-ltb, same_Some, length-numbers, numbers_at, numbers_is, and_then_is, slice_get_there, opt_at}
 use Rattle.base_lists.specs.Places.{numbers}
 use Rattle.wasm_tree_spec.specs.Prelude.{Space, Types, Functions, Tables, Memories, Globals, ElementSegments, DataSegments, ConstExpr, Module, funcs_of, tables_of, memories_of, globals_of}
 use Rattle.wasm_tree.specs.declared.module.ConstExpr.TheVariants as const
@@ -12,7 +12,6 @@ use Rattle.world_simulation.specs.Prelude.{one}
 use Rattle.world_contents_proof.specs.Leaves.{is_address}
 use Rattle.world_simulation.proofs.Instancing.{IsInst}
 use Rattle.world_simulation.proofs.Owned.{null_rel}
-use Rattle.world_simulation.proofs.Places.{opt_at}
 use Rattle.eval_spec.specs.Prelude.{own_inst, reads_global, value_in}
 use Rattle.eval_behaves_proof.specs.Addresses.{addresses_in, names_at, stands_at}
 use Rattle.eval_behaves_proof.proofs.CodeAlike.{IndexAlike, kept_alike}

@@ -1,5 +1,5 @@
 -- What the data segments of a module and of its snapshot copy into memories: nothing into the environment's own, and into the defined one of the snapshot what it is to hold.
-use Rattle.base_lists.proofs.Common.{◌≡◌, ◌∙◌, sym, ap, refl, subst, ℕ, suc, ◌+◌, ◌-◌, ◌*◌, ◌^◌, ◌<◌, ◌≤◌, List, [], ◌∷◌, ◌++◌, map, length, false, cond, Option, Some, None, ◌⊎◌, inl, inr, ⊎_elim, arith, slice_get, nat_lt, cases_lt, lt-ltb, ne_eqb, length-append, slice_get_within, every_at, append_from, map_at, map_from}
+use Rattle.base_lists.proofs.Common.{◌≡◌, ◌∙◌, sym, ap, refl, subst, ℕ, suc, ◌+◌, ◌-◌, ◌*◌, ◌^◌, ◌<◌, ◌≤◌, List, [], ◌∷◌, ◌++◌, map, length, false, cond, Option, Some, None, ◌⊎◌, inl, inr, ⊎_elim, arith, slice_get, nat_lt, cases_lt, lt-ltb, ne_eqb, length-append, slice_get_within, every_at, append_from, map_at, map_from, length-map}
 use Rattle.std.proofs.lemmas.Bool.{true≢false}
 use Rattle.base_lists.specs.Options.{◌>>=◌}
 use Rattle.wasm_tree_spec.specs.Prelude.{Memories, Limits, ConstExpr, DataMode, DataSeg, Module, imported_memories, memories_of}
@@ -15,7 +15,6 @@ use Rattle.world_contents_proof.proofs.Copies.{AreOf, IsOf}
 use Rattle.world_simulation.proofs.Instancing.{IsInst}
 use Rattle.world_contents_proof.proofs.Leaves.{memories}
 use Rattle.world_contents_proof.proofs.OwnValues.{const_same}
-use Rattle.world_simulation.proofs.Places.{map_length}
 use Rattle.eval_spec.specs.Prelude.{State, is_imported, memory_bytes}
 use Rattle.eval_snapshot_spec.specs.Contents as tree
 use Rattle.eval_snapshot_spec.specs.Contents.{Stretch, stretch_segment, stretches}
@@ -170,7 +169,7 @@ module _ (env : Environment) (m : Module) (s : State) (name : Text) (names kept 
           by (inl e) = subst (GoesSomewhere memories half) (sym e) tt
           by (inr g) =
               let size = ap length mems_are ∙ length-append (own_memories env) _ in
-              let many = map_length new_memory m.mems in
+              let many = length-map m.mems new_memory in
               let some_there = g.3 in
               subst (GoesSomewhere memories half) (sym g.2) (own, zero_place g.3, omega (arith, size, many, some_there))
 

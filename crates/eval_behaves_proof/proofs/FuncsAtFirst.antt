@@ -1,6 +1,6 @@
 -- The functions that the quiet run has at first and those at their addresses in an environment are the same: imported ones are the environment's own of equal pair and type,
 -- and defined ones have the same code over both instances.
-use Rattle.base_lists.proofs.Common.{◌≡◌, ◌∙◌, sym, ap, ap₂, subst, refl, ℕ, suc, ◌+◌, ◌<◌, List, [], ◌∷◌, ◌++◌, map, length, true, Option, Some, is_some, inl, inr, arith, slice_get, option_and_then, cons_option, filter_map, ltb-true, and_parts, length-append, same_Some, chosen_from, place_of, places_many, length-numbers, all_there_at, and_then_is, append_at_left, append_from, append_right, slice_get_there, all_there_back}
+use Rattle.base_lists.proofs.Common.{◌≡◌, ◌∙◌, sym, ap, ap₂, subst, refl, ℕ, suc, ◌+◌, ◌<◌, List, [], ◌∷◌, ◌++◌, map, length, true, Option, Some, is_some, inl, inr, arith, slice_get, option_and_then, cons_option, filter_map, ltb-true, and_parts, length-append, same_Some, chosen_from, place_of, places_many, length-numbers, all_there_at, and_then_is, append_at_left, append_from, append_right, slice_get_there, all_there_back, length-map, both_at, opt_both}
 use Rattle.std.specs.Prelude.{unwrap_or}
 use Rattle.wasm_tree_spec.specs.Prelude.{Functions, same_space, FuncType, Import, ImportDesc, Module, func_of, funcs_of, imported_funcs, space_of_import}
 use Rattle.wasm_tree.specs.declared.module.ImportDesc.TheVariants as im
@@ -12,7 +12,6 @@ use Rattle.world_simulation.specs.Prelude.{key_in, one, site, external_value_in,
 use Rattle.world_simulation.proofs.Alone.{funcs_counted, thing_is}
 use Rattle.world_simulation.proofs.Allocated.{AddsWith}
 use Rattle.world_simulation.proofs.Instancing.{Entry, IsInst, defines, entry_at, import_address, imports, is_space}
-use Rattle.world_simulation.proofs.Places.{both_at, map_length, opt_both}
 use Rattle.world_simulation.proofs.Stored.{func_rel}
 use Rattle.eval_spec.specs.Prelude.{imported_func, imported_store, own_inst, value_in}
 use Rattle.eval_proof.specs.Known.{FuncsOf, IsCodeOf}
@@ -131,7 +130,7 @@ module _ (m : Module) where
               let l = few in
               let c = funcs_counted m.imports 0 in
               let f = length-append (imported_funcs m.imports) (map (λ f. f.ty) m.funcs) in
-              let g = map_length (λ f. f.ty) m.funcs in
+              let g = length-map m.funcs (λ f. f.ty) in
               defined_related n a j e (omega (arith, l, e, c, f, g)) (omega (arith, d))
 
     -- ---- their code is of the one instance ----

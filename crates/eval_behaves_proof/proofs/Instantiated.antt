@@ -1,5 +1,5 @@
 -- Where an environment links a module whose evaluation is quiet, both are instantiated to what is related, and the functions to be called correspond.
-use Rattle.base_lists.proofs.Common.{◌≡◌, ◌∙◌, ap, subst, refl, ℕ, suc, ◌<◌, List, [], ◌∷◌, ◌++◌, map, length, Bool, true, false, cond, Option, Some, None, is_some, inl, inr, arith, slice_get, IsTrue, same_Some, chosen_from, and_then_is, is_some_there, append_from, map_from, slice_get_there}
+use Rattle.base_lists.proofs.Common.{◌≡◌, ◌∙◌, ap, subst, refl, ℕ, suc, ◌<◌, List, [], ◌∷◌, ◌++◌, map, length, Bool, true, false, cond, Option, Some, None, is_some, inl, inr, arith, slice_get, IsTrue, same_Some, chosen_from, and_then_is, is_some_there, append_from, map_from, slice_get_there, append_rel}
 use Rattle.wasm_tree_spec.specs.Prelude.{Functions, Export, ExportDesc, ImportDesc, Module, func_of, funcs_of, imported_funcs}
 use Rattle.wasm_tree.specs.declared.module.ExportDesc.TheVariants as ex
 use Rattle.wasm_tree.specs.declared.module.ImportDesc.TheVariants as im
@@ -7,7 +7,6 @@ use Rattle.wasm_tree.specs.declared.module.Func as tree
 use Rattle.wasm_valid.specs.Prelude.{IsValid}
 use Rattle.wasm_meaning.specs.Prelude.{Text, Inst, export_named, same_text, Environment, Filled, all_there, alone, begun, joined_stores, links, own_store, segments, start_in}
 use Rattle.index_remap.specs.Prelude.{ListRel, cons, nil}
-use Rattle.index_remap.proofs.Rel.{append_rel}
 use Rattle.index_remap_proof.specs.Indices.{ExportNamesOnly, ImportNamesOnly, TreeNamesOnly, with_entry}
 use Rattle.world_simulation.specs.Prelude.{one}
 use Rattle.world_simulation.proofs.Instancing.{IsInst}

@@ -1,5 +1,5 @@
 -- Where an environment links a module it instantiates the module with one function more, whatever names of the module may be used.
-use Rattle.base_lists.proofs.Common.{◌≡◌, ◌∙◌, sym, ap, subst, refl, ℕ, zero, suc, ◌+◌, ◌<◌, List, [], ◌∷◌, ◌++◌, length, Bool, true, false, cond, Option, Some, None, inl, inr, arith, slice_get, option_and_then, nat_eq, nat_lt, ◌&&◌, IsTrue, and_from, and_parts, eq-eqb, eqb-true, lt-ltb, ltb-true, same_Some, chosen_from, all_there_at, all_there_from, and_then_is, append_from, map_from, slice_get_there}
+use Rattle.base_lists.proofs.Common.{◌≡◌, ◌∙◌, sym, ap, subst, refl, ℕ, zero, suc, ◌+◌, ◌<◌, List, [], ◌∷◌, ◌++◌, length, Bool, true, false, cond, Option, Some, None, inl, inr, arith, slice_get, option_and_then, nat_eq, nat_lt, ◌&&◌, IsTrue, and_from, and_parts, eq-eqb, eqb-true, lt-ltb, ltb-true, same_Some, chosen_from, all_there_at, all_there_from, and_then_is, append_from, map_from, slice_get_there, is_some_there}
 use Rattle.std.specs.Prelude.{unwrap_or}
 use Rattle.base_lists.specs.Places.{first_place}
 use Rattle.wasm_tree_spec.specs.Prelude.{Space, Functions, Tables, Memories, Globals, ElementSegments, DataSegments, FuncType, GlobalDef, ElemSeg, Export, ExportDesc, Module, funcs_of, tables_of, memories_of, globals_of}
@@ -13,7 +13,7 @@ use Rattle.world_simulation.specs.Definitions as partners
 use Rattle.world_simulation.proofs.Allocated.{Adds, adds, part_there}
 use Rattle.world_simulation.proofs.Instancing.{IsInst, inst_is, inst_there}
 use Rattle.world_simulation.proofs.Simulated.{what_is_made}
-use Rattle.world_simulation.proofs.Single.{all_matched, one_inst, there_is}
+use Rattle.world_simulation.proofs.Single.{all_matched, one_inst}
 use Rattle.world_simulation.proofs.Stored.{stores_rel}
 use Rattle.eval_spec.specs.Prelude.{takes_and_gives_nothing}
 use Rattle.eval_snapshot_spec.specs.Snapshot.{empty_func, export_left, is_among_names}
@@ -181,7 +181,7 @@ module _ (env : Environment) (m : Module) (names : TreeNamesOnly (with_entry (ea
 
   pub more_made : (evaluated kept : List Text) → IsTrue (links env (alone m)) → MoreMade env m evaluated kept
   more_made evaluated kept h =
-      let o = there_is (instantiate env (alone m)) h in
+      let o = is_some_there (instantiate env (alone m)) h in
       let x = what_is_made env (alone m) o.0 o.1 in
       let i = one_inst env m x.insts x.are_insts in
       let a = i.2 in

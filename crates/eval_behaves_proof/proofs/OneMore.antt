@@ -1,6 +1,6 @@
 -- A module and the same with one function more, in an environment: each index of the first has the address in the second that it has in the first, and constant expressions
 -- have the values in the second that they have in the first.
-use Rattle.base_lists.proofs.Common.{◌≡◌, ◌∙◌, sym, ap, ℕ, ◌+◌, ◌≤◌, List, [], ◌∷◌, ◌++◌, map, length, Option, Some, None, inl, inr, arith, slice_get, option_and_then, length-append, same_Some, numbers_at, and_then_is, append_at_left, append_from, append_right}
+use Rattle.base_lists.proofs.Common.{◌≡◌, ◌∙◌, sym, ap, ℕ, ◌+◌, ◌≤◌, List, [], ◌∷◌, ◌++◌, map, length, Option, Some, None, inl, inr, arith, slice_get, option_and_then, length-append, same_Some, numbers_at, and_then_is, append_at_left, append_from, append_right, length-map, number_is}
 use Rattle.base_lists.specs.Places.{numbers}
 use Rattle.wasm_tree_spec.specs.Prelude.{Space, Types, Functions, Tables, Memories, Globals, ElementSegments, DataSegments, ConstExpr, Module, imported_funcs, imported_tables, imported_memories, imported_globals, funcs_of, tables_of, memories_of, globals_of}
 use Rattle.wasm_tree.specs.declared.module.ConstExpr.TheVariants as const
@@ -10,7 +10,6 @@ use Rattle.world_simulation.specs.Prelude.{addresses, one}
 use Rattle.world_simulation.specs.Alone.{read_place}
 use Rattle.world_simulation.proofs.Alone.{funcs_counted, tables_counted, memories_counted, globals_counted, read_is, space_is}
 use Rattle.world_simulation.proofs.Instancing.{IsInst, is_space}
-use Rattle.world_simulation.proofs.Places.{map_length, number_is}
 use Rattle.eval_snapshot_spec.specs.Snapshot.{empty_func}
 use Rattle.eval_behaves_proof.specs.Worlds.{with_empty_func}
 
@@ -26,7 +25,7 @@ module _ (env : Environment) (m : Module) (fs : List tree.Func) (i : Inst) (is :
       let s = (is_space env (one (with_funcs m fs)) Functions 0 (with_funcs m fs) i.funcs is.funcs).size in
       let e = funcs_counted m.imports 0 in
       let f = length-append (imported_funcs m.imports) (map (λ f. f.ty) m.funcs) in
-      let g = map_length (λ f. f.ty) m.funcs in
+      let g = length-map m.funcs (λ f. f.ty) in
       let k = length-append m.funcs fs in
       omega (arith, s, e, f, g, k)
 
@@ -49,7 +48,7 @@ module _ (env : Environment) (m : Module) (fs : List tree.Func) (i : Inst) (is :
       let s = (is_space env (one (with_funcs m fs)) Globals 0 (with_funcs m fs) i.globals is.globals).size in
       let e = globals_counted m.imports 0 in
       let f = length-append (imported_globals m.imports) (map (λ g. g.ty) m.globals) in
-      let g = map_length (λ g. g.ty) m.globals in
+      let g = length-map m.globals (λ g. g.ty) in
       omega (arith, s, e, f, g)
 
 module _ (env : Environment) (m : Module) where

@@ -1,9 +1,7 @@
 -- A list with others written over a part of it, place by place; and so with references that are related but at unknown places.
-use Rattle.base_lists.proofs.Common.{◌≡◌, ◌∙◌, sym, ap, ap₂, refl, ℕ, zero, suc, ◌+◌, ◌-◌, ◌<◌, ◌≤◌, List, [], ◌∷◌, ◌++◌, length, Bool, true, Some, ◌⊎◌, inl, inr, arith, slice_get, cases_lt, length-append, slice_get_past, and_then_is, append_left, append_right}
+use Rattle.base_lists.proofs.Common.{◌≡◌, ◌∙◌, sym, ap, ap₂, refl, ℕ, zero, suc, ◌+◌, ◌-◌, ◌<◌, ◌≤◌, List, [], ◌∷◌, ◌++◌, length, Bool, true, Some, ◌⊎◌, inl, inr, arith, slice_get, cases_lt, length-append, slice_get_past, and_then_is, append_left, append_right, opt_at, overwrite_fits}
 use Rattle.wasm_meaning.specs.Prelude.{overwrite, split_at, RefVal}
 use Rattle.index_remap.specs.Prelude.{Pairing, OptRel, none, RefRel, RefsOff}
-use Rattle.world_simulation.proofs.Copied.{overwrite_fits}
-use Rattle.world_simulation.proofs.Places.{opt_at}
 
 -- the two parts of a list that is split
 split_parts : {A : Type 0} (n : ℕ) (xs : List A) (p : List A × List A) → split_at n xs ≡ Some p → (length p.0 ≡ n) × (xs ≡ p.0 ++ p.1)

@@ -1,12 +1,10 @@
 -- At the address that an imported function denotes, the environment has its own function of that pair and type.
-use Rattle.base_lists.proofs.Common.{◌≡◌, ◌∙◌, sym, ap, ap₂, refl, ℕ, suc, ◌+◌, List, [], ◌∷◌, ◌++◌, map, append-nil, Option, Some, None, Bool, true, false, cond, arith, slice_get, and_parts}
+use Rattle.base_lists.proofs.Common.{◌≡◌, ◌∙◌, sym, ap, ap₂, refl, ℕ, suc, ◌+◌, List, [], ◌∷◌, ◌++◌, map, append-nil, Option, Some, None, Bool, true, false, cond, arith, slice_get, and_parts, append_rel, self_rel, maps_rel}
 use Rattle.base_lists.proofs.Same.{text_is}
 use Rattle.wasm_tree_spec.specs.Prelude.{FuncType, same_func_type}
 use Rattle.wasm_meaning.specs.Prelude.{Pair, Func, Own, same_pair, same_text, Environment, Offer, OwnKey, FuncKey, TableKey, MemoryKey, GlobalKey, ExternalValue, FuncAt, TableAt, MemoryAt, GlobalAt, Owned, same_key, look_up, owned_at, owned_of, addressed, flat, one_if, own_funcs}
 use Rattle.index_remap.specs.Prelude.{ListRel, nil, cons}
-use Rattle.index_remap.proofs.Rel.{append_rel}
 use Rattle.index_remap.proofs.SlotCalls.{func_type_is}
-use Rattle.world_simulation.proofs.Places.{self_rel, maps_rel}
 
 -- a key and the function that is allocated for it
 abbrev IsOwn : OwnKey → Func → Type 0

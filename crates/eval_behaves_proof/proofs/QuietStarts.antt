@@ -1,16 +1,15 @@
 -- A quiet instantiation and start are the machine's, of the module itself, in each environment that links it.
-use Rattle.base_lists.proofs.Common.{◌≡◌, ◌∙◌, sym, ap, ap₂, subst, refl, ◌≤◌, List, [], ◌∷◌, ◌++◌, append-nil, false, Some, arith, IsTrue, same_Some, and_then_is}
+use Rattle.base_lists.proofs.Common.{◌≡◌, ◌∙◌, sym, ap, ap₂, subst, refl, ◌≤◌, List, [], ◌∷◌, ◌++◌, append-nil, false, Some, arith, IsTrue, same_Some, and_then_is, is_some_there, append_rel}
 use Rattle.wasm_tree_spec.specs.Prelude.{Functions, Module}
 use Rattle.wasm_tree.specs.declared.module.Func as tree
 use Rattle.wasm_valid.specs.Prelude.{IsValid}
 use Rattle.wasm_meaning.specs.Prelude.{Inst, Store, Environment, Begun, alone, begun, insts_from, instantiate, joined_stores, links, own_store, part_store, segments, start_in, stores_from}
 use Rattle.index_remap.specs.Prelude.{Pairing, ListRel, OneToOneWhereWritten, nil, passed, StoreRelOff, StepsAgreeOff, RunsAgreeOff}
-use Rattle.index_remap.proofs.Rel.{append_rel}
 use Rattle.index_remap_proof.specs.Indices.{TreeNamesOnly, with_entry}
 use Rattle.world_simulation.specs.Prelude.{one}
 use Rattle.world_simulation.proofs.Instancing.{IsInst}
 use Rattle.world_simulation.proofs.Simulated.{what_is_made}
-use Rattle.world_simulation.proofs.Single.{one_inst, there_is}
+use Rattle.world_simulation.proofs.Single.{one_inst}
 use Rattle.eval_spec.specs.declared.limits.TheConstants.{MOST_TURNS}
 use Rattle.eval_spec.specs.Prelude.{State, Stage, Finished, after_start, instantiated, own_inst, called_in_order, evaluated}
 use Rattle.eval_proof.specs.Known.{FuncsOf, QuietCallsAreKnown}
@@ -76,7 +75,7 @@ module _ (env : Environment) (m : Module) (names : TreeNamesOnly (with_entry (ea
 
   pub both_started : IsTrue (links env (alone m)) → BothStarted
   both_started linked =
-      let o = there_is (instantiate env (alone m)) linked in
+      let o = is_some_there (instantiate env (alone m)) linked in
       let x = what_is_made env (alone m) o.0 o.1 in
       let i = one_inst env m x.insts x.are_insts in
       let first : stores_from env (one m) (i.0 ∷ []) (own_store env) 0 (one m) (i.0 ∷ []) ≡ Some x.allocated =

@@ -1,5 +1,5 @@
 -- A segment that the quiet run copies is copied in an environment too, and what is left is related but for what is unknown then.
-use Rattle.base_lists.proofs.Common.{◌≡◌, ◌∙◌, sym, ap, ap₂, subst, refl, ℕ, ◌<◌, List, length, Bool, false, not, Some, inl, inr, arith, slice_get, nat_lt, slice_get_past, cases_lt, le-ltb, numbers_is}
+use Rattle.base_lists.proofs.Common.{◌≡◌, ◌∙◌, sym, ap, ap₂, subst, refl, ℕ, ◌<◌, List, length, Bool, false, not, Some, inl, inr, arith, slice_get, nat_lt, slice_get_past, cases_lt, le-ltb, numbers_is, at_put_there, opt_at}
 use Rattle.std.specs.Prelude.{unwrap_or}
 use Rattle.std.proofs.lemmas.Bool.{or_parts}
 use Rattle.wasm_tree_spec.specs.Prelude.{Tables, Memories, ElementSegments, DataSegments, ConstExpr, ElemMode, ElemSeg, DataMode, DataSeg, Module, memories_of, tables_of}
@@ -8,11 +8,10 @@ use Rattle.wasm_tree.specs.declared.module.DataMode.TheVariants as data'
 use Rattle.wasm_tree.specs.declared.module.Func as tree
 use Rattle.wasm_meaning.specs.Prelude.{Gives, overwrite, RefVal, Inst, Store, Table, Elem, SetTable, changed, no_items, Bytes, Environment, Filled, PlacedSegment, copy_data, copy_elem, run_data_with, run_elem_with}
 use Rattle.index_remap.specs.Prelude.{Pairing, OneToOneWhereWritten, set_memory, drop_data, drop_elem, RefsOff, StoreRelOff, TableOff, is_place_among, known}
-use Rattle.index_remap.proofs.Rel.{at_put_there, write_each}
+use Rattle.index_remap.proofs.Rel.{write_each}
 use Rattle.index_remap.proofs.Unknown.{changed_off}
 use Rattle.world_simulation.specs.Prelude.{one, offset_in}
 use Rattle.world_simulation.proofs.Instancing.{IsInst}
-use Rattle.world_simulation.proofs.Places.{opt_at}
 use Rattle.index_remap.specs.Related as related
 use Rattle.eval_spec.specs.Prelude.{State, Finished, is_imported, written_after, copied_slots, data_tests, elem_tests, own_inst, place_in, reads_global, value_in, with_data_mode, with_elem_mode}
 use Rattle.eval_behaves_proof.proofs.OneMore.{with_funcs}

@@ -1,5 +1,5 @@
 -- The snapshot is instantiated where the module with one more function is, and none of its segments traps.
-use Rattle.base_lists.proofs.Common.{◌≡◌, ◌∙◌, sym, ap, ap₂, refl, subst, ℕ, zero, suc, ◌+◌, List, [], ◌∷◌, ◌++◌, map, length, false, cond, Option, Some, ⊎_elim, arith, append-nil, slice_get, length-append, same_Some, all_there_at, and_then_is, append_from, map_from}
+use Rattle.base_lists.proofs.Common.{◌≡◌, ◌∙◌, sym, ap, ap₂, refl, subst, ℕ, zero, suc, ◌+◌, List, [], ◌∷◌, ◌++◌, map, length, false, cond, Option, Some, ⊎_elim, arith, append-nil, slice_get, length-append, same_Some, all_there_at, and_then_is, append_from, map_from, length-map}
 use Rattle.base_lists.specs.Options.{◌>>=◌}
 use Rattle.wasm_tree_spec.specs.Prelude.{Tables, ConstExpr, ElemMode, ElemSeg, DataSeg, Module, tables_of}
 use Rattle.wasm_tree.specs.declared.module.ElemMode.TheVariants as elem
@@ -12,7 +12,6 @@ use Rattle.world_contents_proof.proofs.Copies.{AreOf, IsOf, all_stay, runs}
 use Rattle.world_simulation.proofs.Declared.{last_segments}
 use Rattle.world_simulation.proofs.Instancing.{IsInst}
 use Rattle.world_contents_proof.proofs.Leaves.{copies_in_turn, data_runs, elem_runs, memories, tables}
-use Rattle.world_simulation.proofs.Places.{map_length}
 use Rattle.eval_spec.specs.Prelude.{State}
 use Rattle.eval_snapshot_spec.specs.Snapshot.{snapshot}
 use Rattle.eval_behaves_proof.specs.Worlds.{with_empty_func}
@@ -72,7 +71,7 @@ module _ (env : Environment) (m : Module) (s : State) (name : Text) (names kept 
     goes_by e (elem.Active x offset) h =
         let o = table_shared env m s name names kept i j a b x (below (length (tables_of m)) x h.0) in
         let size = ap length tables_are ∙ length-append (own_tables env) (map new_table m.tables) in
-        let many = map_length new_table m.tables in
+        let many = length-map m.tables new_table in
         let low = o.low in
         (o.address, o.second, omega (arith, size, many, low))
     goes_by e elem.Passive h = tt

@@ -1,5 +1,5 @@
 -- In an environment where a module with one more function is instantiated, its snapshot is allocated, its imports match and its names denote what the module's names denote.
-use Rattle.base_lists.proofs.Common.{◌≡◌, ◌∙◌, sym, ap, ap₂, refl, subst, ℕ, zero, suc, ◌+◌, List, [], ◌∷◌, ◌++◌, map, length, Bool, true, false, cond, Some, None, ⊎_elim, arith, option_and_then, slice_get, list_any, length-append, any_passes_from_place, same_Some, chosen_from, all_there_at, and_then_is, append_at_left, append_from, push_last}
+use Rattle.base_lists.proofs.Common.{◌≡◌, ◌∙◌, sym, ap, ap₂, refl, subst, ℕ, zero, suc, ◌+◌, List, [], ◌∷◌, ◌++◌, map, length, Bool, true, false, cond, Some, None, ⊎_elim, arith, option_and_then, slice_get, list_any, length-append, any_passes_from_place, same_Some, chosen_from, all_there_at, and_then_is, append_at_left, append_from, push_last, length-map, then_rel}
 use Rattle.base_lists.specs.Options.{◌>>=◌}
 use Rattle.wasm_tree_spec.specs.Prelude.{Space, Functions, Tables, Memories, Globals, ElementSegments, DataSegments, ElemSeg, Export, ExportDesc, GlobalDef, Module, imported_funcs, funcs_of, tables_of, memories_of, globals_of}
 use Rattle.wasm_tree.specs.declared.module.ExportDesc.TheVariants as ex
@@ -7,7 +7,6 @@ use Rattle.wasm_tree.specs.declared.module.Func as tree
 use Rattle.wasm_meaning.specs.Prelude.{Text, Inst, Val, Func, Code, Global, Elem, Store, Entity, sites, Environment, all_of, address_in, alone, defined_count, elem_of, inst_of, is_matched, joined_stores, new_func, new_global, numbers, own_count, own_store, part_store, seen_as, space, stores_from}
 use Rattle.wasm_meaning.specs.Values as values
 use Rattle.index_remap.specs.Prelude.{Pairing, OptRel, some, ListRel, nil, cons, ExternalValueRel, KeyRel, a_func, a_table, a_memory, a_global}
-use Rattle.index_remap.proofs.Rel.{then_rel}
 use Rattle.index_remap_proof.specs.Indices.{ExportNamesOnly, TreeNamesOnly, with_entry}
 use Rattle.world_simulation.specs.Prelude.{one, addresses, DefinitionsCorrespond, Instantiated, SharesOwn}
 use Rattle.world_simulation.specs.Definitions.{own}
@@ -15,7 +14,6 @@ use Rattle.world_simulation.proofs.Alone.{space_is, funcs_counted}
 use Rattle.world_simulation.proofs.Allocated.{Adds, adds, part_there}
 use Rattle.world_simulation.proofs.Declared.{last_elems, last_segments}
 use Rattle.world_simulation.proofs.Instancing.{IsInst, inst_is, inst_there, is_space}
-use Rattle.world_simulation.proofs.Places.{map_length}
 use Rattle.world_simulation.proofs.Single.{all_matched, space_at}
 use Rattle.world_simulation.proofs.Stored.{stores_rel}
 use Rattle.eval_spec.specs.Prelude.{State}
@@ -120,7 +118,7 @@ module _ (env : Environment) (m : Module) (s : State) (name : Text) (names kept 
           let n = (is_space env (one second) Functions 0 second j.funcs b.funcs).size in
           let e = funcs_counted second.imports 0 in
           let f = length-append (imported_funcs second.imports) (map (λ f. f.ty) second.funcs) in
-          let g = map_length (λ (f : tree.Func). f.ty) second.funcs in
+          let g = length-map second.funcs (λ (f : tree.Func). f.ty) in
           omega (arith, n, e, f, g)
 
       elem_there : (n : ℕ) (e : ElemSeg) → slice_get second.elems n ≡ Some e → (x : Elem) × (elem_of env (one second) (j ∷ []) 0 e ≡ Some x)

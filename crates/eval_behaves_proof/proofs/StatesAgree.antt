@@ -1,19 +1,17 @@
 -- The instances of a module with one more function and of its snapshot: each index that the module names denotes one address in both, and its code does the same.
-use Rattle.base_lists.proofs.Common.{◌≡◌, ◌∙◌, sym, ap, refl, subst, ℕ, ◌+◌, ◌<◌, ◌≤◌, List, [], ◌∷◌, length, true, cond, not, ◌||◌, Option, Some, None, arith, option_and_then, slice_get, length-append, any_passes_from_place, same_Some, numbers_at}
+use Rattle.base_lists.proofs.Common.{◌≡◌, ◌∙◌, sym, ap, refl, subst, ℕ, ◌+◌, ◌<◌, ◌≤◌, List, [], ◌∷◌, length, true, cond, not, ◌||◌, Option, Some, None, arith, option_and_then, slice_get, length-append, any_passes_from_place, same_Some, numbers_at, length-map, get_rel, opt_both, opt_self}
 use Rattle.wasm_tree_spec.specs.Prelude.{Space, Types, Functions, Tables, Memories, Globals, ElementSegments, DataSegments, ConstExpr, Module, any_uses_data, uses_data, operands, same_space, imported_funcs, imported_tables, imported_memories, imported_globals, funcs_of, tables_of, memories_of, globals_of}
 use Rattle.wasm_tree.specs.declared.module.ConstExpr.TheVariants as const
 use Rattle.wasm_tree.specs.declared.module.Func as tree
 use Rattle.wasm_num.specs.Operations.{W32, W64, wrapped}
 use Rattle.wasm_meaning.specs.Prelude.{FuncRef, Text, Inst, Val, Num, Ref, Global, null_of, Environment, own_globals, const_value, own_count, value_of}
 use Rattle.index_remap.specs.Prelude.{Pairing, OptRel, some, CodeRel, ValRel, GlobalRel, number, reference, func}
-use Rattle.index_remap.proofs.Rel.{get_rel}
 use Rattle.index_remap_proof.specs.Indices.{ConstNamesOnly, LayerNamesOnly, TreeNamesOnly, with_entry}
 use Rattle.world_simulation.specs.Prelude.{one}
 use Rattle.world_simulation.proofs.Alone.{funcs_counted, tables_counted, memories_counted, globals_counted}
 use Rattle.world_simulation.proofs.Instancing.{IsInst}
 use Rattle.world_contents_proof.proofs.OwnValues.{const_same}
 use Rattle.world_simulation.proofs.Owned.{null_rel, own_globals_rel}
-use Rattle.world_simulation.proofs.Places.{map_length, opt_both, opt_self}
 use Rattle.eval_spec.specs.Prelude.{State}
 use Rattle.eval_snapshot_spec.specs.Snapshot.{empty_func, snapshot}
 use Rattle.eval_snapshot_proof.proofs.Trees.{CodeLaws}
@@ -64,7 +62,7 @@ module _ (env : Environment) (m : Module) (s : State) (name : Text) (names kept 
     pub func_shared : (n : ℕ) → n < length (funcs_of m) → One Functions i.funcs j.funcs n
     func_shared n lt =
         let many = funcs_many m s name names kept in
-        let f = map_length (λ (f : tree.Func). f.ty) m.funcs in
+        let f = length-map m.funcs (λ (f : tree.Func). f.ty) in
         let size : length (funcs_of m) ≡ length (imported_funcs m.imports) + length m.funcs = length-append (imported_funcs m.imports) _ ∙ ap (λ z. length (imported_funcs m.imports) + z) f in
         func_one n (omega (arith, lt, size, many))
 
@@ -72,7 +70,7 @@ module _ (env : Environment) (m : Module) (s : State) (name : Text) (names kept 
     pub last_shared : 0 < length (more m s name names kept) → One Functions i.funcs j.funcs (length (funcs_of m))
     last_shared some_more =
         let many = funcs_many m s name names kept in
-        let f = map_length (λ (f : tree.Func). f.ty) m.funcs in
+        let f = length-map m.funcs (λ (f : tree.Func). f.ty) in
         let size : length (funcs_of m) ≡ length (imported_funcs m.imports) + length m.funcs = length-append (imported_funcs m.imports) _ ∙ ap (λ z. length (imported_funcs m.imports) + z) f in
         func_one (length (funcs_of m)) (omega (arith, size, many, some_more))
 
@@ -95,7 +93,7 @@ module _ (env : Environment) (m : Module) (s : State) (name : Text) (names kept 
     pub global_shared : (n : ℕ) → n < length (globals_of m) → One Globals i.globals j.globals n
     global_shared n lt =
         let c = globals_counted m.imports 0 in
-        let f = map_length (λ g. g.ty) m.globals in
+        let f = length-map m.globals (λ g. g.ty) in
         let size : length (globals_of m) ≡ length (imported_globals m.imports) + length m.globals =
         length-append (imported_globals m.imports) _ ∙ ap (λ z. length (imported_globals m.imports) + z) f in
         let same = left_globals_many m s name names kept in

@@ -1,10 +1,9 @@
 -- What a quiet run leaves as it was in its own store: memories keep their limits and sizes, globals their types, and data segments stay or are dropped.
-use Rattle.base_lists.proofs.Common.{◌≡◌, ◌∙◌, sym, ap, refl, subst, ℕ, zero, suc, List, [], ◌∷◌, length, Option, Some, None, ◌⊎◌, inl, inr, slice_get, slice_set, eqb_tells, length-set, same_Some, slice_get_within, true, false, nat_eq, set_at, set_other}
+use Rattle.base_lists.proofs.Common.{◌≡◌, ◌∙◌, sym, ap, refl, subst, ℕ, zero, suc, List, [], ◌∷◌, length, Option, Some, None, ◌⊎◌, inl, inr, slice_get, slice_set, eqb_tells, length-set, same_Some, slice_get_within, true, false, nat_eq, set_at, set_other, overwritten_length}
 use Rattle.wasm_tree_spec.specs.Prelude.{Module}
 use Rattle.wasm_meaning.specs.Prelude.{Outcome, Gives, Traps, IllTyped, Val, Func, Code, Own, Placeholder, Memory, Global, Data, Store, Level, Frame, Change, Entry, Running, Mark, Opening, Waiting, Ended, Growing, Act, Goes, Calls, AsksGrow, Ends, Next, Ran, CallsOwn, WaitsGrowth, CallsPlaceholder, EndsCall, pop_typed, type_at, act, changed, give, give_levels, enter, no_bytes, perform, step, Touched, Writes, StepsWriteWhatTheyTouch, ActWrites, touched}
 use Rattle.wasm_meaning.specs.Touched as what
 use Rattle.wasm_meaning.proofs.Outcomes.{AllOf, ill_typed, just, with_is, with_found}
-use Rattle.world_simulation.proofs.Copied.{overwritten_length}
 use Rattle.eval_spec.specs.declared.limits.TheConstants.{MOST_TURNS}
 use Rattle.eval_spec.specs.Prelude.{State, Stage, Going, Stopped, Finished, Test, first_held, stopped_or, host_tests, tests, after_steps, call_end, came_to, host_call, host_opened, host_opened_if_there, quiet_step, spent, weight, after_start, instantiated, called_in_order, evaluated}
 

@@ -1,17 +1,15 @@
 -- Functions, tables and element segments of a module and of its snapshot, each alone in an environment: what stands at one address of both is related.
-use Rattle.base_lists.proofs.Common.{◌≡◌, ◌∙◌, sym, ap, refl, subst, ℕ, ◌+◌, ◌-◌, ◌<◌, List, Some, inl, inr, ⊎_elim, arith, slice_get, ◌∷◌, cases_lt, same_Some, and_then_is, append_at_left, append_from, slice_get_there}
+use Rattle.base_lists.proofs.Common.{◌≡◌, ◌∙◌, sym, ap, refl, subst, ℕ, ◌+◌, ◌-◌, ◌<◌, List, Some, inl, inr, ⊎_elim, arith, slice_get, ◌∷◌, cases_lt, same_Some, and_then_is, append_at_left, append_from, slice_get_there, copies_rel, get_rel, both_at, opt_both}
 use Rattle.wasm_tree_spec.specs.Prelude.{Functions, Tables, ElementSegments, Module}
 use Rattle.wasm_tree.specs.declared.module.Func as tree
 use Rattle.wasm_meaning.specs.Prelude.{Text, Inst, Table, Store, null_of, Environment, own_funcs, own_tables, own_count, own_store}
 use Rattle.index_remap.specs.Prelude.{Pairing, BothRel, CodeRel, end, ListRel, RefRel, FuncRel, TableRel, ElemRel}
-use Rattle.index_remap.proofs.Rel.{copies_rel, get_rel}
 use Rattle.index_remap_proof.specs.Indices.{TreeNamesOnly, with_entry}
 use Rattle.world_simulation.specs.Prelude.{one, FuncsCorrespond, new_table}
 use Rattle.world_contents_proof.specs.Leaves.{Leaves, Stands, all_over, elem_copies, table_left}
 use Rattle.world_simulation.proofs.Declared.{last_segments}
 use Rattle.world_simulation.proofs.Instancing.{IsInst}
 use Rattle.world_simulation.proofs.Owned.{null_rel, own_funcs_rel, own_tables_rel}
-use Rattle.world_simulation.proofs.Places.{both_at, opt_both}
 use Rattle.world_simulation.proofs.Stored.{func_rel}
 use Rattle.eval_spec.specs.Prelude.{State}
 use Rattle.eval_snapshot_proof.proofs.Trees.{CodeLaws}

@@ -1,19 +1,17 @@
 -- Globals of the machine's run and of the snapshot: each known one holds its constant's value, and each unknown one what its initialiser gives in both.
-use Rattle.base_lists.proofs.Common.{◌≡◌, ◌∙◌, sym, ap, refl, subst, ℕ, zero, suc, ◌+◌, ◌-◌, ◌<◌, List, [], ◌∷◌, length, Bool, true, false, not, ◌||◌, Option, Some, None, inl, inr, arith, slice_get, cases_lt, length-append, length-map, same_Some, slice_get_within, and_then_is, slice_get_there}
+use Rattle.base_lists.proofs.Common.{◌≡◌, ◌∙◌, sym, ap, refl, subst, ℕ, zero, suc, ◌+◌, ◌-◌, ◌<◌, List, [], ◌∷◌, length, Bool, true, false, not, ◌||◌, Option, Some, None, inl, inr, arith, slice_get, cases_lt, length-append, length-map, same_Some, slice_get_within, and_then_is, slice_get_there, get_rel, both_at, opt_both}
 use Rattle.base_lists.specs.Members.{is_among}
 use Rattle.std.specs.Prelude.{unwrap_or}
 use Rattle.base_lists.specs.Options.{◌>>=◌}
 use Rattle.wasm_tree_spec.specs.Prelude.{Globals, ConstExpr, GlobalDef, Module, imported_globals, globals_of}
 use Rattle.wasm_meaning.specs.Prelude.{Text, Inst, Val, Global, Store, imports_of, Environment, own_globals, own_count, own_store}
 use Rattle.index_remap.specs.Prelude.{Pairing, BothRel, both, ValRel, GlobalRel, GlobalOff, StoreRelOff}
-use Rattle.index_remap.proofs.Rel.{get_rel}
 use Rattle.index_remap_proof.specs.Indices.{TreeNamesOnly, with_entry}
 use Rattle.world_simulation.specs.Prelude.{one}
 use Rattle.world_contents_proof.specs.Leaves.{Leaves}
 use Rattle.world_simulation.proofs.Alone.{globals_counted}
 use Rattle.world_simulation.proofs.Instancing.{IsInst, is_space}
 use Rattle.world_simulation.proofs.Owned.{own_globals_rel}
-use Rattle.world_simulation.proofs.Places.{both_at, map_length, opt_both}
 use Rattle.eval_numbers_proof.specs.Ranges.{GlobalsAreExpressible}
 use Rattle.eval_spec.specs.Prelude.{State, is_imported, imported_store, own_inst, value_in, value_of_global}
 use Rattle.eval_proof.specs.Alone.{LeavesAlone}
@@ -71,7 +69,7 @@ module _ (env : Environment) (m : Module) (s : State) (name : Text) (names kept 
   counted = globals_counted m.imports 0
 
   many : length (globals_of m) ≡ place + length m.globals
-  many = length-append (imported_globals m.imports) _ ∙ ap (λ z. place + z) (map_length (λ g. g.ty) m.globals)
+  many = length-append (imported_globals m.imports) _ ∙ ap (λ z. place + z) (length-map m.globals (λ g. g.ty))
 
   -- the address of the global that is defined at a place
   defined_at : (n : ℕ) → n < length m.globals → slice_get i.globals (place + n) ≡ Some (own + n)

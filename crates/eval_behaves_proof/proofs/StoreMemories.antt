@@ -1,14 +1,12 @@
 -- Memories and data segments of the machine's run and of the snapshot: the defined memory holds what the quiet run left in its own, and a segment is as long as it is there.
-use Rattle.base_lists.proofs.Common.{◌≡◌, ◌∙◌, sym, ap, refl, ℕ, zero, suc, ◌+◌, ◌*◌, ◌^◌, ◌≤◌, List, [], ◌∷◌, length, Bool, true, false, cond, Option, Some, None, inl, inr, arith, slice_get, cases_lt, length-append, length-map, same_Some, slice_get_within, and_then_is}
+use Rattle.base_lists.proofs.Common.{◌≡◌, ◌∙◌, sym, ap, refl, ℕ, zero, suc, ◌+◌, ◌*◌, ◌^◌, ◌≤◌, List, [], ◌∷◌, length, Bool, true, false, cond, Option, Some, None, inl, inr, arith, slice_get, cases_lt, length-append, length-map, same_Some, slice_get_within, and_then_is, copies_length, overwritten_length}
 use Rattle.std.specs.Prelude.{unwrap_or}
 use Rattle.base_lists.specs.Options.{◌>>=◌}
 use Rattle.wasm_tree_spec.specs.Prelude.{Limits, DataSeg, Module, imported_memories, memories_of}
 use Rattle.wasm_valid.specs.declared.kinds.ItemKind.TheVariants as kind
 use Rattle.wasm_meaning.specs.Prelude.{overwrite, Memory}
-use Rattle.wasm_meaning.proofs.Slices.{copies_length}
 use Rattle.world_contents_proof.specs.Leaves.{Copy, nothing, contents, Leaves, all_over, data_copies, is_address, over}
 use Rattle.world_simulation.specs.Prelude.{new_memory}
-use Rattle.world_simulation.proofs.Copied.{overwritten_length}
 use Rattle.eval_spec.specs.Prelude.{State, imported_store, own_inst, value_in, memory_bytes}
 use Rattle.eval_snapshot_spec.specs.After.{TellsTheSame}
 use Rattle.eval_snapshot_spec.specs.Snapshot.{segment_left, segments_left}

@@ -1,18 +1,16 @@
 -- The store after the machine's run and that of the snapshot: all that both have stands at the same addresses and is related.
-use Rattle.base_lists.proofs.Common.{◌≡◌, ◌∙◌, sym, ap, refl, subst, ℕ, ◌+◌, ◌-◌, ◌<◌, List, [], length, Bool, true, false, cond, not, ◌&&◌, Option, Some, inl, inr, arith, slice_get, ◌∷◌, cases_lt, length-append, same_Some, slice_get_within, append_at_left, slice_get_there, numbers_at}
+use Rattle.base_lists.proofs.Common.{◌≡◌, ◌∙◌, sym, ap, refl, subst, ℕ, ◌+◌, ◌-◌, ◌<◌, List, [], length, Bool, true, false, cond, not, ◌&&◌, Option, Some, inl, inr, arith, slice_get, ◌∷◌, cases_lt, length-append, same_Some, slice_get_within, append_at_left, slice_get_there, numbers_at, same_there, both_at}
 use Rattle.std.specs.Prelude.{unwrap_or}
 use Rattle.base_lists.specs.Options.{◌>>=◌}
 use Rattle.wasm_tree_spec.specs.Prelude.{any_uses_data, Functions, Tables, Memories, Globals, ElementSegments, DataSegments, ConstExpr, DataMode, DataSeg, Module, imported_memories}
 use Rattle.wasm_tree.specs.declared.module.DataMode.TheVariants as data'
 use Rattle.wasm_meaning.specs.Prelude.{Text, Inst, Val, Data, Store, imports_of, Environment, own_memories, own_store}
 use Rattle.index_remap.specs.Prelude.{Pairing, BothRel, both, FuncRel, TableRel, GlobalRel, ElemRel, StoreRel, StoreRelOff}
-use Rattle.index_remap.proofs.Rel.{same_there}
 use Rattle.index_remap_proof.specs.Indices.{TreeNamesOnly, with_entry}
 use Rattle.world_simulation.specs.Prelude.{one, new_memory}
 use Rattle.world_contents_proof.specs.Leaves.{Leaves, all_over, data_copies, data_left, memory_left}
 use Rattle.world_simulation.proofs.Alone.{memories_counted}
 use Rattle.world_simulation.proofs.Instancing.{IsInst, is_space}
-use Rattle.world_simulation.proofs.Places.{both_at}
 use Rattle.world_simulation.proofs.Stored.{own_same, type_same}
 use Rattle.eval_numbers_proof.specs.Ranges.{GlobalsAreExpressible}
 use Rattle.eval_spec.specs.Prelude.{State, imported_store, own_inst, value_in, is_dropped, memory_bytes}

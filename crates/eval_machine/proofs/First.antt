@@ -1,5 +1,5 @@
 -- The state at first of a valid module, in which nothing was copied yet.
-use Rattle.base_lists.proofs.Common.{◌≡◌, ℕ, zero, suc, ◌+◌, ◌-◌, ◌*◌, ◌<◌, List, [], map, length, Bool, true, false, cond, ◌&&◌, not, Option, Some, None, refl, sym, ap, ◌∙◌, inl, inr, arith, subst, nat_lt, slice_get, cases_lt, lt-ltb, le-ltb, ltb-true, length-map, same_Some, slice_get_within, and_then_is, all_there_at, all_there_from, left_true, numbers_at, append_left, append_right, map_at, slice_get_there}
+use Rattle.base_lists.proofs.Common.{◌≡◌, ℕ, zero, suc, ◌+◌, ◌-◌, ◌*◌, ◌<◌, List, [], map, length, Bool, true, false, cond, ◌&&◌, not, Option, Some, None, refl, sym, ap, ◌∙◌, inl, inr, arith, subst, nat_lt, slice_get, cases_lt, lt-ltb, le-ltb, ltb-true, length-map, same_Some, slice_get_within, and_then_is, all_there_at, all_there_from, left_true, numbers_at, append_left, append_right, map_at, slice_get_there, copies_length}
 use Rattle.base_lists.specs.Options.{◌>>=◌, all_there}
 use Rattle.wasm_tree_spec.specs.Prelude.{RefType, ValType, TableType, GlobalType, ConstExpr, ElemSeg, Module, funcs_of, globals_of, imported_tables, imported_globals}
 use Rattle.wasm_tree.specs.declared.types.RefType.TheVariants as reft
@@ -12,7 +12,6 @@ use Rattle.wasm_valid.specs.Prelude.{const_type, HoldsAt, count_of}
 use Rattle.wasm_valid.specs.declared.kinds.ItemKind.{ItemKind}
 use Rattle.wasm_valid.specs.declared.kinds.ItemKind.TheVariants as kind
 use Rattle.wasm_meaning.specs.Prelude.{copies, RefVal, FuncRef, ExternRef, Val, Num, Ref, Func, Code, Global, Elem, Table, Store, type_of, zero_of, ref_of, null_of, declared, elem_with, global_with, joined_stores, new_elem, new_func}
-use Rattle.wasm_meaning.proofs.Slices.{copies_length}
 use Rattle.eval_spec.specs.Prelude.{State, own_inst, imported_store, none_written, state_at_first, unknown_at_first, value_in}
 use Rattle.eval_machine.specs.Prelude.{StartsAs, refs_in, IsSlot, defined_table, slot_count, val_of}
 use Rattle.eval_machine.specs.Slots.{StandsAs, null_in, slots_declared}

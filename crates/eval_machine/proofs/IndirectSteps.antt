@@ -1,12 +1,12 @@
 -- Calls through a table.
-use Rattle.base_lists.proofs.Common.{◌≡◌, ℕ, ◌/◌, ◌<◌, ◌≤◌, List, [], ◌∷◌, length, slice_get, Bool, true, false, Option, Some, None, Err, refl, ap, ◌∙◌, inl, inr, nat_le, nat_lt, same_Some}
+use Rattle.base_lists.proofs.Common.{◌≡◌, ℕ, ◌/◌, ◌<◌, ◌≤◌, List, [], ◌∷◌, length, slice_get, Bool, true, false, Option, Some, None, Err, refl, ap, ◌∙◌, inl, inr, nat_le, nat_lt, same_Some, is_some}
 use Rattle.base_lists.specs.Options.{◌>>=◌}
 use Rattle.wasm_tree_spec.specs.Prelude.{Types, FuncType, ValType, Instr, Module, same_func_type}
 use Rattle.wasm_tree.specs.declared.instr.Instr.TheVariants as i
 use Rattle.wasm_tree.specs.declared.instr.Instr.TheOpen.{Instr-F}
 use Rattle.wasm_num.specs.Operations.{W32, W64}
 use Rattle.wasm_valid.specs.Prelude.{IsValid}
-use Rattle.wasm_meaning.specs.Prelude.{own_at, type_at, is_there, Outcome, Gives, Traps, IllTyped, RefVal, FuncRef, ExternRef, Val, Num, Ref, Table, Func, Code, Entry, Act, Calls, pop_num, pop_typed}
+use Rattle.wasm_meaning.specs.Prelude.{own_at, type_at, Outcome, Gives, Traps, IllTyped, RefVal, FuncRef, ExternRef, Val, Num, Ref, Table, Func, Code, Entry, Act, Calls, pop_num, pop_typed}
 use Rattle.eval_spec.specs.declared.limits.TheConstants.{MOST_DEPTH}
 use Rattle.eval_spec.specs.declared.stop.Stop.TheVariants as why
 use Rattle.eval_spec.specs.Prelude.{calls_import, uses_unknown, own_inst}
@@ -98,7 +98,7 @@ module _ (m : Module) (r new : Registers) (f : Fits m r.kept) (ty n : ℕ) (same
 
           -- it refers to a function
           module _ (func : ℕ) (at : ref_in (base_of m) n place ≡ Some (FuncRef (Some func))) where
-            pub indirect_import : is_there (own_at (base_of m).store func) ≡ true → ComesToAct m calls r (act.Leaves (flow.Stopped why.Import)) new
+            pub indirect_import : is_some (own_at (base_of m).store func) ≡ true → ComesToAct m calls r (act.Leaves (flow.Stopped why.Import)) new
             indirect_import o = λ rest p es.
                 rw same (by_layer m r calls layer rest p es _ (i.outs-CallIndirect ty n)
                 (rw (none_of Types type_kind m.imports 0, none_before ty, own_table m r.kept f n le, t.address, pop, u, t.there, named r.operands new.operands t.table place pop, slot_is (Some (FuncRef (Some func))) at, o)))

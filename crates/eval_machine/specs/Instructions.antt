@@ -1,9 +1,9 @@
 -- The step of an instruction whose own turn is spent, and how the machine represents its result.
-use Rattle.std.specs.Prelude.{◌≡◌, ℕ, ◌-◌, List, [], ◌∷◌, Bool, true, false, ◌&&◌, cond, length, Option, Some, None, nat_lt, nat_le, slice_get}
+use Rattle.std.specs.Prelude.{◌≡◌, ℕ, ◌-◌, List, [], ◌∷◌, Bool, true, false, ◌&&◌, cond, length, Option, Some, None, is_some, nat_lt, nat_le, slice_get}
 use Rattle.wasm_tree_spec.specs.Prelude.{Instr, out-Instr, Module, BlockType, ValType, FuncType, same_func_type}
 use Rattle.wasm_tree.specs.declared.instr.Instr.TheOpen.{Instr-F}
 use Rattle.base_lists.specs.Options.{◌>>=◌}
-use Rattle.wasm_meaning.specs.Prelude.{own_at, shape_of, type_at, is_there, Outcome, bind, Val, Entry, Env, Body, Act, Next, go, exec, perform, touched_by}
+use Rattle.wasm_meaning.specs.Prelude.{own_at, shape_of, type_at, Outcome, bind, Val, Entry, Env, Body, Act, Next, go, exec, perform, touched_by}
 use Rattle.index_remap.specs.Prelude.{left_after}
 use Rattle.eval_spec.specs.declared.limits.TheConstants.{MOST_DEPTH}
 use Rattle.eval_spec.specs.declared.stop.Stop.{Stop}
@@ -92,7 +92,7 @@ type_matches m ty func = slice_get m.types ty >>= λ t. type_at (base_of m).stor
 -- `func` does not have the type.
 abbrev pub Reaches : Module → (ty func : ℕ) → MachineAct → Type 0
 Reaches m ty func (act.Calls n) = (n ≡ func) × (own_at (base_of m).store func ≡ None) × (type_matches m ty func ≡ Some true)
-Reaches m ty func (act.Leaves (flow.Stopped why.Import)) = is_there (own_at (base_of m).store func) ≡ true
+Reaches m ty func (act.Leaves (flow.Stopped why.Import)) = is_some (own_at (base_of m).store func) ≡ true
 Reaches m ty func (act.Leaves (flow.Stopped why.Trap)) = (own_at (base_of m).store func ≡ None) × ((type_matches m ty func ≡ Some true) → ⊥)
 Reaches m ty func _ = ⊥
 

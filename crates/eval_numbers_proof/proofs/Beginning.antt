@@ -1,5 +1,5 @@
 -- Numbers are in range in the store after the instantiation of a valid module, and no reference in it is the embedder's.
-use Rattle.base_lists.proofs.Common.{◌≡◌, ◌∙◌, ℕ, suc, ◌*◌, ◌^◌, ◌<◌, ◌≤◌, arith, List, [], ◌∷◌, length, map, Bool, true, false, cond, Option, Some, None, slice_get, refl, sym, subst, nat_lt, same_Some, slice_get_within, every_at}
+use Rattle.base_lists.proofs.Common.{◌≡◌, ◌∙◌, ℕ, suc, ◌*◌, ◌^◌, ◌<◌, ◌≤◌, arith, List, [], ◌∷◌, length, map, Bool, true, false, cond, Option, Some, None, slice_get, refl, sym, subst, nat_lt, same_Some, slice_get_within, every_at, copies_length}
 use Rattle.std.specs.Option.{IfSome}
 use Rattle.base_lists.specs.Every.{Every}
 use Rattle.base_lists.specs.Options.{◌>>=◌, all_there}
@@ -12,7 +12,6 @@ use Rattle.wasm_valid.specs.declared.kinds.ItemKind.{ItemKind}
 use Rattle.wasm_valid.specs.declared.kinds.ItemKind.TheVariants as kind
 use Rattle.wasm_valid.specs.Prelude.{HoldsAt, count_of}
 use Rattle.wasm_meaning.specs.Prelude.{Gives, copies, overwrite, RefVal, Table, Memory, Store, num_of, ref_of, null_of, zero_of, no_bytes, no_items, Bytes, Filled, PlacedSegment, copy_slots, copy_bytes, elem_with, global_with, joined_stores, new_elem, new_func, or_trapped, run_elem_with, run_data_with, segments_in, store_with}
-use Rattle.wasm_meaning.proofs.Slices.{copies_length}
 use Rattle.eval_spec.specs.declared.stop.Stop.TheVariants as why
 use Rattle.eval_spec.specs.Prelude.{State, Stage, Going, Stopped, Finished, Test, first_held, stopped_or, written_after, copied_slots, data_tests, elem_tests, filled_from, imported_store, in_order, instantiated, own_inst, place_in, state_at_first, value_in, with_data, with_data_mode, with_elem, with_elem_mode, with_segments}
 use Rattle.eval_numbers_proof.specs.Ranges.{BeginsInRange, IsByte, IsNullOrFunction, IsExpressible}

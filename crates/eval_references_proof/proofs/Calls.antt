@@ -1,5 +1,5 @@
 -- Calls leave the store related to itself.
-use Rattle.base_lists.proofs.Common.{◌≡◌, ◌∙◌, ℕ, zero, suc, ◌-◌, ◌<◌, ◌≤◌, arith, List, [], ◌∷◌, length, Option, Some, None, slice_get, refl, sym, ap, subst, same_Some, slice_get_within}
+use Rattle.base_lists.proofs.Common.{◌≡◌, ◌∙◌, ℕ, zero, suc, ◌-◌, ◌<◌, ◌≤◌, arith, List, [], ◌∷◌, length, Option, Some, None, slice_get, refl, sym, ap, subst, same_Some, slice_get_within, self_rel}
 use Rattle.wasm_tree_spec.specs.Prelude.{Functions, ValType, Module, funcs_of, tables_of, globals_of}
 use Rattle.wasm_meaning.specs.Prelude.{Outcome, Gives, Traps, IllTyped, Func, Global, Store, Entry, Running, Mark, Opening, Waiting, Ended, Growing, Next, Ran, CallsOwn, WaitsGrowth, CallsPlaceholder, EndsCall, zeros, enter, step, StepsWriteWhatTheyTouch}
 use Rattle.index_remap.specs.Prelude.{BothRel, both, ResRel, done, ListRel, nil, cons, ValRel, end, FuncRel, defined, own, slot, TableRel, GlobalRel, ElemRel, StoreRel, EntryRel, running, mark, waiting, NextRel, ran, asked, loads, returned, TopSkips, Above, CodeIsRelatedToItself}
@@ -7,7 +7,6 @@ use Rattle.index_remap.specs.Laws.{NamedAreKnown, StepsAgree}
 use Rattle.index_remap.proofs.AboveSteps.{entries_of, whole}
 use Rattle.index_remap.proofs.SameRuns.{touches}
 use Rattle.index_remap.proofs.StepsAgree.{none_called}
-use Rattle.world_simulation.proofs.Places.{self_rel}
 use Rattle.eval_spec.specs.Prelude.{State, Stage, Going, Stopped, Finished, Test, first_held, stopped_or, frame_turns, host_tests, tests, after_steps, call_end, came_to, host_call, host_opened_if_there, quiet_step, spent, weight, after_start, instantiated, called_in_order}
 use Rattle.eval_references_proof.specs.References.{CallsKeepRefs, EvaluatedRefsAreThere, GlobalsAreTyped, HasPartsOf, IsThere, RefsAreThere}
 use Rattle.eval_references_proof.proofs.Itself.{IsStored, R, apart, count_in, global_there, itself, stored_related, to_itself, value_itself, zero_itself}

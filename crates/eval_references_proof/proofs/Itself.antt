@@ -1,11 +1,10 @@
 -- A store that is related to itself where each address is that of an index of the module.
-use Rattle.base_lists.proofs.Common.{◌≡◌, ◌∙◌, ℕ, ◌<◌, ◌≤◌, arith, List, [], length, Bool, true, ◌&&◌, Option, Some, None, slice_get, refl, sym, ap, subst, IsTrue, nat_eq, nat_lt, and_parts, eq-eqb, eqb-true, lt-ltb, ltb-true, same_Some, numbers_is, slice_get_there}
+use Rattle.base_lists.proofs.Common.{◌≡◌, ◌∙◌, ℕ, ◌<◌, ◌≤◌, arith, List, [], length, Bool, true, ◌&&◌, Option, Some, None, slice_get, refl, sym, ap, subst, IsTrue, nat_eq, nat_lt, and_parts, eq-eqb, eqb-true, lt-ltb, ltb-true, same_Some, numbers_is, slice_get_there, both_in}
 use Rattle.wasm_tree_spec.specs.Prelude.{Space, Types, Functions, Tables, Memories, Globals, ElementSegments, DataSegments, RefType, ValType, FuncType, Module, funcs_of, tables_of, memories_of, globals_of}
 use Rattle.wasm_tree.specs.declared.types.RefType.TheVariants as reft
 use Rattle.wasm_tree.specs.declared.types.ValType.TheVariants as valt
 use Rattle.wasm_meaning.specs.Prelude.{RefVal, FuncRef, ExternRef, Val, Num, Ref, Global, Store, own_at, type_at, null_of, zero_of}
 use Rattle.index_remap.specs.Prelude.{Pairing, OneToOneWhereWritten, none, some, BothRel, both, ListRel, func, extern, RefRel, ValRel, number, reference, FuncRel, TableRel, GlobalRel, ElemRel, StoreRel, NamesItself, passed}
-use Rattle.world_simulation.proofs.Places.{both_in}
 use Rattle.eval_spec.specs.Prelude.{own_inst}
 use Rattle.eval_references_proof.specs.References.{IsThere}
 

@@ -1,5 +1,5 @@
 -- The store after the instantiation of a valid module is related to itself.
-use Rattle.base_lists.proofs.Common.{◌≡◌, ℕ, ◌*◌, ◌<◌, arith, List, [], ◌∷◌, length, map, Bool, true, false, Option, Some, None, slice_get, slice_set, refl, subst, nat_lt, cons_option, filter_map, length-append, length-map, length-set, same_Some, all_there_length, numbers_is}
+use Rattle.base_lists.proofs.Common.{◌≡◌, ℕ, ◌*◌, ◌<◌, arith, List, [], ◌∷◌, length, map, Bool, true, false, Option, Some, None, slice_get, slice_set, refl, subst, nat_lt, cons_option, filter_map, length-append, length-map, length-set, same_Some, all_there_length, numbers_is, append_rel, copies_rel, get_rel, overwrite_rel, put_rel, all_rel, maps_rel, opt_self, self_rel}
 use Rattle.base_lists.specs.Options.{◌>>=◌, all_there}
 use Rattle.wasm_tree_spec.specs.Prelude.{Functions, GlobalType, Limits, TableType, ConstExpr, DataMode, DataSeg, ElemMode, ElemSeg, GlobalDef, Import, Module, func_of, imported_funcs, imported_tables, imported_memories, imported_globals, memories_of}
 use Rattle.wasm_tree.specs.declared.module.ConstExpr.TheVariants as const
@@ -10,8 +10,6 @@ use Rattle.wasm_num.specs.Operations.{W32}
 use Rattle.wasm_valid.specs.Prelude.{IsValid}
 use Rattle.wasm_meaning.specs.Prelude.{Gives, copies, overwrite, RefVal, Val, Num, Ref, Func, Table, Memory, Global, Elem, Data, Store, num_of, ref_of, null_of, zero_of, no_bytes, no_items, Filled, PlacedSegment, copy_slots, copy_bytes, elem_with, global_with, joined_stores, new_elem, new_func, or_trapped, run_elem_with, run_data_with, segments_in, Bytes}
 use Rattle.index_remap.specs.Prelude.{ListRel, nil, cons, OptRel, none, some, RefRel, ValRel, number, reference, FuncRel, own, defined, TableRel, GlobalRel, ElemRel, func, CodeIsRelatedToItself}
-use Rattle.index_remap.proofs.Rel.{append_rel, copies_rel, get_rel, overwrite_rel, put_rel}
-use Rattle.world_simulation.proofs.Places.{all_rel, maps_rel, opt_self, self_rel}
 use Rattle.eval_spec.specs.Prelude.{State, Stage, Going, Stopped, Finished, Test, first_held, stopped_or, written_after, copied_slots, data_tests, elem_tests, place_in, filled_from, imported_func, imported_store, in_order, instantiated, own_inst, state_at_first, value_in, with_data, with_data_mode, with_elem, with_elem_mode, with_segments}
 use Rattle.eval_references_proof.specs.References.{GlobalsAreTyped}
 use Rattle.eval_references_proof.proofs.Imports.{imports_many, imports_typed}

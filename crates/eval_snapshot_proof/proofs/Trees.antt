@@ -1,5 +1,5 @@
 -- Each item of a snapshot holds, but for references.
-use Rattle.base_lists.proofs.Common.{◌≡◌, ◌∙◌, ap, ap₂, sym, subst, refl, ℕ, zero, suc, ◌+◌, ◌<◌, ◌≤◌, List, [], ◌∷◌, ◌++◌, map, length, take, replicate, Option, Some, None, Bool, true, false, not, ◌&&◌, ◌||◌, cond, slice_get, ⊎_elim, ◌⊎◌, inl, inr, true≢false, arith, append_assoc, Contains, nat_eq, nat_lt, nat_le, list_any, cons_option, lt-ltb, ltb-true, length-append, map-append, any_passes_from_place, slice_get_within, first_at, append_from, map_from, replicate_at, slice_get_there}
+use Rattle.base_lists.proofs.Common.{◌≡◌, ◌∙◌, ap, ap₂, sym, subst, refl, ℕ, zero, suc, ◌+◌, ◌<◌, ◌≤◌, List, [], ◌∷◌, ◌++◌, map, length, take, replicate, Option, Some, None, Bool, true, false, not, ◌&&◌, ◌||◌, cond, slice_get, ⊎_elim, ◌⊎◌, inl, inr, true≢false, arith, append_assoc, Contains, nat_eq, nat_lt, nat_le, list_any, cons_option, lt-ltb, ltb-true, length-append, map-append, any_passes_from_place, slice_get_within, first_at, append_from, map_from, replicate_at, slice_get_there, only_true}
 use Rattle.std.proofs.Common.{filter_map}
 use Rattle.std.specs.Prelude.{unwrap_or}
 use Rattle.base_lists.specs.Options.{◌>>=◌}
@@ -19,7 +19,7 @@ use Rattle.wasm_valid.specs.declared.kinds.ItemKind.TheVariants as kind
 use Rattle.wasm_valid.specs.Prelude.{const_type, refs_of, DataModeHolds, ElemModeHolds, HoldsAt, ImportHolds, InSpace, body_context, count_of}
 use Rattle.wasm_meaning.specs.Prelude.{Text}
 use Rattle.index_remap_proof.specs.ButForReferences.{HoldsButForReferences, any_named}
-use Rattle.index_remap_proof.proofs.Lists.{named_within, only_true}
+use Rattle.index_remap_proof.proofs.Lists.{named_within}
 use Rattle.eval_spec.specs.Prelude.{State, takes_and_gives_nothing, value_of_global, memory_bytes, is_dropped}
 use Rattle.eval_snapshot_spec.specs.Contents.{contents, stretches, stretch_segment}
 use Rattle.eval_snapshot_spec.specs.Snapshot.{added_funcs, empty_func, empty_type, export_left, global_left, globals_left, is_among_names, is_kept, is_passive, emptied, memory_segments, old_segments, segment_left, segments_left, snapshot_tree}

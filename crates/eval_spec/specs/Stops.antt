@@ -1,14 +1,14 @@
 -- What stops an evaluation at the next step: the conditions, and the order in which they are
 -- tested. A condition concerns an instruction (`o`), what it sees (`env`) and the values on top of
 -- the stack (`vs`).
-use Rattle.std.specs.Prelude.{ℕ, ◌+◌, ◌-◌, ◌/◌, List, [], ◌∷◌, length, Bool, true, false, not, ◌&&◌, ◌||◌, Option, Some, None, slice_get, nat_eq, nat_lt, nat_le, count_by}
+use Rattle.std.specs.Prelude.{ℕ, ◌+◌, ◌-◌, ◌/◌, List, [], ◌∷◌, length, Bool, true, false, not, ◌&&◌, ◌||◌, Option, Some, None, is_some, slice_get, nat_eq, nat_lt, nat_le, count_by}
 use Rattle.base_lists.specs.Members.{is_among}
 use Rattle.std.specs.List.{list_any}
 use Rattle.base_lists.specs.Options.{◌>>=◌}
 use Rattle.wasm_tree_spec.specs.Prelude.{Space, Functions, Operand, FuncType, Instr, out-Instr, Module, same_space, operands}
 use Rattle.wasm_tree.specs.declared.instr.Instr.TheOpen.{Instr-F}
 use Rattle.wasm_num.specs.Operations.{W32}
-use Rattle.wasm_meaning.specs.Prelude.{Outcome, Gives, RefVal, FuncRef, ExternRef, Val, Num, Inst, Func, Code, Table, Level, Entry, Running, Env, type_of_func, own_of, own_at, step, Touched, Bytes, touched_by, imports_of, is_there}
+use Rattle.wasm_meaning.specs.Prelude.{Outcome, Gives, RefVal, FuncRef, ExternRef, Val, Num, Inst, Func, Code, Table, Level, Entry, Running, Env, type_of_func, own_of, own_at, step, Touched, Bytes, touched_by, imports_of}
 use Rattle.index_remap.specs.Prelude.{Unknowns, ReadPlace, ReadsNothing, ReadsGlobal, ReadsSlots, ReadsItems, read_by}
 use Rattle.block_pool.specs.Pages.{with_reached}
 use Rattle.eval_spec.specs.declared.limits.TheConstants.{MOST_DEPTH, MOST_BLOCKS}
@@ -83,7 +83,7 @@ called_by (Instr-F.CallIndirect ty table) env vs = slice_get env.inst.tables tab
 called_by _ env vs = None
 
 abbrev pub calls_import : Instr-F Instr → Env → List Val → Bool
-calls_import o env vs = is_there (called_by o env vs >>= own_at env.store)
+calls_import o env vs = is_some (called_by o env vs >>= own_at env.store)
 
 -- ---- Trap (section 4.4, and if no rule applies) ----
 
@@ -212,6 +212,6 @@ takes_and_gives_nothing t = nat_eq (length t.params) 0 && nat_eq (length t.resul
 abbrev pub host_tests : State → Func → List Test
 host_tests s f =
     test (not (takes_and_gives_nothing (type_of_func f))) why.Signature s.turns
-    ∷ test (is_there (own_of f)) why.Import s.turns
+    ∷ test (is_some (own_of f)) why.Import s.turns
     ∷ test (nat_lt s.turns (frame_turns f)) why.Steps s.turns
     ∷ []

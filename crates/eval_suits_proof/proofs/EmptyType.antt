@@ -3,7 +3,7 @@ use Rattle.base_lists.proofs.Common.{◌≡◌, ◌∙◌, ℕ, ◌-◌, arith, 
 use Rattle.base_lists.specs.Options.{all_there}
 use Rattle.wasm_tree.specs.declared.module.Func.{Func as FuncDef}
 use Rattle.wasm_tree_spec.specs.Prelude.{Import, Module, func_of}
-use Rattle.wasm_meaning.specs.Prelude.{Gives, Func, Mark, Store, own_of, type_of_func, enter, Added, const_value, elem_with, global_with, is_there, joined_stores, new_func, store_with}
+use Rattle.wasm_meaning.specs.Prelude.{Gives, Func, Mark, Store, own_of, type_of_func, enter, Added, const_value, elem_with, global_with, joined_stores, new_func, store_with}
 use Rattle.world_contents_proof.proofs.FuncsAside.{segments_funcs}
 use Rattle.eval_spec.specs.declared.limits.TheConstants.{MOST_TURNS}
 use Rattle.eval_spec.specs.declared.stop.Stop.{Stop}
@@ -64,7 +64,7 @@ passed m false stop left rest stage t e = absurd (let z = e in cc)
 
 host_passed : (m : Module) (s t : State) (f : Func) → run_end m (host_opened s f) ≡ Finished t → takes_and_gives_nothing (type_of_func f) ≡ true
 host_passed m s t f h =
-    passed m (takes_and_gives_nothing (type_of_func f)) why.Signature s.turns (test (is_there (own_of f)) why.Import s.turns ∷ test (nat_lt s.turns (frame_turns f)) why.Steps s.turns ∷ [])
+    passed m (takes_and_gives_nothing (type_of_func f)) why.Signature s.turns (test (is_some (own_of f)) why.Import s.turns ∷ test (nat_lt s.turns (frame_turns f)) why.Steps s.turns ∷ [])
     (came_to (record s { turns = s.turns - frame_turns f }) (Gives (enter s.store f [] (Mark ∷ [])))) t h
 
 call_has_type : InstantiationsAreTheMachines → (m : Module) (turns : ℕ) (s t : State) (func : ℕ) → instantiated m turns ≡ Finished s → call_end m s func ≡ Finished t → HasEmptyType m

@@ -1,5 +1,5 @@
 -- Calls, ends, branches and blocks agree.
-use Rattle.base_lists.proofs.Common.{◌≡◌, ◌∙◌, ℕ, List, [], ◌∷◌, ◌++◌, length, refl, sym, subst, append_assoc, slice_get, unwrap_or, nat_eq}
+use Rattle.base_lists.proofs.Common.{◌≡◌, ◌∙◌, ℕ, List, [], ◌∷◌, ◌++◌, length, refl, sym, subst, append_assoc, slice_get, unwrap_or, nat_eq, same_there, cond_two, append_rel, get_rel}
 use Rattle.wasm_tree_spec.specs.Prelude.{Functions, Tables, ValType, BlockType, Instr, outs-Loop}
 use Rattle.wasm_tree.specs.declared.instr.Instr.TheOpen.{Instr-F}
 use Rattle.wasm_tree.specs.declared.instr.Instr.TheVariants as i
@@ -10,7 +10,8 @@ use Rattle.wasm_meaning.proofs.Outcomes.{then_given, then_found}
 use Rattle.index_remap.specs.Related
 use Rattle.index_remap.specs.Prelude.{Pairing, OptRel, none, some, ResRel, done, trap, wrong, ListRel, nil, cons, RefRel, func, extern, ValRel, Names, BlockRel, empty, value, indexed, OpRel, CodeRel, end, then, instead, TableRel, LevelRel, BodyRel, keep, goes, calls, ends, Unknowns, StoreRelOff, read_by, ReadsKnown, known, ActOff}
 use Rattle.index_remap.specs.Related.{SameType}
-use Rattle.index_remap.proofs.Rel.{same_there, bind_rel, cond_rel, cond_two, onto_rel, append_rel, past_rel, split_rel, or_trap_rel, bind_found, bind_is, get_rel}
+use Rattle.index_remap.proofs.Rel.{bind_rel, cond_rel, or_trap_rel, bind_found, bind_is}
+use Rattle.base_lists.proofs.Related.{onto_rel, past_rel, split_rel}
 use Rattle.index_remap.proofs.ValueSteps.{bind_num, bind_num_is, pop_typed_rel, go_rel, values_rel}
 use Rattle.index_remap.proofs.TableSteps.{bind_table, slot_known}
 

@@ -6,9 +6,6 @@ use Rattle.index_remap.specs.declared.remap.Remap.{Remap}
 use Rattle.index_remap.specs.Prelude.{has_entry, fits_all}
 use Rattle.index_remap.specs.Renumbered.{fits_type, fits}
 
-pub each_at : {A : Type 0} (test : A → Bool) (xs : List A) (i : ℕ) (x : A) → IsTrue (list_all test xs) → i < length xs → x ≡ get_or xs i x → IsTrue (test x)
-each_at test xs i x h lt is = list_all_each test xs h i x (slice_get_read xs _ i x refl lt is)
-
 module _ (m : Remap) where
   abbrev step : Instr-F Instr → Bool
   step l = all_pass_step (has_entry m) (map-Instr Instr Bool (fits m) l)

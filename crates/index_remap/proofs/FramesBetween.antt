@@ -1,5 +1,5 @@
 -- Runs of which the second has frames between that only pass results on: one or two of its steps answer a step of the first.
-use Rattle.base_lists.proofs.Common.{◌≡◌, ℕ, zero, suc, ◌+◌, ◌≤◌, false, List, [], ◌∷◌, length, None, Some, refl, sym, ap, subst, ◌∙◌, arith}
+use Rattle.base_lists.proofs.Common.{◌≡◌, ℕ, zero, suc, ◌+◌, ◌≤◌, false, List, [], ◌∷◌, length, None, Some, refl, sym, ap, subst, ◌∙◌, arith, length_rel}
 use Rattle.wasm_tree_spec.specs.Prelude.{ValType}
 use Rattle.base_simulation.specs.Machines.{noted, events_of, state_after}
 use Rattle.wasm_meaning.specs.Prelude.{Outcome, Gives, Traps, IllTyped, bind, onto, split_at, Val, Inst, Store, Level, Frame, Entry, Running, Mark, Opening, Waiting, Ended, Growing, Caller, Host, Starter, Act, Ends, Next, Ran, CallsOwn, WaitsGrowth, CallsPlaceholder, EndsCall, pop_typed, act, give, give_levels, perform, step, to_mark, Run, Out, Steps, trapped_to, made, transition_at, run_after, transition, tick}
@@ -7,7 +7,8 @@ use Rattle.wasm_meaning.proofs.Outcomes.{all_at}
 use Rattle.index_remap.specs.Prelude.{Pairing, OneToOne, ResRel, done, trap, wrong, ListRel, ValRel, FrameRel, EntryRel, running, mark, opening, waiting, ended, growing, goes, calls, asks_grow, ends, ActRel, NotOpaque, NextRel, RunRel, EntriesKnown, TickSkips, calls_placeholder, RunsStepTogether, passing, WithPassing, through, FramesBetween, AnsweredInTwo, HaveTypes}
 use Rattle.index_remap.specs.Trampolines.{nil, cons}
 use Rattle.index_remap.specs.Related as related
-use Rattle.index_remap.proofs.Rel.{written, bind_rel_is, length_rel, PairRel}
+use Rattle.index_remap.proofs.Rel.{written, bind_rel_is}
+use Rattle.base_lists.specs.Related.{PairRel}
 use Rattle.index_remap.proofs.ValueSteps.{pop_typed_all, pop_typed_rel}
 use Rattle.index_remap.proofs.StepsAgree.{TopView, top_none, top_mark, top_opening, top_waiting, top_ended, top_growing, top_running, act_rel}
 use Rattle.index_remap.proofs.Shapes.{IsEnd, Shape, Held, unchanged, perform_rel, together, same_kinds, given_together}

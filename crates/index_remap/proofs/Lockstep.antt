@@ -2,7 +2,8 @@
 use Rattle.base_lists.proofs.Common.{◌≡◌, List, ◌∷◌, refl}
 use Rattle.wasm_meaning.specs.Prelude.{Store, Entry, Frame, Running, Caller, step, to_mark, Run, tick}
 use Rattle.index_remap.specs.Prelude.{Pairing, OneToOne, ResRel, done, wrong, ListRel, nil, cons, FrameRel, EntryRel, running, mark, opening, waiting, ended, growing, NextRel, RunRel, EntryByEntry, EntriesKnown, TickSkips, RunsStepTogether}
-use Rattle.index_remap.proofs.Rel.{written, bind_rel_is, PairRel}
+use Rattle.index_remap.proofs.Rel.{written, bind_rel_is}
+use Rattle.base_lists.specs.Related.{PairRel}
 use Rattle.index_remap.proofs.StepsAgree.{TopView, top_none, top_mark, top_opening, top_waiting, top_ended, top_growing, top_running, act_rel}
 use Rattle.index_remap.proofs.Shapes.{Shape, Held, unchanged, perform_rel, together}
 

@@ -1,9 +1,8 @@
 -- Stacks with the bottom in place of some operands: what leads on from a stack leads on from such a one, and from one with more below it.
-use Rattle.base_lists.proofs.Common.{◌≡◌, List, [], ◌∷◌, ◌++◌, map, reverse, Some, None, refl, sym, ap, ◌∙◌, subst, append_assoc}
+use Rattle.base_lists.proofs.Common.{◌≡◌, List, [], ◌∷◌, ◌++◌, map, reverse, Some, None, refl, sym, ap, ◌∙◌, subst, append_assoc, append_rel}
 use Rattle.wasm_tree_spec.specs.Prelude.{ValType, I32, Instr, Block', Loop', If'}
 use Rattle.wasm_valid_bodies.specs.Typing.{Operand, Stack, Matches, AllMatch, EachMatches, operands, IsReference, Effect, Gives, Leaves, Drops, Selects, TestsNull, Branches, Acts, Context, Fits, LeadsAll}
 use Rattle.index_remap.specs.Prelude.{ListRel, nil, cons}
-use Rattle.index_remap.proofs.Rel.{append_rel}
 
 -- as many operands, each of which matches the other's
 abbrev pub Lower : Stack → Stack → Type 0

@@ -1,11 +1,12 @@
 -- Steps on memories and data segments agree.
-use Rattle.base_lists.proofs.Common.{◌≡◌, ℕ, ◌+◌, ◌%◌, List, refl, subst}
+use Rattle.base_lists.proofs.Common.{◌≡◌, ℕ, ◌+◌, ◌%◌, List, refl, subst, there}
 use Rattle.wasm_tree_spec.specs.Prelude.{Memories, DataSegments, LoadOp, StoreOp, MemArg}
 use Rattle.wasm_meaning.specs.Prelude.{Outcome, Gives, bind, slice, copies, or_trap, load_width, store_from, stored, Val, Memory, Env, Body, written, load_from, with_memory, writes, store_into, memory_may_grow, pop_three, init_memory}
 use Rattle.wasm_num.specs.Operations.{W32}
 use Rattle.wasm_meaning.specs.Memory.{load, store, memory_size, memory_grow, memory_init, data_drop, memory_copy, memory_fill}
 use Rattle.index_remap.specs.Prelude.{Pairing, ResRel, done, ListRel, cons, ValRel, number, Names, ArgRel, BodyRel, memory_grows, set_memory, drop_data, goes, asks_grow, Unknowns, StoreRelOff, known, ActOff}
-use Rattle.index_remap.proofs.Rel.{there, bind_same, cond_rel, PairRel, bind_found, bind_rel_is}
+use Rattle.index_remap.proofs.Rel.{bind_same, cond_rel, bind_found, bind_rel_is}
+use Rattle.base_lists.specs.Related.{PairRel}
 use Rattle.index_remap.proofs.ValueSteps.{bind_num, values_rel, on_values_rel, pushes_rel}
 
 module _ (R : Pairing) (off : Unknowns) (ev ew : Env) (st : StoreRelOff R off ev.store ew.store) where

@@ -1,8 +1,7 @@
 -- Lists of references that are related but at unknown places.
-use Rattle.base_lists.proofs.Common.{◌≡◌, ◌∙◌, ℕ, zero, suc, ◌+◌, ◌<◌, ◌≤◌, List, [], ◌∷◌, ◌++◌, length, Some, Bool, true, refl, ap, subst, arith, slice_get}
+use Rattle.base_lists.proofs.Common.{◌≡◌, ◌∙◌, ℕ, zero, suc, ◌+◌, ◌<◌, ◌≤◌, List, [], ◌∷◌, ◌++◌, length, Some, Bool, true, refl, ap, subst, arith, slice_get, then_rel, get_rel, length_rel}
 use Rattle.wasm_meaning.specs.Prelude.{RefVal, split_at, slice, overwrite}
 use Rattle.index_remap.specs.Prelude.{Pairing, OptRel, none, some, ListRel, nil, cons, RefRel, RefsOff}
-use Rattle.index_remap.proofs.Rel.{then_rel, get_rel, length_rel}
 
 module _ (R : Pairing) (known : ℕ → Bool) where
   -- from this place on

@@ -1,10 +1,9 @@
 -- Related changes leave what has no partner, in either store.
-use Rattle.base_lists.proofs.Common.{◌≡◌, ℕ, List, refl, subst, ◌∙◌, slice_set, slice_get}
+use Rattle.base_lists.proofs.Common.{◌≡◌, ℕ, List, refl, subst, ◌∙◌, slice_set, slice_get, at_put_there}
 use Rattle.wasm_tree_spec.specs.Prelude.{Space, Tables, Memories, Globals, ElementSegments, DataSegments}
 use Rattle.wasm_meaning.specs.Prelude.{Table, Memory, Global, Store, Change, Keep, SetGlobal, SetMemory, SetTable, DropElem, DropData, changed, no_items, no_bytes}
 use Rattle.index_remap.specs.Prelude.{Pairing, ChangeRel, turned, HasNoPartner, KeepsOthers}
 use Rattle.index_remap.specs.Related as related
-use Rattle.index_remap.proofs.Rel.{at_put_there}
 
 -- the change is at an address of the second store that has a partner
 pub data Partnered (R : Pairing) : Change → Type 0 where

@@ -1,10 +1,11 @@
--- Options, lists and stores that correspond.
-use Rattle.base_lists.proofs.Common.{◌≡◌, ℕ, zero, suc, List, [], ◌∷◌, ◌++◌, length, Option, Some, None, Bool, true, false, cond, option_and_then, slice_get, refl, sym, ap, subst, drop, slice_set, set_other}
+-- Outcomes that are related, and what is written at related addresses.
+use Rattle.base_lists.proofs.Common.{◌≡◌, ℕ, List, Option, Some, None, Bool, true, false, cond, option_and_then, slice_get, refl, sym, subst, slice_set, at_put_there}
+use Rattle.base_lists.proofs.Related.{at_put_here}
 use Rattle.wasm_tree_spec.specs.Prelude.{Space}
 use native.Mathlib.Decide.{ℕ_discrete}
-use Rattle.wasm_meaning.specs.Prelude.{Outcome, Gives, Traps, IllTyped, or_trap, bind, onto, split_at, overwrite, copies, or_ill_typed}
+use Rattle.wasm_meaning.specs.Prelude.{Outcome, Gives, Traps, IllTyped, or_trap, bind, or_ill_typed}
 use Rattle.wasm_meaning.proofs.Outcomes.{AllOf, ill_typed, stopped, just}
-use Rattle.index_remap.specs.Prelude.{Pairing, OneToOne, OneToOneWhereWritten, is_written, OptRel, none, some, BothRel, both, ResRel, done, trap, wrong, ListRel, nil, cons}
+use Rattle.index_remap.specs.Prelude.{Pairing, OneToOne, OneToOneWhereWritten, is_written, OptRel, none, some, BothRel, both, ResRel, done, trap, wrong}
 
 -- ---- outcomes ----
 
@@ -60,129 +61,7 @@ pub cond_rel : {A B : Type 0} {P : A → B → Type 0} (b : Bool) {x y : Outcome
 cond_rel true p q = p
 cond_rel false p q = q
 
-pub cond_two : {A B : Type 0} (P : A → B → Type 0) (b : Bool) {x y : A} {u v : B} → P x u → P y v → P (cond b x y) (cond b u v)
-cond_two P true p q = p
-cond_two P false p q = q
-
--- ---- options ----
-
-pub then_rel : {A B C D : Type 0} {P : A → B → Type 0} {Q : C → D → Type 0} {o : Option A} {p : Option B} {f : A → Option C} {g : B → Option D} → OptRel P o p → ((a : A) (b : B) → P a b → OptRel Q (f a) (g b)) → OptRel Q (option_and_then f o) (option_and_then g p)
-then_rel none h = none
-then_rel (some q) h = h _ _ q
-
--- with what the first came to
-pub then_rel_is : {A B C D : Type 0} {P : A → B → Type 0} {Q : C → D → Type 0} {o : Option A} {p : Option B} {f : A → Option C} {g : B → Option D} → OptRel P o p → ((a : A) (b : B) → o ≡ Some a → P a b → OptRel Q (f a) (g b)) → OptRel Q (option_and_then f o) (option_and_then g p)
-then_rel_is none h = none
-then_rel_is (some q) h = h _ _ refl q
-
--- the same on both sides
-pub then_same : {A C D : Type 0} {Q : C → D → Type 0} {f : A → Option C} {g : A → Option D} (o : Option A) → ((a : A) → OptRel Q (f a) (g a)) → OptRel Q (option_and_then f o) (option_and_then g o)
-then_same None h = none
-then_same (Some a) h = h a
-
-pub either_rel : {A B : Type 0} {P : A → B → Type 0} (b : Bool) {x y : Option A} {u v : Option B} → OptRel P x u → OptRel P y v → OptRel P (cond b x y) (cond b u v)
-either_rel true p q = p
-either_rel false p q = q
-
--- P of what is there
-pub data IfThere {A : Type 0} (P : A → Type 0) : Option A → Type 0 where
-  absent : IfThere P None
-  present : {a : A} → P a → IfThere P (Some a)
-
-pub then_all : {A C : Type 0} {P : A → Type 0} {Q : C → Type 0} {o : Option A} {f : A → Option C} → IfThere P o → ((a : A) → P a → IfThere Q (f a)) → IfThere Q (option_and_then f o)
-then_all absent h = absent
-then_all (present p) h = h _ p
-
-pub any_there : {A : Type 0} (o : Option A) → IfThere (λ a. Unit {0}) o
-any_there None = absent
-any_there (Some a) = present tt
-
-pub all_there : {A : Type 0} {P : A → Type 0} {o : Option A} {a : A} → IfThere P o → o ≡ Some a → P a
-all_there {P = P} h e = go (subst (IfThere P) e h)
-  where
-    go : {b : _} → IfThere P (Some b) → P b
-    go (present p) = p
-
-pub with_there : {A C : Type 0} {Q : C → Type 0} (o : Option A) (f : A → Option C) → ((a : A) → o ≡ Some a → IfThere Q (f a)) → IfThere Q (option_and_then f o)
-with_there None f h = absent
-with_there (Some a) f h = h a refl
-
-pub either_all : {A : Type 0} {P : A → Type 0} (b : Bool) {x y : Option A} → IfThere P x → IfThere P y → IfThere P (cond b x y)
-either_all true p q = p
-either_all false p q = q
-
--- a pair of what is taken and what is left
-pub record PairRel {A B C D : Type 0} (P : A → B → Type 0) (Q : C → D → Type 0) (a : A × C) (b : B × D) : Type 0 where
-  pub first : P a.0 b.0
-  pub second : Q a.1 b.1
-
--- ---- lists ----
-
-pub get_rel : {A B : Type 0} {P : A → B → Type 0} {xs : List A} {ys : List B} → ListRel P xs ys → (n : ℕ) → OptRel P (slice_get xs n) (slice_get ys n)
-get_rel nil n = none
-get_rel (cons p r) zero = some p
-get_rel (cons p r) (suc n) = get_rel r n
-
-pub put_rel : {A B : Type 0} {P : A → B → Type 0} {xs : List A} {ys : List B} {v : A} {w : B} → ListRel P xs ys → (n : ℕ) → P v w → ListRel P (slice_set xs n v) (slice_set ys n w)
-put_rel nil n q = nil
-put_rel (cons p r) zero q = cons q r
-put_rel (cons p r) (suc n) q = cons p (put_rel r n q)
-
-pub onto_rel : {A B : Type 0} {P : A → B → Type 0} {xs vs : List A} {ys ws : List B} → ListRel P xs ys → ListRel P vs ws → ListRel P (onto xs vs) (onto ys ws)
-onto_rel nil s = s
-onto_rel (cons p r) s = onto_rel r (cons p s)
-
-pub append_rel : {A B : Type 0} {P : A → B → Type 0} {xs vs : List A} {ys ws : List B} → ListRel P xs ys → ListRel P vs ws → ListRel P (xs ++ vs) (ys ++ ws)
-append_rel nil s = s
-append_rel (cons p r) s = cons p (append_rel r s)
-
-pub past_rel : {A B : Type 0} {P : A → B → Type 0} {xs : List A} {ys : List B} → ListRel P xs ys → (n : ℕ) → ListRel P (drop n xs) (drop n ys)
-past_rel r zero = r
-past_rel nil (suc n) = nil
-past_rel (cons p r) (suc n) = past_rel r n
-
-pub length_rel : {A B : Type 0} {P : A → B → Type 0} {xs : List A} {ys : List B} → ListRel P xs ys → length xs ≡ length ys
-length_rel nil = refl
-length_rel (cons p r) = ap suc (length_rel r)
-
--- what is so of related items
-pub each_rel : {A B : Type 0} {P Q : A → B → Type 0} {xs : List A} {ys : List B} → ((a : A) (b : B) → P a b → Q a b) → ListRel P xs ys → ListRel Q xs ys
-each_rel h nil = nil
-each_rel h (cons p r) = cons (h _ _ p) (each_rel h r)
-
-pub copies_rel : {A B : Type 0} {P : A → B → Type 0} (v : A) (w : B) (n : ℕ) → P v w → ListRel P (copies n v) (copies n w)
-copies_rel v w zero p = nil
-copies_rel v w (suc n) p = cons p (copies_rel v w n p)
-
-pub split_rel : {A B : Type 0} {P : A → B → Type 0} {xs : List A} {ys : List B} (n : ℕ) → ListRel P xs ys → OptRel (PairRel (ListRel P) (ListRel P)) (split_at n xs) (split_at n ys)
-split_rel zero r = some (record { first = nil; second = r })
-split_rel (suc n) nil = none
-split_rel (suc n) (cons p r) = then_rel (split_rel n r) (λ _ _ q. some (record { first = cons p q.first; second = q.second }))
-
-pub overwrite_rel : {A B : Type 0} {P : A → B → Type 0} {xs vs : List A} {ys ws : List B} (place : ℕ) → ListRel P xs ys → ListRel P vs ws → OptRel (ListRel P) (overwrite xs place vs) (overwrite ys place ws)
-overwrite_rel {P = P} {vs = vs} {ws = ws} place r s =
-    then_rel (split_rel place r) (λ a b p.
-    let part = subst (λ n. OptRel (PairRel (ListRel P) (ListRel P)) (split_at (length vs) a.1) (split_at n b.1)) (length_rel s) (split_rel (length vs) p.second) in
-    then_rel part (λ _ _ q. some (append_rel p.first (append_rel s q.second))))
-
-pub there : {A B : Type 0} {P : A → B → Type 0} {o : Option A} {p : Option B} → BothRel P o p → OptRel P o p
-there (both r) = some r
-
-pub both_map : {A B : Type 0} {P Q : A → B → Type 0} {o : Option A} {p : Option B} → ((a : A) (b : B) → P a b → Q a b) → BothRel P o p → BothRel Q o p
-both_map f (both r) = both (f _ _ r)
-
-pub same_there : {A : Type 0} {o p : Option A} → BothRel (◌≡◌ {A = A}) o p → o ≡ p
-same_there (both e) = ap Some e
-
 -- ---- a write at related addresses ----
-
-pub at_put_here : {A : Type 0} (xs : List A) (n : ℕ) (v : A) → slice_get (slice_set xs n v) n ≡ option_and_then (λ old. Some v) (slice_get xs n)
-at_put_here [] n v = refl
-at_put_here (x ∷ xs) zero v = refl
-at_put_here (x ∷ xs) (suc n) v = at_put_here xs n v
-
-pub at_put_there : {A : Type 0} (xs : List A) (n m : ℕ) (v : A) → (n ≡ m → ⊥) → slice_get (slice_set xs n v) m ≡ slice_get xs m
-at_put_there xs n m v h = set_other xs n m v (λ e. h (sym e))
 
 -- what is one to one is so where something is written
 pub written : {R : Pairing} → OneToOne R → OneToOneWhereWritten R

@@ -1,5 +1,5 @@
 -- Bodies stay well typed where code of the same type stands in place of calls of listed functions.
-use Rattle.base_lists.proofs.Common.{◌≡◌, ℕ, Bool, true, false, ◌||◌, List, [], ◌∷◌, ◌++◌, reverse, Option, Some, None, refl, sym, ap, ◌∙◌, subst, option_and_then, slice_get, list_any}
+use Rattle.base_lists.proofs.Common.{◌≡◌, ℕ, Bool, true, false, ◌||◌, List, [], ◌∷◌, ◌++◌, reverse, Option, Some, None, refl, sym, ap, ◌∙◌, subst, option_and_then, slice_get, list_any, append_rel}
 use Rattle.base_lists.specs.Members.{is_among}
 use Rattle.wasm_tree_spec.specs.Prelude.{ValType, FuncType, BlockType, Instr, Row_of-Instr, end_of-Instr, more_of-Instr, Block, Block', Loop, Loop', If, If', Call, block_operands, Layers, RowLayers, ListLayers}
 use Rattle.wasm_tree.specs.declared.types.BlockType.TheVariants as bt
@@ -10,7 +10,6 @@ use Rattle.wasm_valid_bodies.specs.Typing.{Stack, operands, AllMatch, Signature,
 use Rattle.index_remap.specs.declared.remap.Remap.{Remap}
 use Rattle.index_remap.specs.Prelude.{new_type, renumbered, OperandAgrees, LayerAgrees, SameFrame, labelled, Labels, Codes, CallReplaced, DenotesOne, RowReplaced, Replaced, is_opaque_call, OthersAgree, CodesHaveTypes}
 use Rattle.base_lists.specs.Every.{Every}
-use Rattle.index_remap.proofs.Rel.{append_rel}
 use Rattle.index_remap.specs.Replaced.{block_label, loop_label}
 use Rattle.index_remap.proofs.Instructions.{plain_kept, type_kept}
 use Rattle.index_remap.proofs.Keeping.{then_is}

@@ -1,5 +1,5 @@
 -- Related runs have equal traces.
-use Rattle.base_lists.proofs.Common.{◌≡◌, ℕ, ◌^◌, List, [], ◌∷◌, Option, Some, None, Bool, true, false, cond, option_and_then, slice_get, refl, ap, subst, ◌∙◌, nat_eq, nat_lt}
+use Rattle.base_lists.proofs.Common.{◌≡◌, ℕ, ◌^◌, List, [], ◌∷◌, Option, Some, None, Bool, true, false, cond, option_and_then, slice_get, refl, ap, subst, ◌∙◌, nat_eq, nat_lt, there, then_rel, then_same, then_all, any_there, get_rel, append_rel, length_rel, copies_rel, overwrite_rel}
 use Rattle.wasm_tree_spec.specs.Prelude.{Functions, Memories, RefType, ValType}
 use Rattle.wasm_tree.specs.declared.types.RefType.TheVariants as reft
 use Rattle.wasm_tree.specs.declared.types.ValType.TheVariants as valt
@@ -7,7 +7,9 @@ use Rattle.wasm_num.specs.Operations.{W32}
 use Rattle.wasm_meaning.specs.Prelude.{Outcome, Gives, overwrite, RefVal, Val, Num, Table, Memory, Store, Change, SetTable, Growth, Entry, Caller, Host, Starter, Opening, Ended, Growing, Next, typed, null_of, ref_of, memory_may_grow, table_may_grow, give, enter_at, step, same_text, Shown, Number, Null, OwnFunc, ExternNumber, Function, ExternalValue, FuncKey, TableKey, MemoryKey, GlobalKey, Owned, same_key, look_up, owned_at, func_of, func_value, received, received_ref, received_all, Begun, Event, InstanceTrapped, Returned, Asked, Got, Place, TableOf, MemoryOf, GlobalOf, Named, Move, Call, Invoke, Take, Answer, Refuse, Grant, Deny, Get, Size, Set, Extend, Phase, Pending, Opened, Closed, Run, Out, Transition, Steps, Makes, made, place_at, trapped_to, run_after, called, is_mark, delivered, grown_table, answered, refused, granted, decided, shows, got, size_of, does, byte_of, set, extended, moved, at_entries, or_bad, or_closed, next_move, began, nothing_in, started, open_next, is_taken_closed, closed_move, in_phase, transition_at}
 use Rattle.wasm_meaning.specs.Run.{trapped_at, showing, with_change, view_of}
 use Rattle.index_remap.specs.Prelude.{Pairing, OneToOne, OptRel, none, some, ResRel, done, trap, wrong, ListRel, nil, cons, RefRel, func, extern, ValRel, number, reference, TableRel, StoreRel, mark, opening, waiting, ended, growing, ChangeRel, set_global, set_memory, set_table, GrowthRel, memory_grows, table_grows, NextRel, ran, asked, asked_grow, loads, returned, ExternalValueRel, a_func, a_table, a_memory, a_global, KeyRel, BegunRel, PhaseRel, fresh, pending, opened, closed, RunRel, OutRel, MoveSkips, NextMoveSkips, TickSkips, calls_placeholder}
-use Rattle.index_remap.proofs.Rel.{written, there, then_rel, then_rel_is, then_same, either_rel, PairRel, IfThere, absent, present, then_all, any_there, all_there, get_rel, append_rel, length_rel, copies_rel, overwrite_rel}
+use Rattle.index_remap.proofs.Rel.{written}
+use Rattle.base_lists.proofs.Related.{then_rel_is, either_rel, if_there_at}
+use Rattle.base_lists.specs.Related.{PairRel, IfThere, absent, present}
 use Rattle.index_remap.proofs.ValueSteps.{Fits}
 use Rattle.index_remap.proofs.Shown.{show_rel, show_all_rel}
 use Rattle.index_remap.proofs.TableSteps.{may_same}
@@ -135,7 +137,7 @@ module _ (R : Pairing) (apart : OneToOne R) (B C : Store → Store → List Entr
 
   called_rel : {r q : Run} {es fs : List Entry} {a b : ℕ} (xs : List Shown) → RunRel R B F r q → C r.store q.store es fs → R.of Functions a b → ¬ R.listed a → OptRel TransitionRel (called r es xs a) (called q fs xs b)
   called_rel {r} {q} {es} {fs} {a} {b} xs h e n free =
-      then_rel_is (there (h.store.types n)) (λ t u is same. subst (λ y. OptRel TransitionRel (option_and_then (λ vs. Some (Steps r (enter_at r.store a vs es))) (received_all r.owned r.shown t.params xs)) (option_and_then (λ vs. Some (Steps q (enter_at q.store b vs fs))) (received_all q.owned q.shown y.params xs))) same (then_rel_is (received_all_rel t.params xs h.owned h.shown) (λ vs _ got v. some (steps h (stacks.enters h.store n free is (all_there (fits_received r.owned r.shown t.params xs) got) v e)))))
+      then_rel_is (there (h.store.types n)) (λ t u is same. subst (λ y. OptRel TransitionRel (option_and_then (λ vs. Some (Steps r (enter_at r.store a vs es))) (received_all r.owned r.shown t.params xs)) (option_and_then (λ vs. Some (Steps q (enter_at q.store b vs fs))) (received_all q.owned q.shown y.params xs))) same (then_rel_is (received_all_rel t.params xs h.owned h.shown) (λ vs _ got v. some (steps h (stacks.enters h.store n free is (if_there_at (fits_received r.owned r.shown t.params xs) got) v e)))))
 
   delivered_rel : {r q : Run} {vs ws : List Val} {es fs : List Entry} → RunRel R B F r q → ListRel (ValRel R) vs ws → C r.store q.store es fs → TransitionRel (delivered r vs es) (delivered q ws fs)
   delivered_rel {r} {q} {vs} {ws} {es} {fs} h v e = rw (stacks.marked e) (either (is_mark fs))

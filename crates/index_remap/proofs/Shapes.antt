@@ -1,10 +1,11 @@
 -- Runs whose stacks are related by a relation that pushing an entry keeps, and putting others in place of frames on top: one step of each gives the same event, leaves them
 -- related, and leaves what has no partner.
-use Rattle.base_lists.proofs.Common.{◌≡◌, List, [], ◌∷◌, refl}
+use Rattle.base_lists.proofs.Common.{◌≡◌, List, [], ◌∷◌, refl, there, same_there}
 use Rattle.wasm_meaning.specs.Prelude.{Outcome, Val, Store, Change, Level, Frame, Entry, Running, Caller, Act, Ends, changed, give, give_levels, perform, step, to_mark, Phase, Run, Out, is_mark, run_after, transition, tick}
 use Rattle.wasm_meaning.proofs.Outcomes.{all_at}
 use Rattle.index_remap.specs.Prelude.{Pairing, OneToOne, none, some, ResRel, done, trap, wrong, ListRel, nil, cons, ValRel, StoreRel, LevelRel, FrameRel, EntryRel, growing, ActRel, goes, calls, asks_grow, ends, ChangeRel, NextRel, ran, asked_grow, returned, NotOpaque, turned, PhaseRel, fresh, pending, opened, closed, KeepsOthers, IsBegun, RunRel, OutRel, TickSkips, calls_placeholder, RunsStepTogether}
-use Rattle.index_remap.proofs.Rel.{written, there, same_there, bind_rel, bind_found, bind_is, bind_rel_is, PairRel}
+use Rattle.index_remap.proofs.Rel.{written, bind_rel, bind_found, bind_is, bind_rel_is}
+use Rattle.base_lists.specs.Related.{PairRel}
 use Rattle.index_remap.proofs.ValueSteps.{pop_typed_all, pop_typed_rel}
 use Rattle.index_remap.proofs.StepsAgree.{Stacks, TopView, top_none, top_mark, top_opening, top_waiting, top_ended, top_growing, top_running, changed_rel, frame_rel, left_rel, frame_given, enter_rel}
 use Rattle.index_remap.proofs.Others.{first_partnered, second_partnered, change_keeps, none_changed}

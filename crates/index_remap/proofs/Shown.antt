@@ -1,11 +1,10 @@
 -- What is shown of related values is the same.
-use Rattle.base_lists.proofs.Common.{◌≡◌, ℕ, List, [], ◌∷◌, ◌++◌, Option, Some, None, true, false, ◌⊎◌, inl, inr, refl, sym, ap, subst, ◌∙◌, eqb_tells, nat_eq}
+use Rattle.base_lists.proofs.Common.{◌≡◌, ℕ, List, [], ◌∷◌, ◌++◌, Option, Some, None, true, false, ◌⊎◌, inl, inr, refl, sym, ap, subst, ◌∙◌, eqb_tells, nat_eq, length_rel}
 use Rattle.wasm_tree_spec.specs.Prelude.{Functions, FuncType}
 use Rattle.wasm_meaning.specs.Prelude.{Pair, Val, Store, own_at, Function, show_all}
 use Rattle.wasm_meaning.specs.Run.{place_of, numbered, show_func, show}
 use Rattle.index_remap.specs.Prelude.{Pairing, OneToOne, none, some, ListRel, nil, cons, func, extern, ValRel, number, reference, StoreRel}
 use Rattle.index_remap.specs.RelatedRuns.{ShowRel}
-use Rattle.index_remap.proofs.Rel.{length_rel}
 
 module _ (R : Pairing) (apart : OneToOne R) where
   eq_rel : {a b c d : ℕ} → R.of Functions a b → R.of Functions c d → nat_eq a c ≡ nat_eq b d

@@ -1,12 +1,12 @@
 -- Calls through a slot of a table, by a trampoline and by two instructions in place of a direct call.
-use Rattle.base_lists.proofs.Common.{◌≡◌, true, ℕ, suc, ◌+◌, List, [], ◌∷◌, ◌++◌, length, Some, option_and_then, refl, ap, ap₂, subst, ◌∙◌, arith, append-nil, slice_get, ℤ, and_from, and_parts, each_same_is, each_same_self}
+use Rattle.base_lists.proofs.Common.{◌≡◌, true, ℕ, suc, ◌+◌, List, [], ◌∷◌, ◌++◌, length, Some, option_and_then, refl, ap, ap₂, subst, ◌∙◌, arith, append-nil, slice_get, ℤ, and_from, and_parts, each_same_is, each_same_self, append_rel}
 use Rattle.wasm_tree_spec.specs.Prelude.{ValType, FuncType, Instr, Call, CallIndirect, same_type, same_types, same_func_type}
 use Rattle.wasm_tree.specs.declared.instr.Instr.{out-Instr}
 use Rattle.wasm_meaning.specs.Prelude.{Gives, bind, or_ill_typed, onto, Val, Num, Calls, Inst, Code, Store, Level, Frame, Entry, Running, Ran, pop_typed, zeros, type_of_func, type_at, act, perform, enter_at, step}
 use Rattle.wasm_num.specs.Operations.{W32, wrapped}
 use Rattle.index_remap.specs.Prelude.{Pairing, ResRel, done, ListRel, nil, cons, ValRel, end, StoreRel, LevelRel, FrameRel, running, NextRel, ran, passing, WithPassing, through, FramesBetween, slot_call, gets, trampoline, InSlot, go_on, HaveTypes, at_code, CodeAt}
 use Rattle.index_remap.specs.Trampolines as between
-use Rattle.index_remap.proofs.Rel.{bind_rel, append_rel}
+use Rattle.index_remap.proofs.Rel.{bind_rel}
 use Rattle.index_remap.proofs.ValueSteps.{pop_typed_rel, zeros_rel}
 use Rattle.index_remap.proofs.FramesBetween.{pop_pushed, frames, again}
 

@@ -1,5 +1,5 @@
 -- One step of each agrees.
-use Rattle.base_lists.proofs.Common.{◌≡◌, ℕ, List, [], ◌∷◌, refl, ap, subst, ◌∙◌, true, Some}
+use Rattle.base_lists.proofs.Common.{◌≡◌, ℕ, List, [], ◌∷◌, refl, ap, subst, ◌∙◌, true, Some, append_rel}
 use Rattle.wasm_tree.specs.declared.space.Space.TheVariants as space
 use Rattle.wasm_tree_spec.specs.Prelude.{ValType, Instr, FuncType}
 use Rattle.wasm_tree.specs.declared.instr.Instr.TheOpen.{Instr-F}
@@ -10,7 +10,9 @@ use Rattle.index_remap.specs.Prelude.{Pairing, OneToOneWhereWritten, OptRel, non
 use Rattle.index_remap.specs.Related.{NextRelBy}
 use Rattle.index_remap.specs.Unknown.{read_next, read_levels}
 use Rattle.index_remap.specs.Groups.{Group, group_of}
-use Rattle.index_remap.proofs.Rel.{PairRel, onto_rel, append_rel, res_map}
+use Rattle.index_remap.proofs.Rel.{res_map}
+use Rattle.base_lists.specs.Related.{PairRel}
+use Rattle.base_lists.proofs.Related.{onto_rel}
 use Rattle.index_remap.proofs.Unknown.{to_off, to_related, changed_off, none_left_by, all_is_known, act_known}
 use Rattle.index_remap.proofs.ValueSteps.{Fits, zeros_rel}
 use Rattle.index_remap.proofs.ControlSteps.{end_level_rel}

@@ -1,5 +1,5 @@
 -- Steps on tables and element segments agree.
-use Rattle.base_lists.proofs.Common.{◌≡◌, ◌∙◌, ℕ, ◌+◌, ◌<◌, ◌≤◌, List, length, Option, Some, Bool, true, not, ap, subst, arith, slice_get}
+use Rattle.base_lists.proofs.Common.{◌≡◌, ◌∙◌, ℕ, ◌+◌, ◌<◌, ◌≤◌, List, length, Option, Some, Bool, true, not, ap, subst, arith, slice_get, there, copies_rel}
 use Rattle.wasm_tree_spec.specs.Prelude.{Tables, ElementSegments}
 use Rattle.wasm_tree.specs.declared.instr.Instr.TheOpen.{Instr-F}
 use Rattle.wasm_meaning.specs.Prelude.{Outcome, Gives, Val, RefVal, Table, Env, Body, GrowTable, AsksGrow, type_of_ref, same_ref, pop_three, with_table, fits, writes_table, table_may_grow, init_table}
@@ -8,7 +8,7 @@ use Rattle.wasm_meaning.specs.Tables.{table_get, table_set, table_size, table_gr
 use Rattle.wasm_meaning.proofs.Outcomes.{then_given, then_found}
 use Rattle.index_remap.specs.Prelude.{Pairing, OptRel, ResRel, done, wrong, ListRel, nil, cons, RefRel, ValRel, number, reference, Names, BodyRel, table_grows, drop_elem, goes, asks_grow, Unknowns, is_place_among, RefsOff, TableOff, StoreRelOff, ReadPlace, ReadsSlots, read_by, ReadsKnown, known, ActOff}
 use Rattle.index_remap.specs.Unknown.{off_slots}
-use Rattle.index_remap.proofs.Rel.{there, bind_rel, bind_found, bind_found_is, cond_rel, copies_rel, or_trap_rel}
+use Rattle.index_remap.proofs.Rel.{bind_rel, bind_found, bind_found_is, cond_rel, or_trap_rel}
 use Rattle.index_remap.proofs.Off.{slice_off, overwrite_off}
 use Rattle.index_remap.proofs.ValueSteps.{bind_num, bind_num_is, pop_ref_rel, ref_type_rel, values_rel, pushes_rel}
 use Rattle.index_remap.proofs.MemorySteps.{bind_three_is}

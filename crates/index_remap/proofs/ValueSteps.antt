@@ -1,5 +1,5 @@
 -- Steps that keep to values, locals and globals agree.
-use Rattle.base_lists.proofs.Common.{◌≡◌, ℕ, List, [], ◌∷◌, Bool, true, false, cond, not, refl, ap, subst, nat_eq}
+use Rattle.base_lists.proofs.Common.{◌≡◌, ℕ, List, [], ◌∷◌, Bool, true, false, cond, not, refl, ap, subst, nat_eq, there, cond_two, put_rel, get_rel}
 use Rattle.wasm_tree_spec.specs.Prelude.{Functions, Globals, ValType}
 use Rattle.wasm_tree.specs.declared.instr.Instr.TheOpen.{Instr-F}
 use Rattle.wasm_tree.specs.declared.types.RefType.TheVariants as reft
@@ -10,7 +10,8 @@ use Rattle.wasm_meaning.specs.Prelude.{Outcome, Gives, IllTyped, or_trap, bind, 
 use Rattle.wasm_num.specs.Operations.{Width, W32, W64, un_from, bin_from, bin_value}
 use Rattle.wasm_meaning.specs.Values.{is_null, is_number, second_type, local_get, local_set, local_tee, global_get, ref_func}
 use Rattle.index_remap.specs.Prelude.{Pairing, none, some, ResRel, done, wrong, ListRel, nil, cons, RefRel, func, extern, ValRel, number, reference, Names, BodyRel, keep, set_global, goes, Unknowns, StoreRelOff, ReadsGlobal, read_by, ReadsKnown, known, ActOff}
-use Rattle.index_remap.proofs.Rel.{there, bind_rel, bind_same, bind_eq, cond_rel, cond_two, PairRel, put_rel, bind_all, any, bind_found, bind_found_is, get_rel}
+use Rattle.index_remap.proofs.Rel.{bind_rel, bind_same, bind_eq, cond_rel, bind_all, any, bind_found, bind_found_is}
+use Rattle.base_lists.specs.Related.{PairRel}
 use Rattle.wasm_meaning.proofs.Outcomes.{AllOf, just, then_found}
 
 -- each value has its type

@@ -1,5 +1,5 @@
 -- What is related stays so where more code may stand in place of calls.
-use Rattle.base_lists.proofs.Common.{ℕ, List, Option, Bool, true, false}
+use Rattle.base_lists.proofs.Common.{ℕ, List, Option, Bool, true, false, both_map, each_rel}
 use Rattle.wasm_tree_spec.specs.Prelude.{Space, Instr}
 use Rattle.wasm_tree.specs.declared.instr.Instr.TheOpen.{Instr-F}
 use Rattle.wasm_meaning.specs.Prelude.{RefVal, Val, Inst, Func, Store, Level, Frame, Growth, Entry, ExternalValue, Begun, Phase, Run}
@@ -7,7 +7,6 @@ use Rattle.index_remap.specs.Related
 use Rattle.index_remap.specs.Prelude.{Pairing, OptRel, none, some, ListRel, nil, cons, RefRel, func, extern, ValRel, number, reference, OpRel, CodeRel, end, then, instead, FuncRel, defined, own, slot, StoreRel, LevelRel, FrameRel, GrowthRel, memory_grows, table_grows, EntryRel, running, mark, opening, waiting, ended, growing, ExternalValueRel, a_func, a_table, a_memory, a_global, KeyRel, BegunRel, PhaseRel, fresh, pending, opened, closed, RunRel, WithPassing, through, FramesBetween}
 use Rattle.index_remap.specs.Related.{by}
 use Rattle.index_remap.specs.Trampolines as between
-use Rattle.index_remap.proofs.Rel.{both_map, each_rel}
 
 module _ (R : Pairing) (Stands : Inst → ℕ → List Instr → Type 0) (may : (j : Inst) (a : ℕ) (e : List Instr) → R.stands j a e → Stands j a e) where
   abbrev pub W : Pairing

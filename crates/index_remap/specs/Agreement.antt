@@ -6,10 +6,7 @@ use Rattle.wasm_tree_spec.specs.Prelude.{Space, Types, Functions, Tables, Memori
 use Rattle.wasm_tree.specs.declared.instr.Instr.TheOpen.{Instr-F}
 use Rattle.wasm_valid_bodies.specs.Typing.{Context}
 use Rattle.index_remap.specs.declared.remap.Remap.{Remap}
-
--- If the first is there, the second is the same.
-abbrev pub Keeps : {A : Type 0} → Option A → Option A → Type 0
-Keeps {A} x y = (v : A) → x ≡ Some v → y ≡ Some v
+pub use Rattle.base_lists.specs.Options.{Keeps}
 
 -- The type of a function, if the function and its type exist.
 abbrev pub func_type : Context → ℕ → Option FuncType

@@ -1,5 +1,6 @@
 -- Stores and configurations that are related by a relation of addresses.
 use Rattle.std.proofs.Common.{◌≡◌, ℕ, List, [], ◌∷◌, ◌++◌, Option, Some, None, Bool, true, false, slice_get}
+pub use Rattle.base_lists.specs.Related.{BothRel, ListRel, OptRel, both, cons, nil, none, some}
 use Rattle.wasm_tree_spec.specs.Prelude.{Space, Functions, Tables, Memories, Globals, ElementSegments, DataSegments, RefType, ValType, BlockType, FuncType, LoadOp, StoreOp, MemArg, Instr, out-Instr}
 use Rattle.std.specs.Prelude.{ℤ}
 use Rattle.wasm_tree.specs.declared.types.BlockType.TheVariants as bt
@@ -39,25 +40,11 @@ pub record OneToOneWhereWritten (R : Pairing) : Type 0 where
   pub right : {k : Space} → is_written k ≡ true → (a b c : ℕ) → R.of k a b → R.of k a c → b ≡ c
   pub left : {k : Space} → is_written k ≡ true → (a b c : ℕ) → R.of k a c → R.of k b c → a ≡ b
 
--- Both are there and related, or neither is there.
-pub data OptRel {A B : Type 0} (P : A → B → Type 0) : Option A → Option B → Type 0 where
-  none : OptRel P None None
-  some : {a : A} {b : B} → P a b → OptRel P (Some a) (Some b)
-
 -- Both give related values, or both trap, or both are ill typed.
 pub data ResRel {A B : Type 0} (P : A → B → Type 0) : Outcome A → Outcome B → Type 0 where
   done : {a : A} {b : B} → P a b → ResRel P (Gives a) (Gives b)
   trap : ResRel P Traps Traps
   wrong : ResRel P IllTyped IllTyped
-
--- Both are there, and related.
-pub data BothRel {A B : Type 0} (P : A → B → Type 0) : Option A → Option B → Type 0 where
-  both : {a : A} {b : B} → P a b → BothRel P (Some a) (Some b)
-
--- The lists have the same length and are related place by place.
-pub data ListRel {A B : Type 0} (P : A → B → Type 0) : List A → List B → Type 0 where
-  nil : ListRel P [] []
-  cons : {a : A} {b : B} {xs : List A} {ys : List B} → P a b → ListRel P xs ys → ListRel P (a ∷ xs) (b ∷ ys)
 
 pub data RefRel (R : Pairing) : RefVal → RefVal → Type 0 where
   func : {a b : Option ℕ} → OptRel (R.of Functions) a b → RefRel R (FuncRef a) (FuncRef b)

@@ -1,7 +1,8 @@
 -- Trees whose references are declared.
-use Rattle.base_lists.proofs.Common.{◌≡◌, ℕ, zero, suc, ◌+◌, ◌^◌, ◌<◌, Bool, true, false, ◌&&◌, not, cond, nat_eq, nat_lt, List, [], ◌∷◌, ◌++◌, length, map, Some, ◌⊎◌, inl, inr, ⊎_elim, refl, sym, ap, ◌∙◌, subst, arith, append-nil, slice_get, replicate, filter, filter_map, range_with_len, lt-ltb, flat_map-append, map-append, slice_get_within, slice_get_there, map_from, append_at_left, replicate_at, and_from, cases_Bool, left_either, right_either}
+use Rattle.base_lists.proofs.Common.{◌≡◌, ℕ, zero, suc, ◌+◌, ◌^◌, ◌<◌, Bool, true, false, ◌&&◌, not, cond, nat_eq, nat_lt, List, [], ◌∷◌, ◌++◌, length, map, Some, ◌⊎◌, inl, inr, ⊎_elim, refl, sym, ap, ◌∙◌, subst, arith, append-nil, slice_get, replicate, filter, filter_map, range_with_len, lt-ltb, flat_map-append, map-append, slice_get_within, slice_get_there, map_from, append_at_left, replicate_at, and_from, cases_Bool, left_either, right_either, among_left, among_right, among_joined}
+use Rattle.base_lists.proofs.Bools.{and_not}
 use Rattle.base_lists.specs.Members.{is_among}
-use Rattle.base_lists.proofs.Members.{among_left, among_right, among_either, among_joined, joined_among, chosen_among}
+use Rattle.base_lists.proofs.Members.{among_either, joined_among, chosen_among}
 use Rattle.std.proofs.Common.{length-append, eq-eqb}
 use Rattle.wasm_tree_spec.specs.Prelude.{RefType, I32, Ref, ImportDesc, ExportDesc, ElemMode, ElemSeg, DataMode, ConstExpr, Func, Module, IsBounded, funcs_of}
 use Rattle.wasm_tree.specs.declared.types.RefType.TheVariants.{Func as func_ref}
@@ -58,10 +59,6 @@ passed_within p a (suc n) j x e =
 declared_funcs : (rs : List ℕ) → filter_map const_func (map const.Func rs) ≡ rs
 declared_funcs [] = refl
 declared_funcs (r ∷ rs) = ap (λ zs. r ∷ zs) (declared_funcs rs)
-
-pub refused : (a b : Bool) → (a ≡ true → b ≡ true) → a && not b ≡ false
-refused false b h = refl
-refused true b h = ap not (h refl)
 
 module _ (t : Module) where
   abbrev space : ℕ
@@ -292,7 +289,7 @@ body_in_named t holds x h = here (joined_among (λ f. refs_all f.body) t.funcs x
 pub declared_stays : ValidWhereItemsHold → (t : Module) → IsValid t → declared t ≡ t
 declared_stays law t valid =
     let none : declared_refs t ≡ [] = filter_none (λ f. is_among (body_refs t.funcs) f && not (is_among (outside_refs t) f)) (range_with_len 0 (length (funcs_of t)))
-    (λ x. refused (is_among (body_refs t.funcs) x) (is_among (outside_refs t) x) (body_in_named t (λ i lt. (law t).0 valid kind.Body i lt) x)) in
+    (λ x. and_not (is_among (body_refs t.funcs) x) (is_among (outside_refs t) x) (body_in_named t (λ i lt. (law t).0 valid kind.Body i lt) x)) in
     ap (with_declared t) none
 
 weaker_item : (t : Module) (k : ItemKind) (i : ℕ) → HoldsAt t k i → HoldsButForReferences t k i

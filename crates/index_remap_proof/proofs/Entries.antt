@@ -1,5 +1,5 @@
 -- What is well typed, or valid, names only indices of its spaces, so that a map with as many entries has one for each.
-use Rattle.base_lists.proofs.Common.{◌≡◌, ℕ, true, nat_lt, List, [], ◌∷◌, Option, Some, None, refl, sym, arith, true≢false, slice_get, ltb-true, lt-ltb, and_then_is, left_true, right_true, option_map_is}
+use Rattle.base_lists.proofs.Common.{◌≡◌, ℕ, true, nat_lt, List, [], ◌∷◌, Option, Some, None, refl, sym, arith, true≢false, slice_get, ltb-true, lt-ltb, and_then_is, left_true, right_true, option_map_is, only_true, only_rest}
 use Rattle.wasm_tree_spec.specs.Prelude.{RefType, ValType, FuncType, BlockType, Operand, Layers, RowLayers, ListLayers, PassesLayerByLayer, operands, block_operands, Instr, Row_of-Instr, end_of-Instr, more_of-Instr, Block', Loop', If', Call, CallIndirect, GlobalGet, GlobalSet, TableGet, TableSet, Load, Store, MemorySize, MemoryGrow, RefFunc, MemoryInit, DataDrop, MemoryCopy, MemoryFill, TableInit, ElemDrop, TableCopy, TableGrow, TableSize, TableFill}
 use Rattle.wasm_tree.specs.declared.types.BlockType.TheVariants as bt
 use Rattle.base_lists.specs.Every.{Every}
@@ -9,7 +9,7 @@ use Rattle.wasm_valid_bodies.specs.Typing.{Stack, Effect, Context, Signature, si
 use Rattle.index_remap.specs.declared.remap.Remap.{Remap}
 use Rattle.index_remap.specs.Prelude.{has, has_entry, fits_all, labelled}
 use Rattle.index_remap_proof.specs.Along.{CoversContext}
-use Rattle.index_remap_proof.proofs.Lists.{has_at, only_true, only_rest}
+use Rattle.index_remap_proof.proofs.Lists.{has_at}
 
 both_there : (a b : Option RefType) → both a b ≡ true → (r : RefType) × (q : RefType) × (a ≡ Some r) × (b ≡ Some q)
 both_there None b h = absurd (true≢false (sym h))

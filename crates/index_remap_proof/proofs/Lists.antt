@@ -16,14 +16,6 @@ has_at xs ys i x le e = let lt = slice_get_within xs i x e in lt-ltb _ _ (omega 
 
 -- ---- what is there by the words of types ----
 
-pub only_true : {A : Type 0} (b : Bool) (m : Option A) (e : A) → only b m ≡ Some e → b ≡ true
-only_true false m e h = cc
-only_true true m e h = refl
-
-pub only_rest : {A : Type 0} (b : Bool) (m : Option A) (e : A) → only b m ≡ Some e → m ≡ Some e
-only_rest false m e h = cc
-only_rest true m e h = h
-
 -- ---- marks ----
 
 pub named_get : (refs : List ℕ) (a n i : ℕ) → i < n → slice_get (named_from refs a n) i ≡ Some (is_among refs (a + i))

@@ -1,14 +1,13 @@
 -- What `ref.func` names in well typed code, and code that stays well typed where other functions may be named and there are more element segments.
-use Rattle.base_lists.proofs.Common.{◌≡◌, ℕ, Bool, true, false, nat_eq, List, [], ◌∷◌, ◌++◌, Some, refl, sym, ap, ◌∙◌, ◌⊎◌, inl, inr, ⊎_elim, rules, slice_get, and_then_is, either_true, left_either, same_number}
+use Rattle.base_lists.proofs.Common.{◌≡◌, ℕ, Bool, true, false, nat_eq, List, [], ◌∷◌, ◌++◌, Some, refl, sym, ap, ◌∙◌, ◌⊎◌, inl, inr, ⊎_elim, rules, slice_get, and_then_is, either_true, left_either, same_number, among_left, among_right, keeps_map, keeps_only, only_true}
 use Rattle.base_lists.specs.Members.{is_among}
-use Rattle.base_lists.proofs.Members.{among_left, among_right, among_either}
+use Rattle.base_lists.proofs.Members.{among_either}
 use Rattle.std.proofs.Common.{eq-eqb}
 use Rattle.wasm_tree_spec.specs.Prelude.{RefType, ValType, BlockType, Instr, fold_out-Instr, map-Instr, Row_of-Instr, items-the_row-Instr, end_of-Instr, more_of-Instr, the_lemmas, Block, Block', Loop, Loop', If, If', RefFunc, TableInit, ElemDrop}
 use Rattle.wasm_tree.specs.declared.instr.Instr.{out-Instr}
 use Rattle.wasm_valid_bodies.specs.Typing.{Stack, Effect, Context, effect_of, Ends, Fits, Leads, LeadsAll, WellTyped}
 use Rattle.index_remap.specs.Prelude.{refs, refs_all, refs_step, Keeps, labelled}
-use Rattle.index_remap.proofs.Keeping.{keeps_map, keeps_only, both_keeps, named_keeps}
-use Rattle.index_remap_proof.proofs.Lists.{only_true}
+use Rattle.index_remap.proofs.Keeping.{both_keeps, named_keeps}
 use Rattle.index_remap.proofs.Rows.{block_is, loop_is, if_is}
 use Rattle.index_remap.proofs.Marks.{of_If}
 

@@ -1,5 +1,5 @@
 -- A valid tree with other indices: each item comes from the one that it was. And the indices that a valid tree names.
-use Rattle.base_lists.proofs.Common.{◌≡◌, ℕ, zero, suc, ◌<◌, ◌↔◌, Bool, true, ◌&&◌, List, [], ◌∷◌, ◌++◌, length, map, take, Option, Some, None, refl, sym, ap, ap₂, ◌∙◌, subst, arith, slice_get, slice_index, Contains, option_map, flat_map, filter_map, cons_option, ltb-true, length-map, map-append, slice_get_there, map_at, map_from, list_all_each, list_all, and_then_is, left_true, right_true}
+use Rattle.base_lists.proofs.Common.{◌≡◌, ℕ, zero, suc, ◌<◌, ◌↔◌, Bool, true, ◌&&◌, List, [], ◌∷◌, ◌++◌, length, map, take, Option, Some, None, refl, sym, ap, ap₂, ◌∙◌, subst, arith, slice_get, slice_index, Contains, option_map, flat_map, filter_map, cons_option, ltb-true, length-map, map-append, slice_get_there, map_at, map_from, list_all_each, list_all, and_then_is, left_true, right_true, only_true}
 use Rattle.base_lists.specs.Members.{is_among}
 use Rattle.base_lists.proofs.Members.{among_map}
 use Rattle.wasm_tree_spec.specs.Prelude.{ValType, Func, ImportDesc, Export, ExportDesc, ElemMode, ElemSeg, DataMode, ConstExpr, Module, funcs_of, globals_of, PassesLayerByLayer}
@@ -17,7 +17,7 @@ use Rattle.index_remap.specs.Renumbered.{fits_data_mode}
 use Rattle.index_remap_proof.specs.Indices.{Indices, with_entry, ConstNamesOnly, ImportNamesOnly, ExportNamesOnly, ElemModeNamesOnly, DataModeNamesOnly, FuncNamesOnly, TreeNamesOnly}
 use Rattle.index_remap_proof.specs.Trees.{TreesAgree, RefsAgree, ImportsAgree, ReadsImport, ConstComesFrom, ElemModeComesFrom, DataModeComesFrom, ItemsComeFrom, ItemComesFrom, EachItemComesFrom, active, passive, declarative}
 use Rattle.index_remap_proof.specs.ButForReferences.{IsValidButForReferences}
-use Rattle.index_remap_proof.proofs.Lists.{marked, is_marked, named_within, only_true}
+use Rattle.index_remap_proof.proofs.Lists.{marked, is_marked, named_within}
 use Rattle.index_remap_proof.proofs.Items.{BodiesAreKept, const_kept, items_kept, items_weakly}
 
 -- a tree is valid exactly where each item holds

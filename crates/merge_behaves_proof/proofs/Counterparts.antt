@@ -1,6 +1,6 @@
 -- For what each entry of a part's index space stands, in the parts' world and in the merged module: for what a part defines, with its number among all
 -- definitions, or for an import that stays.
-use Rattle.base_lists.proofs.Common.{◌≡◌, ℕ, ◌+◌, ◌-◌, ◌<◌, ◌≤◌, List, [], ◌∷◌, length, Option, Some, None, true, arith, option_and_then, slice_get, place_back, slice_get_past}
+use Rattle.base_lists.proofs.Common.{◌≡◌, ℕ, ◌+◌, ◌-◌, ◌<◌, ◌≤◌, List, [], ◌∷◌, length, Option, Some, None, true, arith, option_and_then, slice_get, place_back, slice_get_past, opt_self, then_same_is, then_rel}
 use Rattle.wasm_tree_spec.specs.Prelude.{Space, Module, index_of_export}
 use Rattle.wasm_meaning.specs.Prelude.{Part, Site, Defined, Outside, has_kind, module_at, import_at, imports_of, Environment, owned_of, same_key, own_count, defined_count, defined_before, address_of, own_key, outside_external_value}
 use Rattle.merge_spec.specs.Prelude.{link_fault, staying_of, new_index}
@@ -12,7 +12,6 @@ use Rattle.world_simulation.proofs.Owned.{look_rel, address_rel}
 use Rattle.world_simulation.specs.Prelude.{OwnEntitiesCorrespond}
 use Rattle.world_simulation.proofs.Defined.{defined_at}
 use Rattle.world_simulation.proofs.Instancing.{import_address, Entry, imports, defines}
-use Rattle.world_simulation.proofs.Places.{opt_self, then_same, then_rel}
 use Rattle.merge_behaves_proof.specs.Shared.{shared_count, is_shared, sharing}
 use Rattle.merge_behaves_proof.proofs.SpaceLaws.{SpaceLaws}
 use Rattle.merge_behaves_proof.proofs.ValueShared.{is_same, shares_own}
@@ -38,7 +37,7 @@ module _ (env : Environment) (parts : List Part) where
   -- what an import that stays denotes is related to itself
   pub outside_rel : OwnEntitiesCorrespond → (s : Site) → OptRel (ExternalValueRel (sharing env parts)) (outside_external_value (owned_of env) parts s) (outside_external_value (owned_of env) parts s)
   outside_rel law s =
-      then_same (module_at parts s.part) (λ m _. then_same (import_at parts s) (λ i _. then_same (own_key m i) (λ key _. look_rel (sharing env parts) env (shares_own env parts) (same_key key) (law (is_shared env parts) env (shares_own env parts)).owned)))
+      then_same_is (module_at parts s.part) (λ m _. then_same_is (import_at parts s) (λ i _. then_same_is (own_key m i) (λ key _. look_rel (sharing env parts) env (shares_own env parts) (same_key key) (law (is_shared env parts) env (shares_own env parts)).owned)))
 
   -- and its address is one that both worlds have
   pub site_low : OwnEntitiesCorrespond → (k : Space) (s : Site) (a : ℕ) → site_address k s ≡ Some a → a < shared_count env parts k

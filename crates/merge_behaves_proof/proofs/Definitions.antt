@@ -1,7 +1,7 @@
 -- What the parts define and what it becomes in the merged module correspond: each definition stands in the merged module at its number among all of its space.
 use Rattle.wasm_tree_spec.specs.Prelude.{Functions, Tables, Memories, Globals, ElementSegments, DataSegments, Space, Module, GlobalDef, ElemSeg}
-use Rattle.merge_valid_proof.proofs.ByPart.{by_part_flat, map_self, defined_is, by_part_at, by_part_back}
-use Rattle.base_lists.proofs.Common.{◌≡◌, refl, ℕ, ◌+◌, List, ◌++◌, map, length, [], append-nil, ◌∷◌, Option, Some, inl, inr, arith, zero-add, slice_get, all_there_at, is_some_there, slice_get_there, map_at, map_from, append_at_left, append_from, list_all_each}
+use Rattle.merge_valid_proof.proofs.ByPart.{by_part_flat, defined_is, by_part_at, by_part_back}
+use Rattle.base_lists.proofs.Common.{◌≡◌, refl, ℕ, ◌+◌, List, ◌++◌, map, length, [], append-nil, ◌∷◌, Option, Some, inl, inr, arith, zero-add, slice_get, all_there_at, is_some_there, slice_get_there, map_at, map_from, append_at_left, append_from, list_all_each, length-map, right_there, left_there, map-id}
 use Rattle.wasm_meaning.specs.Prelude.{Inst, Part, module_at, new_func, defined_count, base, defined_before, insts_from, own_store, stores_from, Environment}
 use Rattle.index_remap.specs.Prelude.{declared_refs, fits_func, new_func as renumbered_func, Pairing, OptRel}
 use Rattle.merge_names.specs.declared.mode.Mode.{Mode}
@@ -11,7 +11,7 @@ use Rattle.merge_behaves_proof.proofs.ValueGiven.{Laws, func_typed, EachAgrees, 
 use Rattle.merge_behaves_proof.proofs.MergedAlone.{joined_keeps, names_of}
 use Rattle.world_simulation.proofs.Declared.{last_segments, last_elems}
 use Rattle.world_simulation.specs.Prelude.{one, Instantiated, DefinedAt, values_in, FuncsAt, GlobalsCorrespond, Partners, DefinitionsCorrespond}
-use Rattle.world_simulation.proofs.Places.{both_or_none, map_length, right_there, left_there, placed_rel}
+use Rattle.base_lists.proofs.Related.{both_or_none, placed_rel}
 use Rattle.world_simulation.proofs.Stored.{global_placed, elem_placed, global_rel, ElemsAlike, elem_rel, alike_correspond}
 use Rattle.world_simulation.proofs.Allocated.{stores_there, part_there}
 use Rattle.merge_valid_proof.specs.Joinable.{CanBeJoined}
@@ -48,8 +48,8 @@ all_join parts mode =
     let d = joined_keeps parts mode in
     record {
       funcs = grind arith;
-      tables = grind (arith, map_self, append-nil, by_part_flat (λ m. m.tables) 0 parts);
-      mems = grind (arith, map_self, append-nil, by_part_flat (λ m. m.mems) 0 parts);
+      tables = grind (arith, map-id, append-nil, by_part_flat (λ m. m.tables) 0 parts);
+      mems = grind (arith, map-id, append-nil, by_part_flat (λ m. m.mems) 0 parts);
       globals = grind (arith, append-nil);
       elems = grind arith;
       datas = grind (arith, append-nil);
@@ -94,7 +94,7 @@ module _ (laws : Laws) (env : Environment) (parts : List Part) (mode : Mode) (ca
     module _ (p : ℕ) (m : Module) (is : module_at parts p ≡ Some m) (n : ℕ) (x : A) (h : slice_get (definitions m) n ≡ Some x) where
       becomes : slice_get (definitions J) (defined_before k parts p + n) ≡ Some (new p m x)
       becomes =
-          let there = by_part_at (λ p m. map (new p m) (definitions m)) (defined_count k) (λ p m. grind (arith, map_length, q.counts)) 0 parts p m n (new p m x) is (grind (arith, map_at)) in
+          let there = by_part_at (λ p m. map (new p m) (definitions m)) (defined_count k) (λ p m. grind (arith, length-map, q.counts)) 0 parts p m n (new p m x) is (grind (arith, map_at)) in
           grind (arith, q.is, defined_is, append_at_left)
 
       abbrev stood : {a : ℕ} → a ≡ base env parts k p + n → DefinedAt env v k definitions a

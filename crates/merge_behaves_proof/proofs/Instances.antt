@@ -1,5 +1,5 @@
 -- The instances of the parts, and the instance of the merged module: all there or none, and each index of a part and its new one name one address.
-use Rattle.base_lists.proofs.Common.{◌≡◌, ◌∙◌, ap, sym, refl, ℕ, ◌+◌, ◌<◌, ◌≤◌, List, [], ◌∷◌, ◌++◌, map, length, Option, Some, None, arith, option_and_then, slice_get, true, slice_index, length-append, same_Some, place_there, length-numbers, numbers_at, map_numbers_index, is_some_there, and_then_is, all_there_at, all_there_length, all_there_from, slice_get_there, append_right, slice_index_is, suc, zero-add, add-zero, append_at_left, length-map}
+use Rattle.base_lists.proofs.Common.{◌≡◌, ◌∙◌, ap, sym, refl, ℕ, ◌+◌, ◌<◌, ◌≤◌, List, [], ◌∷◌, ◌++◌, map, length, Option, Some, None, arith, option_and_then, slice_get, true, slice_index, length-append, same_Some, place_there, length-numbers, numbers_at, map_numbers_index, is_some_there, and_then_is, all_there_at, all_there_length, all_there_from, slice_get_there, append_right, slice_index_is, suc, zero-add, add-zero, append_at_left, length-map, add_next}
 use Rattle.base_lists.proofs.Options.{AllThere}
 use Rattle.wasm_tree_spec.specs.Prelude.{Space, Functions, Tables, Memories, Globals, ElementSegments, DataSegments, Module}
 use Rattle.wasm_meaning.specs.Prelude.{Inst, Part, has_kind, module_at, imports_of, Environment, own_count, defined_count, all_there, numbers, space, inst_of, insts_from, defined_before}
@@ -11,8 +11,8 @@ use Rattle.merge_valid_proof.specs.Joinable.{CanBeJoined}
 use Rattle.merge_valid_proof.specs.Ended.{added_count, is_external}
 use Rattle.world_simulation.specs.Prelude.{one}
 use Rattle.world_simulation.proofs.Alone.{funcs_counted, tables_counted, memories_counted, globals_counted}
-use Rattle.world_simulation.proofs.Instancing.{addresses_in, import_address, is_space, entry_at, IsInst, insts_are, inst_in, insts_in, add_next}
-use Rattle.world_simulation.proofs.Places.{both_or_none}
+use Rattle.world_simulation.proofs.Instancing.{addresses_in, import_address, is_space, entry_at, IsInst, insts_are, inst_in, insts_in}
+use Rattle.base_lists.proofs.Related.{both_or_none}
 use Rattle.world_simulation.proofs.Single.{one_inst}
 use Rattle.merge_behaves_proof.specs.Shared.{shared_count}
 use Rattle.merge_behaves_proof.specs.Instances.{SpaceAgrees, PartAgrees, InstancesAgree}

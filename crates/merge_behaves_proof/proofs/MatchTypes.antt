@@ -1,11 +1,9 @@
 -- The external type of an entity of the store (WebAssembly Core 2.0, section 4.5.1), when it is what an import asks for, and limits that are asked for together.
-use Rattle.base_lists.proofs.Common.{◌≡◌, ℕ, List, length, Option, Some, None, true, false, refl, ◌∙◌, option_map, slice_get, unwrap_or, [], ◌∷◌, Bool, cond, arith, ◌&&◌, is_some_there, nat_tests, list_all_each, list_all_from}
+use Rattle.base_lists.proofs.Common.{◌≡◌, ℕ, List, length, Option, Some, None, true, false, refl, ◌∙◌, option_map, slice_get, unwrap_or, [], ◌∷◌, Bool, cond, arith, ◌&&◌, is_some_there, nat_tests, list_all_each, list_all_from, length_rel, same_there, there, then_eq}
 use Rattle.base_lists.specs.Options.{◌>>=◌}
 use Rattle.wasm_tree_spec.specs.Prelude.{Limits, Import}
 use Rattle.wasm_meaning.specs.Prelude.{Store, type_at, Part, Site, import_at, sites, limits_of, is_outside, linked_end, met_limits, consed, demands, met, Environment, ExternalValue, FuncAt, TableAt, MemoryAt, GlobalAt, meets, all_of, is_matched, imported_external_value}
 use Rattle.index_remap.specs.Prelude.{Pairing, StoreRel, ExternalValueRel, a_func, a_table, a_memory, a_global}
-use Rattle.index_remap.proofs.Rel.{length_rel, same_there, there}
-use Rattle.world_simulation.proofs.Places.{then_eq}
 use Rattle.merge_spec.specs.Prelude.{External, FuncOf, TableOf, MemoryOf, GlobalOf, asked_at, same_but_limits, meets_limits}
 use Rattle.merge_valid_proof.specs.Ended.{SitesAreImports}
 use Rattle.index_remap.proofs.SlotCalls.{func_type_is}

@@ -1,8 +1,7 @@
 -- All imports of the parts match where all imports of the merged module do.
-use Rattle.base_lists.proofs.Common.{◌≡◌, ℕ, ◌+◌, ◌-◌, ◌≤◌, List, ◌++◌, length, Some, refl, sym, arith, Option, None, true, option_and_then, slice_get, and_then_is, map_from, append_right, same_tests, is_kept, chosen_from, has_chosen, list_all_each, list_all_from, map, map-id}
+use Rattle.base_lists.proofs.Common.{◌≡◌, ℕ, ◌+◌, ◌-◌, ◌≤◌, List, ◌++◌, length, Some, refl, sym, arith, Option, None, true, option_and_then, slice_get, and_then_is, map_from, append_right, same_tests, is_kept, chosen_from, has_chosen, list_all_each, list_all_from, map, map-id, copies_length, then_eq}
 use Rattle.wasm_tree_spec.specs.Prelude.{Space, Functions, Tables, Memories, Globals, FuncType, ExportDesc, Module, type_of_func, index_of_export, space_of_export, Import}
 use Rattle.wasm_meaning.specs.Prelude.{Inst, Store, type_at, imports_of, module_at, Part, Site, import_at, is_outside, sites, linked_end, met_limits, Environment, owned_of, all_of, base, external_value_at, own_store, stores_from, outside_external_value, is_matched}
-use Rattle.wasm_meaning.proofs.Slices.{copies_length}
 use Rattle.world_simulation.specs.Prelude.{Instantiated, DefinedAt, one, site}
 use Rattle.world_simulation.proofs.Alone.{funcs_counted, tables_counted, memories_counted, globals_counted}
 use Rattle.world_simulation.proofs.Stored.{func_placed, table_placed, memory_placed, global_placed}
@@ -16,7 +15,6 @@ use Rattle.merge_valid_proof.proofs.Ends.{outside_is}
 use Rattle.merge_valid_proof.proofs.MergedSpaces.{import_is}
 use Rattle.merge_valid_proof.proofs.Same.{site_same}
 use Rattle.world_simulation.proofs.Defined.{defined_at}
-use Rattle.world_simulation.proofs.Places.{then_eq}
 use Rattle.merge_behaves_proof.specs.Instances.{InstancesAgree}
 use Rattle.merge_behaves_proof.specs.Shared.{sharing}
 use Rattle.merge_behaves_proof.proofs.SpaceLaws.{SpaceLaws}

@@ -1,14 +1,11 @@
 -- What the indices, the exports and the view of the parts name, and what the merged module's name.
-use Rattle.base_lists.proofs.Common.{◌≡◌, refl, ℕ, suc, ◌+◌, List, [], ◌∷◌, map, Some, true, arith, add-zero, zero-add, Option, IsTrue, list_all, ltb-true, slice_get_there}
+use Rattle.base_lists.proofs.Common.{◌≡◌, refl, ℕ, suc, ◌+◌, List, [], ◌∷◌, map, Some, true, arith, add-zero, zero-add, Option, IsTrue, list_all, ltb-true, slice_get_there, length-map, append_rel, then_rel, add_next}
 use Rattle.wasm_tree_spec.specs.Prelude.{Module, Types, Functions, Tables, Memories, Globals, ElementSegments, DataSegments, Func, Export}
 use Rattle.wasm_meaning.specs.Prelude.{Part, module_at, Entity, Inst, Text, Environment, seen_as, alone}
 use Rattle.index_remap.specs.Prelude.{fits_tree, fits_func, fits_export, fits_start, new_func, new_export, ListRel, nil, cons, Pairing, OptRel, some, KeyRel}
 use Rattle.index_remap.specs.declared.remap.Remap.{Remap}
-use Rattle.index_remap.proofs.Rel.{append_rel}
 use Rattle.merge_spec.specs.Prelude.{by_part_from, named_exports, joined_module}
 use Rattle.merge_spec.specs.Merged.{map_of, all_exports}
-use Rattle.world_simulation.proofs.Places.{map_length, then_rel}
-use Rattle.world_simulation.proofs.Instancing.{add_next}
 use Rattle.index_remap_proof.specs.Indices.{with_entry}
 use Rattle.world_simulation.specs.Prelude.{EntriesName, FuncsCorrespond}
 use Rattle.merge_behaves_proof.specs.Instances.{PartAgrees, InstancesAgree}
@@ -46,7 +43,7 @@ module _ (env : Environment) (parts : List Part) (p : ℕ) (m : Module) (i j : I
 
   entries_name : EntriesName R r (with_entry r) i j
   unfolding map_of
-  entries_name Types = λ x h. grind (arith, slice_get_there m.types x (simp map_length at (ltb-true _ _ h)), k.types x)
+  entries_name Types = λ x h. grind (arith, slice_get_there m.types x (simp length-map at (ltb-true _ _ h)), k.types x)
   entries_name Functions = names_one env parts _ k.funcs
   entries_name Tables = names_one env parts _ k.tables
   entries_name Memories = names_one env parts _ k.mems

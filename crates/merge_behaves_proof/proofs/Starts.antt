@@ -1,9 +1,8 @@
 -- The functions that the parts start, and what the merged module starts in place of these.
-use Rattle.base_lists.proofs.Common.{◌≡◌, ◌∙◌, sym, refl, ℕ, suc, ◌<◌, List, [], ◌∷◌, length, Option, Some, None, true, arith, slice_get, map, ltb-true, append_right, place_of, append_at_left, length-append, option_map_is}
+use Rattle.base_lists.proofs.Common.{◌≡◌, ◌∙◌, sym, refl, ℕ, suc, ◌<◌, List, [], ◌∷◌, length, Option, Some, None, true, arith, slice_get, map, ltb-true, append_right, place_of, append_at_left, length-append, option_map_is, append_rel}
 use Rattle.wasm_tree_spec.specs.Prelude.{Functions, Module, Call, func_of, imported_funcs, type_of_func}
 use Rattle.wasm_meaning.specs.Prelude.{Inst, Code, Store, Part, has_kind, sites, Environment, all_of, defined_before, start_in, starts_of, insts_from, own_store, stores_from, is_matched, Filled, run_elem, run_data, one_by_one, segments, type_at}
 use Rattle.index_remap.specs.Prelude.{fits_start, ListRel, nil, cons}
-use Rattle.index_remap.proofs.Rel.{append_rel}
 use Rattle.merge_names.specs.declared.mode.Mode.{Mode}
 use Rattle.merge_spec.specs.Prelude.{link_fault, FuncOf, map_of, start_of, by_part_from, nullary, start_calls, place_of_type, joined_module}
 use Rattle.merge_spec.specs.Merged.{starts, defined_funcs}

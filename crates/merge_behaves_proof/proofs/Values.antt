@@ -1,5 +1,5 @@
 -- The values of constant expressions of a part, and of what these become in the merged module.
-use Rattle.base_lists.proofs.Common.{◌≡◌, ℕ, zero, suc, ◌+◌, List, [], ◌∷◌, length, Some, true, refl, ap, ◌∙◌, arith, option_and_then, slice_get, slice_get_past, length-append, ltb-true, length-map, place_back}
+use Rattle.base_lists.proofs.Common.{◌≡◌, ℕ, zero, suc, ◌+◌, List, [], ◌∷◌, length, Some, true, refl, ap, ◌∙◌, arith, option_and_then, slice_get, slice_get_past, length-append, ltb-true, length-map, place_back, get_rel, then_rel}
 use Rattle.wasm_tree_spec.specs.Prelude.{Space, Functions, Globals, Import, Module, funcs_of, ValType, ConstExpr}
 use Rattle.wasm_meaning.specs.Prelude.{Inst, places, has_kind, space_index, Part, module_at, Environment, own_globals, insts_from, value_of, const_value}
 use Rattle.world_simulation.proofs.Alone.{funcs_counted}
@@ -9,7 +9,6 @@ use Rattle.world_simulation.proofs.Instancing.{is_space, entry_at, IsInst}
 use Rattle.world_simulation.proofs.Ordered.{inst_at}
 use Rattle.wasm_valid.specs.Prelude.{const_type}
 use Rattle.index_remap.specs.Prelude.{new_const, fits_const, Pairing, OptRel, some, func, ValRel, number, reference}
-use Rattle.index_remap.proofs.Rel.{get_rel, then_rel}
 use Rattle.merge_names.specs.declared.mode.Mode.{Mode}
 use Rattle.merge_spec.specs.Prelude.{joined_module, map_of}
 use Rattle.merge_spec.specs.Merged.{merged_const}

@@ -1,12 +1,12 @@
 -- The world of linked parts and that of their merged module: both are instantiated or neither, and then they have equal traces.
-use Rattle.base_lists.proofs.Common.{subst, ◌≡◌, ◌∙◌, ap, refl, ℕ, ◌+◌, List, [], ◌∷◌, Option, Some, arith, option_and_then}
+use Rattle.base_lists.proofs.Common.{subst, ◌≡◌, ◌∙◌, ap, refl, ℕ, ◌+◌, List, [], ◌∷◌, Option, Some, arith, option_and_then, is_some, opt_both, all_rel}
 use Rattle.wasm_tree_spec.specs.Prelude.{Functions, Module}
-use Rattle.wasm_meaning.specs.Prelude.{Part, Environment, Begun, alone, insts_from, own_store, stores_from, segments, starts_of, begun, instantiate, is_there, links, World, Event, Move, tick, events_of, IsPrefix, fresh_run}
+use Rattle.wasm_meaning.specs.Prelude.{Part, Environment, Begun, alone, insts_from, own_store, stores_from, segments, starts_of, begun, instantiate, links, World, Event, Move, tick, events_of, IsPrefix, fresh_run}
 use Rattle.base_simulation.proofs.Prefixes.{shorter, in_more_steps}
 use Rattle.index_remap.specs.Prelude.{Pairing, OptRel, none, some, nil, cons, opening}
 use Rattle.world_simulation.specs.Prelude.{one, RelatedBegunHaveEqualTraces, IsInstantiated, AreSimilar}
 use Rattle.world_simulation.specs.Starts.{CallsEach, OneStartMayCallSeveral}
-use Rattle.world_simulation.proofs.Places.{opt_both, all_rel, alike_there}
+use Rattle.base_lists.proofs.Related.{alike_there}
 use Rattle.merge_names.specs.declared.mode.Mode.{Mode}
 use Rattle.merge_spec.specs.Prelude.{starts, joined_module, linked_world}
 use Rattle.merge_valid_proof.specs.Joinable.{CanBeJoined}
@@ -31,7 +31,7 @@ started c starts = record c { starts = starts }
 
 -- if two values are both there or neither is, and so is what `f` and `g` make of them, then the results are both there or neither is
 there_after : {A B C D : Type 0} {P : A → B → Type 0} {o : Option A} {p : Option B} (f : A → Option C) (g : B → Option D) →
-    OptRel P o p → ((a : A) (b : B) → o ≡ Some a → p ≡ Some b → P a b → is_there (f a) ≡ is_there (g b)) → is_there (option_and_then f o) ≡ is_there (option_and_then g p)
+    OptRel P o p → ((a : A) (b : B) → o ≡ Some a → p ≡ Some b → P a b → is_some (f a) ≡ is_some (g b)) → is_some (option_and_then f o) ≡ is_some (option_and_then g p)
 there_after f g none h = refl
 there_after f g (some r) h = h _ _ refl refl r
 

@@ -1,4 +1,3 @@
-pub mod Numbers
 pub mod BodyRanges
 pub mod ItemRanges
 pub mod Bodies

@@ -48,4 +48,4 @@ fitting r m h =
     }
 
 pub import_fits : (r : Remap) (m : Module) (is : List Import) (n : ℕ) (i : Import) → IsTrue (fits_tree r m) → is ≡ m.imports → n < length is → i ≡ get_or is n i → IsTrue (fits_import_desc r i.desc)
-import_fits r m is n i h same lt here = each_at (fits_import r) is n i (subst (λ (is : List Import). IsTrue (list_all (fits_import r) is)) (sym same) (fitting r m h).imports) lt here
+import_fits r m is n i h same lt here = all_at_place (fits_import r) is n i (subst (λ (is : List Import). IsTrue (list_all (fits_import r) is)) (sym same) (fitting r m h).imports) lt here

@@ -1,5 +1,5 @@
 -- What a constant expression of a part becomes, by what is read through the part's imported globals.
-use Rattle.base_lists.proofs.Common.{◌≡◌, ◌∙◌, ap, sym, subst, refl, ℕ, zero, suc, ◌+◌, ◌<◌, List, [], ◌∷◌, ◌++◌, length, Option, Some, None, Bool, true, false, cond, ◌&&◌, not, nat_lt, arith, slice_get, get_or, option_and_then, unwrap_or, is_some, cons_option, ltb-true, slice_get-map, slice_get_within, get_or_from_slice_get, and_then_is, left_true, right_true}
+use Rattle.base_lists.proofs.Common.{◌≡◌, ◌∙◌, ap, sym, subst, refl, ℕ, zero, suc, ◌+◌, ◌<◌, List, [], ◌∷◌, ◌++◌, length, Option, Some, None, Bool, true, false, cond, ◌&&◌, not, nat_lt, arith, slice_get, get_or, option_and_then, unwrap_or, is_some, cons_option, ltb-true, slice_get-map, slice_get_within, get_or_from_slice_get, and_then_is, left_true, right_true, only_true}
 use Rattle.wasm_tree_spec.specs.Prelude.{Globals, ValType, GlobalType, Import, ConstExpr, Module, globals_of, global_of, imported_globals}
 use Rattle.std.specs.Option.{option_map}
 use Rattle.wasm_tree.specs.declared.module.ImportDesc.TheVariants as im
@@ -9,7 +9,6 @@ use Rattle.wasm_valid.specs.Prelude.{const_type, IsValid}
 use Rattle.wasm_meaning.specs.Linking as linking
 use Rattle.wasm_meaning.specs.Prelude.{Part, places, has_kind, space_index, module_at, import_at, imports_of, read_of}
 use Rattle.index_remap.specs.Prelude.{new_const}
-use Rattle.index_remap_proof.proofs.Lists.{only_true}
 use Rattle.merge_spec.specs.declared.links.Read.{Read}
 use Rattle.merge_spec.specs.Prelude.{named_modules, link_fault, read_entry, when_fixed, read_at, map_of, merged_read}
 use Rattle.merge_spec.specs.Linked.{read_at_desc}

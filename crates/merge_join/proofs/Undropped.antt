@@ -19,7 +19,7 @@ use Rattle.merge_spec.specs.Merged.{map_of, defined_funcs, all_exports, merged}
 use Rattle.merge_join.specs.LinkedParts.{PartsHold}
 use Rattle.merge_join.proofs.Reading.{becomes_new}
 use Rattle.merge_join.proofs.RefOperands.{refs_kept}
-use Rattle.index_remap_proof.proofs.DeclaredTrees.{refused}
+use Rattle.base_lists.proofs.Bools.{and_not}
 use Rattle.merge_valid_proof.proofs.Linked.{by_part_has}
 use Rattle.merge_valid_proof.proofs.Exports.{exports_are}
 
@@ -271,7 +271,7 @@ module _ (ps : List Part) (names : List (Option Text)) (many : length names ≡ 
     undeclared_none : declared_refs Whole ≡ []
     unfolding merged
     undeclared_none = filter_none (λ f. is_among (body_refs Whole.funcs) f && not (is_among (outside_refs Whole) f)) (range_with_len 0 (length (funcs_of Whole)))
-        (λ x. refused (is_among (body_refs Whole.funcs) x) (is_among (outside_refs Whole) x) (named_once x))
+        (λ x. and_not (is_among (body_refs Whole.funcs) x) (is_among (outside_refs Whole) x) (named_once x))
 
     all_declared : declared Whole ≡ Whole
     all_declared = ap (with_declared Whole) undeclared_none

@@ -77,7 +77,3 @@ by_part_same f g e first (part ∷ parts) = ap₂ (λ a b. a ++ b) (e first part
 pub by_part_flat : {A : Type 0} (f : Module → List A) (first : ℕ) (parts : List Part) → flat_map (λ p. f p.«module») parts ≡ by_part_from (λ p m. f m) first parts
 by_part_flat f first [] = refl
 by_part_flat f first (part ∷ parts) = ap (λ z. f part.«module» ++ z) (by_part_flat f (suc first) parts)
-
-pub map_self : {A : Type 0} (xs : List A) → map (λ x. x) xs ≡ xs
-map_self [] = refl
-map_self (x ∷ xs) = ap (λ z. x ∷ z) (map_self xs)

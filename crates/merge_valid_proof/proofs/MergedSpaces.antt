@@ -1,5 +1,5 @@
 -- The index spaces of the merged module: an import that stays and an entity that a part defines stand there at their places, with their types.
-use Rattle.base_lists.proofs.Common.{◌≡◌, ◌∙◌, ap, sym, subst, refl, ℕ, ◌+◌, List, [], ◌++◌, map, length, Option, Some, None, true, false, arith, option_and_then, unwrap_or, is_some, append-nil, slice_get, slice_index, filter_map, length-map, map-append, map_twice, map_at, append_at_left, append_right, and_then_is}
+use Rattle.base_lists.proofs.Common.{◌≡◌, ◌∙◌, ap, sym, subst, refl, ℕ, ◌+◌, List, [], ◌++◌, map, length, Option, Some, None, true, false, arith, option_and_then, unwrap_or, is_some, append-nil, slice_get, slice_index, filter_map, length-map, map-append, map_twice, map_at, append_at_left, append_right, and_then_is, map-id}
 use Rattle.wasm_tree_spec.specs.Prelude.{Space, Types, Functions, Tables, Memories, Globals, ElementSegments, DataSegments, Import, ImportDesc, Module}
 use Rattle.wasm_tree.specs.declared.module.ImportDesc.TheVariants as im
 use Rattle.wasm_meaning.specs.Prelude.{Text, defined_count, defined_before, Part, Site, has_kind, module_at, import_at}
@@ -8,7 +8,7 @@ use Rattle.merge_spec.specs.Prelude.{merged_types, map_of, merged_desc, merged_g
 use Rattle.merge_spec.specs.Merged.{merged, merged_import, staying_of, defined_funcs}
 use Rattle.merge_valid_proof.specs.Ended.{is_external}
 use Rattle.merge_valid_proof.proofs.Entities.{Entry, of_desc, of_import, own, imported, space, import_kind, own_many, entry_external, Ty, FuncTy, type_of, type_at}
-use Rattle.merge_valid_proof.proofs.ByPart.{before, defined_is, by_part_at, by_part_map, by_part_same, by_part_flat, by_part_many, map_self}
+use Rattle.merge_valid_proof.proofs.ByPart.{before, defined_is, by_part_at, by_part_map, by_part_same, by_part_flat, by_part_many}
 use Rattle.merge_valid_proof.proofs.TypePlaces.{type_stands}
 use Rattle.base_lists.proofs.Filtered.{chosen_at, as_many, chosen_twice}
 
@@ -55,16 +55,16 @@ own_funcs parts =
 own_globals : (parts : List Part) → map (λ g. g.ty) (by_part (λ p m. map (merged_global parts p) m.globals) parts) ≡ by_part (moved_own parts Globals) parts ++ []
 own_globals parts =
     by_part_map (λ g. g.ty) (λ p m. map (merged_global parts p) m.globals) 0 parts
-    ∙ by_part_same (λ p m. map (λ g. g.ty) (map (merged_global parts p) m.globals)) (moved_own parts Globals) (λ p m. map_twice (λ g. g.ty) (merged_global parts p) m.globals ∙ sym (map_self (map (λ g. g.ty) m.globals))) 0 parts
+    ∙ by_part_same (λ p m. map (λ g. g.ty) (map (merged_global parts p) m.globals)) (moved_own parts Globals) (λ p m. map_twice (λ g. g.ty) (merged_global parts p) m.globals ∙ sym (map-id (map (λ g. g.ty) m.globals))) 0 parts
     ∙ sym (append-nil (by_part (moved_own parts Globals) parts))
 
 pub own_is : (parts : List Part) (names : List (Option Text)) (k : Space) → is_external k ≡ true → own k (merged parts names) ≡ by_part (moved_own parts k) parts ++ extra parts k
 unfolding merged
 own_is parts names Functions e = own_funcs parts
 own_is parts names Tables e =
-    by_part_flat (λ m. m.tables) 0 parts ∙ by_part_same (λ p m. m.tables) (moved_own parts Tables) (λ p m. sym (map_self m.tables)) 0 parts ∙ sym (append-nil (by_part (moved_own parts Tables) parts))
+    by_part_flat (λ m. m.tables) 0 parts ∙ by_part_same (λ p m. m.tables) (moved_own parts Tables) (λ p m. sym (map-id m.tables)) 0 parts ∙ sym (append-nil (by_part (moved_own parts Tables) parts))
 own_is parts names Memories e =
-    by_part_flat (λ m. m.mems) 0 parts ∙ by_part_same (λ p m. m.mems) (moved_own parts Memories) (λ p m. sym (map_self m.mems)) 0 parts ∙ sym (append-nil (by_part (moved_own parts Memories) parts))
+    by_part_flat (λ m. m.mems) 0 parts ∙ by_part_same (λ p m. m.mems) (moved_own parts Memories) (λ p m. sym (map-id m.mems)) 0 parts ∙ sym (append-nil (by_part (moved_own parts Memories) parts))
 own_is parts names Globals e = own_globals parts
 own_is parts names Types e = cc
 own_is parts names ElementSegments e = cc

@@ -1,7 +1,6 @@
 -- A module alone, and its primary module with stubs in place of its placeholders: what they define, their segments, views and starts correspond.
-use Rattle.base_lists.proofs.Common.{◌≡◌, ◌∙◌, ap, sym, subst, refl, ℕ, zero, suc, ◌+◌, ◌<◌, List, [], ◌∷◌, ◌++◌, map, take, length, Option, Some, Bool, true, false, cond, arith, option_map, append-nil, ⊎_elim, slice_get, slice_index, cons_option, length-map, map-id, slice_get_within, same_Some, length-numbers, numbers_index, append_at_left, append_left, map_at, push_last, slice_get_there, cases_Bool}
+use Rattle.base_lists.proofs.Common.{◌≡◌, ◌∙◌, ap, sym, subst, refl, ℕ, zero, suc, ◌+◌, ◌<◌, List, [], ◌∷◌, ◌++◌, map, take, length, Option, Some, Bool, true, false, cond, arith, option_map, append-nil, ⊎_elim, slice_get, slice_index, cons_option, length-map, map-id, slice_get_within, same_Some, length-numbers, numbers_index, append_at_left, append_left, map_at, push_last, slice_get_there, cases_Bool, append_rel, then_rel, there_contains}
 use Rattle.base_lists.proofs.Same.{text_is, text_self}
-use Rattle.base_lists.proofs.Each.{there_contains}
 use Rattle.std.proofs.Common.{filter_map}
 use Rattle.base_lists.specs.Places.{numbers}
 use Rattle.wasm_num.specs.Operations.{wrapped}
@@ -12,7 +11,6 @@ use Rattle.wasm_valid.specs.declared.kinds.ItemKind.TheVariants as kind
 use Rattle.wasm_meaning.specs.Prelude.{Inst, Text, Val, Environment, ExternalValue, export_named, same_text, LoaderWorld, PlacedSegment, own_count, defined_count, starts_of, seen_as, alone}
 use Rattle.index_remap.specs.declared.remap.Remap.{Remap}
 use Rattle.index_remap.specs.Prelude.{declared_refs, Pairing, OptRel, none, some, ListRel, nil, cons, ValRel, number, reference, func, extern, ExternalValueRel, a_func, a_table, a_memory, a_global, KeyRel, HasNoPartner, turned, new_const, new_data, new_elem, new_export_desc, new_func, new_global}
-use Rattle.index_remap.proofs.Rel.{append_rel}
 use Rattle.index_remap_proof.specs.Indices.{Indices, ConstNamesOnly, ExportNamesOnly, TreeNamesOnly}
 use Rattle.world_simulation.specs.Prelude.{one, FuncsAt, GlobalsCorrespond, ElemsCorrespond, Partners, DefinitionsCorrespond, Instantiated, values_in, EntriesName, only_second, ElemsPartner, ElemAlone, DatasPartner, ElemsInOrder, DatasInOrder, WorldsCorrespond}
 use Rattle.world_simulation.specs.Definitions as partners
@@ -22,7 +20,6 @@ use Rattle.world_loader_proof.specs.Stubbed.{stubbed}
 use Rattle.world_simulation.proofs.Declared.{last_segments}
 use Rattle.world_contents_proof.proofs.Grown.{no_more, declared_alone, all_in_step, keeps_place}
 use Rattle.world_simulation.proofs.Instancing.{IsInst}
-use Rattle.world_simulation.proofs.Places.{then_rel}
 use Rattle.world_simulation.proofs.Renamed.{elems_alike, elem_mode_named, data_mode_named, start_named}
 use Rattle.world_simulation.proofs.Renamed as renamed
 use Rattle.world_simulation.proofs.Stored.{alike_correspond}

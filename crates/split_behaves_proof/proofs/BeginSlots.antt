@@ -1,5 +1,5 @@
 -- When a split module begins, each slot holds its placeholder.
-use Rattle.base_lists.proofs.Common.{◌≡◌, ◌∙◌, ap, ap₂, sym, refl, ℕ, zero, suc, ◌+◌, ◌-◌, ◌<◌, ◌≤◌, List, [], ◌∷◌, ◌++◌, map, length, Option, Some, None, Bool, true, false, cond, arith, append-nil, slice_get, slice_index, nat_lt, flat_map, nat_tests, length-append, length-map, map-append, slice_get_within, same_Some, length-numbers, numbers_at, numbers_index, append_right, map_at, push_last}
+use Rattle.base_lists.proofs.Common.{◌≡◌, ◌∙◌, ap, ap₂, sym, refl, ℕ, zero, suc, ◌+◌, ◌-◌, ◌<◌, ◌≤◌, List, [], ◌∷◌, ◌++◌, map, length, Option, Some, None, Bool, true, false, cond, arith, append-nil, slice_get, slice_index, nat_lt, flat_map, nat_tests, length-append, length-map, map-append, slice_get_within, same_Some, length-numbers, numbers_at, numbers_index, append_right, map_at, push_last, copies_length}
 use Rattle.std.proofs.Common.{eq-eqb}
 use Rattle.base_lists.specs.Options.{◌>>=◌}
 use Rattle.base_lists.specs.Places.{numbers}
@@ -9,7 +9,6 @@ use Rattle.wasm_tree.specs.declared.types.RefType.TheVariants.{Func as func_ref}
 use Rattle.wasm_tree.specs.declared.module.ConstExpr.TheVariants as const
 use Rattle.wasm_tree.specs.declared.module.ElemMode.TheVariants as elem
 use Rattle.wasm_meaning.specs.Prelude.{overwrite, split_at, FuncRef, Inst, Ref, RefVal, Table, Val, null_of, ref_of, Environment, Added, LoaderWorld, begun_under, secondary_of, store_under, Begun, all_there, alone, const_value, instantiate, own_count}
-use Rattle.wasm_meaning.proofs.Slices.{copies_length}
 use Rattle.index_remap.specs.declared.remap.Remap.{Remap}
 use Rattle.index_remap.specs.Prelude.{declared_refs, OptRel, none, some, new_const, new_elem, new_elem_mode}
 use Rattle.index_remap_proof.specs.Indices.{ElemModeNamesOnly}

@@ -1,10 +1,9 @@
 -- Where neither traps, a module and its split stand at the same place after their first steps.
-use Rattle.base_lists.proofs.Common.{◌≡◌, ◌∙◌, ap, sym, subst, refl, ℕ, List, [], length, Option, Some, None, false, cond, ◌∷◌, ◌+◌, ◌<◌, option_and_then, slice_get, slice_get_within}
+use Rattle.base_lists.proofs.Common.{◌≡◌, ◌∙◌, ap, sym, subst, refl, ℕ, List, [], length, Option, Some, None, false, cond, ◌∷◌, ◌+◌, ◌<◌, option_and_then, slice_get, slice_get_within, opt_both}
 use Rattle.wasm_tree_spec.specs.Prelude.{Module, Functions}
 use Rattle.wasm_meaning.specs.Prelude.{Inst, Opening, Store, Environment, LoaderRun, LoaderWorld, begun_under, fresh_loader, store_under, tick_loader, Added, Closed, InstanceTrapped, Move, Pending, Run, Out, began, fresh_run, tick, Begun, alone, instantiate, own_count}
 use Rattle.index_remap.specs.Prelude.{nil, BegunRel, pending, FramesBetween}
 use Rattle.world_extension_proof.specs.Typed.{IsTyped}
-use Rattle.world_simulation.proofs.Places.{opt_both}
 use Rattle.split_spec.specs.declared.names.SplitNames.{SplitNames}
 use Rattle.split_behaves_proof.specs.Addresses.{slot_table_address, split_pairing}
 use Rattle.split_behaves_proof.specs.Laws.{CanBeSplit}

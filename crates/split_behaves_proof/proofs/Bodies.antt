@@ -1,8 +1,8 @@
 -- The code of functions that stay in the primary module is related to theirs in the module, where what stands in place of calls of functions that move calls these through
 -- their slots.
-use Rattle.base_lists.proofs.Common.{◌≡◌, ◌∙◌, ap, sym, subst, refl, ℕ, suc, ◌+◌, ◌-◌, ◌<◌, ◌≤◌, ◌&&◌, ◌||◌, List, [], ◌∷◌, ◌++◌, map, length, not, Option, Some, None, Bool, true, false, cond, nat_eq, arith, true≢false, ⊎_elim, slice_get, slice_index, pos, nat_le, nat_lt, cons_option, leb-true, length-append, slice_get_within, same_Some, left_true, right_true, same_tests, every_at, numbers_at, numbers_index, append_right, and_from, cases_Bool, either_true, left_either, right_either, same_number}
+use Rattle.base_lists.proofs.Common.{◌≡◌, ◌∙◌, ap, sym, subst, refl, ℕ, suc, ◌+◌, ◌-◌, ◌<◌, ◌≤◌, ◌&&◌, ◌||◌, List, [], ◌∷◌, ◌++◌, map, length, not, Option, Some, None, Bool, true, false, cond, nat_eq, arith, true≢false, ⊎_elim, slice_get, slice_index, pos, nat_le, nat_lt, cons_option, leb-true, length-append, slice_get_within, same_Some, left_true, right_true, same_tests, every_at, numbers_at, numbers_index, append_right, and_from, cases_Bool, either_true, left_either, right_either, same_number, among_right, among_joined, among_there, there_among, place_is, no_place, none_among, the_one}
 use Rattle.base_lists.specs.Members.{is_among}
-use Rattle.base_lists.proofs.Members.{among_right, among_map, among_joined, among_there, there_among, place_is, no_place, none_among}
+use Rattle.base_lists.proofs.Members.{among_map}
 use Rattle.std.proofs.Common.{eq-eqb}
 use Rattle.base_lists.specs.Places.{first_place, numbers}
 use Rattle.wasm_tree_spec.specs.Prelude.{Operand, Space, Types, Functions, Tables, Memories, Globals, ElementSegments, DataSegments, Instr, Call, Module, ListLayers, all_operands_pass, any_operand_passes, same_space, funcs_of, tables_of, imported_tables}
@@ -26,7 +26,6 @@ use Rattle.split_plan.specs.Words.{is_defined}
 use Rattle.split_spec.specs.declared.names.SplitNames.{SplitNames}
 use Rattle.split_spec.specs.Prelude.{with_calls, is_named_from_primary, is_needed, primary_func, call_by_slot, call_through_slot, place_among, slot_table, slot_table_type, type_index}
 use Rattle.split_proof.specs.Calls.{renumbered_codes}
-use Rattle.split_proof.proofs.Bodies.{the_one}
 use Rattle.split_proof.proofs.Fits.{body_exact}
 use Rattle.split_proof.proofs.Operands.{Met, all_wanted}
 use Rattle.split_proof.proofs.PrimarySpaces as spaces

@@ -1,10 +1,9 @@
 -- Functions that are entered, in both stores, over related stacks; and what such a step leaves of where the runs stand.
-use Rattle.base_lists.proofs.Common.{◌≡◌, ◌∙◌, refl, ap, sym, ℕ, List, [], ◌∷◌, ◌+◌, ◌++◌, length, Some, None, Bool, slice_get}
+use Rattle.base_lists.proofs.Common.{◌≡◌, ◌∙◌, refl, ap, sym, ℕ, List, [], ◌∷◌, ◌+◌, ◌++◌, length, Some, None, Bool, slice_get, append_rel}
 use Rattle.wasm_tree_spec.specs.Prelude.{FuncType, ValType, Instr, Module, Functions}
 use Rattle.wasm_meaning.specs.Prelude.{Gives, bind, or_ill_typed, Code, Entry, Frame, Inst, Ran, Running, Store, Val, zeros, enter, enter_at, own_count, Environment, LoaderRun, LoaderWorld, Move, Run, Steps, made, tick, transition}
 use Rattle.index_remap.specs.Prelude.{FrameRel, ListRel, Pairing, ValRel, cons, nil, running, end, CodeAt, WithPassing, passing, through}
 use Rattle.index_remap.specs.Trampolines as between
-use Rattle.index_remap.proofs.Rel.{append_rel}
 use Rattle.index_remap.proofs.ValueSteps.{zeros_rel}
 use Rattle.split_behaves_proof.specs.Addresses.{defined_address, slot_table_address, split_pairing}
 use Rattle.split_behaves_proof.specs.States.{Corresponds, FuncsComeFrom, SlotHolds, filled, waits}

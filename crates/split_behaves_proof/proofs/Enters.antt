@@ -1,6 +1,5 @@
 -- Both enter functions, the first one that moves and the second its trampoline: the steps of the trampoline, and a load if there is one, answer the step.
-use Rattle.base_lists.proofs.Common.{◌≡◌, ◌∙◌, refl, sym, ap, subst, ℕ, zero, suc, ◌+◌, ◌≤◌, List, [], ◌∷◌, ◌++◌, length, nat_eq, Option, Some, None, Bool, true, false, arith, slice_get, unwrap_or, pos, IsTrue, list_any, option_map_or, same_Some, map_from}
-use Rattle.base_lists.proofs.Members.{among_there}
+use Rattle.base_lists.proofs.Common.{◌≡◌, ◌∙◌, refl, sym, ap, subst, ℕ, zero, suc, ◌+◌, ◌≤◌, List, [], ◌∷◌, ◌++◌, length, nat_eq, Option, Some, None, Bool, true, false, arith, slice_get, unwrap_or, pos, IsTrue, list_any, option_map_or, same_Some, map_from, among_there}
 use Rattle.base_lists.specs.Options.{◌>>=◌}
 use Rattle.wasm_tree_spec.specs.Prelude.{Functions, FuncType, Module, type_of_func}
 use Rattle.wasm_meaning.specs.Prelude.{Gives, bind, or_ill_typed, FuncRef, Inst, Code, Placeholder, Store, Entry, Running, Ran, CallsPlaceholder, type_at, enter, enter_at, Environment, own_count, Run, Steps, transition, LoaderWorld, LoaderRun, tick_loader}

@@ -1,6 +1,5 @@
 -- What the indices of the module name, and what their entries name in the primary module with stubs in place of its placeholders.
-use Rattle.base_lists.proofs.Common.{◌≡◌, ◌↔◌, ◌∙◌, ap, sym, subst, refl, ℕ, zero, suc, ◌+◌, ◌-◌, ◌<◌, ◌≤◌, ◌&&◌, ◌⊎◌, inl, inr, List, [], ◌∷◌, ◌++◌, map, length, drop, Option, Some, Bool, true, arith, option_and_then, slice_get, slice_index, IsTrue, cases_lt, length-append, length-map, map-append, slice_get_within, same_Some, left_true, right_true, has_chosen, numbers_at, numbers_index, append_left, append_right, map_at, slice_get_there, and_from}
-use Rattle.base_lists.proofs.Members.{among_right, there_among}
+use Rattle.base_lists.proofs.Common.{◌≡◌, ◌↔◌, ◌∙◌, ap, sym, subst, refl, ℕ, zero, suc, ◌+◌, ◌-◌, ◌<◌, ◌≤◌, ◌&&◌, ◌⊎◌, inl, inr, List, [], ◌∷◌, ◌++◌, map, length, drop, Option, Some, Bool, true, arith, option_and_then, slice_get, slice_index, IsTrue, cases_lt, length-append, length-map, map-append, slice_get_within, same_Some, left_true, right_true, has_chosen, numbers_at, numbers_index, append_left, append_right, map_at, slice_get_there, and_from, get_rel, opt_at, then_rel, among_right, there_among}
 use Rattle.base_lists.specs.Places.{numbers}
 use Rattle.base_kept.specs.Kept.{kept}
 use Rattle.base_kept.proofs.Laws.{kept_at}
@@ -18,7 +17,6 @@ use Rattle.wasm_meaning.specs.World as world
 use Rattle.index_remap.specs.declared.remap.Remap.{Remap}
 use Rattle.index_remap.specs.Prelude.{declared_refs, fits_tree, has, new_const, new_data, new_elem, new_func, new_global, new_start, Pairing, OptRel, some, ValRel, number, reference, func, passed}
 use Rattle.index_remap.specs.Laws.{ReplacedCodeIsRelated}
-use Rattle.index_remap.proofs.Rel.{get_rel}
 use Rattle.index_remap_proof.specs.Indices.{Indices, with_entry, ConstNamesOnly, ImportNamesOnly, ExportNamesOnly, ElemModeNamesOnly, DataModeNamesOnly, TreeNamesOnly}
 use Rattle.world_simulation.specs.Prelude.{one, addresses, Instantiated, values_in, EntriesName, SharesOwn}
 use Rattle.world_extension_proof.specs.Typed.{AddedModulesAreTyped}
@@ -31,7 +29,6 @@ use Rattle.world_contents_proof.proofs.Grown.{stays_at, space_grows}
 use Rattle.world_simulation.proofs.Instancing.{IsInst}
 use Rattle.world_contents_proof.proofs.OwnValues.{const_same}
 use Rattle.world_simulation.proofs.Owned.{null_rel, own_globals_rel}
-use Rattle.world_simulation.proofs.Places.{opt_at, then_rel}
 use Rattle.world_simulation.proofs.Renamed.{func_named}
 use Rattle.world_simulation.proofs.Single.{space_at}
 use Rattle.split_spec.specs.declared.names.SplitNames.{SplitNames}

@@ -1,9 +1,9 @@
 -- An environment links a module exactly where it links the primary module of its split with stubs in place of the placeholders.
-use Rattle.base_lists.proofs.Common.{◌≡◌, ◌∙◌, ap, ap₂, sym, subst, refl, ℕ, zero, suc, ◌+◌, ◌<◌, ◌⊎◌, inl, inr, List, [], ◌∷◌, ◌++◌, map, length, Option, Some, None, Bool, true, false, cond, arith, option_and_then, slice_get, slice_index, length-append, length-map, slice_get_within, same_Some, length-numbers, numbers_at, and_then_is, all_there_at, all_there_from, append_at_left, append_from, map_at, map_from, slice_get_there}
+use Rattle.base_lists.proofs.Common.{◌≡◌, ◌∙◌, ap, ap₂, sym, subst, refl, ℕ, zero, suc, ◌+◌, ◌<◌, ◌⊎◌, inl, inr, List, [], ◌∷◌, ◌++◌, map, length, Option, Some, None, Bool, true, false, cond, arith, option_and_then, slice_get, slice_index, length-append, length-map, slice_get_within, same_Some, length-numbers, numbers_at, and_then_is, all_there_at, all_there_from, append_at_left, append_from, map_at, map_from, slice_get_there, is_some, all_rel, left_there, right_there}
 use Rattle.wasm_tree_spec.specs.Prelude.{Space, Functions, Tables, Memories, Globals, FuncType, ConstExpr, ElemSeg, GlobalDef, Module, imported_funcs, funcs_of}
 use Rattle.wasm_tree.specs.declared.module.ConstExpr.TheVariants as const
 use Rattle.wasm_tree.specs.declared.module.Func as tree
-use Rattle.wasm_meaning.specs.Prelude.{Code, Elem, Func, Global, Inst, RefVal, FuncRef, Store, Text, declared, Environment, ExternalValue, all_of, sites, Begun, World, alone, all_there, defined_count, insts_from, instantiate, is_matched, is_there, joined_stores, links, numbers, own_count, own_store, part_store, seen_as, starts_of, stores_from, value_of}
+use Rattle.wasm_meaning.specs.Prelude.{Code, Elem, Func, Global, Inst, RefVal, FuncRef, Store, Text, declared, Environment, ExternalValue, all_of, sites, Begun, World, alone, all_there, defined_count, insts_from, instantiate, is_matched, joined_stores, links, numbers, own_count, own_store, part_store, seen_as, starts_of, stores_from, value_of}
 use Rattle.wasm_meaning.specs.World as world
 use Rattle.index_remap.specs.declared.remap.Remap.{Remap}
 use Rattle.index_remap.specs.Prelude.{declared_refs, Pairing, OptRel, none, some, ListRel, GlobalRel, ElemRel, KeyRel, BegunRel, new_const, new_elem, new_func, new_global, EntryByEntry}
@@ -15,7 +15,6 @@ use Rattle.world_simulation.proofs.Alone.{funcs_counted, space_is}
 use Rattle.world_simulation.proofs.Allocated.{Adds, adds, part_there}
 use Rattle.world_simulation.proofs.Declared.{last_elems, last_segments}
 use Rattle.world_simulation.proofs.Instancing.{IsInst, inst_there, is_space}
-use Rattle.world_simulation.proofs.Places.{all_rel, left_there, right_there}
 use Rattle.world_simulation.proofs.Renamed.{elems_alike}
 use Rattle.world_simulation.proofs.Simulated.{instances_rel}
 use Rattle.world_simulation.proofs.Single.{all_matched, one_inst}
@@ -246,7 +245,7 @@ module _ (laws : Laws) (namespace : ℕ → List ℕ) (names : SplitNames) (m : 
                   all_matched R env own (joined_stores (own_store env) s) (joined_stores (own_store env) z)
                   (stores_rel R env v w own (definitions laws namespace names m moved owns g env i j a b []) (joined_stores (own_store env) s) (joined_stores (own_store env) z) first second) m primary same_types refl
 
-              either : {A B : Type 0} (c d : Bool) (x : A) (y : B) → c ≡ d → is_there (cond c (Some x) None) ≡ is_there (cond d (Some y) None)
+              either : {A B : Type 0} (c d : Bool) (x : A) (y : B) → c ≡ d → is_some (cond c (Some x) None) ≡ is_some (cond d (Some y) None)
               either true true x y q = refl
               either false false x y q = refl
               either true false x y q = cc

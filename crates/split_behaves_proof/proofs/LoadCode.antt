@@ -1,8 +1,6 @@
 -- The code of functions that are loaded is related to theirs in the module alone.
-use Rattle.base_lists.proofs.Common.{◌≡◌, ◌∙◌, ap, ap₂, sym, subst, refl, ℕ, zero, suc, ◌+◌, ◌-◌, ◌<◌, ◌&&◌, ◌||◌, List, [], ◌∷◌, ◌++◌, length, not, Option, Some, None, Bool, true, false, nat_eq, arith, true≢false, ⊎_elim, slice_get, slice_index, unwrap_or, pos, nat_lt, list_any, ltb-true, slice_get_within, same_Some, left_true, right_true, length-numbers, numbers_index, append_at_left, append_right, Has, and_from, cases_Bool, either_true, left_either, right_either}
-use Rattle.base_lists.proofs.Each.{any_from_place}
+use Rattle.base_lists.proofs.Common.{◌≡◌, ◌∙◌, ap, ap₂, sym, subst, refl, ℕ, zero, suc, ◌+◌, ◌-◌, ◌<◌, ◌&&◌, ◌||◌, List, [], ◌∷◌, ◌++◌, length, not, Option, Some, None, Bool, true, false, nat_eq, arith, true≢false, ⊎_elim, slice_get, slice_index, unwrap_or, pos, nat_lt, list_any, ltb-true, slice_get_within, same_Some, left_true, right_true, length-numbers, numbers_index, append_at_left, append_right, Has, and_from, cases_Bool, either_true, left_either, right_either, any_from_place, among_there, there_among, place_is, no_place, none_among, the_one}
 use Rattle.base_lists.specs.Members.{is_among}
-use Rattle.base_lists.proofs.Members.{among_there, there_among, place_is, no_place, none_among}
 use Rattle.std.proofs.Common.{eq-eqb}
 use Rattle.base_lists.specs.Options.{◌>>=◌}
 use Rattle.base_lists.specs.Places.{numbers}
@@ -20,7 +18,6 @@ use Rattle.split_spec.specs.declared.names.SplitNames.{SplitNames}
 use Rattle.split_spec.specs.Prelude.{with_calls, is_from_primary, is_named_from_primary, primary_map, HasSlots, secondary_call, secondary_call_by_place, secondary_map, call_by_slot, defined_at, place_among, slot_table, type_index}
 use Rattle.split_proof.specs.Calls.{renumbered_codes}
 use Rattle.split_proof.specs.Premises.{CanMove}
-use Rattle.split_proof.proofs.Bodies.{the_one}
 use Rattle.split_proof.proofs.Fits.{body_exact}
 use Rattle.split_proof.proofs.Operands.{Met, all_wanted}
 use Rattle.split_proof.proofs.SecondarySpaces.{own_moves}

@@ -1,5 +1,5 @@
 -- A secondary module links and traps nowhere, in each store in which the primary module's instance is typed, and what it leaves.
-use Rattle.base_lists.proofs.Common.{◌≡◌, ◌∙◌, ap, sym, refl, ℕ, zero, suc, ◌+◌, ◌^◌, ◌<◌, ◌≤◌, List, [], ◌∷◌, ◌++◌, map, length, Option, Some, None, Bool, true, false, cond, nat_eq, slice_get, slice_index, arith, pos, nat_le, nat_lt, eqb-true, and_parts, leb-true, ltb-true, length-append, length-map, slice_get_within, same_Some, length-numbers, numbers_index, and_then_is, all_there_from, append_at_left, append_right, map_at, slice_get_there}
+use Rattle.base_lists.proofs.Common.{◌≡◌, ◌∙◌, ap, sym, refl, ℕ, zero, suc, ◌+◌, ◌^◌, ◌<◌, ◌≤◌, List, [], ◌∷◌, ◌++◌, map, length, Option, Some, None, Bool, true, false, cond, nat_eq, slice_get, slice_index, arith, pos, nat_le, nat_lt, eqb-true, and_parts, leb-true, ltb-true, length-append, length-map, slice_get_within, same_Some, length-numbers, numbers_index, and_then_is, all_there_from, append_at_left, append_right, map_at, slice_get_there, overwrite_fits}
 use Rattle.std.proofs.Common.{eq-eqb}
 use Rattle.base_lists.specs.Options.{◌>>=◌, all_there}
 use Rattle.base_lists.specs.Places.{numbers}
@@ -17,7 +17,6 @@ use Rattle.index_remap.specs.Prelude.{declared_refs, declaring, new_const, new_f
 use Rattle.index_remap.specs.Renumbered as renumbered
 use Rattle.world_contents_proof.specs.Leaves.{Leaves, AddedModulesLeave, contents, over, all_over, elem_copies, data_copies, table_left, memory_left}
 use Rattle.world_simulation.proofs.Allocated.{with_elems}
-use Rattle.world_simulation.proofs.Copied.{overwrite_fits}
 use Rattle.world_simulation.proofs.Declared.{Keeps, last_segments}
 use Rattle.world_extension_proof.specs.Typed.{IsTyped}
 use Rattle.split_spec.specs.declared.names.SplitNames.{SplitNames}

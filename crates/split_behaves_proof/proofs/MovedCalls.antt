@@ -1,5 +1,5 @@
 -- A step of the first of two related runs begins no call of a function that is opaque, or both enter functions, or other code stands there, or both go wrong alike.
-use Rattle.base_lists.proofs.Common.{◌≡◌, ◌∙◌, refl, sym, ap, subst, ℕ, List, [], ◌∷◌, ◌++◌, Option, Some, None, Bool, true, false, ◌⊎◌, inl, inr, ⊎_elim, slice_get, option_and_then, nat_eq, true≢false, list_any}
+use Rattle.base_lists.proofs.Common.{◌≡◌, ◌∙◌, refl, sym, ap, subst, ℕ, List, [], ◌∷◌, ◌++◌, Option, Some, None, Bool, true, false, ◌⊎◌, inl, inr, ⊎_elim, slice_get, option_and_then, nat_eq, true≢false, list_any, then_rel, get_rel, length_rel, both_map}
 use Rattle.wasm_tree_spec.specs.Prelude.{Space, Functions, ValType, FuncType, Instr, Call}
 use Rattle.wasm_tree.specs.declared.instr.Instr.{out-Instr}
 use Rattle.wasm_tree.specs.declared.instr.Instr.TheOpen.{Instr-F}
@@ -10,21 +10,21 @@ use Rattle.index_remap.specs.Prelude.{Pairing, OneToOne, OptRel, none, some, Res
 use Rattle.index_remap.specs.Related as to
 use Rattle.index_remap.specs.Trampolines as with_frames
 use Rattle.index_remap.specs.Groups.{Group, group_of}
-use Rattle.index_remap.proofs.Rel.{PairRel, written, then_rel, get_rel, length_rel, all_there}
+use Rattle.index_remap.proofs.Rel.{written}
+use Rattle.base_lists.specs.Related.{PairRel}
+use Rattle.base_lists.proofs.Related.{if_there_at}
 use Rattle.index_remap.proofs.ValueSteps.{pop_typed_all, pop_typed_rel}
 use Rattle.index_remap.proofs.ValueGroup.{values_agree}
 use Rattle.index_remap.proofs.MemoryGroup.{memories_agree}
 use Rattle.index_remap.proofs.ControlGroup.{control_agrees}
 use Rattle.index_remap.proofs.Known.{op_known}
-use Rattle.index_remap.proofs.StepsAgree.{frame_rel, left_rel}
+use Rattle.index_remap.proofs.StepsAgree.{frame_rel, left_rel, each_group}
 use Rattle.index_remap.proofs.FramesBetween.{frames as top_frames, again, between}
 use Rattle.wasm_meaning.proofs.Outcomes.{all_at}
 use Rattle.split_behaves_proof.specs.Begins.{RunsRelated}
 use Rattle.split_behaves_proof.specs.MovedCalls.{EntersInBoth, ReplacementCode, NoCallBegins, StepsCallMovedTogether, skips, enters, EveryStepCallsMovedTogether}
 use Rattle.split_behaves_proof.specs.MovedCalls as way
 use Rattle.split_behaves_proof.proofs.Received.{look_rel, func_of_rel, received_all_rel, fits_received}
-use Rattle.index_remap.proofs.Rel.{both_map}
-use Rattle.index_remap.proofs.StepsAgree.{each_group}
 use Rattle.index_remap.proofs.Unknown.{all_is_known}
 
 -- ---- what calls ----
@@ -273,7 +273,7 @@ module _ (R : Pairing) (apart : OneToOne R) (known : (k : Space) (a b : ℕ) →
         passed : (u : FuncType) → type_at r.store a ≡ Some u → (o p : Option (List Val)) → received_all q.owned q.shown u.params xs ≡ p → OptRel (ListRel (ValRel R)) o p →
             Called (option_and_then (λ vs. Some (Steps first_run (enter_at r.store a vs es))) o) (option_and_then (λ ws. Some (Steps second_run (enter_at q.store b ws fs))) p)
         passed u e _ _ got none = neither
-        passed u e _ _ got (some {a = vs} {b = ws} v) = enter u vs ws e v (all_there (fits_received q.owned q.shown u.params xs) got)
+        passed u e _ _ got (some {a = vs} {b = ws} v) = enter u vs ws e v (if_there_at (fits_received q.owned q.shown u.params xs) got)
 
         by : (o : Option FuncType) → type_at r.store a ≡ o → (p : Option FuncType) → type_at q.store b ≡ p → BothRel (◌≡◌ {A = FuncType}) o p →
             Called (option_and_then (λ t. option_and_then (λ vs. Some (Steps first_run (enter_at r.store a vs es))) (received_all r.owned r.shown t.params xs)) o) (option_and_then (λ t. option_and_then (λ ws. Some (Steps second_run (enter_at q.store b ws fs))) (received_all q.owned q.shown t.params xs)) p)

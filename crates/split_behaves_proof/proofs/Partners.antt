@@ -3,7 +3,7 @@ use Rattle.base_lists.proofs.Common.{◌≡◌, ◌∙◌, ap, sym, refl, ℕ, s
 use Rattle.std.proofs.Common.{eq-eqb}
 use Rattle.base_lists.specs.Places.{numbers}
 use Rattle.base_kept.specs.Kept.{kept, is_marked, kept_before}
-use Rattle.base_kept.proofs.Laws.{kept_at}
+use Rattle.base_kept.proofs.Laws.{kept_at, marked_apart}
 use Rattle.wasm_tree_spec.specs.Prelude.{Space, Types, Functions, Tables, Memories, Globals, ElementSegments, DataSegments, Module, imported_funcs, funcs_of}
 use Rattle.wasm_meaning.specs.Prelude.{Environment, own_count, defined_count}
 use Rattle.index_remap.specs.Prelude.{OneToOne}
@@ -13,7 +13,6 @@ use Rattle.split_proof.specs.Premises.{CanMove}
 use Rattle.split_proof.proofs.PrimarySpaces as spaces
 use Rattle.split_proof.proofs.Spaces.{ItemsHold}
 use Rattle.split_behaves_proof.specs.Addresses.{is_left_at, is_partner, split_pairing}
-use Rattle.base_kept.proofs.Laws.{marked_apart}
 
 -- ---- spaces of which each address stays ----
 

@@ -1,11 +1,12 @@
 -- What the embedder passes to related runs is related, and has its types.
-use Rattle.base_lists.proofs.Common.{◌≡◌, ℕ, ◌^◌, List, [], ◌∷◌, Option, Some, None, Bool, true, false, cond, refl, option_and_then, nat_lt, slice_get}
+use Rattle.base_lists.proofs.Common.{◌≡◌, ℕ, ◌^◌, List, [], ◌∷◌, Option, Some, None, Bool, true, false, cond, refl, option_and_then, nat_lt, slice_get, then_all, any_there, then_rel, get_rel}
 use Rattle.wasm_tree_spec.specs.Prelude.{Functions, ValType}
 use Rattle.wasm_tree.specs.declared.types.ValType.TheVariants as valt
 use Rattle.wasm_tree.specs.declared.types.RefType.TheVariants as reft
 use Rattle.wasm_meaning.specs.Prelude.{Gives, typed, Shown, Number, Null, OwnFunc, ExternNumber, Function, ExternalValue, FuncKey, Owned, same_key, owned_at, look_up, func_of, func_value, received, received_all}
 use Rattle.index_remap.specs.Prelude.{Pairing, OptRel, none, some, ListRel, nil, cons, ValRel, number, reference, func, extern, ExternalValueRel, a_func, a_table, a_memory, a_global, KeyRel, HaveTypes}
-use Rattle.index_remap.proofs.Rel.{IfThere, absent, present, then_all, any_there, then_rel, either_rel, get_rel}
+use Rattle.base_lists.specs.Related.{IfThere, absent, present}
+use Rattle.base_lists.proofs.Related.{either_rel}
 
 module _ (R : Pairing) where
   pub look_rel : {K : Type 0} (is : K → Bool) {xs ys : List (K × ExternalValue)} → ListRel (KeyRel R) xs ys → OptRel (ExternalValueRel R) (look_up is xs) (look_up is ys)

@@ -1,6 +1,5 @@
 -- Code in which other code stands in place of calls has its numbers that are no operands in range where the code and what stands in it have.
-use Rattle.base_lists.proofs.Common.{◌≡◌, ◌∙◌, ap, sym, refl, ℕ, suc, ◌+◌, ◌≤◌, ◌<◌, ◌^◌, List, [], ◌∷◌, length, Option, Some, None, true, ◌&&◌, arith, pos, and_from, lt-ltb, list_all-append, slice_get_within, left_true, right_true}
-use Rattle.base_lists.proofs.Members.{place_is}
+use Rattle.base_lists.proofs.Common.{◌≡◌, ◌∙◌, ap, sym, refl, ℕ, suc, ◌+◌, ◌≤◌, ◌<◌, ◌^◌, List, [], ◌∷◌, length, Option, Some, None, true, ◌&&◌, arith, pos, and_from, lt-ltb, list_all-append, slice_get_within, left_true, right_true, place_is}
 use Rattle.wasm_tree_spec.specs.Prelude.{BlockType, ValType, Instr, fold_out-Instr, Row_of-Instr, items-the_row-Instr, end_of-Instr, more_of-Instr, Block, Block', Loop, Loop', If, If', Call, CallIndirect, I32Const, LocalGet, outs-Block, outs-Loop, outs-If, Module, held}
 use Rattle.wasm_tree.specs.declared.instr.Instr.{out-Instr}
 use Rattle.index_remap.proofs.Rows.{block_is, loop_is, if_is}

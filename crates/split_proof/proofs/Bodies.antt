@@ -1,5 +1,5 @@
 -- Bodies in which other code stands in place of calls of some functions, and then with other indices, stay well typed.
-use Rattle.base_lists.proofs.Common.{◌≡◌, subst, refl, ℕ, List, [], ◌∷◌, Bool, true, false, Some, slice_get, slice_index, length, zero, suc, arith, Contains, list_any, and_then_is, replicate_at}
+use Rattle.base_lists.proofs.Common.{◌≡◌, subst, refl, ℕ, List, [], ◌∷◌, Bool, true, false, Some, slice_get, slice_index, length, zero, suc, arith, Contains, list_any, and_then_is, replicate_at, the_one}
 use Rattle.base_lists.proofs.Bools.{left_false, right_false}
 use Rattle.base_lists.specs.Members.{is_among}
 use Rattle.base_lists.specs.Every.{Every}
@@ -25,10 +25,6 @@ pub record BodyLaws : Type 0 where
   pub layers : PassesLayerByLayer
   pub typed : TypingIsKept
   pub replaced : CallsAreReplaced
-
-pub the_one : {A : Type 0} (x y : A) → Contains (x ∷ []) y → x ≡ y
-the_one x y (zero, h, e) = e
-the_one x y (suc k, h, e) = absurd (omega (arith, h))
 
 -- an index of the set agrees with its entry
 module _ (r : Remap) (kept : Indices) (m u : Module) (agree : TreesAgree r kept m u) (f : Func) (t : FuncType) where

@@ -1,7 +1,6 @@
 -- Each item of the primary module but its exports holds, but for references.
-use Rattle.base_lists.proofs.Common.{◌≡◌, ◌∙◌, ap, ap₂, sym, subst, refl, ℕ, ◌+◌, ◌<◌, List, [], ◌∷◌, ◌++◌, drop, map, length, Option, Some, None, Bool, true, false, ◌&&◌, not, ⊎_elim, option_and_then, slice_get, slice_index, arith, true≢false, nat_lt, pos, cons_option, option_map_or, lt-ltb, ltb-true, slice_get_within, has_chosen, numbers_index, and_then_is, append_at_left, append_right, map_at, map_from, slice_get_there, left_either, right_either}
+use Rattle.base_lists.proofs.Common.{◌≡◌, ◌∙◌, ap, ap₂, sym, subst, refl, ℕ, ◌+◌, ◌<◌, List, [], ◌∷◌, ◌++◌, drop, map, length, Option, Some, None, Bool, true, false, ◌&&◌, not, ⊎_elim, option_and_then, slice_get, slice_index, arith, true≢false, nat_lt, pos, cons_option, option_map_or, lt-ltb, ltb-true, slice_get_within, has_chosen, numbers_index, and_then_is, append_at_left, append_right, map_at, map_from, slice_get_there, left_either, right_either, among_left, among_right, among_joined, there_among, no_place, none_among, only_rest, only_true}
 use Rattle.base_lists.specs.Members.{is_among}
-use Rattle.base_lists.proofs.Members.{among_left, among_right, among_joined, there_among, no_place, none_among}
 use Rattle.std.proofs.Common.{filter_map}
 use Rattle.base_lists.proofs.Places.{push_from}
 use Rattle.base_kept.specs.Kept.{kept}
@@ -20,7 +19,7 @@ use Rattle.index_remap.specs.declared.remap.Remap.{Remap}
 use Rattle.index_remap.specs.Prelude.{OperandAgrees, body_refs, new_const, new_data, new_data_mode, new_elem, new_elem_mode, new_func, new_global, new_start, renumbered_all, gets, slot_call}
 use Rattle.index_remap_proof.specs.ButForReferences.{HoldsButForReferences, any_named}
 use Rattle.index_remap_proof.specs.Trees.{TreesAgree}
-use Rattle.index_remap_proof.proofs.Lists.{is_marked, only_rest, only_true}
+use Rattle.index_remap_proof.proofs.Lists.{is_marked}
 use Rattle.split_spec.specs.Prelude.{call_by_slot, call_through_slot, in_slots, params_of, place_among, slot_segment, slot_table, slot_table_type, trampoline_body, type_index, is_needed, is_left, left_marks, primary_func, primary_funcs}
 use Rattle.split_spec.specs.Needed.{named_other_than_by_calls}
 use Rattle.split_proof.specs.Premises.{CanMove}

@@ -1,9 +1,7 @@
 -- Each item of a secondary module holds, but for references.
-use Rattle.base_lists.proofs.Common.{◌≡◌, ◌∙◌, ap, ap₂, sym, subst, refl, ℕ, zero, suc, ◌+◌, ◌-◌, ◌<◌, List, [], ◌∷◌, ◌++◌, map, length, Option, Some, None, Bool, true, false, ◌&&◌, ◌||◌, not, ⊎_elim, option_and_then, slice_get, slice_index, arith, true≢false, option_map, length-map, slice_get_within, chosen_from, numbers_index, option_map_is, append_from, map_at, map_from, slice_get_there, left_either, right_either}
+use Rattle.base_lists.proofs.Common.{◌≡◌, ◌∙◌, ap, ap₂, sym, subst, refl, ℕ, zero, suc, ◌+◌, ◌-◌, ◌<◌, List, [], ◌∷◌, ◌++◌, map, length, Option, Some, None, Bool, true, false, ◌&&◌, ◌||◌, not, ⊎_elim, option_and_then, slice_get, slice_index, arith, true≢false, option_map, length-map, slice_get_within, chosen_from, numbers_index, option_map_is, append_from, map_at, map_from, slice_get_there, left_either, right_either, any_from_place, among_append, place_is, no_place, none_among}
 use Rattle.base_lists.proofs.Bools.{left_false, right_false}
-use Rattle.base_lists.proofs.Each.{any_from_place}
 use Rattle.base_lists.specs.Members.{is_among}
-use Rattle.base_lists.proofs.Members.{among_append, place_is, no_place, none_among}
 use Rattle.std.proofs.Common.{eq-eqb}
 use Rattle.wasm_tree_spec.specs.Prelude.{Operand, Space, Types, Functions, Tables, Memories, Globals, ElementSegments, DataSegments, FuncType, Call, Func, Import, ImportDesc, Module, any_operand_passes, same_space, imported_funcs, funcs_of}
 use Rattle.wasm_tree.specs.declared.module.ImportDesc.TheVariants as im

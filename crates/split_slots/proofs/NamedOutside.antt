@@ -1,7 +1,7 @@
 -- In a valid module what `ref.func` names in a body is named outside the bodies too, so that marks of that tell of which functions a trampoline is needed.
-use Rattle.base_lists.proofs.Common.{◌≡◌, ℕ, ◌<◌, Bool, true, false, ◌||◌, List, [], ◌∷◌, ◌++◌, length, cond, unwrap_or, Option, Some, None, refl, sym, ap, ap₂, ◌∙◌, subst, slice_get, zero-add, append-nil, cons_option, nat_le, nat_lt, ltb-true, slice_get_within, right_true}
+use Rattle.base_lists.proofs.Common.{◌≡◌, ℕ, ◌<◌, Bool, true, false, ◌||◌, List, [], ◌∷◌, ◌++◌, length, cond, unwrap_or, Option, Some, None, refl, sym, ap, ap₂, ◌∙◌, subst, slice_get, zero-add, append-nil, cons_option, nat_le, nat_lt, ltb-true, slice_get_within, right_true, among_append}
 use Rattle.base_lists.specs.Members.{is_among}
-use Rattle.base_lists.proofs.Members.{among_append, joined_among}
+use Rattle.base_lists.proofs.Members.{joined_among}
 use Rattle.std.proofs.Common.{filter}
 use Rattle.base_lists.specs.Every.{Every}
 use Rattle.wasm_tree_spec.specs.Prelude.{Func, Module, funcs_of, imported_funcs}

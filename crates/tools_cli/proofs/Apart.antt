@@ -2,7 +2,7 @@
 use Rattle.base_lists.proofs.Common.{◌≡◌, ◌∙◌, ◌⊎◌, inl, inr, refl, sym, ap, ap₂, subst, zero, suc, arith, slice_get, Some, Contains, Bool, true, false, not, ◌&&◌, ◌||◌, ℕ, ◌+◌, ◌<◌, List, [], ◌∷◌, ◌++◌, map, take, drop, get_or, length, list_any, bytes_eq, map-append, take-append-drop, get_or_default, list_any-append, mapped_more, bytes_eq-Decides}
 use Rattle.std.proofs.Common.{Bor}
 use Rattle.std.proofs.Math.Seq.{drop-cons}
-use Rattle.wasm_valid.proofs.Repeats.{equivalence}
+use Rattle.base_lists.proofs.Texts.{same_texts}
 use Rattle.merge_names.specs.Names.{AreDistinct}
 use Rattle.merge_spec.specs.Prelude.{named_module, named_modules}
 use Rattle.merge_spec.specs.Parts.{HaveDistinctNames}
@@ -32,7 +32,7 @@ and_false true b e = refl
 and_false false b e = e
 
 any_one_more : (x y : Text) (ys rest : List Text) → list_any (bytes_eq y) (ys ++ x ∷ rest) ≡ (list_any (bytes_eq y) ys || (bytes_eq x y || list_any (bytes_eq y) rest))
-any_one_more x y ys rest = list_any-append (bytes_eq y) ys (x ∷ rest) ∙ ap (λ b. list_any (bytes_eq y) ys || (b || list_any (bytes_eq y) rest)) (equivalence.symm y x)
+any_one_more x y ys rest = list_any-append (bytes_eq y) ys (x ∷ rest) ∙ ap (λ b. list_any (bytes_eq y) ys || (b || list_any (bytes_eq y) rest)) (same_texts.symm y x)
 
 -- one name more, unlike those before it
 apart_one_more : (xs : List Text) (x : Text) → are_apart xs ≡ true → list_any (bytes_eq x) xs ≡ false → are_apart (xs ++ x ∷ []) ≡ true

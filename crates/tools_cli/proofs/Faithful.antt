@@ -24,7 +24,7 @@ use Rattle.tools_cli.proofs.WordTexts.{AreTexts, IsTextTask, IsCounted, task_is_
 use Rattle.tools_cli.proofs.SampleDecided.{output_names_are}
 use Rattle.tools_cli.proofs.SampleRanges.{first_in_range, second_in_range}
 use Rattle.wasm_gen.specs.Laws.{SampleModulesAreValid}
-use Rattle.wasm_valid.proofs.Repeats.{equivalence as same_texts}
+use Rattle.base_lists.proofs.Texts.{same_texts}
 use Rattle.wasm_names.specs.declared.func_name.FuncName.{FuncName}
 use Rattle.split_plan.specs.declared.plans.Plan.{Plan}
 use Rattle.split_plan.specs.Plans.{IsPlan, is_wanted}

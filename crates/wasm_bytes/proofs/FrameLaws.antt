@@ -6,7 +6,8 @@ use Rattle.wasm_bytes.specs.declared.cursor.Wrong.TheVariants.{Spelling}
 use Rattle.wasm_bytes.specs.Reading.{◌>>=◌, IsBytes, sized_at}
 use Rattle.wasm_bytes.specs.Frames.{Section, may_follow, order_after, Frame, Frames, last_of, FirstBadFrame, frame_at, before, or_number, frames_at}
 use Rattle.wasm_bytes.proofs.Lists.{Took, small_rest}
-use Rattle.wasm_bytes.proofs.Sized.{bind_ok, ok_pair, sized_sound, sized_complete}
+use Rattle.wasm_bytes.proofs.Sized.{sized_sound, sized_complete}
+use Rattle.base_lists.proofs.Common.{bind_ok, ok_pair}
 
 chosen : {A E : Type 0} (b : Bool) (r : Result A E) (e : E) (y : A) → cond b r (Err e) ≡ Ok y → IsTrue b × (r ≡ Ok y)
 chosen true r e y h = (refl, h)

@@ -1,5 +1,6 @@
 -- What is read behind the header is what the whole file frames.
 use Rattle.std.proofs.Common.{◌≡◌, ℕ, zero, suc, ◌≤◌, List, [], ◌∷◌, ◌++◌, length, drop, Result, Ok, Err, IfOk, ◌⊎◌, inl, inr, refl, sym, ap, ◌∙◌, subst, arith, length-append}
+use Rattle.base_lists.proofs.Places.{drop_most}
 use Rattle.std.specs.Prelude.{IsOkAnd}
 use Rattle.wasm_bytes.specs.declared.framing.Frame.{Frame as Place}
 use Rattle.wasm_bytes.specs.declared.framing.FrameFault.{FrameFault}
@@ -19,11 +20,6 @@ behind bytes front back h e =
     let whole : bytes ≡ header ++ back = e ∙ ap (λ t. t ++ back) h in
     (ap (drop 8) whole, omega (arith, ap length whole, length-append header back))
 
-pub shorter : (n : ℕ) (bytes : List ℕ) → length (drop n bytes) ≤ length bytes
-shorter zero bytes = omega arith
-shorter (suc n) [] = omega arith
-shorter (suc n) (b ∷ bs) = let h = shorter n bs in omega arith
-
 pub found : (bytes : List ℕ) (r : Result (List Place) FrameFault) → IsBytes bytes → HasHeader bytes → GivesFrames bytes r → IfOk r (λ fs. Framed bytes (framed_all bytes fs))
 found bytes (Ok fs) small h g = (header, drop 8 bytes, refl, frames_sound (length bytes) 0 0 (drop 8 bytes) (framed_all bytes fs) (bytes_drop 8 bytes small) g, header_split bytes h)
 found bytes (Err e) small h g = tt
@@ -41,7 +37,7 @@ only bytes (Err NoMemory) g ss f = inl refl
 
 bad_read : (bytes : List ℕ) (n : ℕ) → IsBytes bytes → HasHeader bytes → frames_behind bytes ≡ Err n → FirstBad bytes n
 bad_read bytes n small h e =
-    let b = bad_sound (length bytes) 0 0 n (drop 8 bytes) (shorter 8 bytes) (bytes_drop 8 bytes small) e in
+    let b = bad_sound (length bytes) 0 0 n (drop 8 bytes) (drop_most 8 bytes) (bytes_drop 8 bytes small) e in
     let same : b.0 ≡ n = omega (arith, b.1) in
     subst (FirstBad bytes) same (header, drop 8 bytes, refl, b.2, header_split bytes h)
 

@@ -1,18 +1,11 @@
 -- What is read off the left is what is spelled there.
-use Rattle.base_lists.proofs.Common.{◌≡◌, ℕ, ◌≤◌, List, ◌++◌, length, take, drop, Result, Ok, Err, cond, ⊎_elim, refl, sym, ap, ◌∙◌, subst, arith, append_assoc, cases_lt, lt-ltb, le-ltb, nat_lt}
+use Rattle.base_lists.proofs.Common.{◌≡◌, ℕ, ◌≤◌, List, ◌++◌, length, take, drop, Result, Ok, Err, cond, ⊎_elim, refl, sym, ap, ◌∙◌, subst, arith, append_assoc, cases_lt, lt-ltb, le-ltb, nat_lt, bind_ok}
 use Rattle.std.proofs.Common.{length-append}
 use Rattle.wasm_bytes.specs.declared.cursor.Wrong.TheVariants.{Short}
 use Rattle.wasm_bytes.specs.Prelude.{Takes, last_unsigned, join_unsigned, ◌>>=◌, IsBytes, sized_at, U32, Sized}
 use Rattle.wasm_bytes.specs.Reading.{take_at, unsigned_at}
 use Rattle.wasm_bytes.proofs.NumberLaws.{reading_of_spelled, spelled_of_reading, unsigned_ends}
 use Rattle.wasm_bytes.proofs.Lists.{take_all, drop_all, halves, taken, Took}
-
-pub bind_ok : {A B E : Type 0} (r : Result A E) (f : A → Result B E) (y : B) → (r >>= f) ≡ Ok y → (x : A) × (r ≡ Ok x) × (f x ≡ Ok y)
-bind_ok (Ok x) f y e = (x, refl, e)
-bind_ok (Err w) f y e = cc
-
-pub ok_pair : {A B E : Type 0} (a c : A) (b d : B) → ◌≡◌ {A = Result (A × B) E} (Ok (a, b)) (Ok (c, d)) → (a ≡ c) × (b ≡ d)
-ok_pair {A} {B} a c b d e = let same : (a, b) ≡ (c, d) = cc in (ap (λ (p : A × B). p.0) same, ap (λ (p : A × B). p.1) same)
 
 pub u32_sound : (bytes : List ℕ) (n : ℕ) (rest : List ℕ) → IsBytes bytes → unsigned_at 32 bytes ≡ Ok (n, rest) → Takes U32 bytes n rest
 unfolding unsigned_at

@@ -5,11 +5,7 @@ use Rattle.std.specs.Borrow.{Bor}
 use Rattle.wasm_bytes.specs.declared.cursor.Wrong.{Wrong}
 use Rattle.wasm_bytes.specs.declared.cursor.Wrong.TheVariants.{Short, Spelling}
 use Rattle.wasm_bytes.specs.Numbers.{last_unsigned, join_unsigned, last_signed, join_signed}
-
-infixl 10 ◌>>=◌
-abbrev pub ◌>>=◌ : {A B E : Type 0} → Result A E → (A → Result B E) → Result B E
-(Ok x) >>= f = f x
-(Err e) >>= f = Err e
+pub use Rattle.base_lists.specs.Results.{◌>>=◌}
 
 abbrev pub ok_or_spelling : {V : Type 0} → Option V → List ℕ → Result (V × List ℕ) Wrong
 ok_or_spelling (Some v) rest = Ok (v, rest)

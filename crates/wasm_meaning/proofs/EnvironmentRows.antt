@@ -1,5 +1,5 @@
 -- What an environment is and is not, and which it links with which world, computed.
-use Rattle.base_lists.proofs.Common.{◌≡◌, refl, ap, ◌∙◌, ℕ, zero, suc, ◌*◌, List, [], ◌∷◌, length, Some, None, Bool, true, false, ◌&&◌, pos, nat_le, nat_eq, nat_lt, eq-eqb}
+use Rattle.base_lists.proofs.Common.{◌≡◌, refl, ap, ◌∙◌, ℕ, zero, suc, ◌*◌, List, [], ◌∷◌, length, Some, None, Bool, true, false, ◌&&◌, pos, nat_le, nat_eq, nat_lt, eq-eqb, copies_length}
 use Rattle.wasm_tree.specs.declared.types.RefType.TheVariants as reft
 use Rattle.wasm_tree_spec.specs.Prelude.{ValType, Limits, Module}
 use Rattle.wasm_tree.specs.declared.types.ValType.TheVariants as valt
@@ -10,7 +10,6 @@ use Rattle.wasm_tree.specs.declared.module.DataMode.TheVariants as data'
 use Rattle.wasm_tree.specs.declared.module.ElemMode.TheVariants as elem
 use Rattle.wasm_meaning.specs.Prelude.{copies, Text, Offer, Shown, Number, Null, OwnFunc, ExternNumber, Function, all_of, is_environment, links}
 use Rattle.wasm_meaning.specs.Environment.{OwnTable, OwnMemory, where_there, is_within, is_memory}
-use Rattle.wasm_meaning.proofs.Slices.{copies_length}
 use Rattle.wasm_meaning.proofs.SmallRuns.{f, g, a, e, m, i32, to_i32, nothing, empty, code, num, gives, three, plain}
 
 -- ---- what is offered ----

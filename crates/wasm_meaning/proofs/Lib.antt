@@ -12,6 +12,5 @@ pub mod Walks
 pub mod Linked
 pub mod Counts
 mod StartFrames
-pub mod Slices
 pub mod Outcomes
 mod Touches

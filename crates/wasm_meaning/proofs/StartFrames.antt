@@ -1,5 +1,7 @@
 -- A start does not see what it stands on.
-use Rattle.base_lists.proofs.Common.{◌≡◌, ℕ, List, [], ◌∷◌, ◌++◌, length, Option, Some, None, Bool, true, false, cond, option_and_then, slice_get, refl, ap, subst, nat_eq}
+use Rattle.base_lists.proofs.Common.{◌≡◌, ℕ, List, [], ◌∷◌, ◌++◌, length, Option, Some, None, Bool, true, false, cond, option_and_then, slice_get, refl, ap, subst, nat_eq, then_same}
+use Rattle.base_lists.specs.Related.{OptRel, none, some}
+use Rattle.base_lists.proofs.Related.{either_rel}
 use Rattle.wasm_tree_spec.specs.Prelude.{ValType, FuncType}
 use Rattle.wasm_num.specs.Operations.{W32}
 use Rattle.wasm_meaning.specs.Prelude.{Outcome, Gives, Traps, IllTyped, bind, overwrite, or_ill_typed, Pair, FuncRef, Val, Num, Ref, Func, Code, Own, Placeholder, Store, Change, Keep, SetGlobal, SetMemory, SetTable, DropElem, DropData, Growth, GrowMemory, GrowTable, Level, Frame, Entry, Running, Caller, Host, Starter, Mark, Opening, Waiting, Ended, Growing, Act, Goes, Calls, AsksGrow, Ends, Next, Ran, CallsOwn, WaitsGrowth, CallsPlaceholder, EndsCall, pop_typed, null_of, with_values, memory_may_grow, table_may_grow, type_at, act, frame_of, give_levels, give, enter, enter_at, changed, perform, to_mark, Shown, ExternalValue, FuncAt, TableAt, MemoryAt, GlobalAt, func_of, received, received_ref, received_all, Move, Call, Invoke, Take, Answer, Refuse, Grant, Deny, Get, Size, Set, Extend, Phase, Run, Out, Transition, Steps, Makes, made, viewed_at, place_at, show_all, trapped_to, run_after, called, is_mark, delivered, answered, refused, grown_table, granted, decided, shows, got, size_of, does, byte_of, set, extended, moved, at_entries, or_bad, next_move, tick, IsBottom, GivesNothing, a_frame, a_call, over, AgreeOnFrames, ended, trapped}
@@ -17,20 +19,6 @@ bind_same : {A B C : Type 0} {P : B → C → Type 0} {f : A → Outcome B} {g :
 bind_same (Gives a) h = h a
 bind_same Traps h = traps
 bind_same IllTyped h = ill_typed
-
--- ---- moves, which may not be taken ----
-
-data OptRel {A B : Type 0} (P : A → B → Type 0) : Option A → Option B → Type 0 where
-  some : {a : A} {b : B} → P a b → OptRel P (Some a) (Some b)
-  none : OptRel P None None
-
-then_same : {A B C : Type 0} {P : B → C → Type 0} {f : A → Option B} {g : A → Option C} (o : Option A) → ((a : A) → OptRel P (f a) (g a)) → OptRel P (option_and_then f o) (option_and_then g o)
-then_same (Some a) h = h a
-then_same None h = none
-
-cond_same : {A B : Type 0} {P : A → B → Type 0} {o p : Option A} {u v : Option B} (b : Bool) → OptRel P o u → OptRel P p v → OptRel P (cond b o p) (cond b u v)
-cond_same true h k = h
-cond_same false h k = k
 
 -- ---- entries ----
 
@@ -225,7 +213,7 @@ module _ (cs ds : List Entry) (low : IsBottom cs) (other : IsBottom ds) (p q : P
   got_below r es g (FuncAt a) n = none
   got_below r es g (TableAt a) n = then_same (slice_get r.store.tables a) (λ t. then_same (slice_get t.slots n) (λ v. shows_below r es g (Ref v)))
   got_below r es g (MemoryAt a) n = then_same (slice_get r.store.mems a) (λ m. then_same (slice_get m.bytes n) (λ b. shows_below r es g (Num W32 b)))
-  got_below r es g (GlobalAt a) n = then_same (slice_get r.store.globals a) (λ v. cond_same (nat_eq n 0) (shows_below r es g v.value) none)
+  got_below r es g (GlobalAt a) n = then_same (slice_get r.store.globals a) (λ v. either_rel (nat_eq n 0) (shows_below r es g v.value) none)
 
   size_below : (r : Run) (es : List Entry) → GivesNothing es → (x : ExternalValue) → Moved r (size_of (first r es) x) (size_of (second r es) x)
   size_below r es g (FuncAt a) = none
@@ -240,12 +228,12 @@ module _ (cs ds : List Entry) (low : IsBottom cs) (other : IsBottom ds) (p q : P
   set_below r es g (FuncAt a) n v = none
   set_below r es g (TableAt a) n v = then_same (slice_get r.store.tables a) (λ t. then_same (received_ref r.owned r.shown t.ty v) (λ w. then_same (overwrite t.slots n (w ∷ [])) (λ slots. does_below r es g (SetTable a (record t { slots = slots })))))
   set_below r es g (MemoryAt a) n v = then_same (slice_get r.store.mems a) (λ m. then_same (byte_of v) (λ b. then_same (overwrite m.bytes n (b ∷ [])) (λ bytes. does_below r es g (SetMemory a (record m { bytes = bytes })))))
-  set_below r es g (GlobalAt a) n v = then_same (slice_get r.store.globals a) (λ x. cond_same (nat_eq n 0) (cond_same x.ty.mutable (then_same (received r.owned r.shown x.ty.ty v) (λ w. does_below r es g (SetGlobal a (record x { value = w })))) none) none)
+  set_below r es g (GlobalAt a) n v = then_same (slice_get r.store.globals a) (λ x. either_rel (nat_eq n 0) (either_rel x.ty.mutable (then_same (received r.owned r.shown x.ty.ty v) (λ w. does_below r es g (SetGlobal a (record x { value = w })))) none) none)
 
   extended_below : (r : Run) (es : List Entry) → GivesNothing es → (x : ExternalValue) (n : ℕ) → Moved r (extended (first r es) x n) (extended (second r es) x n)
   extended_below r es g (FuncAt a) n = none
-  extended_below r es g (TableAt a) n = then_same (slice_get r.store.tables a) (λ t. cond_same (table_may_grow t n) (does_below r es g (SetTable a (grown_table t n (null_of t.ty)))) none)
-  extended_below r es g (MemoryAt a) n = then_same (slice_get r.store.mems a) (λ m. cond_same (memory_may_grow m n) (does_below r es g (SetMemory a (grown_memory m n))) none)
+  extended_below r es g (TableAt a) n = then_same (slice_get r.store.tables a) (λ t. either_rel (table_may_grow t n) (does_below r es g (SetTable a (grown_table t n (null_of t.ty)))) none)
+  extended_below r es g (MemoryAt a) n = then_same (slice_get r.store.mems a) (λ m. either_rel (memory_may_grow m n) (does_below r es g (SetMemory a (grown_memory m n))) none)
   extended_below r es g (GlobalAt a) n = none
 
   moved_below : (r : Run) (es : List Entry) → GivesNothing es → (m : Move) → Moved r (moved (first r es) m) (moved (second r es) m)

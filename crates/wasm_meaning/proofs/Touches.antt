@@ -1,5 +1,5 @@
 -- What the step of a frame writes is told from what stands on top before.
-use Rattle.base_lists.proofs.Common.{◌≡◌, ◌∙◌, ℕ, ◌+◌, length, List, [], ◌∷◌, None, refl, sym, ap, drop, slice_get, Some, Option, Bool, true, false, cond, nat_eq}
+use Rattle.base_lists.proofs.Common.{◌≡◌, ◌∙◌, ℕ, ◌+◌, length, List, [], ◌∷◌, None, refl, sym, ap, drop, slice_get, Some, Option, Bool, true, false, cond, nat_eq, copies_length}
 use Rattle.wasm_tree_spec.specs.Prelude.{Instr, out-Instr, StoreOp, ValType, BlockType}
 use Rattle.wasm_tree.specs.declared.instr.Instr.TheOpen.{Instr-F}
 use Rattle.wasm_tree.specs.declared.instr.StoreOp.TheVariants as op
@@ -8,7 +8,7 @@ use Rattle.wasm_meaning.specs.Prelude.{Outcome, Gives, IllTyped, bind, split_at,
 use Rattle.wasm_meaning.specs.Access.{store_from, stored, little_bytes}
 use Rattle.wasm_meaning.specs.Touched.{OneElem, OneData, store_width, store_touches, range_touches, slot_touches, fill_touches, nothing, bytes, slots, an_elem, a_data, WritesTold}
 use Rattle.wasm_meaning.proofs.Outcomes.{AllOf, ill_typed, stopped, just, cond_all, with_is, with_found, with_within, then_given, then_found, all_at}
-use Rattle.wasm_meaning.proofs.Slices.{slice_length, copies_length}
+use Rattle.base_lists.proofs.Parts.{slice_length}
 
 stored_length : (o : StoreOp) (n : ℕ) → length (stored o n) ≡ store_width o
 unfolding stored little_bytes

@@ -16,4 +16,4 @@ pub use Rattle.wasm_meaning.specs.Step.{act, changed, enter, enter_at, exec, fra
 pub use Rattle.wasm_meaning.specs.Tables.{fill_table, fits, get_slot, grow_table, init_table, set_slot, table_may_grow, with_table, writes_table}
 pub use Rattle.wasm_meaning.specs.Touched.{ActWrites, Bytes, Nothing, OneGlobal, Slots, StepsWriteWhatTheyTouch, Touched, Writes, a_global, touched, touched_by, touched_levels, touched_next}
 pub use Rattle.wasm_meaning.specs.Values.{binary, declared, global_put, global_set, go, local_put, null_of, num_of, on_values, pop, pop_num, pop_ref, pop_typed, pushes, ref_is_null, ref_of, same_func_type, same_ref, same_type, select_any, select_of, select_typed, type_of, type_of_ref, typed, unary, with_values, zero_of, zeros}
-pub use Rattle.wasm_meaning.specs.World.{Begun, Filled, PlacedSegment, World, address_in, address_of, all_there, alone, and_then, base, begun, const_value, copy_bytes, copy_data, copy_elem, copy_slots, defined_before, defined_count, defined_external_value, elem_of, elem_with, external_value_at, external_value_of, global_with, import_type, imported_external_value, inst_of, instantiate, insts_from, is_match, is_matched, is_there, joined_stores, links, meets, meets_most, new_elem, new_func, new_global, numbers, one_by_one, one_place, or_trapped, outside_external_value, own_count, own_key, own_key_of, own_store, part_store, placed_datas, placed_elems, run_data, run_data_with, run_elem, run_elem_with, same_bool, seen_as, segments, segments_in, space, start_in, starts_of, store_with, stores_from, value_of, value_of_read}
+pub use Rattle.wasm_meaning.specs.World.{Begun, Filled, PlacedSegment, World, address_in, address_of, all_there, alone, and_then, base, begun, const_value, copy_bytes, copy_data, copy_elem, copy_slots, defined_before, defined_count, defined_external_value, elem_of, elem_with, external_value_at, external_value_of, global_with, import_type, imported_external_value, inst_of, instantiate, insts_from, is_match, is_matched, joined_stores, links, meets, meets_most, new_elem, new_func, new_global, numbers, one_by_one, one_place, or_trapped, outside_external_value, own_count, own_key, own_key_of, own_store, part_store, placed_datas, placed_elems, run_data, run_data_with, run_elem, run_elem_with, same_bool, seen_as, segments, segments_in, space, start_in, starts_of, store_with, stores_from, value_of, value_of_read}

@@ -1,7 +1,7 @@
 -- Worlds, and their instantiation at once (WebAssembly Core 2.0, section 4.5.4, for several modules
 -- together). Every import is matched and everything is allocated; then all active element segments
 -- are copied, part by part, and then all active data segments, part by part.
-use Rattle.std.proofs.Common.{ℕ, zero, suc, ◌+◌, ◌-◌, ◌*◌, List, [], ◌∷◌, ◌++◌, map, length, Option, Some, None, Bool, true, false, cond, slice_get, unwrap_or, ◌&&◌}
+use Rattle.std.proofs.Common.{ℕ, zero, suc, ◌+◌, ◌-◌, ◌*◌, List, [], ◌∷◌, ◌++◌, map, length, Option, Some, None, is_some, Bool, true, false, cond, slice_get, unwrap_or, ◌&&◌}
 use Rattle.wasm_tree_spec.specs.Prelude.{Space, Types, Functions, Tables, Memories, Globals, ElementSegments, DataSegments, FuncType, Limits, Import, ImportDesc, ExportDesc, ConstExpr, GlobalDef, ElemSeg, ElemMode, DataSeg, DataMode, Module, same_func_type, same_ref, same_type, index_of_export, space_of_export}
 use Rattle.base_lists.specs.Options.{◌>>=◌}
 pub use Rattle.base_lists.specs.Options.{all_there}
@@ -378,11 +378,7 @@ instantiate env w =
     insts_from env w.parts 0 w.parts >>= λ insts. stores_from env w.parts insts (own_store env) 0 w.parts insts >>= λ s. all_there (seen_as insts) w.view >>= λ view.
     cond (all_of (is_matched env w.parts s) (sites w.parts)) (Some (begun env w insts view (segments env w.parts insts s))) None
 
-abbrev pub is_there : {A : Type 0} → Option A → Bool
-is_there None = false
-is_there (Some a) = true
-
 -- The environment links the world: every import matches, every constant read has an end and every
 -- name of the view denotes something. A segment or a start function may trap all the same.
 abbrev pub links : Environment → World → Bool
-links env w = is_there (instantiate env w)
+links env w = is_some (instantiate env w)

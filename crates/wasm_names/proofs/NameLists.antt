@@ -1,12 +1,11 @@
 -- The name list of a file is what it spells.
-use Rattle.base_lists.proofs.Common.{◌≡◌, ℕ, List, [], ◌∷◌, ◌++◌, length, Option, Some, None, Result, Ok, Err, IfOk, Bool, true, false, inl, inr, ⊎_elim, refl, sym, ap, ◌∙◌, subst, arith, ◌==◌, option_and_then, option_to_list, ◌↔◌, and_then_is}
+use Rattle.base_lists.proofs.Common.{◌≡◌, ℕ, List, [], ◌∷◌, ◌++◌, length, Option, Some, None, Result, Ok, Err, IfOk, Bool, true, false, inl, inr, ⊎_elim, refl, sym, ap, ◌∙◌, subst, arith, ◌==◌, option_and_then, option_to_list, ◌↔◌, and_then_is, bind_ok}
 use Rattle.std.specs.Prelude.{unwrap_or}
 use Rattle.std.specs.Result.{result_ok}
 use Rattle.base_lists.specs.Every.{Every}
 use Rattle.wasm_bytes.specs.Prelude.{Section, Framed, HasHeader, FirstBad, framed_all, Each, IsBytes}
 use Rattle.wasm_bytes.specs.declared.framing.Frame.{Frame as Place}
 use Rattle.wasm_bytes.proofs.Lists.{bytes_rest}
-use Rattle.wasm_bytes.proofs.Sized.{bind_ok}
 use Rattle.wasm_read_spec.specs.Prelude.{framed_at}
 use Rattle.wasm_read_spec.proofs.FileLaws.{AreBytes, front_bytes, framed_bytes}
 use Rattle.wasm_read_spec.proofs.Framing.{framed_reads, bad_reads, header_reads, framed_sound}

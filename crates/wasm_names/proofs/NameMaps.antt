@@ -1,14 +1,13 @@
 -- What is read as a name map is one.
-use Rattle.base_lists.proofs.Common.{◌≡◌, ℕ, zero, suc, ◌+◌, ◌≤◌, List, [], ◌∷◌, ◌++◌, length, Ok, true, ⊎_elim, refl, sym, ap, ◌∙◌, subst, arith, append-nil, le-ltb, eqb-true, ◌==◌, IsStrictlyIncreasing, cond_is}
+use Rattle.base_lists.proofs.Common.{◌≡◌, ℕ, zero, suc, ◌+◌, ◌≤◌, List, [], ◌∷◌, ◌++◌, length, Ok, true, ⊎_elim, refl, sym, ap, ◌∙◌, subst, arith, append-nil, le-ltb, eqb-true, ◌==◌, IsStrictlyIncreasing, cond_is, bind_ok, ok_pair, err_ok, within_most}
 use Rattle.std.proofs.lemmas.List.{nil_from_length}
 use Rattle.wasm_bytes.specs.Prelude.{U32, Named, Vector, IsBytes}
 use Rattle.wasm_bytes.proofs.Lists.{Took, small_rest}
-use Rattle.wasm_bytes.proofs.Sized.{bind_ok, ok_pair}
 use Rattle.wasm_read_spec.specs.declared.fault.Fault.{Fault}
 use Rattle.wasm_read_spec.specs.declared.fault.Fault.TheVariants.{Malformed}
 use Rattle.wasm_read_spec.specs.Prelude.{u32_at, name_at}
 use Rattle.wasm_read_spec.specs.Reading.{whole_at}
-use Rattle.wasm_read_spec.proofs.Exact.{Exact, err_ok, took_then, split, u32_exact, name_exact, Along, each_sound, each_complete, within_most}
+use Rattle.wasm_read_spec.proofs.Exact.{Exact, took_then, split, u32_exact, name_exact, Along, each_sound, each_complete}
 use Rattle.wasm_names.specs.declared.func_name.FuncName.{FuncName}
 use Rattle.wasm_names.specs.NameList.{SpellsFuncName, SpellsNameMap, indices}
 use Rattle.wasm_names.specs.Reading.{func_name_at, func_names_at, least_after}

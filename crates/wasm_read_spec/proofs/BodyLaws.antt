@@ -1,9 +1,8 @@
 -- Reading a sequence finds the tree that the tokens nest to, and nothing else.
-use Rattle.base_lists.proofs.Common.{◌≡◌, ℕ, zero, suc, ◌<◌, ◌≤◌, List, [], ◌∷◌, ◌++◌, length, Ok, Err, Bool, true, false, cond, refl, sym, ap, ◌∙◌, subst, arith, append_assoc, append-nil, inl, inr, ⊎_elim, ◌⊎◌, eqb-suc-zero}
+use Rattle.base_lists.proofs.Common.{◌≡◌, ℕ, zero, suc, ◌<◌, ◌≤◌, List, [], ◌∷◌, ◌++◌, length, Ok, Err, Bool, true, false, cond, refl, sym, ap, ◌∙◌, subst, arith, append_assoc, append-nil, inl, inr, ⊎_elim, ◌⊎◌, eqb-suc-zero, bind_ok, ok_pair, err_ok}
 use Rattle.std.proofs.Common.{length-append}
 use Rattle.wasm_bytes.specs.Prelude.{Then, Each, IsBytes}
 use Rattle.wasm_bytes.proofs.Lists.{Took, small_rest}
-use Rattle.wasm_bytes.proofs.Sized.{bind_ok, ok_pair}
 use Rattle.wasm_tree_spec.specs.Prelude.{BlockType, Instr, Block, Loop, If, Nesting, limit}
 use Rattle.wasm_read_spec.specs.declared.fault.Fault.{Fault}
 use Rattle.wasm_read_spec.specs.declared.fault.Fault.TheVariants.{Malformed, Limit}
@@ -14,7 +13,6 @@ use Rattle.wasm_read_spec.specs.declared.token.Token.TheVariants.{Open, Else, En
 use Rattle.wasm_read_spec.specs.declared.token.Sequence.{Sequence}
 use Rattle.wasm_read_spec.specs.Prelude.{SpellsToken, depth_of, ReadResult, behind, token_at, after_token, whole}
 use Rattle.wasm_read_spec.specs.BodyReading.{block_at, sequence_at, body_at}
-use Rattle.wasm_read_spec.proofs.Exact.{err_ok}
 use Rattle.wasm_read_spec.proofs.TokenLaws.{token_sound, token_complete}
 use Rattle.wasm_read_spec.proofs.Leaves.{of_token, flat}
 use Rattle.wasm_read_spec.proofs.Blocks.{behind_none, behind_behind, seq_end, seq_else, seq_plain, seq_open}

@@ -1,8 +1,7 @@
 -- Code entries: what is read is what is spelled and small.
-use Rattle.base_lists.proofs.Common.{◌≡◌, ℕ, zero, suc, ◌+◌, ◌≤◌, List, [], ◌∷◌, ◌++◌, length, Result, Ok, Err, Bool, cond, Option, Some, None, refl, sym, ap, ◌∙◌, subst, arith, append-nil, le-ltb, eqb-suc-zero, ◌==◌}
+use Rattle.base_lists.proofs.Common.{◌≡◌, ℕ, zero, suc, ◌+◌, ◌≤◌, List, [], ◌∷◌, ◌++◌, length, Result, Ok, Err, Bool, cond, Option, Some, None, refl, sym, ap, ◌∙◌, subst, arith, append-nil, le-ltb, eqb-suc-zero, ◌==◌, bind_ok, ok_pair, within_most}
 use Rattle.wasm_bytes.specs.Prelude.{U32, Each, Vector, Sized, IsBytes}
 use Rattle.wasm_bytes.proofs.Lists.{Took, small_rest}
-use Rattle.wasm_bytes.proofs.Sized.{bind_ok, ok_pair}
 use Rattle.wasm_tree.specs.declared.which.Which.TheVariants.{Functions}
 use Rattle.wasm_tree_spec.specs.Prelude.{LocalGroup, Func, limit}
 use Rattle.wasm_read_spec.specs.declared.fault.Fault.{Fault}
@@ -12,7 +11,7 @@ use Rattle.base_lists.specs.Every.{Every}
 use Rattle.wasm_read_spec.specs.Prelude.{Any, Few, SpellsGroup, SpellsCode, SpellsEntry, SmallCode, u32_at, sized_at, locals_at, each_from, body_at, code_of, in_place, next_func}
 use Rattle.wasm_read_spec.specs.BodyReading.{code_at}
 use Rattle.wasm_read_spec.specs.Contents.{entry_at, codes_at}
-use Rattle.wasm_read_spec.proofs.Exact.{Exact, took_then, split, u32_exact, sized_exact, both_exact, mapped_exact, one_value, Along, each_sound, each_complete, within_most}
+use Rattle.wasm_read_spec.proofs.Exact.{Exact, took_then, split, u32_exact, sized_exact, both_exact, mapped_exact, one_value, Along, each_sound, each_complete}
 use Rattle.wasm_read_spec.proofs.ItemLaws.{val_exact, locals_exact}
 use Rattle.wasm_read_spec.proofs.NestLaws.{body_found, body_read, body_clear}
 

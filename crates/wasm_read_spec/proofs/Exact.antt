@@ -1,12 +1,12 @@
 -- A reader that finds what is spelled and small, and nothing else; and how such readers are put together.
-use Rattle.base_lists.proofs.Common.{◌≡◌, ℕ, zero, suc, ◌≤◌, List, [], ◌∷◌, ◌++◌, length, Result, Ok, Err, Bool, true, false, cond, ⊎_elim, refl, sym, ap, ◌∙◌, subst, arith, append_assoc, cases_lt, lt-ltb, le-ltb, eqb-true, IsUtf8-from_is_utf8, is_utf8-from_IsUtf8, nat_lt, ◌==◌, IsUtf8, is_utf8}
+use Rattle.base_lists.proofs.Common.{◌≡◌, ℕ, zero, suc, ◌≤◌, List, [], ◌∷◌, ◌++◌, length, Result, Ok, Err, Bool, true, false, cond, ⊎_elim, refl, sym, ap, ◌∙◌, subst, arith, append_assoc, cases_lt, lt-ltb, le-ltb, eqb-true, IsUtf8-from_is_utf8, is_utf8-from_IsUtf8, nat_lt, ◌==◌, IsUtf8, is_utf8, bind_ok, ok_pair, err_ok, within_most}
 use Rattle.wasm_bytes.specs.declared.cursor.Wrong.{Wrong}
 use Rattle.wasm_bytes.specs.declared.cursor.Wrong.TheVariants.{Spelling}
 use Rattle.wasm_bytes.specs.Prelude.{Signed, last_signed, join_signed, Then, U32, Each, Vector, Sized, Named, ◌>>=◌, IsBytes}
 use Rattle.wasm_bytes.specs.Reading.{signed_at, name_at as text_at, sized_at as content_at}
 use Rattle.wasm_bytes.proofs.NumberLaws.{reading_of_spelled, spelled_of_reading, signed_ends}
 use Rattle.wasm_bytes.proofs.Lists.{Took, small_rest}
-use Rattle.wasm_bytes.proofs.Sized.{bind_ok, ok_pair, u32_sound, u32_complete, sized_sound, sized_complete}
+use Rattle.wasm_bytes.proofs.Sized.{u32_sound, u32_complete, sized_sound, sized_complete}
 use Rattle.wasm_tree_spec.specs.Prelude.{Which, limit}
 use Rattle.wasm_read_spec.specs.declared.fault.Fault.{Fault}
 use Rattle.wasm_read_spec.specs.declared.fault.Fault.TheVariants.{Malformed, Limit}
@@ -20,9 +20,6 @@ use Rattle.wasm_read_spec.specs.Reading.{s32_at, s64_at, just_at, coded_at, tag_
 pub or_ok : {A : Type 0} (r : Result A Wrong) (x : A) → or_malformed r ≡ Ok x → r ≡ Ok x
 or_ok (Ok y) x e = let same : y ≡ x = cc in ap Ok same
 or_ok (Err w) x e = cc
-
-pub err_ok : {A E : Type 0} (e : E) (x : A) → ◌≡◌ {A = Result A E} (Err e) (Ok x) → ⊥
-err_ok e x h = cc
 
 pub took_then : (P Q : List ℕ → Type 0) (bytes mid rest : List ℕ) → Took P bytes mid → Took Q mid rest → Took (Then P Q) bytes rest
 took_then P Q bytes mid rest a b = (a.0 ++ b.0, (a.0, b.0, a.1, b.1, refl), a.2 ∙ ap (λ xs. a.0 ++ xs) b.2 ∙ sym (append_assoc a.0 b.0 rest))
@@ -269,9 +266,6 @@ every_along S (x ∷ xs) h = (h.0, every_along S xs h.1)
 pub every_any : {A : Type 0} (xs : List A) → Every {A = A} Any xs
 every_any [] = tt
 every_any (x ∷ xs) = (tt, every_any xs)
-
-pub within_most : {B E : Type 0} (fault : E) (most n : ℕ) (r : Result B E) (y : B) → cond (nat_lt most n) (Err fault) r ≡ Ok y → (n ≤ most) × (r ≡ Ok y)
-within_most fault most n r y e = ⊎_elim (λ lt. let bad = rw (lt-ltb most n lt) at e in cc) (λ le. (le, rw (le-ltb most n le) at e)) (cases_lt most n)
 
 module _ {A : Type 0} (P : List ℕ → A → Type 0) (S : A → Type 0) (item : Reader A) (exact : Exact P S item) where
   same_sound : (n : ℕ) (bytes : List ℕ) (xs : List A) (rest : List ℕ) → IsBytes bytes → each_at item n bytes ≡ Ok (xs, rest) → Took (λ b. Each P b xs) bytes rest × (n ≡ length xs) × Every S xs

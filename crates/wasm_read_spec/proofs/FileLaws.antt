@@ -1,8 +1,7 @@
 -- A file is read exactly where it spells a tree, within the limits.
-use Rattle.base_lists.proofs.Common.{◌≡◌, ℕ, zero, suc, ◌+◌, List, [], ◌∷◌, ◌++◌, length, Result, Ok, Err, Bool, true, false, cond, Option, Some, None, ◌⊎◌, inl, inr, ⊎_elim, refl, sym, ap, ◌∙◌, subst, arith, eqb-true, and_parts, ◌==◌, ◌↔◌, IfOk, IfErr}
+use Rattle.base_lists.proofs.Common.{◌≡◌, ℕ, zero, suc, ◌+◌, List, [], ◌∷◌, ◌++◌, length, Result, Ok, Err, Bool, true, false, cond, Option, Some, None, ◌⊎◌, inl, inr, ⊎_elim, refl, sym, ap, ◌∙◌, subst, arith, eqb-true, and_parts, ◌==◌, ◌↔◌, IfOk, IfErr, bind_ok}
 use Rattle.wasm_bytes.specs.Prelude.{IsBytes, Section, order_after, Frames, Framed}
 use Rattle.wasm_bytes.proofs.Lists.{bytes_rest}
-use Rattle.wasm_bytes.proofs.Sized.{bind_ok}
 use Rattle.wasm_tree_spec.specs.Prelude.{Module, any_uses_data}
 use Rattle.wasm_read_spec.specs.declared.fault.ReadFault.{ReadFault}
 use Rattle.wasm_read_spec.specs.declared.fault.ReadFault.TheVariants.{NoMemory, NotModule, Malformed, MalformedBody, Unsupported, Limit}

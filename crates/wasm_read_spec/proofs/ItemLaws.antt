@@ -1,10 +1,9 @@
 -- The readers of types, constant expressions and what the sections hold find what is spelled and small, and nothing else.
-use Rattle.base_lists.proofs.Common.{◌≡◌, ℕ, ◌+◌, ◌-◌, ◌≤◌, List, [], ◌∷◌, ◌++◌, length, refl, subst, arith, ◌∙◌, ap, sym, ◌==◌}
+use Rattle.base_lists.proofs.Common.{◌≡◌, ℕ, ◌+◌, ◌-◌, ◌≤◌, List, [], ◌∷◌, ◌++◌, length, refl, subst, arith, ◌∙◌, ap, sym, ◌==◌, bind_ok, ok_pair, within_most}
 use Rattle.std.proofs.Common.{le-ltb}
 use Rattle.std.proofs.lemmas.List.Sums.{sum-map, sum_by-cons}
 use Rattle.wasm_bytes.specs.Prelude.{U32, Vector}
 use Rattle.wasm_bytes.proofs.Lists.{Took, small_rest}
-use Rattle.wasm_bytes.proofs.Sized.{bind_ok, ok_pair}
 use Rattle.wasm_tree_spec.specs.Prelude.{Parameters, Results, Locals, LocalGroup, limit, declared_count}
 use Rattle.wasm_tree.specs.declared.module.ConstExpr.TheVariants as const
 use Rattle.wasm_tree.specs.declared.module.ImportDesc.TheVariants as import
@@ -15,7 +14,7 @@ use Rattle.wasm_read_spec.specs.Prelude.{Any, val_of_code, SpellsVal, ref_of_cod
 use Rattle.wasm_read_spec.specs.Values.{limits_form, const_form}
 use Rattle.wasm_read_spec.specs.Sections.{import_form, export_form, elem_form, data_form}
 use Rattle.wasm_read_spec.specs.Reading.{val_at, ref_at, func_type_at, limits_at, table_of, table_at, mut_at, global_of, global_at, const_fault, const_at, import_desc_at, import_of, import_at, global_def_of, global_def_at, export_desc_at, export_of, export_at, func_items_at, const_items_at, elem_at, data_at, local_at, locals_at}
-use Rattle.wasm_read_spec.proofs.Exact.{Exact, took_then, split, byte_exact, u32_exact, s32_exact, s64_exact, sized_exact, name_exact, never_exact, pair_exact, both_exact, mapped_exact, made_exact, chosen_exact, when_exact, coded_exact, tagged_exact, closed_exact, list_exact, vector_exact, Along, each_sound, each_complete, within_most}
+use Rattle.wasm_read_spec.proofs.Exact.{Exact, took_then, split, byte_exact, u32_exact, s32_exact, s64_exact, sized_exact, name_exact, never_exact, pair_exact, both_exact, mapped_exact, made_exact, chosen_exact, when_exact, coded_exact, tagged_exact, closed_exact, list_exact, vector_exact, Along, each_sound, each_complete}
 
 -- ---- types
 

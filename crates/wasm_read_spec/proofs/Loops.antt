@@ -69,9 +69,3 @@ each_stop_in item next whole n i state items bs (Unsupported s f) lt bad h = eac
 each_stop_in item next whole n i state items bs (Limit w) lt bad h = each_err item next whole n i state items bs (Limit w) lt bad h
 
 -- ---- a test of the items that were read
-
--- whether one passes of those before and of these, with one item more
-pub any_more : {A : Type 0} (test : A → Bool) (before after last : Bool) (items : List A) (x : A) → after ≡ (before || list_any test items) → last ≡ (after || test x) → last ≡ (before || list_any test (items ++ x ∷ []))
-any_more test before after last items x h g =
-    g ∙ ap (λ b. b || test x) h ∙ or_assoc before (list_any test items) (test x)
-    ∙ ap (λ b. before || b) (sym (list_any-append test items (x ∷ []) ∙ ap (λ b. list_any test items || b) (or-false (test x))))

@@ -1,7 +1,6 @@
 -- Tokens that nest, with their depth and with the memories that they name; and whole bodies.
-use Rattle.base_lists.proofs.Common.{◌≡◌, ℕ, zero, suc, ◌+◌, ◌≤◌, max, List, [], ◌∷◌, ◌++◌, length, Ok, Bool, true, false, refl, sym, ap, ◌∙◌, arith, rules, append-nil, ◌&&◌, list_all, and_from}
+use Rattle.base_lists.proofs.Common.{◌≡◌, ℕ, zero, suc, ◌+◌, ◌≤◌, max, List, [], ◌∷◌, ◌++◌, length, Ok, Bool, true, false, refl, sym, ap, ◌∙◌, arith, rules, append-nil, ◌&&◌, list_all, and_from, ok_pair}
 use Rattle.wasm_bytes.specs.Prelude.{Each, IsBytes}
-use Rattle.wasm_bytes.proofs.Sized.{ok_pair}
 use Rattle.wasm_tree_spec.specs.Prelude.{BlockType, Instr, the_lemmas, Block, Loop, If, is_memory_zero, memory_zero_all, block_operands, limit, Nesting}
 use Rattle.wasm_tree.specs.declared.types.BlockType.TheVariants as block
 use Rattle.wasm_tree.specs.MemoryZero.{memory_zero}

@@ -1,7 +1,6 @@
 -- A section is read exactly where its content spells what it puts, within the limits.
-use Rattle.base_lists.proofs.Common.{◌≡◌, ℕ, List, [], ◌∷◌, ◌++◌, length, Result, Ok, Err, Bool, true, false, None, ⊎_elim, refl, sym, ap, ◌∙◌, subst, append-nil, eqb-suc-zero, ◌==◌, if◌then◌else◌, cond_is}
+use Rattle.base_lists.proofs.Common.{◌≡◌, ℕ, List, [], ◌∷◌, ◌++◌, length, Result, Ok, Err, Bool, true, false, None, ⊎_elim, refl, sym, ap, ◌∙◌, subst, append-nil, eqb-suc-zero, ◌==◌, if◌then◌else◌, cond_is, bind_ok, err_ok}
 use Rattle.wasm_bytes.specs.Prelude.{Vector, ◌>>=◌, IsBytes}
-use Rattle.wasm_bytes.proofs.Sized.{bind_ok}
 use Rattle.wasm_tree_spec.specs.Prelude.{Imports, Exports, FuncType, imported_funcs, limit}
 use Rattle.wasm_tree.specs.declared.which.Which.TheVariants.{Types, Functions, Tables, Memories, Globals, ElementSegments, DataSegments}
 use Rattle.wasm_read_spec.specs.declared.fault.Fault.{Fault}
@@ -13,7 +12,7 @@ use Rattle.wasm_read_spec.specs.Prelude.{Never, Made, When, Any, Few, Limited, W
 use Rattle.wasm_read_spec.specs.Files.{section_form, small_form}
 use Rattle.wasm_read_spec.specs.Reading.{whole_at}
 use Rattle.wasm_read_spec.specs.Contents.{section_at}
-use Rattle.wasm_read_spec.proofs.Exact.{Exact, err_ok, u32_exact, name_exact, both_exact, mapped_exact, tagged_exact, list_exact, vector_exact}
+use Rattle.wasm_read_spec.proofs.Exact.{Exact, u32_exact, name_exact, both_exact, mapped_exact, tagged_exact, list_exact, vector_exact}
 use Rattle.wasm_read_spec.proofs.ItemLaws.{val_exact, func_type_exact, import_exact, table_exact, limits_exact, global_def_exact, export_exact, elem_exact, data_exact}
 use Rattle.wasm_read_spec.proofs.EntryLaws.{Clear, clear_of, vector_clear, entry_clear, in_ok, codes_sound, codes_complete}
 

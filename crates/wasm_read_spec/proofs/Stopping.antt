@@ -1,9 +1,8 @@
 -- A reader that tells the stops of its bytes, and no others; and how such readers are put together.
-use Rattle.base_lists.proofs.Common.{◌≡◌, ℕ, zero, suc, ◌<◌, List, [], ◌∷◌, ◌++◌, length, Result, Ok, Err, Bool, true, false, cond, ◌⊎◌, inl, inr, ⊎_elim, refl, sym, ap, subst, arith, cases_lt, lt-ltb, le-ltb, nat_lt, ◌==◌}
+use Rattle.base_lists.proofs.Common.{◌≡◌, ℕ, zero, suc, ◌<◌, List, [], ◌∷◌, ◌++◌, length, Result, Ok, Err, Bool, true, false, cond, ◌⊎◌, inl, inr, ⊎_elim, refl, sym, ap, subst, arith, cases_lt, lt-ltb, le-ltb, nat_lt, ◌==◌, ok_pair}
 use Rattle.wasm_bytes.specs.declared.cursor.Wrong.{Wrong}
 use Rattle.wasm_bytes.specs.Prelude.{Then, Each, ◌>>=◌, IsBytes}
 use Rattle.wasm_bytes.proofs.Lists.{small_rest}
-use Rattle.wasm_bytes.proofs.Sized.{ok_pair}
 use Rattle.wasm_tree_spec.specs.Prelude.{Which, limit}
 use Rattle.wasm_read_spec.specs.declared.fault.Fault.{Fault}
 use Rattle.wasm_read_spec.specs.declared.fault.Fault.TheVariants.{Malformed, Unsupported, Limit}

@@ -1,9 +1,8 @@
 -- Tokens: what is read is what is spelled.
-use Rattle.base_lists.proofs.Common.{◌≡◌, ℕ, ◌<◌, ◌≤◌, List, [], ◌∷◌, ◌++◌, Result, Ok, Bool, true, false, cond, Option, Some, None, ◌⊎◌, inl, inr, ⊎_elim, refl, ap, ◌∙◌, subst, arith, ℤ, pos, negsuc, ◌-ℤ◌, ints, cases_lt, eqb-true, ne_eqb, ◌&&◌, nat_lt, and_false, cond_is}
+use Rattle.base_lists.proofs.Common.{◌≡◌, ℕ, ◌<◌, ◌≤◌, List, [], ◌∷◌, ◌++◌, Result, Ok, Bool, true, false, cond, Option, Some, None, ◌⊎◌, inl, inr, ⊎_elim, refl, ap, ◌∙◌, subst, arith, ℤ, pos, negsuc, ◌-ℤ◌, ints, cases_lt, eqb-true, ne_eqb, ◌&&◌, nat_lt, and_false, cond_is, bind_ok, ok_pair, err_ok}
 use Rattle.std.proofs.Common.{le-ltb, eqb, leb}
 use Rattle.wasm_bytes.specs.Prelude.{Signed, ◌>>=◌, IsBytes, signed_at}
 use Rattle.wasm_bytes.proofs.Lists.{Took}
-use Rattle.wasm_bytes.proofs.Sized.{bind_ok, ok_pair}
 use Rattle.wasm_tree_spec.specs.Prelude.{ValType, BlockType, Value, BrTable, SelectTyped, I32Const, I64Const, RefNull}
 use Rattle.wasm_tree.specs.declared.types.BlockType.TheVariants.{Empty, Index}
 use Rattle.wasm_read_spec.specs.declared.fault.Fault.{Fault}
@@ -15,7 +14,7 @@ use Rattle.wasm_read_spec.specs.Values.{val_of_code}
 use Rattle.wasm_read_spec.specs.Tokens.{typed, arg_of, arg_in, arg_form}
 use Rattle.wasm_read_spec.specs.Reading.{index_of, block_type_at}
 use Rattle.wasm_read_spec.specs.BodyReading.{arg_at, memory_at, simple_of, prefixed_at, token_at}
-use Rattle.wasm_read_spec.proofs.Exact.{Exact, err_ok, byte_exact, u32_exact, s32_exact, s33_exact, s64_exact, just_exact, never_exact, both_exact, made_exact, chosen_exact, when_exact, tagged_exact, list_exact}
+use Rattle.wasm_read_spec.proofs.Exact.{Exact, byte_exact, u32_exact, s32_exact, s33_exact, s64_exact, just_exact, never_exact, both_exact, made_exact, chosen_exact, when_exact, tagged_exact, list_exact}
 use Rattle.wasm_read_spec.proofs.ItemLaws.{val_exact, ref_exact}
 
 -- ---- block types

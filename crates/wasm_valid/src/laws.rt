@@ -1,6 +1,6 @@
 // Laws of valid modules.
 
-ghost use Rattle.std.specs.Prelude.{◌↔◌, ◌<◌, ℕ, true, IsTrue};
+ghost use Rattle.std.specs.Prelude.{IsTrue};
 ghost use Rattle.wasm_tree.specs.declared.module.Module.{Module};
 ghost use Rattle.wasm_valid.specs.declared.kinds.ItemKind.{ItemKind};
 ghost use Rattle.wasm_tree.specs.MemoryZero.{memory_zero_funcs};

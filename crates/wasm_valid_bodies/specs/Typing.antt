@@ -6,6 +6,7 @@ use Rattle.wasm_tree_spec.specs.Prelude.{RefType, ValType, I32, I64, Ref, FuncTy
 use Rattle.wasm_tree.specs.declared.types.RefType.TheVariants.{Func, Extern}
 use Rattle.wasm_tree.specs.declared.types.BlockType.TheVariants.{Empty, Index}
 use Rattle.wasm_valid_bodies.specs.Ops.{un_operand, un_result, bin_operand, bin_result, load_type, load_width, store_type, store_width}
+pub use Rattle.base_lists.specs.Options.{only}
 
 -- The type of an operand; `None` is the bottom (section 3.3, the operand types of instruction
 -- types).
@@ -140,10 +141,6 @@ select_of (t ∷ u ∷ ts) = None
 abbrev pub is_func : RefType → Bool
 is_func Func = true
 is_func Extern = false
-
--- The value, if the test is true.
-abbrev pub only : {A : Type 0} → Bool → Option A → Option A
-only b m = cond b m None
 
 abbrev pub both : Option RefType → Option RefType → Bool
 both None b = false

@@ -1,12 +1,11 @@
 -- Two related stores stay related where a module is added to one of them and its segments write only what is related to nothing.
-use Rattle.base_lists.proofs.Common.{◌≡◌, ℕ, suc, ◌<◌, ◌≤◌, List, [], ◌∷◌, ◌++◌, length, Option, Some, refl, subst, arith, slice_get, slice_get_within, append-nil, append_left, append_at_left, set_other}
+use Rattle.base_lists.proofs.Common.{◌≡◌, ℕ, suc, ◌<◌, ◌≤◌, List, [], ◌∷◌, ◌++◌, length, Option, Some, refl, subst, arith, slice_get, slice_get_within, append-nil, append_left, append_at_left, set_other, number_is}
 use Rattle.wasm_tree_spec.specs.Prelude.{Space, Functions, ElementSegments, DataSegments, ElemSeg, DataSeg, Module}
 use Rattle.wasm_meaning.specs.Prelude.{Inst, Store, ExternalValue, Filled, PlacedSegment, numbers, const_value, store_with, joined_stores, segments_in, run_elem_with, run_data_with, and_then, one_by_one, Added, added, own_segments, next_inst}
 use Rattle.index_remap.specs.Prelude.{Pairing, BothRel, both, StoreRel, turned, HasNoPartner}
 use Rattle.world_contents_proof.specs.Added.{WritesAlone}
 use Rattle.world_simulation.proofs.Copied.{Kept, nothing_kept}
 use Rattle.world_simulation.proofs.Ordered.{in_first, in_second, first_apart, second_apart, kept_rel}
-use Rattle.world_simulation.proofs.Places.{number_is}
 
 -- ---- what is added comes behind ----
 

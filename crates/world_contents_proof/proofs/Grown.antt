@@ -1,11 +1,9 @@
 -- Two modules, each alone, of which the second has what the first has at the same places, and perhaps more behind it: index spaces, definitions and segments.
-use Rattle.base_lists.proofs.Common.{◌≡◌, ℕ, suc, ◌+◌, ◌-◌, ◌<◌, ◌≤◌, List, [], ◌∷◌, ◌++◌, map, length, Some, true, ◌⊎◌, inl, inr, refl, sym, ap, ap₂, subst, ◌∙◌, arith, slice_get, slice_index, cases_lt, ltb-true, slice_get_there, length-numbers, numbers_at, numbers_index, append_left, append_right, append_at_left, map_at}
+use Rattle.base_lists.proofs.Common.{◌≡◌, ℕ, suc, ◌+◌, ◌-◌, ◌<◌, ◌≤◌, List, [], ◌∷◌, ◌++◌, map, length, Some, true, ◌⊎◌, inl, inr, refl, sym, ap, ap₂, subst, ◌∙◌, arith, slice_get, slice_index, cases_lt, ltb-true, slice_get_there, length-numbers, numbers_at, numbers_index, append_left, append_right, append_at_left, map_at, length-map, get_rel, opt_at}
 use Rattle.std.proofs.Common.{length-append}
 use Rattle.wasm_meaning.specs.Prelude.{numbers, PlacedSegment, segments_in, own_count, defined_count, Inst, Environment}
 use Rattle.index_remap.specs.Prelude.{OptRel, some, ListRel, has}
-use Rattle.index_remap.proofs.Rel.{get_rel}
 use Rattle.wasm_tree_spec.specs.Prelude.{Space, ElemSeg, Module}
-use Rattle.world_simulation.proofs.Places.{opt_at, map_length}
 use Rattle.world_simulation.proofs.Declared.{last_segments}
 use Rattle.world_simulation.specs.Prelude.{InOrder, both, ends, only_second, ElemAlone, Partners, Instantiated, one}
 use Rattle.world_simulation.specs.Definitions as partners
@@ -79,7 +77,7 @@ pub all_in_step : {A : Type 0} (partners : PlacedSegment A → PlacedSegment A �
     ((x : ℕ) (e : A) → slice_get es x ≡ Some e → partners (record { part = 0; inst = i; address = 0 + x; segment = e }) (record { part = 0; inst = j; address = 0 + x; segment = new e })) →
     InOrder partners first second (segments_in 0 i xs es ++ []) (segments_in 0 j ys us ++ [])
 all_in_step partners first second i j new more es us xs ys xs_are ys_are us_are last each =
-    let size : length es + length more ≡ length us = (let e = ap length us_are ∙ length-append (map new es) more in let c = map_length new es in omega arith) in
+    let size : length es + length more ≡ length us = (let e = ap length us_are ∙ length-append (map new es) more in let c = length-map es new in omega arith) in
     rw xs_are
     (rw (← ap₂ (λ ns us. segments_in 0 j ns us ++ []) (ap (numbers 0) size ∙ sym ys_are) (sym us_are))
     (in_step partners first second i j new more 0 es last each))

@@ -1,11 +1,10 @@
 -- What constant expressions of a module alone denote, over the entities of the environment, which denote themselves.
-use Rattle.base_lists.proofs.Common.{◌≡◌, ℕ, zero, suc, ◌+◌, ◌<◌, List, [], ◌∷◌, length, Option, Some, None, Bool, true, false, cond, ◌&&◌, refl, arith, option_and_then, slice_get, nat_eq, nat_lt, nat_tests, and_then_is, same_Some, slice_get_within, slice_get_none}
+use Rattle.base_lists.proofs.Common.{◌≡◌, ℕ, zero, suc, ◌+◌, ◌<◌, List, [], ◌∷◌, length, Option, Some, None, Bool, true, false, cond, ◌&&◌, refl, arith, option_and_then, slice_get, nat_eq, nat_lt, nat_tests, and_then_is, same_Some, slice_get_within, slice_get_none, self_rel, both_in}
 use Rattle.wasm_tree_spec.specs.Prelude.{Space, Functions, Tables, Memories, Globals, ConstExpr, Import, Module}
 use Rattle.wasm_tree.specs.declared.module.ConstExpr.TheVariants as const
 use Rattle.wasm_meaning.specs.Prelude.{Inst, Val, has_kind, places, space_index, imports_of, Environment, own_funcs, own_memories, own_globals, own_count, const_value, value_of, value_of_read, own_store}
 use Rattle.index_remap.specs.Prelude.{Pairing, BothRel, StoreRel, passed}
 use Rattle.world_simulation.specs.Prelude.{one, read_in, SharesOwn}
-use Rattle.world_simulation.proofs.Places.{self_rel, both_in}
 use Rattle.world_simulation.proofs.Alone.{read_is}
 use Rattle.world_simulation.proofs.Owned.{own_funcs_rel, own_tables_rel, own_globals_rel}
 use Rattle.world_simulation.proofs.Stored.{type_same, own_same}

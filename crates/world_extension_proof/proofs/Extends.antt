@@ -3,7 +3,7 @@ use Rattle.base_lists.proofs.Common.{◌≡◌, ℕ, ◌≤◌, List, length, re
 use native.Mathlib.Decide.{ℕ_discrete}
 use Rattle.wasm_meaning.specs.Prelude.{Table, Memory, Global, Store, Change, Keep, SetGlobal, SetMemory, SetTable, DropElem, DropData, changed, no_items, no_bytes}
 use Rattle.world_extension_proof.specs.Extends.{TableExtends, MemoryExtends, GlobalExtends, EachExtends, Extends}
-pub use Rattle.world_simulation.proofs.Copied.{overwritten_length}
+pub use Rattle.base_lists.proofs.Common.{overwritten_length}
 
 pub table_stays : (t : Table) → TableExtends t t
 table_stays t = record { type = refl; most = refl; size = omega arith }

@@ -1,5 +1,5 @@
 -- A module that is added extends the store, and so does a step under a loader.
-use Rattle.base_lists.proofs.Common.{◌≡◌, ℕ, ◌≤◌, List, [], ◌∷◌, ◌++◌, length, Option, Some, None, Bool, true, false, cond, option_and_then, unwrap_or, refl, ap, subst, ◌∙◌, arith, slice_get, append_at_left, and_then_is, same_Some}
+use Rattle.base_lists.proofs.Common.{◌≡◌, ℕ, ◌≤◌, List, [], ◌∷◌, ◌++◌, length, Option, Some, None, Bool, true, false, cond, option_and_then, unwrap_or, refl, ap, subst, ◌∙◌, arith, slice_get, append_at_left, and_then_is, same_Some, overwritten_length}
 use Rattle.wasm_tree_spec.specs.Prelude.{ConstExpr, ElemMode, ElemSeg, DataMode, DataSeg, Module}
 use Rattle.wasm_tree.specs.declared.module.ElemMode.TheVariants as elem
 use Rattle.wasm_tree.specs.declared.module.DataMode.TheVariants as data'
@@ -8,7 +8,7 @@ use Rattle.wasm_meaning.specs.Loader.{loader_with, secondary_added, call_answere
 use Rattle.index_remap.specs.Prelude.{IsBegun}
 use Rattle.world_simulation.specs.Prelude.{offset_in}
 use Rattle.world_contents_proof.proofs.Added.{added_is}
-use Rattle.world_simulation.proofs.Copied.{then_holds, overwritten_length}
+use Rattle.world_simulation.proofs.Copied.{then_holds}
 use Rattle.wasm_meaning.proofs.Outcomes.{stopped}
 use Rattle.world_extension_proof.specs.Extends.{TableExtends, MemoryExtends, GlobalExtends, EachExtends, Extends, StaysIn, Kept, AddedModulesExtend, LoaderKept, LoadersExtend}
 use Rattle.world_extension_proof.proofs.Extends

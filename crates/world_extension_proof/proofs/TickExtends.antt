@@ -1,13 +1,13 @@
 -- Each step of a run that was instantiated extends its store.
-use Rattle.base_lists.proofs.Common.{◌≡◌, ℕ, List, [], ◌∷◌, Option, Some, None, Bool, true, false, cond, option_and_then, slice_get, refl, sym, subst, ◌∙◌, arith, nat_eq, length-append}
+use Rattle.base_lists.proofs.Common.{◌≡◌, ℕ, List, [], ◌∷◌, Option, Some, None, Bool, true, false, cond, option_and_then, slice_get, refl, sym, subst, ◌∙◌, arith, nat_eq, length-append, with_there, either_all, overwritten_length}
 use Rattle.wasm_meaning.specs.Prelude.{Outcome, Gives, Traps, IllTyped, bind, overwrite, copies, Val, RefVal, Ref, Table, Memory, Global, Func, Code, Own, Placeholder, Store, Level, Frame, Entry, Running, Caller, Host, Starter, Mark, Opening, Waiting, Ended, Growing, Growth, GrowMemory, GrowTable, Change, SetGlobal, Act, Goes, Calls, AsksGrow, Ends, Next, Ran, CallsOwn, WaitsGrowth, CallsPlaceholder, EndsCall, Inst, pop_typed, null_of, memory_may_grow, table_may_grow, type_at, func_ref, changed, give_levels, give, enter, enter_at, act, perform, step, to_mark, Shown, ExternalValue, FuncAt, TableAt, MemoryAt, GlobalAt, func_of, received, received_ref, received_all, Filled, LoaderWorld, placeholders_of, transition, Move, Call, Invoke, Take, Answer, Refuse, Grant, Deny, Get, Size, Set, Extend, Phase, Fresh, Pending, Opened, Closed, Run, Transition, Steps, Makes, made, viewed_at, place_at, trapped_to, run_after, called, is_mark, delivered, answered, refused, grown_table, granted, decided, shows, got, size_of, does, byte_of, set, extended, moved, at_entries, or_bad, or_closed, next_move, nothing_in, open_next, is_taken_closed, closed_move, in_phase, transition_at, StepsWriteWhatTheyTouch}
 use Rattle.wasm_tree_spec.specs.Prelude.{same_func_type}
 use Rattle.wasm_meaning.specs.Loader.{call_answered}
 use Rattle.wasm_meaning.specs.Run.{grown_memory, with_change}
 use Rattle.index_remap.specs.Prelude.{IsBegun}
-use Rattle.index_remap.proofs.Rel.{IfThere, absent, present, with_there, either_all}
+use Rattle.base_lists.specs.Related.{IfThere, absent, present}
 use Rattle.world_extension_proof.specs.Extends.{TableExtends, MemoryExtends, Extends, Kept, StepsExtend, CallsExtend}
-use Rattle.world_extension_proof.proofs.Extends.{stays, and_then, Extending, global, memory, table, changed_extends, overwritten_length}
+use Rattle.world_extension_proof.proofs.Extends.{stays, and_then, Extending, global, memory, table, changed_extends}
 use Rattle.world_extension_proof.proofs.StepExtends.{Grows, act_all}
 use Rattle.wasm_meaning.proofs.Outcomes.{with_is, with_found, cond_all, ill_typed, AllOf, stopped, just}
 

@@ -1,11 +1,10 @@
 -- Each index of a module that is added names what the module says, and so it does in each store that extends that one.
-use Rattle.base_lists.proofs.Common.{◌≡◌, ◌∙◌, refl, sym, ap, subst, ℕ, zero, suc, ◌+◌, ◌≤◌, List, [], ◌∷◌, ◌++◌, map, length, Option, Some, None, Bool, true, false, ◌&&◌, ⊎_elim, arith, slice_get, true≢false, nat_le, cons_option, leb-true, le-leb, and_parts, and_from, same_Some, cond_is, numbers_at, and_then_is, all_there_at, unwrap_or_false_is, append_at_left, append_from, append_right, map_at, map_from, slice_get_within, length-map}
+use Rattle.base_lists.proofs.Common.{◌≡◌, ◌∙◌, refl, sym, ap, subst, ℕ, zero, suc, ◌+◌, ◌≤◌, List, [], ◌∷◌, ◌++◌, map, length, Option, Some, None, Bool, true, false, ◌&&◌, ⊎_elim, arith, slice_get, true≢false, nat_le, cons_option, leb-true, le-leb, and_parts, and_from, same_Some, cond_is, numbers_at, and_then_is, all_there_at, unwrap_or_false_is, append_at_left, append_from, append_right, map_at, map_from, slice_get_within, length-map, copies_length}
 use Rattle.std.proofs.Common.{filter_map}
 use Rattle.base_lists.specs.Options.{◌>>=◌}
 use Rattle.wasm_tree_spec.specs.Prelude.{same_func_type, same_ref, same_type, Functions, Tables, Memories, Globals, RefType, ValType, FuncType, Limits, TableType, GlobalType, Import, ImportDesc, Module, func_of, table_of, memory_of, global_of, imported_funcs, imported_tables, imported_memories, imported_globals}
 use Rattle.wasm_tree.specs.declared.module.ImportDesc.TheVariants as im
 use Rattle.wasm_meaning.specs.Prelude.{Inst, Func, Table, Memory, Global, Store, null_of, type_of_func, ExternalValue, FuncAt, TableAt, MemoryAt, GlobalAt, address_of, numbers, new_func, global_with, const_value, import_type, joined_stores, same_bool, meets_most, meets, is_match, Added, addresses_of, next_inst, all_match, added_as}
-use Rattle.wasm_meaning.proofs.Slices.{copies_length}
 use Rattle.index_remap.proofs.SlotCalls.{func_type_self}
 use Rattle.world_simulation.specs.Prelude.{new_table, new_memory}
 use Rattle.world_contents_proof.proofs.Added.{added_is}

@@ -1,5 +1,5 @@
 -- A loader that supplies nothing begins as its primary module alone is instantiated.
-use Rattle.base_lists.proofs.Common.{◌≡◌, ℕ, suc, ◌+◌, List, [], ◌∷◌, ◌++◌, map, length, filter, filter_map, Option, Some, None, is_some, Bool, true, false, cond, refl, sym, ap₂, ◌∙◌, arith, append-nil, add-zero, zero-add, slice_get, unwrap_or, fun_ext}
+use Rattle.base_lists.proofs.Common.{◌≡◌, ℕ, suc, ◌+◌, List, [], ◌∷◌, ◌++◌, map, length, filter, filter_map, Option, Some, None, is_some, Bool, true, false, cond, refl, sym, ap₂, ◌∙◌, arith, append-nil, add-zero, zero-add, slice_get, unwrap_or, fun_ext, add_next}
 use Rattle.base_lists.proofs.Filtered.{at_places, chosen_twice}
 use Rattle.base_lists.specs.Options.{◌>>=◌}
 use Rattle.wasm_tree_spec.specs.Prelude.{Space, Functions, Tables, Memories, Globals, ConstExpr, Import, ImportDesc, ExportDesc, Module, space_of_import, same_space}
@@ -14,7 +14,7 @@ use Rattle.world_simulation.proofs.Alone.{key_is, thing_is, space_is}
 use Rattle.world_contents_proof.proofs.Added.{joined_right}
 use Rattle.world_contents_proof.proofs.OwnValues.{R, shares, own_like, const_same}
 use Rattle.world_simulation.proofs.Single.{all_matched}
-use Rattle.world_simulation.proofs.Instancing.{inst_is, add_next}
+use Rattle.world_simulation.proofs.Instancing.{inst_is}
 
 -- ---- what imports denote ----
 

@@ -1,9 +1,9 @@
 -- A loader that supplies something begins where its primary module alone is not linked; one that supplies nothing begins as that module.
-use Rattle.base_lists.proofs.Common.{◌≡◌, refl, List, [], ◌∷◌, Some, None, Bool, true, false}
+use Rattle.base_lists.proofs.Common.{◌≡◌, refl, List, [], ◌∷◌, Some, None, Bool, true, false, is_some}
 use Rattle.base_lists.specs.Options.{◌>>=◌}
 use Rattle.wasm_tree_spec.specs.Prelude.{FuncType, Import, Module}
 use Rattle.wasm_tree.specs.declared.module.ImportDesc.TheVariants as im
-use Rattle.wasm_meaning.specs.Prelude.{Func, Placeholder, is_there, links, instantiate, Secondary, LoaderWorld, begun_under}
+use Rattle.wasm_meaning.specs.Prelude.{Func, Placeholder, links, instantiate, Secondary, LoaderWorld, begun_under}
 use Rattle.world_loader_proof.specs.Loaded.{primary_world}
 use Rattle.world_loader_proof.specs.Stubbed.{ImportsThemLast, stubbed, placeholders_begun}
 
@@ -24,14 +24,14 @@ loading secondaries = record { primary = importing (one_import ∷ []); secondar
 abbrev a_loader : LoaderWorld
 a_loader = loading (record { «module» = importing []; placeholders = ((112 ∷ [], 48 ∷ []), nothing) ∷ [] } ∷ [])
 
-it_is_supplied : is_there (begun_under [] a_loader) ≡ true
+it_is_supplied : is_some (begun_under [] a_loader) ≡ true
 it_is_supplied = refl
 
 alone_it_is_not_linked : links [] (primary_world a_loader) ≡ false
 alone_it_is_not_linked = refl
 
 -- where nothing is supplied neither begins
-it_is_not_supplied : is_there (begun_under [] (loading [])) ≡ false
+it_is_not_supplied : is_some (begun_under [] (loading [])) ≡ false
 it_is_not_supplied = refl
 
 nor_is_it_linked : links [] (primary_world (loading [])) ≡ false

@@ -1,5 +1,5 @@
 -- A loader begins as one whose primary module has functions of its own in place of the placeholders.
-use Rattle.base_lists.proofs.Common.{◌≡◌, ℕ, suc, ◌+◌, List, [], ◌∷◌, ◌++◌, map, length, Option, Some, None, true, cond, refl, ap, arith, append_assoc, append-nil, slice_get, length-append, length-map, add-zero, same_Some, filter_map-append, numbers_append, append_right}
+use Rattle.base_lists.proofs.Common.{◌≡◌, ℕ, suc, ◌+◌, List, [], ◌∷◌, ◌++◌, map, length, Option, Some, None, true, cond, refl, ap, arith, append_assoc, append-nil, slice_get, length-append, length-map, add-zero, same_Some, filter_map-append, numbers_append, append_right, opt_self, add_next}
 use Rattle.base_lists.specs.Every.{Every}
 use Rattle.base_lists.specs.Options.{◌>>=◌}
 use Rattle.wasm_tree_spec.specs.Prelude.{Space, same_space, Functions, FuncType, Unreachable, ConstExpr, Import, Module}
@@ -8,13 +8,11 @@ use Rattle.wasm_meaning.specs.Sequential.{own_external_value}
 use Rattle.index_remap.specs.Prelude.{StoreRel}
 use Rattle.index_remap.proofs.SlotCalls.{func_type_self}
 use Rattle.world_loader_proof.specs.Stubbed.{ArePlaceholders, ImportsThemLast, stub, stubbed, placeholders_in, LoadersAddAsStubbed, LoadersBeginAsStubbed}
-use Rattle.world_simulation.proofs.Places.{opt_self}
 use Rattle.world_simulation.proofs.Alone.{key_is}
 use Rattle.world_contents_proof.proofs.Added.{joined_right}
 use Rattle.world_simulation.proofs.Single.{thing_rel, match_same}
 use Rattle.world_contents_proof.proofs.OwnValues.{R, shares, own_like}
 use Rattle.world_contents_proof.proofs.FuncsAside.{segments_with, segments_funcs}
-use Rattle.world_simulation.proofs.Instancing.{add_next}
 use Rattle.std.proofs.Common.{add-suc}
 use lib.Seq.{drop-append_seam, drop-append-add}
 

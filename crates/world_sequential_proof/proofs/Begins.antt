@@ -1,9 +1,8 @@
 -- Until the first start the parts are added one after the other, their segments with them, and then the stores stand beside one another.
-use Rattle.base_lists.proofs.Common.{◌≡◌, ◌∙◌, refl, sym, ap, subst, ℕ, suc, ◌+◌, ◌-◌, ◌<◌, ◌≤◌, List, [], ◌∷◌, ◌++◌, map, length, Some, None, false, inl, inr, arith, drop, slice_get, length-append, append_left, append_right, append_at_left, append_from, map_from}
+use Rattle.base_lists.proofs.Common.{◌≡◌, ◌∙◌, refl, sym, ap, subst, ℕ, suc, ◌+◌, ◌-◌, ◌<◌, ◌≤◌, List, [], ◌∷◌, ◌++◌, map, length, Some, None, false, inl, inr, arith, drop, slice_get, length-append, append_left, append_right, append_at_left, append_from, map_from, each_rel, append_rel, self_rel}
 use Rattle.wasm_tree_spec.specs.Prelude.{Module}
 use Rattle.wasm_meaning.specs.Prelude.{Text, Inst, Func, Own, Store, Opening, Part, module_at, Environment, Offer, ExternalValue, flat, owned_of, World, own_store, const_value, joined_stores, all_there, starts_of, seen_as, segments, Pending, Move, Run, StartDependsOnlyOnItsFrames, SequentialRun, view_over, own_segments, goes_on, tick_sequential, HasNoActive}
 use Rattle.index_remap.specs.Prelude.{BothRel, ListRel, CodeIsRelatedToItself, RelatedTicksAgree, OthersStay}
-use Rattle.index_remap.proofs.Rel.{each_rel, append_rel}
 use Rattle.world_simulation.specs.Prelude.{OwnCorrespond}
 use Rattle.world_extension_proof.specs.Extends.{TableExtends, MemoryExtends, GlobalExtends, EachExtends, Extends, StepsExtend}
 use Rattle.world_extension_proof.proofs.Extends.{table_stays, memory_stays, global_stays}
@@ -16,7 +15,6 @@ use Rattle.world_sequential_proof.proofs.Beside.{both_list, Beside, stores_relat
 use Rattle.world_sequential_proof.proofs.Filling.{self_at, own_fill}
 use Rattle.world_sequential_proof.proofs.Given.{IsGiven, IsTurn, starts_from, filled_in, turned}
 use Rattle.world_sequential_proof.proofs.Waiting.{within, still_reached, more_values, adds_within}
-use Rattle.world_simulation.proofs.Places.{self_rel}
 
 -- ---- joined stores ----
 

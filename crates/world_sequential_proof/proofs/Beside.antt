@@ -1,13 +1,11 @@
 -- The store of parts that are instantiated sequentially beside the store of all parts at once: what the first parts have corresponds, and the rest is as it was allocated.
-use Rattle.base_lists.proofs.Common.{◌≡◌, ◌∙◌, refl, ap, ℕ, suc, ◌+◌, ◌-◌, ◌<◌, ◌≤◌, List, [], ◌++◌, length, Some, true, inl, inr, arith, slice_get, cases_lt, length-append, append_left, append_right, append_from, zero-add, slice_get_there}
+use Rattle.base_lists.proofs.Common.{◌≡◌, ◌∙◌, refl, ap, ℕ, suc, ◌+◌, ◌-◌, ◌<◌, ◌≤◌, List, [], ◌++◌, length, Some, true, inl, inr, arith, slice_get, cases_lt, length-append, append_left, append_right, append_from, zero-add, slice_get_there, both_map, same_there, both_in, self_rel}
 use Rattle.wasm_tree_spec.specs.Prelude.{Space, Functions, Tables, Memories, Globals, ElementSegments, DataSegments, Module}
 use Rattle.wasm_meaning.specs.Prelude.{Inst, Func, Memory, Data, Store, Part, module_at, Environment, own_store, base, joined_stores, part_store, defined_before}
 use Rattle.index_remap.specs.Prelude.{Pairing, BothRel, both, ListRel, FuncRel, TableRel, GlobalRel, ElemRel, StoreRel, CodeIsRelatedToItself}
 use Rattle.world_sequential_proof.proofs.Reached.{is_reached, reaching, reached_at, reached_is}
 use Rattle.world_sequential_proof.proofs.OnePart.{Sized}
 use Rattle.world_sequential_proof.proofs.Closed.{table_more, global_more, elem_more, Closed, Sound, own_func, code, func_self}
-use Rattle.index_remap.proofs.Rel.{both_map, same_there}
-use Rattle.world_simulation.proofs.Places.{both_in, self_rel}
 use Rattle.world_simulation.proofs.Stored.{type_same, own_same}
 use Rattle.wasm_meaning.proofs.Counts.{defined_next}
 

@@ -1,15 +1,13 @@
 -- A store that refers to nothing beyond what the environment and the first parts have, and what a part adds to it.
-use Rattle.base_lists.proofs.Common.{◌≡◌, refl, ℕ, suc, ◌<◌, List, [], ◌∷◌, Some, true, slice_get, and_then_is, same_Some, all_there_back}
+use Rattle.base_lists.proofs.Common.{◌≡◌, refl, ℕ, suc, ◌<◌, List, [], ◌∷◌, Some, true, slice_get, and_then_is, same_Some, all_there_back, each_rel, copies_rel, then_same_is, opt_self, self_rel, all_rel, maps_rel}
 use Rattle.wasm_tree_spec.specs.Prelude.{Space, Functions, Tables, Memories, Globals, ElementSegments, DataSegments, FuncType, Instr, ConstExpr, Module}
 use Rattle.wasm_tree.specs.declared.module.ConstExpr.TheVariants as const
 use Rattle.wasm_meaning.specs.Prelude.{base, RefVal, Val, Inst, Func, Code, Own, Table, Global, Elem, Store, Part, Environment, new_func, store_with, const_value}
 use Rattle.index_remap.specs.Prelude.{Pairing, OptRel, none, some, ListRel, nil, cons, RefRel, func, extern, ValRel, number, reference, FuncRel, defined, own, TableRel, GlobalRel, ElemRel, NamesItself, CodeIsRelatedToItself}
-use Rattle.index_remap.proofs.Rel.{each_rel, copies_rel}
 use Rattle.world_sequential_proof.proofs.ExternalValues.{space_in}
 use Rattle.world_sequential_proof.proofs.Reached.{count_upto, is_reached, reaching, reached_at}
 use Rattle.world_simulation.proofs.Owned.{null_rel}
 use Rattle.world_simulation.proofs.Allocated.{new_table, adds_with}
-use Rattle.world_simulation.proofs.Places.{then_same, opt_self, self_rel, all_rel, maps_rel}
 use Rattle.world_simulation.proofs.Stored.{global_rel, elem_rel}
 
 -- ---- more is reached later ----
@@ -83,8 +81,8 @@ module _ (law : CodeIsRelatedToItself) (env : Environment) (parts : List Part) (
   value_self (const.I32 z) = some number
   value_self (const.I64 z) = some number
   value_self (const.Null t) = some (reference (null_rel R t))
-  value_self (const.Func f) = then_same (slice_get i.funcs f) (λ a e. some (reference (func (some (reached_at env parts p Functions a (reaches.spaces Functions f a e))))))
-  value_self (const.Global x) = then_same (slice_get i.globals x) (λ a _. then_same (slice_get globals a) (λ g e. some (values a g e)))
+  value_self (const.Func f) = then_same_is (slice_get i.funcs f) (λ a e. some (reference (func (some (reached_at env parts p Functions a (reaches.spaces Functions f a e))))))
+  value_self (const.Global x) = then_same_is (slice_get i.globals x) (λ a _. then_same_is (slice_get globals a) (λ g e. some (values a g e)))
 
   -- what a part adds refers to nothing beyond
   pub added_sound : (t : Store) → store_with (const_value globals i) m i ≡ Some t → (n : ℕ) (f : Func) → slice_get t.funcs n ≡ Some f → Sound env parts p f

@@ -1,5 +1,5 @@
 -- The addresses of a part's imports are lower than those of what it defines, and these lower than those of what later parts define.
-use Rattle.base_lists.proofs.Common.{◌≡◌, ◌∙◌, sym, ap, ℕ, suc, ◌+◌, ◌-◌, ◌<◌, List, length, Some, ◌⊎◌, inl, inr, arith, option_and_then, slice_get, true, and_then_is, all_there_at, append_at_left, place_back}
+use Rattle.base_lists.proofs.Common.{◌≡◌, ◌∙◌, sym, ap, ℕ, suc, ◌+◌, ◌-◌, ◌<◌, List, length, Some, ◌⊎◌, inl, inr, arith, option_and_then, slice_get, true, and_then_is, all_there_at, append_at_left, place_back, number_is}
 use Rattle.wasm_tree_spec.specs.Prelude.{Space, Import, ImportDesc, Module, index_of_export, space_of_export, space_of_import}
 use Rattle.wasm_meaning.specs.Prelude.{Pair, Inst, walk_on, walk, Part, Site, Entity, End, Defined, Outside, imports_of, module_at, import_at, pair_of, import_step, end_of, sites, has_kind, Environment, ExternalValue, OwnKey, defined_count, own_count, base, external_value_at, address_of, own_key_of, own_key, external_value_of, imported_external_value, numbers, JoinsEarlier}
 use Rattle.world_simulation.proofs.Defined.{defined_at}
@@ -13,7 +13,6 @@ use Rattle.merge_valid_proof.specs.Ended.{is_external}
 use Rattle.merge_valid_proof.proofs.Entities.{import_external}
 use Rattle.base_lists.specs.Places.{places}
 use Rattle.world_simulation.proofs.Instancing.{IsInst, is_space, entry_at, imports, defines}
-use Rattle.world_simulation.proofs.Places.{number_is}
 use Rattle.merge_valid_proof.proofs.Linked.{import_site}
 use Rattle.merge_valid_proof.proofs.Same.{kind_is}
 use Rattle.wasm_meaning.proofs.Counts.{defined_next}

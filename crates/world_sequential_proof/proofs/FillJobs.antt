@@ -1,10 +1,9 @@
 -- The segments of parts, of elements or of data, as jobs.
-use Rattle.base_lists.proofs.Common.{◌≡◌, ◌∙◌, refl, sym, ap, ℕ, add-zero, zero-add, suc, ◌+◌, ◌<◌, List, [], ◌∷◌, ◌++◌, map, length, Option, Some, Bool, false, arith, unwrap_or, slice_get, map-append, and_then_is}
+use Rattle.base_lists.proofs.Common.{◌≡◌, ◌∙◌, refl, sym, ap, ℕ, add-zero, zero-add, suc, ◌+◌, ◌<◌, List, [], ◌∷◌, ◌++◌, map, length, Option, Some, Bool, false, arith, unwrap_or, slice_get, map-append, and_then_is, add_next}
 use Rattle.base_lists.specs.Options.{◌>>=◌}
 use Rattle.wasm_tree_spec.specs.Prelude.{ConstExpr, Module}
 use Rattle.wasm_meaning.specs.Prelude.{Val, Inst, Part, module_at, Environment, PlacedSegment, segments_in, value_of}
 use Rattle.wasm_meaning.specs.Environment.{any_of}
-use Rattle.world_simulation.proofs.Instancing.{add_next}
 use Rattle.world_simulation.specs.Prelude.{offset_in}
 use Rattle.world_sequential_proof.proofs.FillRuns.{Lists, Job, Skip, runs, rest_jobs, LowJob, LowJobs, low_none, low_more, Kept, KeptAll, kept_none, kept_more}
 

@@ -1,10 +1,9 @@
 -- The store of all parts at once is what the first of them add, then what the rest add.
-use Rattle.base_lists.proofs.Common.{◌≡◌, ◌∙◌, sym, ap, ℕ, zero, suc, ◌+◌, ◌-◌, ◌<◌, ◌≤◌, List, [], ◌∷◌, length, Option, Some, None, append_assoc, arith, add-zero, zero-add, slice_get, slice_get_there, append-nil, length-append, and_then_is, same_Some}
+use Rattle.base_lists.proofs.Common.{◌≡◌, ◌∙◌, sym, ap, ℕ, zero, suc, ◌+◌, ◌-◌, ◌<◌, ◌≤◌, List, [], ◌∷◌, length, Option, Some, None, append_assoc, arith, add-zero, zero-add, slice_get, slice_get_there, append-nil, length-append, and_then_is, same_Some, add_next}
 use Rattle.base_lists.specs.Options.{◌>>=◌}
 use Rattle.wasm_tree_spec.specs.Prelude.{Space, Module}
 use Rattle.wasm_meaning.specs.Prelude.{Inst, Store, Part, module_at, Environment, base, part_store, joined_stores, own_store, stores_from}
 use Rattle.world_simulation.proofs.Allocated.{Allocates, adds_with, stands, funcs_allocate, tables_allocate, mems_allocate, globals_allocate, elems_allocate, datas_allocate}
-use Rattle.world_simulation.proofs.Instancing.{add_next}
 use Rattle.world_sequential_proof.proofs.Joined.{module_is}
 use Rattle.world_sequential_proof.proofs.OnePart.{Sized}
 use Rattle.world_sequential_proof.proofs.Beside.{empty_store}

@@ -1,5 +1,5 @@
 -- What valid parts give: their constant expressions read imports that are not mutable, and what they export is there.
-use Rattle.base_lists.proofs.Common.{◌≡◌, ◌∙◌, refl, sym, ap, ℕ, suc, ◌+◌, ◌<◌, List, [], ◌∷◌, map, length, Some, true, false, cond, arith, ◌↔◌, not, nat_lt, slice_get, ltb-true, and_parts, not-true, length-append, length-map, slice_get_within, same_Some, slice_get_there, append_left, place_of, and_then_is}
+use Rattle.base_lists.proofs.Common.{◌≡◌, ◌∙◌, refl, sym, ap, ℕ, suc, ◌+◌, ◌<◌, List, [], ◌∷◌, map, length, Some, true, false, cond, arith, ◌↔◌, not, nat_lt, slice_get, ltb-true, and_parts, not-true, length-append, length-map, slice_get_within, same_Some, slice_get_there, append_left, place_of, and_then_is, only_true}
 use Rattle.wasm_tree_spec.specs.Prelude.{Globals, ValType, Ref, GlobalType, Import, Export, ExportDesc, ConstExpr, GlobalDef, ElemSeg, DataSeg, Module, global_of, imported_globals, globals_of, index_of_export, space_of_export}
 use Rattle.wasm_tree.specs.declared.module.ImportDesc.TheVariants as im
 use Rattle.wasm_tree.specs.declared.module.ExportDesc.TheVariants as ex
@@ -7,7 +7,6 @@ use Rattle.wasm_valid.specs.declared.kinds.ItemKind.{ItemKind}
 use Rattle.wasm_valid.specs.declared.kinds.ItemKind.TheVariants as kind
 use Rattle.wasm_valid.specs.Prelude.{const_type, IsValid, HoldsAt, count_of, InSpace, ElemModeHolds, DataModeHolds}
 use Rattle.wasm_meaning.specs.Prelude.{Text, Part, has_kind, same_text, imports_of, module_at, export_named, defined_count}
-use Rattle.index_remap_proof.proofs.Lists.{only_true}
 use Rattle.world_simulation.proofs.Alone.{global_desc, global_kind, funcs_counted, tables_counted, memories_counted, globals_counted}
 use Rattle.world_sequential_proof.proofs.Joined.{ExportsThere}
 use Rattle.world_sequential_proof.proofs.FillValues.{Constant}

@@ -1,5 +1,5 @@
 -- A constant expression of a part has one value, whether it is read from the store as the part's turn comes or along its path through joined globals.
-use Rattle.base_lists.proofs.Common.{◌≡◌, ◌∙◌, refl, sym, ap, ℕ, zero, suc, ◌+◌, ◌-◌, ◌<◌, List, [], ◌∷◌, length, Some, true, false, inl, inr, arith, add-zero, zero-add, option_and_then, slice_get, right_true, same_Some, slice_get_there, and_then_is, unwrap_or_false_is}
+use Rattle.base_lists.proofs.Common.{◌≡◌, ◌∙◌, refl, sym, ap, ℕ, zero, suc, ◌+◌, ◌-◌, ◌<◌, List, [], ◌∷◌, length, Some, true, false, inl, inr, arith, add-zero, zero-add, option_and_then, slice_get, right_true, same_Some, slice_get_there, and_then_is, unwrap_or_false_is, list_all_each, add_next}
 use Rattle.wasm_tree_spec.specs.Prelude.{Space, Globals, GlobalType, Import, ConstExpr, Module, index_of_export, space_of_import}
 use Rattle.wasm_tree.specs.declared.module.ImportDesc.TheVariants as im
 use Rattle.wasm_tree.specs.declared.module.ConstExpr.TheVariants as const
@@ -7,9 +7,8 @@ use Rattle.wasm_meaning.specs.Prelude.{Val, Inst, Global, Store, same_type, walk
 use Rattle.merge_valid_proof.proofs.Linked.{in_sites}
 use Rattle.merge_valid_proof.proofs.Same.{bool_is, kind_same}
 use Rattle.world_simulation.proofs.Allocated.{globals_allocate, keeps}
-use Rattle.world_simulation.proofs.Instancing.{IsInst, add_next}
+use Rattle.world_simulation.proofs.Instancing.{IsInst}
 use Rattle.world_simulation.proofs.Ordered.{inst_at}
-use Rattle.world_simulation.proofs.Places.{all_each}
 use Rattle.world_simulation.proofs.Stored.{global_placed}
 use Rattle.world_sequential_proof.proofs.ExternalValues.{walk_more, thing_has}
 use Rattle.world_sequential_proof.proofs.Joined.{ExportsThere}
@@ -78,7 +77,7 @@ module _ (env : Environment) (parts : List Part) (insts : List Inst) (are : inst
               let import_is : import_at parts s ≡ Some c.import = rw is_part c.is_import in
               let at = in_sites parts s c.import import_is in
               let thing : imported_external_value env parts s ≡ Some (GlobalAt d.address) = d.is ∙ sym (thing_has Globals d.thing d.address d.has) in
-              let matches = rw (thing, is_part, c.is_import, c.is_global) at (all_each (is_matched env parts allocated) (sites parts) matched at.0 s at.1) in
+              let matches = rw (thing, is_part, c.is_import, c.is_global) at (list_all_each (is_matched env parts allocated) (sites parts) matched at.0 s at.1) in
               let g = and_then_is (slice_get allocated.globals d.address) _ true (unwrap_or_false_is _ matches) in
               (g.0, g.1, sym (bool_is c.type.mutable g.0.ty.mutable (right_true (same_type c.type.ty g.0.ty.ty) (same_bool c.type.mutable g.0.ty.mutable) (same_Some _ _ g.2))) ∙ c.fixed)
 

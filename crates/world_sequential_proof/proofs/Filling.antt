@@ -1,17 +1,15 @@
 -- Segments that are copied extend the store, and refer to nothing that it does not.
-use Rattle.base_lists.proofs.Common.{◌≡◌, refl, ℕ, List, [], ◌∷◌, Option, Some, None, Bool, true, false, cond, arith, option_and_then, slice_get}
+use Rattle.base_lists.proofs.Common.{◌≡◌, refl, ℕ, List, [], ◌∷◌, Option, Some, None, Bool, true, false, cond, arith, option_and_then, slice_get, put_rel, overwrite_rel, get_rel, opt_self, overwritten_length}
 use Rattle.wasm_tree_spec.specs.Prelude.{ConstExpr, ElemSeg, ElemMode, DataSeg, DataMode, Module}
 use Rattle.wasm_tree.specs.declared.module.ElemMode.TheVariants as elem
 use Rattle.wasm_tree.specs.declared.module.DataMode.TheVariants as data'
 use Rattle.wasm_meaning.specs.Prelude.{overwrite, RefVal, Val, Inst, Table, Memory, Elem, Store, SetTable, SetMemory, DropElem, DropData, changed, Part, Environment, Filled, PlacedSegment, or_trapped, copy_slots, run_elem_with, copy_bytes, run_data_with, and_then, one_by_one, value_of, placed_elems, placed_datas, segments_in, segments, own_segments}
 use Rattle.index_remap.specs.Prelude.{Pairing, ListRel, nil}
-use Rattle.index_remap.proofs.Rel.{put_rel, overwrite_rel, get_rel}
 use Rattle.world_extension_proof.proofs.Extends
 use Rattle.world_extension_proof.specs.Extends.{Extends}
 use Rattle.world_extension_proof.proofs.Extends.{stays, table, memory, elem_drops, data_drops, changed_extends}
 use Rattle.world_simulation.specs.Prelude.{offset_in}
-use Rattle.world_simulation.proofs.Copied.{then_holds, overwritten_length}
-use Rattle.world_simulation.proofs.Places.{opt_self}
+use Rattle.world_simulation.proofs.Copied.{then_holds}
 use Rattle.world_sequential_proof.proofs.Closed.{Closed}
 
 pub record Fills (R : Pairing) (s : Store) (f : Filled) : Type 0 where

@@ -1,11 +1,10 @@
 -- While a start is made, the sequential run and the run at once make the same steps.
-use Rattle.base_lists.proofs.Common.{◌≡◌, ◌∙◌, refl, ap, subst, ℕ, ◌<◌, ◌≤◌, List, [], ◌∷◌, ◌++◌, length, Option, Some, None, arith, slice_get}
+use Rattle.base_lists.proofs.Common.{◌≡◌, ◌∙◌, refl, ap, subst, ℕ, ◌<◌, ◌≤◌, List, [], ◌∷◌, ◌++◌, length, Option, Some, None, arith, slice_get, length_rel}
 use Rattle.wasm_tree_spec.specs.Prelude.{Space, Functions, Tables, Memories, Globals, ElementSegments, DataSegments, FuncType}
 use Rattle.wasm_meaning.specs.Prelude.{Text, Func, Code, Own, Store, Entry, Running, Opening, Waiting, type_of_func, zeros, Part, Environment, ExternalValue, owned_of, base, Event, Asked, Phase, Pending, Closed, Run, Out, tick, IsBottom, GivesNothing, a_frame, a_call, over, AgreeOnFrames, ended, trapped, StartDependsOnlyOnItsFrames}
 use Rattle.wasm_meaning.specs.StartFrames.{goes_on}
 use Rattle.index_remap.specs.Prelude.{Pairing, nil, cons, opening, pending, RunRel, OutRel, KeepsOthers, HasNoPartner, EntryByEntry, RelatedTicksAgree, OthersStay}
 use Rattle.index_remap.specs.Related as to
-use Rattle.index_remap.proofs.Rel.{length_rel}
 use Rattle.world_extension_proof.specs.Extends.{Extends, Kept, StepsExtend}
 use Rattle.world_extension_proof.proofs.Extends.{and_then}
 use Rattle.world_sequential_proof.proofs.Reached.{count_upto, is_reached, reaching, reached_at, reached_is, one_to_one}

@@ -1,5 +1,5 @@
 -- When a part's turn comes its imports are there and match, and its instance is the one that it has at once.
-use Rattle.base_lists.proofs.Common.{◌≡◌, refl, ℕ, suc, ◌+◌, ◌<◌, List, [], ◌∷◌, length, Option, Some, true, slice_get, and_parts, and_then_is, same_Some, add-zero, zero-add, unwrap_or_false_is, list_all_each}
+use Rattle.base_lists.proofs.Common.{◌≡◌, refl, ℕ, suc, ◌+◌, ◌<◌, List, [], ◌∷◌, length, Option, Some, true, slice_get, and_parts, and_then_is, same_Some, add-zero, zero-add, unwrap_or_false_is, list_all_each, add_next}
 use Rattle.wasm_tree_spec.specs.Prelude.{Space, Functions, Tables, Memories, Globals, DataSegments, ElementSegments, Import, ImportDesc, Module, same_ref}
 use Rattle.wasm_tree.specs.declared.module.ImportDesc.TheVariants as im
 use Rattle.wasm_meaning.specs.Prelude.{address_of, meets, Inst, Table, Memory, Global, Store, Part, Site, module_at, import_at, sites, Environment, ExternalValue, FuncAt, TableAt, MemoryAt, GlobalAt, owned_of, all_of, base, imported_external_value, all_there, insts_from, is_match, is_matched, defined_before, next_inst, all_match, external_value_for, JoinsEarlier}
@@ -8,7 +8,6 @@ use Rattle.world_extension_proof.specs.Extends.{TableExtends, MemoryExtends, Glo
 use Rattle.world_sequential_proof.proofs.ExternalValues.{space_is, each_from, gathered}
 use Rattle.world_sequential_proof.proofs.Joined.{made_upto, thing_same, inst_of_part}
 use Rattle.world_sequential_proof.proofs.EarlierParts.{thing_low}
-use Rattle.world_simulation.proofs.Instancing.{add_next}
 use Rattle.world_extension_proof.proofs.Typed.{meets_more}
 
 -- as many as the environment and the first parts have

@@ -1,11 +1,10 @@
 -- The addresses that the environment and the first parts have, each of which is related to itself.
-use Rattle.base_lists.proofs.Common.{◌≡◌, ◌∙◌, refl, sym, ℕ, suc, ◌<◌, ◌≤◌, List, [], ◌∷◌, Some, Bool, true, arith, ◌&&◌, nat_eq, nat_lt, ltb-true, lt-ltb, eq-eqb, eqb-true, and_parts}
+use Rattle.base_lists.proofs.Common.{◌≡◌, ◌∙◌, refl, sym, ℕ, suc, ◌<◌, ◌≤◌, List, [], ◌∷◌, Some, Bool, true, arith, ◌&&◌, nat_eq, nat_lt, ltb-true, lt-ltb, eq-eqb, eqb-true, and_parts, opt_self}
 use Rattle.wasm_tree_spec.specs.Prelude.{Space, Functions, Tables, Memories, Globals}
 use Rattle.wasm_meaning.specs.Prelude.{Part, Environment, OwnKey, owned_of, owned_at, same_key, ExternalValue, defined_before, base, address_of}
 use Rattle.index_remap.specs.Prelude.{Pairing, OneToOne, passed}
 use Rattle.world_simulation.specs.Prelude.{SharesOwn, OwnEntitiesCorrespond}
 use Rattle.world_simulation.proofs.Owned.{address_rel, look_rel}
-use Rattle.world_simulation.proofs.Places.{opt_self}
 
 abbrev pub count_upto : Environment → List Part → ℕ → Space → ℕ
 count_upto env parts p k = base env parts k p

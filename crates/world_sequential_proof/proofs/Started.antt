@@ -1,5 +1,5 @@
 -- The start of a valid part is a function that takes nothing and gives nothing.
-use Rattle.base_lists.proofs.Common.{◌≡◌, ◌∙◌, sym, ap, ap₂, ℕ, suc, ◌+◌, ◌≤◌, List, map, length, Option, Some, true, inl, inr, arith, slice_get, option_and_then, slice_get_within, same_Some, map_from, append_from, slice_get_there, append_at_left, append_right, place_of, places_many, and_then_is, all_there_at, all_there_length, numbers_at}
+use Rattle.base_lists.proofs.Common.{◌≡◌, ◌∙◌, sym, ap, ap₂, ℕ, suc, ◌+◌, ◌≤◌, List, map, length, Option, Some, true, inl, inr, arith, slice_get, option_and_then, slice_get_within, same_Some, map_from, append_from, slice_get_there, append_at_left, append_right, place_of, places_many, and_then_is, all_there_at, all_there_length, numbers_at, option_map_is}
 use Rattle.wasm_tree_spec.specs.Prelude.{Functions, FuncType, Module, func_of, imported_funcs, funcs_of, type_of_func}
 use Rattle.wasm_tree.specs.declared.module.Func as tree
 use Rattle.wasm_meaning.specs.Prelude.{Inst, Func, Store, same_func_type, type_at, Part, has_kind, imports_of, module_at, sites, Environment, ExternalValue, all_of, base, address_of, import_type, imported_external_value, numbers, insts_from, new_func, value_of, is_matched, JoinsEarlier}
@@ -9,7 +9,6 @@ use Rattle.world_sequential_proof.proofs.ExternalValues.{space_is}
 use Rattle.world_sequential_proof.proofs.Joined.{inst_of_part}
 use Rattle.world_sequential_proof.proofs.OnePart.{SitesThere, matches}
 use Rattle.world_sequential_proof.proofs.Beside.{Laid, at_allocated_funcs}
-use Rattle.world_simulation.proofs.Places.{some_then}
 use Rattle.world_simulation.proofs.Instancing.{IsInst}
 use Rattle.world_simulation.proofs.Allocated.{adds_with}
 use Rattle.world_simulation.proofs.Alone.{func_kind, func_desc, func_thing}
@@ -43,7 +42,7 @@ module _ (same_types : (s t : FuncType) → same_func_type s t ≡ true → s �
         let match = rw (func_desc at_import.1.desc ty (sym at_import.5 ∙ e), func_thing y.0 a.0 y.2) at (matches env parts allocated listed matched p n.0 m at_import.1 y.0 is_part (ap (slice_get m.imports) number ∙ at_import.3) y.1) in
         let u = and_then_is (import_type m ty) _ true match in
         let v = and_then_is (type_at allocated a.0) _ true u.2 in
-        let f = some_then (slice_get allocated.funcs a.0) control.type_of_func v.0 v.1 in
+        let f = option_map_is control.type_of_func (slice_get allocated.funcs a.0) v.0 v.1 in
         record {
           address = a.0;
           func = f.0;

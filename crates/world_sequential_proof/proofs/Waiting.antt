@@ -1,9 +1,8 @@
 -- Between starts: a part's turn comes, and the stores stay beside one another.
-use Rattle.base_lists.proofs.Common.{◌≡◌, ◌∙◌, refl, sym, ap, subst, ℕ, suc, ◌≤◌, List, [], length, Some, arith, drop, slice_get, slice_get_within, true, Option}
+use Rattle.base_lists.proofs.Common.{◌≡◌, ◌∙◌, refl, sym, ap, subst, ℕ, suc, ◌≤◌, List, [], length, Some, arith, drop, slice_get, slice_get_within, true, Option, each_rel, length_rel, there, left_there, right_there, opt_both, number_is}
 use Rattle.wasm_tree_spec.specs.Prelude.{Space, Functions, Tables, Memories, Globals, DataSegments, ElementSegments}
 use Rattle.wasm_meaning.specs.Prelude.{RefVal, FuncRef, Val, Ref, Inst, Func, Global, Store, Part, module_at, Environment, ExternalValue, World, joined_stores, defined_before, Run, StartDependsOnlyOnItsFrames, SequentialRun, goes_on}
 use Rattle.index_remap.specs.Prelude.{BothRel, none, some, RefRel, func, extern, ValRel, number, reference, nil, cons, opening, ExternalValueRel, a_func, a_table, a_memory, a_global, KeyRel, pending, CodeIsRelatedToItself, RelatedTicksAgree, OthersStay}
-use Rattle.index_remap.proofs.Rel.{each_rel, length_rel, there}
 use Rattle.world_extension_proof.specs.Extends.{Extends, StepsExtend}
 use Rattle.world_sequential_proof.proofs.Joined.{module_is, inst_of_part}
 use Rattle.world_sequential_proof.proofs.Reached.{is_reached, reaching, reached_at, reached_is}
@@ -14,7 +13,6 @@ use Rattle.world_sequential_proof.proofs.Beside.{Beside, beside_next, more}
 use Rattle.world_sequential_proof.proofs.Making.{Abreast}
 use Rattle.world_sequential_proof.proofs.Given.{IsGiven}
 use Rattle.wasm_meaning.proofs.Counts.{defined_next}
-use Rattle.world_simulation.proofs.Places.{number_is, left_there, right_there, opt_both}
 
 -- ---- what is related by itself is the same ----
 

@@ -1,11 +1,10 @@
 -- What a part adds to the store stands there at the addresses of the part.
-use Rattle.base_lists.proofs.Common.{◌≡◌, ℕ, zero, suc, ◌+◌, false, List, ◌∷◌, ◌++◌, map, length, Option, Some, refl, arith, add-zero, slice_get, same_Some, length-append, length-map, append_at_left, append_right, and_then_is, is_some_there, all_there_length, all_there_from}
+use Rattle.base_lists.proofs.Common.{◌≡◌, ℕ, zero, suc, ◌+◌, false, List, ◌∷◌, ◌++◌, map, length, Option, Some, refl, arith, add-zero, slice_get, same_Some, length-append, length-map, append_at_left, append_right, and_then_is, is_some_there, all_there_length, all_there_from, add_next}
 use native.Mathlib.Nat.{add_assoc}
 use Rattle.wasm_tree_spec.specs.Prelude.{Space, Functions, Tables, Memories, Globals, ElementSegments, DataSegments, ConstExpr, DataSeg, GlobalDef, ElemSeg, Module}
 use Rattle.wasm_tree.specs.declared.module.Func as tree
 use Rattle.wasm_meaning.specs.Prelude.{Val, Inst, Func, Global, Elem, Data, Store, Part, module_at, Environment, own_count, own_store, defined_count, defined_before, all_there, new_func, new_global, global_with, elem_of, elem_with, value_of, store_with, part_store, joined_stores, stores_from}
 pub use Rattle.world_simulation.specs.NewContents.{new_table, new_memory}
-use Rattle.world_simulation.proofs.Instancing.{add_next}
 
 -- ---- what one part adds ----
 

@@ -1,22 +1,13 @@
 -- Lists that are overwritten, stores with room for the segments that are copied, and what is kept where segments without partners are copied.
-use Rattle.base_lists.proofs.Common.{◌≡◌, ℕ, ◌+◌, ◌*◌, ◌≤◌, List, length, Option, Some, true, arith, option_and_then, slice_get, slice_set, length-append, length-drop, and_then_is, is_some_there}
+use Rattle.base_lists.proofs.Common.{◌≡◌, ℕ, ◌+◌, ◌*◌, ◌≤◌, List, length, Option, Some, true, arith, option_and_then, slice_get, slice_set, length-append, length-drop, and_then_is, is_some_there, at_put_there, split_take}
 use native.Mathlib.Decide.{ℕ_discrete}
 use Rattle.wasm_tree_spec.specs.Prelude.{Space, Tables, Memories, ElementSegments, DataSegments}
 use Rattle.wasm_meaning.specs.Prelude.{split_at, overwrite, Store, Environment, Filled, or_trapped}
-use Rattle.index_remap.proofs.Rel.{at_put_here, at_put_there}
+use Rattle.base_lists.proofs.Related.{at_put_here}
+use Rattle.base_lists.proofs.Parts.{split_lengths}
 use Rattle.world_simulation.specs.Prelude.{Instantiated, DefinedAt}
-use Rattle.wasm_meaning.proofs.Slices.{split_lengths, split_take}
 
 -- ---- lists ----
-
-pub overwritten_length : {A : Type 0} (xs : List A) (n : ℕ) (ys zs : List A) → overwrite xs n ys ≡ Some zs → length zs ≡ length xs
-overwritten_length xs n ys zs e = let p = and_then_is (split_at n xs) _ zs e in grind (arith, length-append, split_lengths n xs, split_lengths (length ys) p.0.1)
-
--- where the others fit, they are written, and the list is as long as it was
-pub overwrite_fits : {A : Type 0} (xs ys : List A) (n : ℕ) → n + length ys ≤ length xs → (zs : List A) × (overwrite xs n ys ≡ Some zs) × (length zs ≡ length xs)
-overwrite_fits xs ys n h =
-    let zs = is_some_there (overwrite xs n ys) (grind (arith, split_take, length-drop)) in
-    (zs.0, zs.1, overwritten_length xs n ys zs.0 zs.1)
 
 -- an item stands at the place, and P holds of it
 abbrev pub Holds : {A : Type 0} → (A → Type 0) → List A → ℕ → Type 0

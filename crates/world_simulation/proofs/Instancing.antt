@@ -1,8 +1,7 @@
 -- What an instance holds, and the instances of several parts one after the other.
-use Rattle.base_lists.proofs.Common.{◌≡◌, ap, refl, ℕ, zero, suc, ◌+◌, ◌<◌, List, [], ◌∷◌, ◌++◌, length, Option, Some, arith, add-zero, zero-add, inl, inr, option_and_then, slice_get, length-append, same_Some, length-numbers, and_then_is, is_some_there, all_there_length, append_from, all_there_back}
+use Rattle.base_lists.proofs.Common.{◌≡◌, ap, refl, ℕ, zero, suc, ◌+◌, ◌<◌, List, [], ◌∷◌, ◌++◌, length, Option, Some, arith, add-zero, zero-add, inl, inr, option_and_then, slice_get, length-append, same_Some, length-numbers, and_then_is, is_some_there, all_there_length, append_from, all_there_back, number_is, add_next}
 use Rattle.wasm_tree_spec.specs.Prelude.{Space, Types, Functions, Tables, Memories, Globals, DataSegments, ElementSegments, Module}
 use Rattle.wasm_meaning.specs.Prelude.{Inst, Part, module_at, imports_of, Environment, space, numbers, inst_of, insts_from, defined_before, defined_count, base, address_of, all_there, imported_external_value}
-use Rattle.world_simulation.proofs.Places.{number_is}
 
 -- ---- an index space ----
 
@@ -64,9 +63,6 @@ module _ (env : Environment) (parts : List Part) (p : ℕ) (m : Module) where
   inst_there fs ts ms gs f t s g = is_some_there _ (rw (f, t, s, g))
 
 -- ---- several ----
-
-pub add_next : (p q : ℕ) → p + suc q ≡ suc p + q
-add_next p q = omega arith
 
 module _ (env : Environment) (all : List Part) where
   -- the instances of the parts from one on

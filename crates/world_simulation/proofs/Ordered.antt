@@ -1,15 +1,14 @@
 -- Segments of two worlds, partners in the same order, are copied to related stores, and trap in both or neither.
-use Rattle.base_lists.proofs.Common.{◌≡◌, ℕ, suc, List, [], ◌∷◌, ◌++◌, length, Option, Some, None, Bool, false, refl, arith, slice_get, append_from, set_other}
+use Rattle.base_lists.proofs.Common.{◌≡◌, ℕ, suc, List, [], ◌∷◌, ◌++◌, length, Option, Some, None, Bool, false, refl, arith, slice_get, append_from, set_other, overwrite_rel, there, cond_two, then_rel, then_same_is, number_is, overwritten_length, overwrite_fits}
 use Rattle.wasm_tree_spec.specs.Prelude.{Space, ElementSegments, DataSegments, ConstExpr, ElemSeg, DataSeg, Module}
 use Rattle.wasm_meaning.specs.Prelude.{overwrite, no_items, no_bytes, RefVal, Val, Table, Memory, Inst, Store, Part, module_at, Environment, Filled, PlacedSegment, numbers, own_count, defined_before, insts_from, segments_in, placed_elems, placed_datas, or_trapped, copy_slots, run_elem_with, run_elem, copy_bytes, run_data_with, run_data, and_then, one_by_one}
 use Rattle.index_remap.specs.Prelude.{Pairing, OneToOne, OptRel, none, some, StoreRel, set_table, set_memory, drop_elem, drop_data, turned, HasNoPartner}
-use Rattle.index_remap.proofs.Rel.{written, overwrite_rel, there, cond_two}
+use Rattle.index_remap.proofs.Rel.{written}
 use Rattle.index_remap.proofs.StepsAgree.{changed_rel}
 use Rattle.world_simulation.specs.Prelude.{Instantiated, DefinedAt, values_in, InOrder, both, ends, only_second, ElemsPartner, ElemAlone, DatasPartner, DataAlone, offset_in}
 use Rattle.world_simulation.specs.Segments as segments
-use Rattle.world_simulation.proofs.Places.{then_rel, then_same, number_is}
 use Rattle.world_simulation.proofs.Instancing.{IsInst, inst_in}
-use Rattle.world_simulation.proofs.Copied.{overwritten_length, overwrite_fits, set_holds, HasRoom, Kept, nothing_kept}
+use Rattle.world_simulation.proofs.Copied.{set_holds, HasRoom, Kept, nothing_kept}
 
 -- ---- each segment is one that its part defines ----
 
@@ -185,7 +184,7 @@ module _ (R : Pairing) (apart : OneToOne R) (env : Environment) (v w : Instantia
       Defines env v ElementSegments (λ m. m.elems) xs → Defines env w ElementSegments (λ m. m.elems) ys → (s z : Store) → Stores s z → FilledAlike (one_by_one (run_elem env v.parts v.insts) s xs) (one_by_one (run_elem env w.parts w.insts) z ys)
   elems_in_order = in_order (elems_run (turned R) env v) (elems_run R env w) (λ s z like x y p. elim p as (λ m n _. Related (run_elem_with (values_in env v x.part) s x m) (run_elem_with (values_in env w y.part) z y n)) [
     | segments.ElemsPartner.active e to same ↦
-        rw (← same) (or_trapped_rel like (then_same _ (λ q _. then_rel to (λ a b h. then_rel (there (like.tables h)) (λ t u r. then_rel (there (like.elems e)) (λ _ _ i. some (
+        rw (← same) (or_trapped_rel like (then_same_is _ (λ q _. then_rel to (λ a b h. then_rel (there (like.tables h)) (λ t u r. then_rel (there (like.elems e)) (λ _ _ i. some (
         elim (overwrite_rel q r.slots i.items) as (λ o p _. Related (copy_slots s x.address a t o) (copy_slots z y.address b u p)) [
           | some l ↦ (changed_rel R (written apart) (changed_rel R (written apart) like (set_table h (assumption))) (drop_elem e), refl)
           | none ↦ (like, refl)
@@ -197,7 +196,7 @@ module _ (R : Pairing) (apart : OneToOne R) (env : Environment) (v w : Instantia
       Defines env v DataSegments (λ m. m.datas) xs → Defines env w DataSegments (λ m. m.datas) ys → (s z : Store) → Stores s z → FilledAlike (one_by_one (run_data env v.parts v.insts) s xs) (one_by_one (run_data env w.parts w.insts) z ys)
   datas_in_order = in_order (datas_run (turned R) env v) (datas_run R env w) (λ s z like x y p. elim p as (λ m n _. Related (run_data_with (values_in env v x.part) s x m) (run_data_with (values_in env w y.part) z y n)) [
     | segments.DatasPartner.active {d = d} e to same ↦
-        rw (← same) (or_trapped_rel like (then_same (offset_in (values_in env v x.part) d) (λ q _. then_rel to (λ a b h. then_rel (there (like.mems h)) (λ m _ same. then_rel (there (like.datas e)) (λ c _ bytes. some (rw (← same, ← bytes) (
+        rw (← same) (or_trapped_rel like (then_same_is (offset_in (values_in env v x.part) d) (λ q _. then_rel to (λ a b h. then_rel (there (like.mems h)) (λ m _ same. then_rel (there (like.datas e)) (λ c _ bytes. some (rw (← same, ← bytes) (
         elim (overwrite m.bytes q c.bytes) as (λ o. Related (copy_bytes s x.address a m o) (copy_bytes z y.address b m o)) [
           | Some bytes ↦ (changed_rel R (written apart) (changed_rel R (written apart) like (set_memory h)) (drop_data e), refl)
           | None ↦ (like, refl)

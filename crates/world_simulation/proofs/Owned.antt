@@ -1,14 +1,12 @@
 -- The environment's own entities, where each has its address in both worlds.
-use Rattle.base_lists.proofs.Common.{ℕ, suc, ◌+◌, ◌<◌, List, [], ◌∷◌, length, Option, Bool, option_and_then, refl, arith}
+use Rattle.base_lists.proofs.Common.{ℕ, suc, ◌+◌, ◌<◌, List, [], ◌∷◌, length, Option, Bool, option_and_then, refl, arith, then_rel, append_rel, self_rel, maps_rel}
 use Rattle.wasm_tree_spec.specs.Prelude.{Space, Functions, RefType, ValType}
 use Rattle.wasm_tree.specs.declared.types.RefType.TheVariants as reft
 use Rattle.wasm_tree.specs.declared.types.ValType.TheVariants as valt
 use Rattle.wasm_meaning.specs.Prelude.{Val, ref_of, null_of, Environment, Shown, OwnFunc, OwnKey, FuncKey, ExternalValue, FuncAt, TableAt, MemoryAt, GlobalAt, Owned, owned_of, look_up, same_key, address_of, received, addressed, flat, one_if, own_funcs, own_tables, own_memories, own_globals}
 use Rattle.wasm_meaning.specs.Environment.{or_null, or_zero}
 use Rattle.index_remap.specs.Prelude.{Pairing, OptRel, none, some, ListRel, nil, cons, RefRel, func, extern, ValRel, number, reference, FuncRel, TableRel, GlobalRel, ExternalValueRel, a_func, a_table, a_memory, a_global, KeyRel}
-use Rattle.index_remap.proofs.Rel.{then_rel, append_rel}
 use Rattle.world_simulation.specs.Prelude.{SharesOwn, OwnCorrespond}
-use Rattle.world_simulation.proofs.Places.{self_rel, maps_rel}
 
 pub null_rel : (R : Pairing) (ty : RefType) → RefRel R (null_of ty) (null_of ty)
 null_rel R ty = grind (arith, func, extern, none)

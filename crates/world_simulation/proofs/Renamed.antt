@@ -9,7 +9,7 @@ use Rattle.index_remap.specs.Prelude.{new_func, new_const, new_elem, new_elem_mo
 use Rattle.index_remap_proof.specs.Indices.{Indices, ConstNamesOnly, FuncNamesOnly, ExportNamesOnly, ElemModeNamesOnly, DataModeNamesOnly}
 use Rattle.world_simulation.specs.Prelude.{EntriesName, FuncsCorrespond, ElemsPartner, DatasPartner}
 use Rattle.world_simulation.proofs.Named.{all_named}
-use Rattle.world_simulation.proofs.Places.{placed_rel}
+use Rattle.base_lists.proofs.Related.{placed_rel}
 use Rattle.world_simulation.proofs.Stored.{ElemsAlike}
 
 -- the offset of a segment, by values that are related

@@ -1,15 +1,14 @@
 -- Two worlds that correspond are instantiated to what is related.
-use Rattle.base_lists.proofs.Common.{◌≡◌, Some, arith, option_and_then, and_then_is, all_there_length}
+use Rattle.base_lists.proofs.Common.{◌≡◌, Some, arith, option_and_then, and_then_is, all_there_length, all_rel, opt_both, copies_length}
 use Rattle.wasm_meaning.specs.Prelude.{Store, ref_of, Environment, World, Begun, stores_from, own_store, all_there, instantiate, links}
 use Rattle.index_remap.specs.Prelude.{Pairing, OneToOne, OptRel, nil, cons, opening, BegunRel, EntryByEntry}
 use Rattle.world_simulation.specs.Prelude.{Instantiated, values_in, IsInstantiated, AreSimilar, StartsCorrespond}
 use Rattle.world_simulation.specs.Simulation.{in_world, BegunRelated}
-use Rattle.world_simulation.proofs.Places.{all_rel, opt_both, alike_there}
+use Rattle.base_lists.proofs.Related.{alike_there}
 use Rattle.world_simulation.proofs.Owned.{owned_rel}
 use Rattle.world_simulation.proofs.Stored.{table_placed, memory_placed, elem_placed, data_placed, stores_rel}
 use Rattle.world_simulation.proofs.Copied.{HasRoom}
 use Rattle.world_simulation.proofs.Ordered.{and_then_alike, elems_defined, datas_defined, elems_in_order, datas_in_order}
-use Rattle.wasm_meaning.proofs.Slices.{copies_length}
 
 -- ---- what instantiation made ----
 

@@ -1,20 +1,18 @@
 -- Worlds of one module each: their instances, what their imports denote, whether these match, and that they are linked.
-use Rattle.base_lists.proofs.Common.{◌≡◌, arith, ℕ, zero, suc, List, [], ◌∷◌, ◌++◌, length, Option, Some, true, false, refl, sym, ap, ◌∙◌, slice_get, unwrap_or, and_then_is, is_some_there, all_there_length, fun_ext}
+use Rattle.base_lists.proofs.Common.{◌≡◌, arith, ℕ, zero, suc, List, [], ◌∷◌, ◌++◌, length, Option, Some, true, false, refl, sym, ap, ◌∙◌, slice_get, unwrap_or, and_then_is, is_some_there, all_there_length, fun_ext, is_some, length_rel, same_there, there, then_rel, then_same_is, then_eq, opt_self, self_rel, all_rel}
 use Rattle.wasm_tree_spec.specs.Prelude.{Space, FuncType, Import, ImportDesc, Module}
 use Rattle.wasm_tree.specs.declared.module.ImportDesc.TheVariants as im
-use Rattle.wasm_meaning.specs.Prelude.{Inst, Store, Site, Text, has_kind, places, sites, imports_of, Environment, ExternalValue, all_of, numbers, own_count, defined_count, space, sites_in, is_match, is_matched, insts_from, stores_from, own_store, all_there, is_there, links, alone, seen_as}
+use Rattle.wasm_meaning.specs.Prelude.{Inst, Store, Site, Text, has_kind, places, sites, imports_of, Environment, ExternalValue, all_of, numbers, own_count, defined_count, space, sites_in, is_match, is_matched, insts_from, stores_from, own_store, all_there, links, alone, seen_as}
 use Rattle.index_remap.specs.Prelude.{Pairing, OptRel, ListRel, StoreRel, ExternalValueRel, a_func, a_table, a_memory, a_global}
-use Rattle.index_remap.proofs.Rel.{length_rel, same_there, there}
 use Rattle.world_simulation.specs.Prelude.{one, external_value_in, addresses, SharesOwn}
 use Rattle.world_simulation.proofs.Alone.{space_is, thing_is, on_some}
 use Rattle.world_simulation.proofs.Owned.{owned_rel, look_rel}
 pub use Rattle.world_simulation.proofs.Owned.{address_rel}
-use Rattle.world_simulation.proofs.Places.{then_rel, then_same, then_eq, opt_self, self_rel, all_rel}
 use Rattle.world_simulation.proofs.Instancing.{IsInst, inst_is}
 
 module _ (R : Pairing) (env : Environment) (own : SharesOwn R env) where
   pub thing_rel : (types : List FuncType) (o : Option Import) → OptRel (ExternalValueRel R) (external_value_in env types o) (external_value_in env types o)
-  thing_rel types o = search (then_same, look_rel, owned_rel)
+  thing_rel types o = search (then_same_is, look_rel, owned_rel)
 
   -- the addresses of the imports, each related to itself, then those after all that is the environment's
   pub record SpaceAt (t : Module) (k : Space) (xs : List ℕ) : Type 0 where
@@ -54,9 +52,6 @@ module _ (R : Pairing) (env : Environment) (own : SharesOwn R env) where
     -- the same imports match in both or in neither
     pub all_matched : all_of (is_matched env (one t) s) (sites (one t)) ≡ all_of (is_matched env (one u) z) (sites (one u))
     all_matched = rw (fun_ext (λ (x : Site). matched_same x.part x.import)) (ap (λ (is : List Import). all_of (is_matched env (one u) z) (sites_in 0 (length is) 0 ++ [])) (sym imports))
-
-pub there_is : {A : Type 0} (o : Option A) → is_there o ≡ true → (x : A) × (o ≡ Some x)
-there_is = is_some_there
 
 module _ (env : Environment) (t : Module) (is : List Inst) where
   -- the one instance of a module alone

@@ -1,16 +1,14 @@
 -- What stands at the addresses of allocated stores; stores of which the definitions correspond are related.
-use Rattle.base_lists.proofs.Common.{◌≡◌, ℕ, List, Option, Some, refl, sym, ◌∙◌, arith, zero-add, option_and_then, slice_get, slice_get-map, all_there_at, slice_get_there}
+use Rattle.base_lists.proofs.Common.{◌≡◌, ℕ, List, Option, Some, refl, sym, ◌∙◌, arith, zero-add, option_and_then, slice_get, slice_get-map, all_there_at, slice_get_there, each_rel, copies_rel, get_rel, then_rel, opt_both, opt_self, self_rel, all_rel}
 use Rattle.wasm_tree_spec.specs.Prelude.{Space, Functions, Tables, Memories, Globals, ElementSegments, DataSegments, FuncType, ConstExpr, ElemSeg, GlobalDef, Module}
 use Rattle.wasm_tree.specs.declared.module.Func as tree
 use Rattle.wasm_meaning.specs.Prelude.{Val, Inst, Func, Global, Elem, Store, ref_of, type_of_func, own_of, Environment, own_memories, new_func, new_global, global_with, elem_with, elem_of, own_store, stores_from}
 use Rattle.index_remap.specs.Prelude.{Pairing, OptRel, none, some, BothRel, both, ListRel, nil, RefRel, ValRel, number, reference, FuncRel, defined, GlobalRel, ElemRel, StoreRel}
-use Rattle.index_remap.proofs.Rel.{each_rel, copies_rel, get_rel}
 use Rattle.world_simulation.specs.Prelude.{SharesOwn, Instantiated, DefinedAt, FuncsCorrespond, FuncsAt, GlobalsCorrespond, is_declarative, ElemsCorrespond, Partners, DefinitionsCorrespond}
 use Rattle.world_simulation.specs.Definitions.{alike, set_apart, declared, kept}
 use Rattle.world_simulation.specs.Definitions as partners
 use Rattle.world_simulation.proofs.Allocated.{new_table, new_memory, new_data, Adds, Allocates, funcs_allocate, tables_allocate, mems_allocate, globals_allocate, elems_allocate, datas_allocate, keeps, stands}
 use Rattle.world_simulation.proofs.Owned.{null_rel, own_funcs_rel, own_tables_rel, own_globals_rel}
-use Rattle.world_simulation.proofs.Places.{then_rel, opt_both, opt_self, self_rel, all_rel}
 
 -- ---- what stands at an address ----
 

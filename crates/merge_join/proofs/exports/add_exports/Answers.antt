@@ -1,11 +1,11 @@
 use Rattle.base_lists.proofs.Common.{◌≡◌, ◌∙◌, ap, refl, ◌+◌, ◌<◌, length, slice_get, Some, arith, slice_get_read}
 use Rattle.index_remap.specs.Prelude.{fits_export}
-use Rattle.index_remap.proofs.Fits.{each_at}
+use Rattle.base_lists.proofs.Each.{all_at_place}
 use Rattle.merge_join.proofs.Exported.{export_more}
 use Rattle.merge_join.proofs.exports.add_exports.Goals as goal
 
 pub add_export-requires : goal.add_export-requires
-add_export-requires c = each_at (fits_export c.args.entries.now) c.args.exports.now c.loop-at.at c.index-exports-at.result c.requires.fits c.loop-at-test.true c.index-exports-at.is
+add_export-requires c = all_at_place (fits_export c.args.entries.now) c.args.exports.now c.loop-at.at c.index-exports-at.result c.requires.fits c.loop-at-test.true c.index-exports-at.is
 
 pub loop-at-preserved : goal.loop-at-preserved
 loop-at-preserved c = λ before many was.

@@ -1,5 +1,5 @@
 use Rattle.base_lists.proofs.Common.{◌≡◌, ◌∙◌, true, false, is_some, get_or, take, sym, ap, get_by, slice_cmp, nat_cmp, list_any, bytes_eq, btree_map_updates_str}
-use Rattle.wasm_valid.proofs.Repeats.{known_more, map_more}
+use Rattle.base_lists.proofs.Texts.{known_more, map_more}
 use Rattle.tools_cli.specs.Prelude.{names_of}
 use Rattle.tools_cli.proofs.Apart.{no_word, one_more_name, apart_so_far, came_before}
 use Rattle.tools_cli.proofs.command_line.are_apart.Goals as goal

@@ -1,7 +1,8 @@
 use Rattle.base_lists.proofs.Common.{◌≡◌, Err, arith}
 use Rattle.wasm_tree_spec.specs.Prelude.{Func, uses_data}
 use Rattle.wasm_read_spec.specs.Prelude.{entry_at, next_func}
-use Rattle.wasm_read_spec.proofs.Loops.{each_more, each_stop_in, any_more}
+use Rattle.wasm_read_spec.proofs.Loops.{each_more, each_stop_in}
+use Rattle.base_lists.proofs.Each.{any_more}
 use Rattle.wasm_read.proofs.codes.read_entries.Goals as goal
 
 pub returns-in_err-code-clause-gives : goal.returns-in_err-code-clause-gives

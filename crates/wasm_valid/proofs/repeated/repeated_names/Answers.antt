@@ -1,5 +1,6 @@
 use Rattle.base_lists.proofs.Common.{◌≡◌, ◌+◌, [], ◌∷◌, ◌++◌, is_some, map, take, sym, ap, ◌∙◌, get_by, slice_cmp, nat_cmp, list_any, bytes_eq, btree_map_updates_str, mapped_more}
-use Rattle.wasm_valid.proofs.Repeats.{known_more, joined_more, map_more}
+use Rattle.wasm_valid.proofs.Repeats.{joined_more}
+use Rattle.base_lists.proofs.Texts.{known_more, map_more}
 use Rattle.wasm_valid.proofs.repeated.repeated_names.Goals as goal
 
 pub loop-export-preserved : goal.loop-export-preserved

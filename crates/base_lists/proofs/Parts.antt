@@ -1,6 +1,8 @@
--- Parts of lists, and their lengths.
-use Rattle.std.proofs.Common.{◌≡◌, ℕ, zero, suc, ◌+◌, ◌≤◌, List, [], ◌∷◌, length, take, drop, Option, Some, None, option_and_then, refl, sym, ap, arith}
-use Rattle.wasm_meaning.specs.Outcomes.{split_at, slice, copies}
+-- The lengths of parts of lists.
+use Rattle.std.proofs.Common.{◌≡◌, ℕ, zero, suc, ◌+◌, ◌≤◌, List, [], ◌∷◌, length, take, drop, Option, Some, None, option_and_then, refl, sym, ap, arith, ◌++◌}
+use Rattle.base_lists.specs.Parts.{split_at, slice, copies, overwrite}
+use Rattle.base_lists.proofs.Options.{and_then_is, is_some_there}
+use Rattle.std.proofs.lemmas.List.{length-append, length-drop}
 
 -- a list that is long enough is split
 pub split_take : {A : Type 0} (n : ℕ) (xs : List A) → n ≤ length xs → split_at n xs ≡ Some (take n xs, drop n xs)
@@ -34,3 +36,12 @@ slice_length {A} xs place n ys e = go (split_at place xs) e
 pub copies_length : {A : Type 0} (n : ℕ) (v : A) → length (copies n v) ≡ n
 copies_length zero v = refl
 copies_length (suc n) v = ap suc (copies_length n v)
+
+pub overwritten_length : {A : Type 0} (xs : List A) (n : ℕ) (ys zs : List A) → overwrite xs n ys ≡ Some zs → length zs ≡ length xs
+overwritten_length xs n ys zs e = let p = and_then_is (split_at n xs) _ zs e in grind (arith, length-append, split_lengths n xs, split_lengths (length ys) p.0.1)
+
+-- where the others fit, they are written, and the list is as long as it was
+pub overwrite_fits : {A : Type 0} (xs ys : List A) (n : ℕ) → n + length ys ≤ length xs → (zs : List A) × (overwrite xs n ys ≡ Some zs) × (length zs ≡ length xs)
+overwrite_fits xs ys n h =
+    let zs = is_some_there (overwrite xs n ys) (grind (arith, split_take, length-drop)) in
+    (zs.0, zs.1, overwritten_length xs n ys zs.0 zs.1)
