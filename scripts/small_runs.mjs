@@ -20,7 +20,7 @@ const NAMES = ["SmallRuns", "MoreRuns", "EmbedderRuns", "FurtherRuns", "LoaderRu
 const FILES = process.argv.length > 2 ? process.argv.slice(2) : NAMES.map((name) => join(FOLDER, `${name}.antt`));
 // The runs of split modules, and the definitions that they use.
 const SPLIT = join(CRATES, "split_behaves_proof/proofs/SmallRuns.antt");
-const SPLIT_WORDS = join(CRATES, "split_spec/proofs/Rows.antt");
+const SPLIT_WORDS = join(CRATES, "split_spec/specs/Examples.antt");
 
 // ---- reading: terms of names, numbers, lists and their joins, pairs, records and applications ----
 

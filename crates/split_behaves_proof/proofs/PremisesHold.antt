@@ -11,7 +11,7 @@ use Rattle.wasm_valid.specs.Prelude.{IsValid, body_context}
 use Rattle.wasm_meaning.specs.Prelude.{LoaderWorld}
 use Rattle.split_plan.specs.Plans.{body_uses_segment}
 use Rattle.split_spec.specs.Prelude.{prefix_taken}
-use Rattle.split_spec.proofs.Rows.{names, placeholder_word, func, export, table, gives_number}
+use Rattle.split_spec.specs.Examples.{names, placeholder_word, func, export, table, gives_number}
 use Rattle.split_behaves_proof.specs.Laws.{ObservationallyEquivalent, CanBeSplit, most_params}
 use Rattle.split_behaves_proof.proofs.SmallRuns.{f, g}
 use Rattle.split_behaves_proof.proofs.WrongSplits.{giving, endless, an_endless_function_is_refused, holding, in_own_table, slots_in_place_of_entries_are_refused, more_entries_are_refused}

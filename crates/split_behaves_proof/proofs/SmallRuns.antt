@@ -12,7 +12,7 @@ use Rattle.wasm_num.specs.Operations.{wrapped, un_from, un_to, un_value, bin_fro
 use Rattle.wasm_meaning.specs.Prelude.{Text, Environment, Number, Function, alone, Event, Linked, LinkFault, Asked, Returned, Trapped, Got, BadMove, Move, Call, Invoke, Take, Answer, Size, Named, events, Secondary, LoaderWorld, events_loaded}
 use Rattle.split_spec.specs.Primary.{primary_with}
 use Rattle.split_spec.specs.Secondary.{secondary_with}
-use Rattle.split_spec.proofs.Rows.{names, primary_word, placeholder_word, slots_word, empty, func, import, export, table, segment, nothing, gives_number, takes_two, slots_import, calling, calling_primary, calling_secondary, numbered_placeholder}
+use Rattle.split_spec.specs.Examples.{names, primary_word, placeholder_word, slots_word, empty, func, import, export, table, segment, nothing, gives_number, takes_two, slots_import, calling, calling_primary, calling_secondary, numbered_placeholder}
 use Rattle.split_behaves_proof.specs.Worlds.{in_place_of, split_world, pair_world}
 
 -- ---- what is common ----

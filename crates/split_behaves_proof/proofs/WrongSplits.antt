@@ -11,7 +11,7 @@ use Rattle.wasm_tree.specs.declared.module.ImportDesc.TheVariants as im
 use Rattle.wasm_num.specs.Operations.{wrapped, un_from, un_to, un_value, bin_from, bin_to, bin_value}
 use Rattle.index_remap.specs.Prelude.{declaring}
 use Rattle.wasm_meaning.specs.Prelude.{Null, Number, Function, alone, Event, Linked, Returned, Got, BadMove, Move, Call, Take, Get, Size, Named, IsPrefix, events, LoaderWorld, events_loaded}
-use Rattle.split_spec.proofs.Rows.{placeholder_word, primary_word, slots_word, shared_word, empty, func, import, export, table, segment, gives_number, takes_two, slots_import}
+use Rattle.split_spec.specs.Examples.{placeholder_word, primary_word, slots_word, shared_word, empty, func, import, export, table, segment, gives_number, takes_two, slots_import}
 use Rattle.split_behaves_proof.specs.Worlds.{in_place_of}
 use Rattle.split_behaves_proof.specs.Laws.{ObservationallyEquivalent}
 use Rattle.split_behaves_proof.proofs.SmallRuns.{f, g, number, one_slot, two_slots, subtracting, subtracting_primary, subtracting_secondary, subtracting_world}

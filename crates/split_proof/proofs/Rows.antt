@@ -13,7 +13,7 @@ use Rattle.wasm_valid.specs.Prelude.{IsValid, body_context}
 use Rattle.index_remap.specs.Prelude.{declaring, renumbered_tree}
 use Rattle.split_spec.specs.Prelude.{prefix_taken, secondary, secondary_map, secondary_tree}
 use Rattle.split_spec.specs.Secondary.{secondary_with}
-use Rattle.split_spec.proofs.Rows.{calling as calls_next, calling_primary, empty, export, func, gives_number, import, names, nothing, primary_word, segment, slots_import}
+use Rattle.split_spec.specs.Examples.{calling as calls_next, calling_primary, empty, export, func, gives_number, import, names, nothing, primary_word, segment, slots_import}
 use Rattle.split_proof.specs.Premises.{CanMove}
 
 -- ---- a module that is split ----

@@ -19,62 +19,9 @@ use Rattle.split_spec.specs.Needed.{needed}
 use Rattle.split_spec.specs.Prelude.{primary, HasSlots, secondary, namespace_taken, prefix_taken, moved_params, split_fault}
 use Rattle.split_spec.specs.Primary.{primary_with}
 use Rattle.split_spec.specs.Secondary.{secondary_with}
+use Rattle.split_spec.specs.Examples.{primary_word, placeholder_word, names, slots_word, empty, func, import, export, limits, table, segment, nothing, gives_number, number_to_number, takes_number, takes_two, slots_import, calling, calling_primary, calling_secondary, shared_word, numbered_placeholder}
 
 -- ---- words ----
-
--- "primary", "placeholder" and "%"
-abbrev pub primary_word : List ℕ
-primary_word = 112 ∷ 114 ∷ 105 ∷ 109 ∷ 97 ∷ 114 ∷ 121 ∷ []
-
-abbrev pub placeholder_word : List ℕ
-placeholder_word = 112 ∷ 108 ∷ 97 ∷ 99 ∷ 101 ∷ 104 ∷ 111 ∷ 108 ∷ 100 ∷ 101 ∷ 114 ∷ []
-
-abbrev pub names : SplitNames
-names = record { import_namespace = primary_word; placeholder_namespace = placeholder_word; export_prefix = 37 ∷ [] }
-
--- "%slots"
-abbrev pub slots_word : List ℕ
-slots_word = 37 ∷ 115 ∷ 108 ∷ 111 ∷ 116 ∷ 115 ∷ []
-
-abbrev pub empty : Module
-empty = record { types = []; imports = []; funcs = []; tables = []; mems = []; globals = []; exports = []; start = None; elems = []; datas = [] }
-
-abbrev pub func : ℕ → List Instr → Func
-func ty body = record { ty = ty; locals = []; body = body }
-
-abbrev pub import : List ℕ → List ℕ → ImportDesc → Import
-import namespace field d = record { «module» = namespace; field = field; desc = d }
-
-abbrev pub export : List ℕ → ExportDesc → Export
-export name d = record { name = name; desc = d }
-
-abbrev pub limits : ℕ → Option ℕ → Limits
-limits min max = record { min = min; max = max }
-
-abbrev pub table : ℕ → TableType
-table count = record { ty = func_ref; limits = limits count (Some count) }
-
-abbrev pub segment : (table from : ℕ) → List ConstExpr → ElemSeg
-segment table from items = record { mode = elem.Active table (const.I32 (pos from)); ty = func_ref; items = items }
-
-abbrev pub nothing : FuncType
-nothing = record { params = []; results = [] }
-
-abbrev pub gives_number : FuncType
-gives_number = record { params = []; results = valt.I32 ∷ [] }
-
-abbrev pub number_to_number : FuncType
-number_to_number = record { params = valt.I32 ∷ []; results = valt.I32 ∷ [] }
-
-abbrev pub takes_number : FuncType
-takes_number = record { params = valt.I32 ∷ []; results = [] }
-
-abbrev pub takes_two : FuncType
-takes_two = record { params = valt.I32 ∷ valt.I32 ∷ []; results = valt.I32 ∷ [] }
-
--- the imports of the secondary module where nothing but the slot table is shared
-abbrev pub slots_import : ℕ → Import
-slots_import count = import primary_word slots_word (im.Table (table count))
 
 -- ---- a function that is exported ----
 
@@ -112,22 +59,6 @@ unfolding secondary_with digits
 what_adds_is_put_into_its_slot = search (rules, the_lemmas)
 
 -- ---- a function that is only called ----
-
--- the first function, which is exported as "f", calls the second
-abbrev pub calling : Module
-calling = record empty { types = gives_number ∷ []; funcs = func 0 (i.Call 1 ∷ []) ∷ func 0 (i.I32Const (pos 7) ∷ []) ∷ []; exports = export (102 ∷ []) (ex.Func 0) ∷ [] }
-
-abbrev pub calling_primary : Module
-calling_primary = record calling {
-  imports = import placeholder_word (48 ∷ []) (im.Func 0) ∷ [];
-  funcs = func 0 (i.I32Const (pos 0) ∷ i.CallIndirect 0 0 ∷ []) ∷ [];
-  tables = table 1 ∷ [];
-  exports = export (102 ∷ []) (ex.Func 1) ∷ export slots_word (ex.Table 0) ∷ [];
-  elems = segment 0 0 (const.Func 0 ∷ []) ∷ [];
-}
-
-abbrev pub calling_secondary : Module
-calling_secondary = record empty { types = gives_number ∷ []; imports = slots_import 1 ∷ []; funcs = func 0 (i.I32Const (pos 7) ∷ []) ∷ []; elems = segment 0 0 (const.Func 0 ∷ []) ∷ [] }
 
 what_is_only_called_needs_no_trampoline : needed calling (1 ∷ []) ≡ []
 what_is_only_called_needs_no_trampoline = search (rules, the_lemmas)
@@ -246,10 +177,6 @@ sharing = record empty {
   elems = declaring (3 ∷ []) ∷ [];
 }
 
--- "%f0", "%f1", "%f3", "%m0" and "%g1"
-abbrev pub shared_word : (kind index : ℕ) → List ℕ
-shared_word kind index = 37 ∷ kind ∷ index ∷ []
-
 one_trampoline_is_needed : needed sharing (2 ∷ 3 ∷ []) ≡ 3 ∷ []
 one_trampoline_is_needed = search (rules, the_lemmas)
 
@@ -281,10 +208,6 @@ unfolding secondary_with digits
 the_secondary_module_imports_it = search (rules, the_lemmas)
 
 -- ---- several secondary modules ----
-
--- "placeholder.0" and "placeholder.1"
-abbrev pub numbered_placeholder : ℕ → List ℕ
-numbered_placeholder digit = placeholder_word ++ 46 ∷ digit ∷ []
 
 -- both functions move, each to a secondary module of its own
 both_are_called_through_slots : primary_with (λ slot. numbered_placeholder (48 + slot)) (37 ∷ []) calling (0 ∷ 1 ∷ []) ≡ record calling {

@@ -5,4 +5,5 @@ pub mod FromPrimary
 pub mod Primary
 pub mod Secondary
 pub mod Faults
+pub mod Examples
 pub mod Prelude
