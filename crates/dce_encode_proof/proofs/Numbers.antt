@@ -13,8 +13,8 @@ use Rattle.index_remap.specs.Prelude.{new_const, new_import, new_import_desc, ne
 use Rattle.dce_sweep_spec.specs.Marks.{Marks}
 use Rattle.dce_sweep_spec.specs.Swept.{is_kept_ref, kept_items, kept_elem, defined_funcs, defined_globals, sweep_map, renumbered_kept, swept}
 use Rattle.wasm_write_proof.specs.Ranges.{ConstInRange, ImportDescInRange, ImportInRange, ExportInRange, ElemModeInRange, ElemInRange, DataModeInRange, FuncInRange, InRange}
-use Rattle.merge_encode_proof.proofs.Numbers.{ConstNumberInRange, ImportLimitsInRange, ImportNumbersInRange, FuncNumbersInRange, ElemOffsetInRange, ElemNumbersInRange, DataOffsetInRange, NumbersInRange}
-use Rattle.merge_encode_proof.proofs.Bodies.{NumbersStay, body_keeps}
+use Rattle.merge_encode_proof.specs.Numbers.{ConstNumberInRange, ImportLimitsInRange, ImportNumbersInRange, FuncNumbersInRange, ElemOffsetInRange, ElemNumbersInRange, DataOffsetInRange, NumbersInRange, NumbersStay}
+use Rattle.merge_encode_proof.proofs.Bodies.{body_keeps}
 use Rattle.merge_encode_proof.proofs.Consts.{number_of, new_number}
 use Rattle.merge_encode_proof.proofs.Modules.{declared_numbers}
 

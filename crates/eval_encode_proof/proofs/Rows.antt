@@ -8,7 +8,7 @@ use Rattle.wasm_tree.specs.declared.module.ConstExpr.TheVariants as const
 use Rattle.wasm_tree.specs.declared.module.ExportDesc.TheVariants as ex
 use Rattle.wasm_meaning.specs.Prelude.{Text, Num, Code}
 use Rattle.wasm_write_proof.specs.Ranges.{all_in_range, number_step, small_operand}
-use Rattle.merge_encode_proof.proofs.Numbers.{ConstNumberInRange}
+use Rattle.merge_encode_proof.specs.Numbers.{ConstNumberInRange}
 use Rattle.eval_spec.specs.Prelude.{State, Finished, evaluated, own_inst, value_of_global}
 use Rattle.eval_numbers_proof.specs.Ranges.{BeginsInRange}
 use Rattle.eval_snapshot_spec.specs.After.{IsAfter}

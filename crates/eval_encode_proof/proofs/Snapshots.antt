@@ -16,7 +16,7 @@ use Rattle.wasm_valid.specs.Prelude.{IsSingle, IsValid}
 use Rattle.wasm_write_proof.specs.Ranges.{small_operand, all_numbers_in, ConstInRange, DataModeInRange, ElemInRange, ElemModeInRange, ExportInRange, FuncInRange, ImportDescInRange, ImportInRange, InRange}
 use Rattle.wasm_meaning.specs.Prelude.{Text, RefVal, FuncRef, ExternRef, Val, Num, Ref, Memory, Global}
 use Rattle.index_remap.specs.Prelude.{declared_refs}
-use Rattle.merge_encode_proof.proofs.Numbers.{ConstNumberInRange, DataOffsetInRange, ElemNumbersInRange, ElemOffsetInRange, FuncNumbersInRange, ImportLimitsInRange, ImportNumbersInRange, NumbersInRange}
+use Rattle.merge_encode_proof.specs.Numbers.{ConstNumberInRange, DataOffsetInRange, ElemNumbersInRange, ElemOffsetInRange, FuncNumbersInRange, ImportLimitsInRange, ImportNumbersInRange, NumbersInRange}
 use Rattle.merge_encode_proof.proofs.Consts.{number_of}
 use Rattle.merge_encode_proof.proofs.Modules.{declared_numbers}
 use Rattle.eval_spec.specs.declared.limits.TheConstants.{MOST_TURNS}

@@ -4,9 +4,7 @@ use Rattle.wasm_tree_spec.specs.Prelude.{Space, Instr, the_lemmas, Call, mapped_
 use Rattle.index_remap.specs.declared.remap.Remap.{Remap}
 use Rattle.index_remap.specs.Prelude.{entry, renumbered_all}
 use Rattle.wasm_write_proof.specs.Ranges.{small_operand, numbers_in, all_numbers_in, all_in_range}
-
-abbrev pub NumbersStay : Type 0
-NumbersStay = (f : Space → ℕ → ℕ) (code : List Instr) → all_numbers_in (mapped_all f code) ≡ all_numbers_in code
+use Rattle.merge_encode_proof.specs.Numbers.{NumbersStay}
 
 pub body_keeps : NumbersStay → (m : Remap) (is : List Instr) → all_in_range is ≡ true → all_numbers_in (renumbered_all m is) ≡ true
 body_keeps stay m is h = stay (entry m) is ∙ right_true (all_operands_pass small_operand is) (all_numbers_in is) h

@@ -12,7 +12,7 @@ use Rattle.index_remap.specs.Prelude.{new_const}
 use Rattle.merge_spec.specs.Prelude.{map_of, merged_read, merged_global, merged_elem_mode, merged_elem, merged_data_mode, merged_data}
 use Rattle.merge_spec.specs.Merged.{merged_const}
 use Rattle.wasm_write_proof.specs.Ranges.{ConstInRange, ElemModeInRange, ElemInRange, DataModeInRange, InRange}
-use Rattle.merge_encode_proof.proofs.Numbers.{ConstNumberInRange, ElemOffsetInRange, ElemNumbersInRange, DataOffsetInRange}
+use Rattle.merge_encode_proof.specs.Numbers.{ConstNumberInRange, ElemOffsetInRange, ElemNumbersInRange, DataOffsetInRange}
 use Rattle.merge_encode_proof.proofs.Lists.{at_part}
 use Rattle.merge_encode_proof.proofs.Limits.{PartsInRange}
 

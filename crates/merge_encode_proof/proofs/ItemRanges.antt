@@ -13,7 +13,7 @@ use Rattle.wasm_valid.specs.declared.kinds.ItemKind.TheVariants as kind
 use Rattle.wasm_valid.specs.Prelude.{const_type, table_types, elem_types, refs_of, named_from, named_of, ImportHolds, InSpace, ElemModeHolds, DataModeHolds, IsSingle, HoldsAt, start_count, count_of, body_context}
 use Rattle.wasm_tree.proofs.OperandLaws.{passes_more}
 use Rattle.wasm_write_proof.specs.Ranges.{IsU32, small_operand, spelled_operand, all_numbers_in, MaxInRange, ConstInRange, ImportDescInRange, ImportInRange, ExportDescInRange, ExportInRange, ElemModeInRange, ElemInRange, DataModeInRange, FuncInRange, InRange}
-use Rattle.merge_encode_proof.proofs.Numbers.{ConstNumberInRange, ImportLimitsInRange, ImportNumbersInRange, FuncNumbersInRange, ElemOffsetInRange, ElemNumbersInRange, DataOffsetInRange, NumbersInRange}
+use Rattle.merge_encode_proof.specs.Numbers.{ConstNumberInRange, ImportLimitsInRange, ImportNumbersInRange, FuncNumbersInRange, ElemOffsetInRange, ElemNumbersInRange, DataOffsetInRange, NumbersInRange}
 use Rattle.merge_encode_proof.proofs.BodyRanges.{IsSmall, body_small}
 
 -- each item holds

@@ -14,8 +14,8 @@ use Rattle.merge_spec.specs.Prelude.{staying, map_of, merged_desc, merged_global
 use Rattle.merge_spec.specs.Merged.{merged_import, defined_funcs, all_exports, merged}
 use Rattle.merge_spec.specs.Joined.{joined_module}
 use Rattle.wasm_write_proof.specs.Ranges.{LimitsInRange, ConstInRange, ExportInRange, ElemInRange, DataModeInRange, FuncInRange, InRange}
-use Rattle.merge_encode_proof.proofs.Numbers.{ConstNumberInRange, ImportLimitsInRange, ImportNumbersInRange, FuncNumbersInRange, ElemNumbersInRange, DataOffsetInRange, NumbersInRange}
-use Rattle.merge_encode_proof.proofs.Bodies.{NumbersStay, body_keeps, calls_in}
+use Rattle.merge_encode_proof.specs.Numbers.{ConstNumberInRange, ImportLimitsInRange, ImportNumbersInRange, FuncNumbersInRange, ElemNumbersInRange, DataOffsetInRange, NumbersInRange, NumbersStay}
+use Rattle.merge_encode_proof.proofs.Bodies.{body_keeps, calls_in}
 use Rattle.merge_encode_proof.proofs.Lists.{every_by_part, every_flat}
 use Rattle.merge_encode_proof.proofs.Limits.{PartsInRange, import_in, met_limits_in}
 use Rattle.merge_encode_proof.proofs.Consts.{global_in, elem_in, data_in}

@@ -4,7 +4,7 @@ use Rattle.wasm_tree_spec.specs.Prelude.{fold_out-Instr}
 use Rattle.wasm_tree.specs.declared.instr.Instr.{out-Instr}
 use Rattle.index_remap.specs.Prelude.{slot_call}
 use Rattle.wasm_write_proof.specs.Ranges.{all_numbers_in, number_step}
-use Rattle.merge_encode_proof.proofs.Numbers.{ElemNumbersInRange}
+use Rattle.merge_encode_proof.specs.Numbers.{ElemNumbersInRange}
 use Rattle.split_spec.specs.Prelude.{slot_segment}
 
 greatest_slot : all_numbers_in (slot_call 0 0 (pos 2147483647)) ≡ true

@@ -6,9 +6,8 @@ use Rattle.wasm_tree_spec.specs.Prelude.{Space, Types, Functions, Tables, Memori
 use Rattle.wasm_tree.specs.declared.module.ImportDesc.TheVariants as im
 use Rattle.index_remap.specs.Prelude.{declared_refs, renumbered_tree}
 use Rattle.wasm_write_proof.specs.Ranges.{all_numbers_in, InRange, LimitsInRange}
-use Rattle.merge_encode_proof.proofs.Bodies.{NumbersStay}
+use Rattle.merge_encode_proof.specs.Numbers.{NumbersStay, FuncNumbersInRange, ImportLimitsInRange, ImportNumbersInRange, NumbersInRange}
 use Rattle.merge_encode_proof.proofs.Modules.{declared_numbers}
-use Rattle.merge_encode_proof.proofs.Numbers.{FuncNumbersInRange, ImportLimitsInRange, ImportNumbersInRange, NumbersInRange}
 use Rattle.split_spec.specs.declared.names.SplitNames.{SplitNames}
 use Rattle.split_spec.specs.Prelude.{defined_at, in_slots, place_among, slot_table, slot_table_type, entities, from_primary, imports_from_primary, name_from_primary, slots_name, secondary_call, secondary_call_by_place, secondary_func, secondary_imports, secondary_map, secondary_tree}
 use Rattle.split_spec.specs.Secondary.{secondary_with}

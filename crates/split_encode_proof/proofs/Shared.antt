@@ -7,7 +7,7 @@ use Rattle.wasm_tree_spec.specs.Prelude.{Space, Types, Functions, Tables, Memori
 use Rattle.wasm_tree.specs.declared.module.ConstExpr.TheVariants as const
 use Rattle.wasm_tree.specs.declared.module.ImportDesc.TheVariants as im
 use Rattle.wasm_write_proof.specs.Ranges.{LimitsInRange}
-use Rattle.merge_encode_proof.proofs.Numbers.{ConstNumberInRange, ElemNumbersInRange}
+use Rattle.merge_encode_proof.specs.Numbers.{ConstNumberInRange, ElemNumbersInRange}
 use Rattle.split_spec.specs.Prelude.{slot_segment, slot_table_type, entities}
 
 pub slot_limits_in : (count : ℕ) → count < 2 ^ 32 → LimitsInRange (slot_table_type count).limits
