@@ -9,7 +9,8 @@ use Rattle.dce_sweep_spec.specs.Marks.{Marks}
 use Rattle.dce_sweep_spec.specs.Swept.{defined_funcs, kept_elem, renumbered_kept, sweep_map}
 use Rattle.dce_sweep_spec.specs.Closed.{AreClosed}
 use Rattle.base_kept.proofs.Laws.{kept_from, kept_most}
-use Rattle.dce_sweep_proof.proofs.Spaces.{ItemsHold, funcs_are, globals_are, memories_are, tables_are}
+use Rattle.dce_sweep_proof.proofs.Spaces.{funcs_are, globals_are, memories_are, tables_are}
+use Rattle.wasm_valid.specs.Prelude.{ItemsHold}
 
 module _ (k : Marks) (m : Module) (c : AreClosed k m) (holds : ItemsHold m) where
   abbrev r : Remap

@@ -7,7 +7,7 @@ use Rattle.wasm_tree.specs.declared.module.DataMode.TheVariants as «data»
 use Rattle.wasm_tree.specs.declared.module.ElemMode.TheVariants as elem
 use Rattle.wasm_tree.specs.declared.module.ImportDesc.TheVariants as im
 use Rattle.wasm_valid.specs.declared.kinds.ItemKind.TheVariants as kind
-use Rattle.wasm_valid.specs.Prelude.{const_type, table_types, elem_types, start_count}
+use Rattle.wasm_valid.specs.Prelude.{const_type, table_types, elem_types, start_count, ItemsHold}
 use Rattle.index_remap.specs.declared.remap.Remap.{Remap}
 use Rattle.index_remap.specs.Prelude.{new_const, new_data, new_data_mode, new_elem, new_elem_mode, new_export, new_func, new_global, new_import, new_start}
 use Rattle.index_remap_proof.specs.Indices.{Indices, ConstNamesOnly, DataModeNamesOnly, ElemModeNamesOnly, ImportNamesOnly}
@@ -17,7 +17,7 @@ use Rattle.dce_sweep_spec.specs.Marks.{Marks, stays}
 use Rattle.dce_sweep_spec.specs.Swept.{defined_funcs, defined_globals, is_kept_ref, kept_elem, kept_items, sweep_map, renumbered_kept}
 use Rattle.dce_sweep_spec.specs.Closed.{AreClosed}
 use Rattle.base_kept.proofs.Laws.{kept_from, kept_map, kept_take, kept_contained, moved}
-use Rattle.dce_sweep_proof.proofs.Spaces.{ItemsHold, map_same, funcs_are, globals_are, imported_globals_are, tables_are, memories_are, elem_types_are}
+use Rattle.dce_sweep_proof.proofs.Spaces.{map_same, funcs_are, globals_are, imported_globals_are, tables_are, memories_are, elem_types_are}
 
 -- a constant expression that reads only what stays imported keeps its type
 abbrev pub ConstantsAreKept : Type 0

@@ -5,7 +5,7 @@ use Rattle.wasm_tree_spec.specs.Prelude.{Space, Functions, Tables, Memories, Glo
 use Rattle.wasm_tree.specs.declared.module.ImportDesc.TheVariants as im
 use Rattle.wasm_valid.specs.declared.kinds.ItemKind.{ItemKind}
 use Rattle.wasm_valid.specs.declared.kinds.ItemKind.TheVariants as kind
-use Rattle.wasm_valid.specs.Prelude.{elem_types, HoldsAt, count_of, ImportHolds}
+use Rattle.wasm_valid.specs.Prelude.{elem_types, HoldsAt, count_of, ImportHolds, ItemsHold}
 use Rattle.wasm_meaning.specs.Prelude.{has_kind, imports_of}
 use Rattle.index_remap.specs.declared.remap.Remap.{Remap}
 use Rattle.index_remap.specs.Prelude.{new_import_desc, new_import, new_func, new_global, new_elem}
@@ -15,10 +15,6 @@ use Rattle.dce_sweep_spec.specs.Marks.{Marks, stays}
 use Rattle.dce_sweep_spec.specs.Swept.{defined_funcs, defined_globals, kept_elem, sweep_map, renumbered_kept}
 use Rattle.dce_sweep_spec.specs.Closed.{AreClosed}
 use Rattle.base_kept.proofs.Laws.{kept_from, kept_map, kept_append, kept_all, kept_chosen}
-
--- each item of a module holds
-abbrev pub ItemsHold : Module → Type 0
-ItemsHold m = (n : ItemKind) (i : ℕ) → i < count_of m true n → HoldsAt m n i
 
 pub map_same : {A B : Type 0} (g : A → B) (f : A → A) (xs : List A) → ((n : ℕ) (x : A) → slice_get xs n ≡ Some x → g (f x) ≡ g x) → map g (map f xs) ≡ map g xs
 map_same g f [] h = refl

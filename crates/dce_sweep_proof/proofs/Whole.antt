@@ -1,7 +1,7 @@
 -- What is left of a valid module is valid, a u32 can count what it has, and it has no memory more.
 use Rattle.base_lists.proofs.Common.{◌≡◌, sym, subst, ℕ, ◌+◌, ◌^◌, ◌<◌, ◌≤◌, List, [], ◌∷◌, length, None, ◌↔◌, arith, length-append}
 use Rattle.wasm_tree_spec.specs.Prelude.{Module, IsBounded}
-use Rattle.wasm_valid.specs.Prelude.{IsSingle, IsValid}
+use Rattle.wasm_valid.specs.Prelude.{IsSingle, IsValid, ItemsHold}
 use Rattle.index_remap.specs.declared.remap.Remap.{Remap}
 use Rattle.index_remap.specs.Prelude.{declared, declared_refs, declaring, with_declared}
 use Rattle.index_remap_proof.specs.Indices.{Indices}
@@ -11,7 +11,7 @@ use Rattle.module_limits.specs.Counts.{over_limit, CountsAreWithinWhereNoneIsOve
 use Rattle.dce_sweep_spec.specs.Marks.{Marks, stays}
 use Rattle.dce_sweep_spec.specs.Swept.{renumbered_kept, sweep_map, swept}
 use Rattle.dce_sweep_spec.specs.Closed.{AreClosed}
-use Rattle.dce_sweep_proof.proofs.Spaces.{ItemsHold, memories_are}
+use Rattle.dce_sweep_proof.proofs.Spaces.{memories_are}
 use Rattle.dce_sweep_proof.proofs.Bounds.{kept_bounded}
 use Rattle.dce_sweep_proof.proofs.ComesFrom.{ConstantsAreKept, agree, each_stands}
 

@@ -1,7 +1,7 @@
 -- In an environment that links a module, what the first step makes of its constructors corresponds to what the snapshot is instantiated to.
 use Rattle.base_lists.proofs.Common.{◌≡◌, ◌∙◌, sym, ap, refl, subst, ℕ, List, [], ◌∷◌, ◌++◌, true, false, slice_get, Some, option_and_then, same_Some, and_then_is, all_rel, opt_at, opt_both, right_there}
 use Rattle.wasm_tree_spec.specs.Prelude.{Functions, GlobalDef, Module}
-use Rattle.wasm_valid.specs.Prelude.{IsValid}
+use Rattle.wasm_valid.specs.Prelude.{IsValid, ItemsHold}
 use Rattle.wasm_meaning.specs.Prelude.{Text, Inst, Val, Store, StepsWriteWhatTheyTouch, sites, Environment, ExternalValue, all_of, Begun, all_there, alone, begun, inst_of, insts_from, instantiate, is_matched, joined_stores, own_store, part_store, seen_as, segments, start_in, stores_from, value_of}
 use Rattle.index_remap.specs.Prelude.{Pairing, some, ListRel, nil, cons, opening, StoreRel, BegunRel, KeyRel, EntryByEntry, StoreRelOff, StepsAgreeOff, RunsAgreeOff}
 use Rattle.index_remap_proof.specs.Indices.{TreeNamesOnly, with_entry}
@@ -20,7 +20,7 @@ use Rattle.eval_proof.specs.Machines.{InstantiatedAs, InstantiationsAreTheMachin
 use Rattle.eval_snapshot_spec.specs.After.{IsAfter}
 use Rattle.eval_snapshot_spec.specs.Evaluated.{funcs_named}
 use Rattle.eval_snapshot_spec.specs.Snapshot.{snapshot}
-use Rattle.eval_snapshot_proof.proofs.Trees.{CodeLaws, ItemsHold}
+use Rattle.eval_snapshot_proof.proofs.Trees.{CodeLaws}
 use Rattle.eval_behaves_proof.specs.Worlds.{all_called, evaluated_from, evaluated_world, with_empty_func}
 use Rattle.eval_behaves_proof.proofs.StatesAgree.{R, enough}
 use Rattle.eval_behaves_proof.proofs.InRange.{NamingLaws, each_index, names_there}

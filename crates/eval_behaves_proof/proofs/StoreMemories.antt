@@ -10,7 +10,7 @@ use Rattle.world_simulation.specs.Prelude.{new_memory}
 use Rattle.eval_spec.specs.Prelude.{State, imported_store, own_inst, value_in, memory_bytes}
 use Rattle.eval_snapshot_spec.specs.After.{TellsTheSame}
 use Rattle.eval_snapshot_spec.specs.Snapshot.{segment_left, segments_left}
-use Rattle.eval_snapshot_proof.proofs.Trees.{ItemsHold}
+use Rattle.wasm_valid.specs.Prelude.{ItemsHold}
 use Rattle.eval_behaves_proof.proofs.DatasAlike.{AreBytesOf}
 use Rattle.eval_behaves_proof.proofs.Steady.{Steady}
 

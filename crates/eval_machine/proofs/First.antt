@@ -8,7 +8,7 @@ use Rattle.wasm_tree.specs.declared.module.ConstExpr.TheVariants as const
 use Rattle.wasm_tree.specs.declared.module.Func as tree
 use Rattle.wasm_num.specs.Operations.{W32, W64, wrapped}
 use Rattle.wasm_valid_bodies.specs.Typing.{only}
-use Rattle.wasm_valid.specs.Prelude.{const_type, HoldsAt, count_of}
+use Rattle.wasm_valid.specs.Prelude.{const_type, HoldsAt, count_of, ItemsHold}
 use Rattle.wasm_valid.specs.declared.kinds.ItemKind.{ItemKind}
 use Rattle.wasm_valid.specs.declared.kinds.ItemKind.TheVariants as kind
 use Rattle.wasm_meaning.specs.Prelude.{copies, RefVal, FuncRef, ExternRef, Val, Num, Ref, Func, Code, Global, Elem, Table, Store, type_of, zero_of, ref_of, null_of, declared, elem_with, global_with, joined_stores, new_elem, new_func}
@@ -18,10 +18,6 @@ use Rattle.eval_machine.specs.Slots.{StandsAs, null_in, slots_declared}
 use Rattle.eval_machine.proofs.Chosen.{none_mapped}
 use Rattle.eval_machine.specs.Slots as own
 use Rattle.eval_machine.specs.declared.slots.Slot.TheVariants as slot
-
--- each item of a valid module holds
-abbrev pub ItemsHold : Module → Type 0
-ItemsHold m = (k : ItemKind) (i : ℕ) → i < count_of m true k → HoldsAt m k i
 
 -- ---- constant expressions ----
 

@@ -5,7 +5,7 @@ use Rattle.wasm_tree_spec.specs.Prelude.{FuncType, ValType, Instr, Import, Impor
 use Rattle.wasm_tree.specs.declared.module.Func.{Func as FuncDef}
 use Rattle.wasm_tree.specs.declared.module.ImportDesc.TheVariants as im
 use Rattle.wasm_valid.specs.declared.kinds.ItemKind.TheVariants as kind
-use Rattle.wasm_valid.specs.Prelude.{ImportHolds, IsValid}
+use Rattle.wasm_valid.specs.Prelude.{ImportHolds, IsValid, ItemsHold}
 use Rattle.wasm_meaning.specs.Prelude.{pair_of, Pair, Func, Code, Own, Mark, declared}
 use Rattle.wasm_meaning.specs.Control.{type_of_func as type_of}
 use Rattle.eval_spec.specs.declared.limits.TheConstants.{MOST_TURNS}
@@ -19,7 +19,6 @@ use Rattle.eval_machine.specs.Prelude.{IsInstantiated, CallEnds, IsReady, Memory
 use Rattle.eval_machine.specs.Flows.{RunsFrame, entered}
 use Rattle.block_pool.specs.Pages.{Pages}
 use Rattle.eval_machine.proofs.Stays.{fits_still}
-use Rattle.eval_machine.proofs.First.{ItemsHold}
 use Rattle.eval_machine.proofs.References.{is_ready}
 use Rattle.eval_references_proof.specs.References.{EvaluatedGlobalsAreTyped, EvaluatedRefsAreThere}
 use Rattle.eval_references_proof.proofs.Imports.{ImportsTyped}

@@ -3,7 +3,7 @@ use Rattle.base_lists.proofs.Common.{◌≡◌, ℕ, suc, ◌+◌, ◌*◌, ◌�
 use Rattle.std.proofs.Common.{length-append}
 use Rattle.base_lists.specs.Places.{places}
 use Rattle.wasm_tree_spec.specs.Prelude.{Limits, GlobalDef, Module, imported_memories, memories_of}
-use Rattle.wasm_valid.specs.Prelude.{const_type}
+use Rattle.wasm_valid.specs.Prelude.{const_type, ItemsHold}
 use Rattle.wasm_valid.specs.declared.kinds.ItemKind.TheVariants as kind
 use Rattle.wasm_meaning.specs.Prelude.{copies}
 use Rattle.block_pool.specs.Pages.{Pages}
@@ -17,7 +17,7 @@ use Rattle.eval_machine.specs.Prelude.{FillsTables, IsFilled, IsInstantiated, Po
 use Rattle.eval_machine.specs.Begun.{AreFirst, IsBlank, LimitsFew, data_state, datas_end, datas_from}
 use Rattle.eval_machine.specs.Undo.{FlagsAreRight}
 use Rattle.eval_machine.specs.Kept.{base_of, counts_of}
-use Rattle.eval_machine.proofs.First.{ItemsHold, elems_there, first_state, funcs_there, is_at_first, starts_as}
+use Rattle.eval_machine.proofs.First.{elems_there, first_state, funcs_there, is_at_first, starts_as}
 use Rattle.eval_machine.proofs.FirstGlobals.{copies_are, none_dropped}
 
 -- ---- what a valid module has ----

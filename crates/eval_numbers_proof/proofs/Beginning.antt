@@ -10,7 +10,7 @@ use Rattle.wasm_tree.specs.declared.module.ElemMode.TheVariants as elem
 use Rattle.wasm_num.specs.Operations.{W32}
 use Rattle.wasm_valid.specs.declared.kinds.ItemKind.{ItemKind}
 use Rattle.wasm_valid.specs.declared.kinds.ItemKind.TheVariants as kind
-use Rattle.wasm_valid.specs.Prelude.{HoldsAt, count_of}
+use Rattle.wasm_valid.specs.Prelude.{HoldsAt, count_of, ItemsHold}
 use Rattle.wasm_meaning.specs.Prelude.{Gives, copies, overwrite, RefVal, Table, Memory, Store, num_of, ref_of, null_of, zero_of, no_bytes, no_items, Bytes, Filled, PlacedSegment, copy_slots, copy_bytes, elem_with, global_with, joined_stores, new_elem, new_func, or_trapped, run_elem_with, run_data_with, segments_in, store_with}
 use Rattle.eval_spec.specs.declared.stop.Stop.TheVariants as why
 use Rattle.eval_spec.specs.Prelude.{State, Stage, Going, Stopped, Finished, Test, first_held, stopped_or, written_after, copied_slots, data_tests, elem_tests, filled_from, imported_store, in_order, instantiated, own_inst, place_in, state_at_first, value_in, with_data, with_data_mode, with_elem, with_elem_mode, with_segments}
@@ -52,9 +52,6 @@ any (x ∷ xs) = (tt, any xs)
 
 -- ---- at first ----
 
-abbrev pub Items : Module → Type 0
-Items m = (k : ItemKind) (i : ℕ) → i < count_of m true k → HoldsAt m k i
-
 module _ (m : Module) where
   zeros_of_imports : Every GlobalIn (imported_store m).globals
   zeros_of_imports = each_made GlobalIn Any (λ (t : GlobalType). record { ty = t; value = zero_of t.ty }) (λ t u. zero_in t.ty) (imported_globals m.imports) (any (imported_globals m.imports))
@@ -84,7 +81,7 @@ module _ (m : Module) where
       there_then (Every IsNullOrFunction) ElemIn (all_there (λ x. value_in m x >>= ref_of) e.items) (λ items. Some (new_elem e.mode items))
       (each_there IsNullOrFunction (λ x. value_in m x >>= ref_of) item_in e.items) (new_elem_in e.mode)
 
-  module _ (items : Items m) (begins : BeginsInRange m) where
+  module _ (items : ItemsHold m) (begins : BeginsInRange m) where
     abbrev FewPages : Limits → Type 0
     FewPages l = l.min ≤ 65536
 
@@ -221,7 +218,7 @@ module _ (m : Module) where
   filled_held turns (Some s) h = segments_held s h
 
   -- after the instantiation
-  pub instantiated_in : Items m → BeginsInRange m → (turns : ℕ) → HeldIn (instantiated m turns)
+  pub instantiated_in : ItemsHold m → BeginsInRange m → (turns : ℕ) → HeldIn (instantiated m turns)
   instantiated_in items begins turns = by (nat_lt 1 (length (memories_of m))) (filled_held turns (state_at_first m turns) (at_first_in m items begins turns))
     where
       by : (several : Bool) → HeldIn (filled_from m turns (state_at_first m turns)) → HeldIn (cond several (Stopped why.Memory turns) (filled_from m turns (state_at_first m turns)))

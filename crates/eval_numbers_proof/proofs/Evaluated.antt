@@ -2,13 +2,13 @@
 use Rattle.base_lists.proofs.Common.{◌≡◌, ℕ, zero, suc, ◌-◌, List, [], ◌∷◌, Option, Some, None, slice_get, subst, every_at}
 use Rattle.base_lists.specs.Every.{Every}
 use Rattle.wasm_tree_spec.specs.Prelude.{Module}
-use Rattle.wasm_valid.specs.Prelude.{IsValid}
+use Rattle.wasm_valid.specs.Prelude.{IsValid, ItemsHold}
 use Rattle.wasm_meaning.specs.Prelude.{Outcome, Gives, Traps, IllTyped, Val, Num, Ref, Func, Entry, Mark, Next, Ran, CallsOwn, WaitsGrowth, CallsPlaceholder, EndsCall, enter, step}
 use Rattle.wasm_meaning.proofs.Outcomes.{AllOf, just}
 use Rattle.eval_spec.specs.Prelude.{State, Stage, Going, Stopped, Finished, first_held, frame_turns, host_tests, tests, after_steps, call_end, came_to, host_call, host_opened_if_there, quiet_step, spent, weight, called_in_order, evaluated_within, after_start, instantiated}
 use Rattle.eval_numbers_proof.specs.Ranges.{BeginsInRange, EvaluatedGlobalsAreInRange, EvaluatedGlobalsAreExpressible, EvaluatedMemoriesAreInRange, IsExpressible, ValInRange}
 use Rattle.eval_numbers_proof.proofs.Steps.{EntryIn, GlobalIn, MemoryIn, NextIn, StoreIn, enter_in, step_in}
-use Rattle.eval_numbers_proof.proofs.Beginning.{HeldIn, Items, instantiated_in, tried_in}
+use Rattle.eval_numbers_proof.proofs.Beginning.{HeldIn, instantiated_in, tried_in}
 
 module _ (m : Module) where
   came_in : (s : State) (ok : StoreIn s.store) (u : State) (o : Outcome Next) → AllOf (NextIn s.store ok) o → HeldIn (came_to u o)
@@ -53,7 +53,7 @@ module _ (m : Module) where
   started_in (Stopped x left) start h = tt
   started_in (Going s es) start h = h
 
-  evaluated_in : Items m → BeginsInRange m → (turns : ℕ) (funcs : List ℕ) (s : State) → evaluated_within m turns funcs ≡ Finished s → StoreIn s.store
+  evaluated_in : ItemsHold m → BeginsInRange m → (turns : ℕ) (funcs : List ℕ) (s : State) → evaluated_within m turns funcs ≡ Finished s → StoreIn s.store
   evaluated_in items begins turns funcs s e =
       subst HeldIn e (called_in funcs (after_start m (instantiated m turns) m.start) (started_in (instantiated m turns) m.start (instantiated_in m items begins turns)))
 
@@ -61,11 +61,11 @@ in_range : (v : Val) → IsExpressible v → ValInRange v
 in_range (Num w n) h = h
 in_range (Ref r) h = tt
 
-pub globals_own : ((m : Module) → IsValid m → Items m) → EvaluatedGlobalsAreExpressible
+pub globals_own : ((m : Module) → IsValid m → ItemsHold m) → EvaluatedGlobalsAreExpressible
 globals_own items m v begins turns funcs s e n g at = every_at GlobalIn s.store.globals n g (evaluated_in m (items m v) begins turns funcs s e).globals at
 
-pub globals_in : ((m : Module) → IsValid m → Items m) → EvaluatedGlobalsAreInRange
+pub globals_in : ((m : Module) → IsValid m → ItemsHold m) → EvaluatedGlobalsAreInRange
 globals_in items m v begins turns funcs s e n g at = in_range g.value (globals_own items m v begins turns funcs s e n g at)
 
-pub memories_in : ((m : Module) → IsValid m → Items m) → EvaluatedMemoriesAreInRange
+pub memories_in : ((m : Module) → IsValid m → ItemsHold m) → EvaluatedMemoriesAreInRange
 memories_in items m v begins turns funcs s e n x at = let held = every_at MemoryIn s.store.mems n x (evaluated_in m (items m v) begins turns funcs s e).mems at in (held.0, held.2)

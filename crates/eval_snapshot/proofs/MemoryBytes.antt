@@ -4,9 +4,8 @@ use Rattle.std.specs.Prelude.{unwrap_or}
 use Rattle.base_lists.specs.Options.{◌>>=◌}
 use Rattle.block_pool.specs.Pages.{Pages}
 use Rattle.wasm_tree_spec.specs.Prelude.{Limits, Module, imported_memories}
-use Rattle.wasm_valid.specs.declared.kinds.ItemKind.{ItemKind}
 use Rattle.wasm_valid.specs.declared.kinds.ItemKind.TheVariants as kind
-use Rattle.wasm_valid.specs.Prelude.{HoldsAt, count_of}
+use Rattle.wasm_valid.specs.Prelude.{ItemsHold}
 use Rattle.wasm_meaning.specs.Prelude.{Memory}
 use Rattle.eval_spec.specs.Prelude.{imported_store, memory_bytes}
 use Rattle.eval_machine.specs.declared.kept.Kept.{Kept}
@@ -31,7 +30,7 @@ module _ (m : Module) (k : Kept) where
   pub no_segments : m.mems ≡ [] → memory_segments m (state_in m k) ≡ []
   no_segments h = ap (contents (length (imported_memories m.imports))) (no_bytes h)
 
-  pub small_memory : ((n : ItemKind) (i : ℕ) → i < count_of m true n → HoldsAt m n i) → Fits m k → length (memory_bytes m (state_in m k)) ≤ 4294967296
+  pub small_memory : ItemsHold m → Fits m k → length (memory_bytes m (state_in m k)) ≤ 4294967296
   small_memory holds fits = subst (λ bs. length bs ≤ 4294967296) (sym bytes_are) (by m.mems k.memory refl fits.memory)
     where
       by : (ls : List Limits) (o : Option Pages) → m.mems ≡ ls → MemoryFits ls o → length (found (memory_in ls o)) ≤ 4294967296

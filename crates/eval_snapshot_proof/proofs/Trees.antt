@@ -16,7 +16,7 @@ use Rattle.wasm_tree.specs.declared.module.ImportDesc.TheVariants as im
 use Rattle.wasm_valid_bodies.specs.Typing.{WellTyped, only}
 use Rattle.wasm_valid.specs.declared.kinds.ItemKind.{ItemKind}
 use Rattle.wasm_valid.specs.declared.kinds.ItemKind.TheVariants as kind
-use Rattle.wasm_valid.specs.Prelude.{const_type, refs_of, DataModeHolds, ElemModeHolds, HoldsAt, ImportHolds, InSpace, body_context, count_of}
+use Rattle.wasm_valid.specs.Prelude.{const_type, refs_of, DataModeHolds, ElemModeHolds, HoldsAt, ImportHolds, InSpace, body_context, count_of, ItemsHold}
 use Rattle.wasm_meaning.specs.Prelude.{Text}
 use Rattle.index_remap_proof.specs.ButForReferences.{HoldsButForReferences, any_named}
 use Rattle.index_remap_proof.proofs.Lists.{named_within}
@@ -25,10 +25,6 @@ use Rattle.eval_snapshot_spec.specs.Contents.{contents, stretches, stretch_segme
 use Rattle.eval_snapshot_spec.specs.Snapshot.{added_funcs, empty_func, empty_type, export_left, global_left, globals_left, is_among_names, is_kept, is_passive, emptied, memory_segments, old_segments, segment_left, segments_left, snapshot_tree}
 use Rattle.eval_snapshot_proof.specs.Suits.{HasEmptyType, Suits}
 use Rattle.eval_snapshot_proof.proofs.Typed.{typed_wider}
-
--- each item of a module holds
-abbrev pub ItemsHold : Module → Type 0
-ItemsHold m = (n : ItemKind) (i : ℕ) → i < count_of m true n → HoldsAt m n i
 
 -- what the laws on what code names say
 pub record CodeLaws : Type 0 where

@@ -1,7 +1,7 @@
 -- A snapshot is valid, a u32 can count what it has, and it has no memory more.
 use Rattle.base_lists.proofs.Common.{◌≡◌, ◌↔◌, sym, subst, refl, ℕ, ◌+◌, ◌^◌, ◌<◌, ◌≤◌, List, [], ◌∷◌, length, map, Some, None, true, slice_get, arith, ⊎_elim, length-append, length-map, filter_map_most}
 use Rattle.wasm_tree_spec.specs.Prelude.{FuncType, Func, Module, IsBounded, local_count, param_count, func_of, funcs_of, imported_funcs}
-use Rattle.wasm_valid.specs.Prelude.{IsSingle, IsValid}
+use Rattle.wasm_valid.specs.Prelude.{IsSingle, IsValid, ItemsHold}
 use Rattle.wasm_meaning.specs.Prelude.{Text}
 use Rattle.module_limits.specs.Counts.{CountsAreWithin, CountsAreWithinWhereNoneIsOver, over_limit}
 use Rattle.index_remap.specs.Prelude.{declared, declared_refs, declaring, with_declared}
@@ -9,7 +9,7 @@ use Rattle.index_remap_proof.specs.ButForReferences.{IsValidButForReferences}
 use Rattle.eval_spec.specs.Prelude.{State, takes_and_gives_nothing}
 use Rattle.eval_snapshot_spec.specs.Snapshot.{declared_snapshot, empty_func, export_left, snapshot, snapshot_tree, too_much}
 use Rattle.eval_snapshot_proof.specs.Suits.{HasEmptyType, HasEmptyTypeFor, Suits}
-use Rattle.eval_snapshot_proof.proofs.Trees.{CodeLaws, ItemsHold, added_type, func_from, globals_are, items_hold}
+use Rattle.eval_snapshot_proof.proofs.Trees.{CodeLaws, added_type, func_from, globals_are, items_hold}
 
 -- what the laws below say
 pub record Laws : Type 0 where

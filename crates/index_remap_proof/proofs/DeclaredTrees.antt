@@ -14,14 +14,13 @@ use Rattle.wasm_tree.specs.declared.module.ConstExpr.TheVariants as const
 use Rattle.wasm_valid_bodies.specs.Typing.{only}
 use Rattle.wasm_valid.specs.declared.kinds.ItemKind.{ItemKind}
 use Rattle.wasm_valid.specs.declared.kinds.ItemKind.TheVariants as kind
-use Rattle.wasm_valid.specs.Prelude.{const_type, const_func, elem_refs, global_refs, export_refs, named_of, refs_of, elem_types, HoldsAt, ImportHolds, InSpace, ElemModeHolds, DataModeHolds, IsSingle, IsValid, body_context, count_of}
+use Rattle.wasm_valid.specs.Prelude.{const_type, const_func, elem_refs, global_refs, export_refs, named_of, refs_of, elem_types, HoldsAt, ImportHolds, InSpace, ElemModeHolds, DataModeHolds, IsSingle, IsValid, body_context, count_of, ValidWhereItemsHold}
 use Rattle.index_remap.specs.Prelude.{refs_all, body_refs, offset_refs, outside_refs, declared_refs, declaring, with_declared, declared, Keeps}
 use Rattle.index_remap.specs.References.{offset_func}
 use Rattle.index_remap_proof.specs.ButForReferences.{any_named, HoldsButForReferences, IsValidButForReferences}
 use Rattle.index_remap_proof.proofs.Lists.{marked, is_marked, named_within}
 use Rattle.base_lists.proofs.Places.{push_from, replicate_within}
 use Rattle.index_remap_proof.proofs.NamedFuncs.{typed_named, typed_wider}
-use Rattle.index_remap_proof.proofs.WholeTrees.{ValidWhereItemsHold}
 
 -- ---- filtered numbers ----
 

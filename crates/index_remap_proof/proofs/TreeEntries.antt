@@ -8,7 +8,7 @@ use Rattle.wasm_tree.specs.declared.module.DataMode.TheVariants as «data»
 use Rattle.wasm_tree.specs.declared.module.ConstExpr.TheVariants as const
 use Rattle.wasm_valid.specs.declared.kinds.ItemKind.{ItemKind}
 use Rattle.wasm_valid.specs.declared.kinds.ItemKind.TheVariants as kind
-use Rattle.wasm_valid.specs.Prelude.{const_type, named_from, refs_of, table_types, HoldsAt, ImportHolds, InSpace, ElemModeHolds, DataModeHolds, IsValid, body_context, count_of, start_count}
+use Rattle.wasm_valid.specs.Prelude.{const_type, named_from, refs_of, table_types, HoldsAt, ImportHolds, InSpace, ElemModeHolds, DataModeHolds, IsValid, body_context, count_of, start_count, ValidWhereItemsHold}
 use Rattle.index_remap.specs.declared.remap.Remap.{Remap}
 use Rattle.index_remap.specs.Prelude.{has, fits_const, fits_func, fits_import, fits_import_desc, fits_global, fits_export, fits_export_desc, fits_elem, fits_elem_mode, fits_data, fits_start, fits_tree}
 use Rattle.index_remap.specs.Renumbered.{fits_data_mode}
@@ -16,7 +16,6 @@ use Rattle.index_remap_proof.specs.Along.{CoversContext}
 use Rattle.index_remap_proof.specs.Trees.{Covers}
 use Rattle.index_remap_proof.proofs.Lists.{has_at}
 use Rattle.index_remap_proof.proofs.Entries.{body_fits}
-use Rattle.index_remap_proof.proofs.WholeTrees.{ValidWhereItemsHold}
 use Rattle.index_remap.proofs.Marks.{marks_length}
 
 func_there : (t : Module) (x : ℕ) (ft : FuncType) → type_of_func t x ≡ Some ft → x < length (funcs_of t)

@@ -10,7 +10,7 @@ use Rattle.wasm_tree.specs.declared.module.DataMode.TheVariants as «data»
 use Rattle.wasm_tree.specs.declared.module.ConstExpr.TheVariants as const
 use Rattle.wasm_valid.specs.declared.kinds.ItemKind.{ItemKind}
 use Rattle.wasm_valid.specs.declared.kinds.ItemKind.TheVariants as kind
-use Rattle.wasm_valid.specs.Prelude.{const_type, const_func, export_func, elem_refs, global_refs, export_refs, refs_of, HoldsAt, IsValid, count_of, start_count}
+use Rattle.wasm_valid.specs.Prelude.{const_type, const_func, export_func, elem_refs, global_refs, export_refs, refs_of, HoldsAt, IsValid, count_of, start_count, ValidWhereItemsHold}
 use Rattle.index_remap.specs.declared.remap.Remap.{Remap}
 use Rattle.index_remap.specs.Prelude.{has, has_entry, fits_const, fits_func, fits_import, fits_import_desc, fits_global, fits_export, fits_export_desc, fits_elem, fits_elem_mode, fits_data, fits_start, fits_tree, new_const, new_func, new_import, new_global, new_export, new_export_desc, new_elem, new_elem_mode, new_data, new_data_mode, new_start, renumbered_tree}
 use Rattle.index_remap.specs.Renumbered.{fits_data_mode}
@@ -19,10 +19,6 @@ use Rattle.index_remap_proof.specs.Trees.{TreesAgree, RefsAgree, ImportsAgree, R
 use Rattle.index_remap_proof.specs.ButForReferences.{IsValidButForReferences}
 use Rattle.index_remap_proof.proofs.Lists.{marked, is_marked, named_within}
 use Rattle.index_remap_proof.proofs.Items.{BodiesAreKept, const_kept, items_kept, items_weakly}
-
--- a tree is valid exactly where each item holds
-abbrev pub ValidWhereItemsHold : Type 0
-ValidWhereItemsHold = (m : Module) → IsValid m ↔ ((k : ItemKind) (i : ℕ) → i < count_of m true k → HoldsAt m k i)
 
 -- ---- what other indices leave ----
 

@@ -2,7 +2,7 @@
 use Rattle.base_lists.proofs.Common.{◌≡◌, ◌↔◌, ℕ, ◌<◌, List, length, Some, None, true, IsTrue, slice_get, slice_get_within, arith}
 use Rattle.wasm_tree_spec.specs.Prelude.{Ref, Func, GlobalDef, ElemSeg, DataSeg, ValType, ConstExpr, Module}
 use Rattle.wasm_valid.specs.declared.kinds.ItemKind.TheVariants as kind
-use Rattle.wasm_valid.specs.Prelude.{const_type, IsValid, HoldsAt, ElemModeHolds, DataModeHolds, count_of}
+use Rattle.wasm_valid.specs.Prelude.{const_type, IsValid, HoldsAt, ElemModeHolds, DataModeHolds, count_of, ValidWhereItemsHold}
 use Rattle.wasm_valid.specs.declared.kinds.ItemKind.{ItemKind}
 use Rattle.wasm_meaning.specs.Prelude.{Inst, Part, Read, module_at, read_of, Environment}
 use Rattle.index_remap.specs.Prelude.{fits_tree, RenumberedCodeIsRelated}
@@ -17,7 +17,7 @@ use Rattle.merge_behaves_proof.specs.Instances.{PartAgrees}
 
 pub record Laws : Type 0 where
   -- of wasm_valid
-  pub items : (m : Module) → IsValid m ↔ ((k : ItemKind) (i : ℕ) → i < count_of m true k → HoldsAt m k i)
+  pub items : ValidWhereItemsHold
   -- of merge_valid_proof
   pub valid : (parts : List Part) (mode : Mode) → CanBeJoined parts mode → IsValid (joined_module parts mode)
   pub entries : (parts : List Part) (p : ℕ) (m : Module) → IsValid m → IsTrue (fits_tree (map_of parts p m) m)

@@ -10,15 +10,11 @@ use Rattle.wasm_tree.specs.declared.module.DataMode.TheVariants as segment
 use Rattle.wasm_valid_bodies.specs.Typing.{only}
 use Rattle.wasm_valid.specs.declared.kinds.ItemKind.{ItemKind}
 use Rattle.wasm_valid.specs.declared.kinds.ItemKind.TheVariants as kind
-use Rattle.wasm_valid.specs.Prelude.{const_type, table_types, elem_types, refs_of, named_from, named_of, ImportHolds, InSpace, ElemModeHolds, DataModeHolds, IsSingle, HoldsAt, start_count, count_of, body_context}
+use Rattle.wasm_valid.specs.Prelude.{const_type, table_types, elem_types, refs_of, named_from, named_of, ImportHolds, InSpace, ElemModeHolds, DataModeHolds, IsSingle, HoldsAt, start_count, count_of, body_context, ItemsHold}
 use Rattle.wasm_tree.proofs.OperandLaws.{passes_more}
 use Rattle.wasm_write_proof.specs.Ranges.{IsU32, small_operand, spelled_operand, all_numbers_in, MaxInRange, ConstInRange, ImportDescInRange, ImportInRange, ExportDescInRange, ExportInRange, ElemModeInRange, ElemInRange, DataModeInRange, FuncInRange, InRange}
 use Rattle.merge_encode_proof.specs.Numbers.{ConstNumberInRange, ImportLimitsInRange, ImportNumbersInRange, FuncNumbersInRange, ElemOffsetInRange, ElemNumbersInRange, DataOffsetInRange, NumbersInRange}
 use Rattle.merge_encode_proof.proofs.BodyRanges.{IsSmall, body_small}
-
--- each item holds
-abbrev pub ItemsHold : Module → Type 0
-ItemsHold m = (k : ItemKind) (i : ℕ) → i < count_of m true k → HoldsAt m k i
 
 module _
     (layers : PassesLayerByLayer)

@@ -2,13 +2,10 @@
 use Rattle.base_lists.proofs.Common.{◌≡◌, sym, subst, refl, ℕ, zero, suc, ◌<◌, arith, slice_get, Some, List, [], ◌∷◌, length, true, IsTrue, get_or, ◌↔◌, list_all, left_true, right_true}
 use Rattle.wasm_tree_spec.specs.Prelude.{Import, Module}
 use Rattle.wasm_valid.specs.declared.kinds.ItemKind.{ItemKind}
-use Rattle.wasm_valid.specs.Prelude.{HoldsAt, IsValid, count_of}
+use Rattle.wasm_valid.specs.Prelude.{HoldsAt, IsValid, count_of, ItemsHold}
 use Rattle.index_remap.specs.declared.remap.Remap.{Remap}
 use Rattle.index_remap.specs.Prelude.{fits_func, fits_tree, fits_import, fits_import_desc, fits_global, fits_export, fits_start, fits_elem, fits_data}
-use Rattle.index_remap.proofs.Fits.{each_at}
-
-abbrev pub ItemsHold : Module → Type 0
-ItemsHold m = (k : ItemKind) (i : ℕ) → i < count_of m true k → HoldsAt m k i
+use Rattle.base_lists.proofs.Each.{all_at_place}
 
 abbrev pub ValidIsHeld : Type 0
 ValidIsHeld = (m : Module) → IsValid m ↔ ItemsHold m

@@ -4,7 +4,7 @@ use Rattle.wasm_tree_spec.specs.Prelude.{Space, Types, Functions, Tables, Memori
 use Rattle.wasm_tree.specs.declared.module.ImportDesc.TheVariants as im
 use Rattle.wasm_valid.specs.declared.kinds.ItemKind.{ItemKind}
 use Rattle.wasm_valid.specs.declared.kinds.ItemKind.TheVariants as kind
-use Rattle.wasm_valid.specs.Prelude.{table_types, elem_types, HoldsAt, ImportHolds, count_of}
+use Rattle.wasm_valid.specs.Prelude.{table_types, elem_types, HoldsAt, ImportHolds, count_of, ItemsHold}
 use Rattle.wasm_meaning.specs.Prelude.{Text, EndsArePaths, numbers, defined_before, Part, module_at}
 use Rattle.index_remap.specs.declared.remap.Remap.{Remap}
 use Rattle.index_remap.specs.Prelude.{Keeps}
@@ -19,10 +19,6 @@ use Rattle.merge_valid_proof.proofs.TypePlaces.{type_stands, types_map}
 use Rattle.merge_valid_proof.proofs.MergedSpaces.{types_are}
 use Rattle.merge_valid_proof.proofs.Linked.{AllAreSuited}
 use Rattle.merge_valid_proof.proofs.Entries.{entry_kept}
-
--- each item of a module holds
-abbrev pub ItemsHold : Module → Type 0
-ItemsHold m = (k : ItemKind) (i : ℕ) → i < count_of m true k → HoldsAt m k i
 
 -- ---- the lists of a map ----
 

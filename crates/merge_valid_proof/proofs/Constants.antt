@@ -6,7 +6,7 @@ use Rattle.wasm_tree.specs.declared.module.ConstExpr.TheVariants as const
 use Rattle.wasm_tree.specs.declared.module.ExportDesc.TheVariants as ex
 use Rattle.wasm_valid_bodies.specs.Typing.{only}
 use Rattle.wasm_valid.specs.declared.kinds.ItemKind.TheVariants as kind
-use Rattle.wasm_valid.specs.Prelude.{const_type}
+use Rattle.wasm_valid.specs.Prelude.{const_type, ItemsHold}
 use Rattle.wasm_meaning.specs.Prelude.{Text, PathStep, EndsWith, LeadsTo, Path, ends, goes, EndsArePaths, Part, Site, Outside, Entity, Read, places, has_kind, space_index, module_at, imports_of, global_import, end_of, initial, outside_read, end_step, read_step, read_of}
 use Rattle.wasm_meaning.specs.Laws.{ReadsArePaths}
 use Rattle.index_remap.specs.declared.remap.Remap.{Remap}
@@ -21,7 +21,7 @@ use Rattle.merge_valid_proof.proofs.Linked.{AllAreSuited, import_site}
 use Rattle.merge_valid_proof.proofs.Ends.{EndsInside, EndsOutside, Landed, inside, outside}
 use Rattle.merge_valid_proof.proofs.MergedSpaces.{imported_many}
 use Rattle.merge_valid_proof.proofs.Entries.{inside_own, own_entry, outside_kind, outside_place, kind_there, site_at, imported_is, index_imported, joined_entry}
-use Rattle.merge_valid_proof.proofs.Agree.{ItemsHold, entry_at, entries_many, trees_agree}
+use Rattle.merge_valid_proof.proofs.Agree.{entry_at, entries_many, trees_agree}
 
 -- ---- constant expressions of one module ----
 

@@ -3,7 +3,7 @@ use Rattle.base_lists.proofs.Common.{◌≡◌, ◌∙◌, ap, sym, subst, refl,
 use Rattle.wasm_tree_spec.specs.Prelude.{Memories, Limits, Import, ImportDesc, Module, space_of_import}
 use Rattle.wasm_tree.specs.declared.module.ImportDesc.TheVariants as im
 use Rattle.wasm_valid.specs.declared.kinds.ItemKind.TheVariants as kind
-use Rattle.wasm_valid.specs.Prelude.{HoldsAt, ImportHolds, LimitsHold}
+use Rattle.wasm_valid.specs.Prelude.{HoldsAt, ImportHolds, LimitsHold, ItemsHold}
 use Rattle.wasm_valid.specs.Validity.{MostIsAtLeast, MostIsAtMost}
 use Rattle.wasm_meaning.specs.Prelude.{Text, EndsArePaths, Part, Site, module_at, import_at, sites, is_outside, linked_end, limits_of, consed, demands, least, met, met_limits}
 use Rattle.merge_spec.specs.declared.faults.LinkFault.{LinkFault}
@@ -18,7 +18,6 @@ use Rattle.merge_valid_proof.proofs.Ends.{Landed, inside, outside, landed}
 use Rattle.merge_valid_proof.proofs.TypePlaces.{type_stands}
 use Rattle.merge_valid_proof.proofs.MergedSpaces.{types_are, imports_are}
 use Rattle.merge_valid_proof.proofs.Entries.{kind_there}
-use Rattle.merge_valid_proof.proofs.Agree.{ItemsHold}
 
 -- ---- limits ----
 

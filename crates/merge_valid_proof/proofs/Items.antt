@@ -5,7 +5,7 @@ use Rattle.wasm_tree.specs.declared.module.ElemMode.TheVariants as elem
 use Rattle.wasm_tree.specs.declared.module.DataMode.TheVariants as «data»
 use Rattle.wasm_valid.specs.declared.kinds.ItemKind.{ItemKind}
 use Rattle.wasm_valid.specs.declared.kinds.ItemKind.TheVariants as kind
-use Rattle.wasm_valid.specs.Prelude.{HoldsAt, count_of}
+use Rattle.wasm_valid.specs.Prelude.{HoldsAt, count_of, ItemsHold}
 use Rattle.wasm_meaning.specs.Prelude.{Text, EndsArePaths, Part, module_at}
 use Rattle.index_remap.specs.declared.remap.Remap.{Remap}
 use Rattle.index_remap.specs.Prelude.{new_func}
@@ -18,7 +18,7 @@ use Rattle.merge_valid_proof.proofs.ByPart.{by_part_back, by_part_flat}
 use Rattle.merge_valid_proof.proofs.MergedSpaces.{types_are}
 use Rattle.merge_valid_proof.proofs.TypePlaces.{type_stands}
 use Rattle.merge_valid_proof.proofs.Linked.{AllAreSuited}
-use Rattle.merge_valid_proof.proofs.Agree.{ItemsHold, map_covers, trees_agree, elems_are, datas_are}
+use Rattle.merge_valid_proof.proofs.Agree.{map_covers, trees_agree, elems_are, datas_are}
 use Rattle.merge_valid_proof.proofs.Imports.{imports_hold}
 use Rattle.merge_valid_proof.proofs.Starts.{funcs_are, start_holds, calls_are, calls_typed_at, calls_body}
 use Rattle.merge_valid_proof.proofs.Exports.{export_from}

@@ -3,7 +3,7 @@ use Rattle.base_lists.proofs.Common.{◌≡◌, ◌∙◌, ap, ap₂, sym, subst
 use Rattle.wasm_tree_spec.specs.Prelude.{Functions, FuncType, Func, Module, Call, funcs_of, type_of_func}
 use Rattle.wasm_valid_bodies.specs.Typing.{Context, Gives, LeadsAll, WellTyped, effect_of, gives_of, signature_in}
 use Rattle.wasm_valid.specs.declared.kinds.ItemKind.TheVariants as kind
-use Rattle.wasm_valid.specs.Prelude.{IsValid, HoldsAt, start_count, body_context}
+use Rattle.wasm_valid.specs.Prelude.{IsValid, HoldsAt, start_count, body_context, ItemsHold}
 use Rattle.wasm_meaning.specs.Prelude.{Text, EndsArePaths, defined_before, Part, module_at}
 use Rattle.index_remap_proof.specs.ButForReferences.{any_named, HoldsButForReferences}
 use Rattle.merge_spec.specs.Prelude.{staying_of, new_index, by_part, start_of, start_among, start_calls, nullary, place_of_type, defined_funcs}
@@ -15,7 +15,7 @@ use Rattle.merge_valid_proof.proofs.TypePlaces.{type_placed}
 use Rattle.merge_valid_proof.proofs.MergedSpaces.{types_are, own_is, moved_own, extra, all_own, imported_many}
 use Rattle.merge_valid_proof.proofs.Linked.{AllAreSuited, are_linked}
 use Rattle.merge_valid_proof.proofs.Entries.{entry_kept}
-use Rattle.merge_valid_proof.proofs.Agree.{ItemsHold, func_to, func_back}
+use Rattle.merge_valid_proof.proofs.Agree.{func_to, func_back}
 
 pub start_is : (parts : List Part) (names : List (Option Text)) → (merged parts names).start ≡ start_among (length (staying_of parts Functions) + defined_before Functions parts (length parts)) (starts parts)
 unfolding merged

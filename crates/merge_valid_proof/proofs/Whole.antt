@@ -1,7 +1,7 @@
 -- The merged module with its references declared is valid, a u32 can count what it has, and it has at most one memory.
 use Rattle.base_lists.proofs.Common.{◌≡◌, ◌∙◌, ap, sym, subst, refl, ℕ, ◌+◌, ◌^◌, ◌<◌, List, length, Option, Some, None, ◌↔◌, IsTrue, false}
 use Rattle.wasm_tree_spec.specs.Prelude.{ConstExpr, Module, IsBounded}
-use Rattle.wasm_valid.specs.Prelude.{IsValid, IsSingle}
+use Rattle.wasm_valid.specs.Prelude.{IsValid, IsSingle, ItemsHold}
 use Rattle.wasm_meaning.specs.Prelude.{Text, EndsArePaths, Part, module_at}
 use Rattle.wasm_meaning.specs.Laws.{ReadsArePaths}
 use Rattle.index_remap.specs.declared.remap.Remap.{Remap}
@@ -17,7 +17,6 @@ use Rattle.merge_spec.specs.Joined.{joined_module}
 use Rattle.module_limits.specs.Counts.{over_limit, CountsAreWithinWhereNoneIsOver}
 use Rattle.merge_valid_proof.specs.Joinable.{CanBeJoined}
 use Rattle.merge_valid_proof.proofs.Linked.{memories_are_few, AllAreSuited, are_linked}
-use Rattle.merge_valid_proof.proofs.Agree.{ItemsHold}
 use Rattle.merge_valid_proof.proofs.Constants.{const_stands}
 use Rattle.merge_valid_proof.proofs.Exports.{names_differ}
 use Rattle.merge_valid_proof.proofs.Bounds.{merged_single, few_exports, few_elems, module_bounded}

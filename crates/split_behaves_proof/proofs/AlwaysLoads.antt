@@ -3,7 +3,7 @@
 use Rattle.base_lists.proofs.Common.{◌≡◌, ◌↔◌, ◌∙◌, ap, sym, subst, refl, ℕ, zero, suc, ◌^◌, ◌<◌, List, [], ◌∷◌, length, Option, Some, None, Bool, true, false, cond, arith, same_Some, and_then_is}
 use Rattle.base_lists.specs.Options.{◌>>=◌, all_there}
 use Rattle.wasm_tree_spec.specs.Prelude.{Module, IsBounded}
-use Rattle.wasm_valid.specs.Prelude.{IsValid}
+use Rattle.wasm_valid.specs.Prelude.{IsValid, ItemsHold}
 use Rattle.base_simulation.specs.Machines.{state_after}
 use Rattle.wasm_meaning.specs.Prelude.{Gives, Inst, Store, Opening, CallsPlaceholder, Environment, Begun, address_in, Added, added, Move, InstanceTrapped, Out, Steps, Makes, Pending, Closed, began, fresh_run, LoaderWorld, LoaderRun, secondary_of, store_under, supplied, primary_added, begun_of, loader_made, tick_loader, fresh_loader}
 use Rattle.index_remap.specs.Prelude.{IsBegun}
@@ -15,7 +15,6 @@ use Rattle.world_extension_proof.proofs.LoadExtends.{stays_in}
 use Rattle.split_spec.specs.declared.names.SplitNames.{SplitNames}
 use Rattle.split_spec.specs.Prelude.{prefix_taken, primary_with, secondary_with}
 use Rattle.split_proof.specs.Premises.{CanMove}
-use Rattle.split_proof.proofs.Spaces.{ItemsHold}
 use Rattle.split_behaves_proof.specs.Worlds.{placeholders_for, split_world}
 use Rattle.split_behaves_proof.specs.Loads.{SecondariesLoad}
 use Rattle.split_behaves_proof.specs.Laws.{CanBeSplit, CanBeLoaded, LoadsWhereAsked, SecondariesAlwaysLoad}

@@ -15,7 +15,8 @@ use Rattle.world_simulation.proofs.Single.{one_inst}
 use Rattle.split_spec.specs.declared.names.SplitNames.{SplitNames}
 use Rattle.split_spec.specs.Prelude.{primary_func, params_of, place_among, slot_table, trampoline_body, type_index}
 use Rattle.split_proof.proofs.PrimarySpaces as spaces
-use Rattle.split_proof.proofs.Spaces.{ItemsHold, func_holds}
+use Rattle.split_proof.proofs.Spaces.{func_holds}
+use Rattle.wasm_valid.specs.Prelude.{ItemsHold}
 use Rattle.split_proof.proofs.Typed.{trampoline_renumbered}
 use Rattle.split_behaves_proof.specs.Worlds.{placeholders_for, type_in}
 use Rattle.split_behaves_proof.specs.Addresses.{defined_address, is_left_at}

@@ -25,7 +25,7 @@ use Rattle.world_simulation.proofs.Renamed as renamed
 use Rattle.world_simulation.proofs.Stored.{alike_correspond}
 use Rattle.split_spec.specs.declared.names.SplitNames.{SplitNames}
 use Rattle.split_spec.specs.Prelude.{added_exports, primary_func, in_slots, place_among, slot_segment, slot_table, slot_table_type}
-use Rattle.split_proof.proofs.Spaces.{ItemsHold}
+use Rattle.wasm_valid.specs.Prelude.{ItemsHold}
 use Rattle.split_behaves_proof.specs.Addresses.{is_partner, slot_table_address, split_pairing}
 use Rattle.split_behaves_proof.specs.Laws.{CanBeSplit}
 use Rattle.split_behaves_proof.proofs.Partners.{LeftAt, own_stays, goes, is_else, is_its_partner, left_is, partner_is, place_left, shares_own}

@@ -22,7 +22,7 @@ use Rattle.world_simulation.proofs.Single.{space_at}
 use Rattle.split_spec.specs.declared.names.SplitNames.{SplitNames}
 use Rattle.split_spec.specs.Prelude.{in_slots, slot_segment, slot_table, slot_table_type}
 use Rattle.split_proof.proofs.PrimarySpaces as spaces
-use Rattle.split_proof.proofs.Spaces.{ItemsHold}
+use Rattle.wasm_valid.specs.Prelude.{ItemsHold}
 use Rattle.split_behaves_proof.specs.Worlds.{placeholders_for, secondaries_for}
 use Rattle.split_behaves_proof.specs.Addresses.{slot_table_address}
 use Rattle.split_behaves_proof.specs.Loads.{references}

@@ -9,7 +9,7 @@ use Rattle.world_loader_proof.specs.Stubbed.{placeholders_begun, with_placeholde
 use Rattle.world_contents_proof.proofs.Added.{added_is}
 use Rattle.world_contents_proof.proofs.FuncsAside.{segments_funcs}
 use Rattle.split_spec.specs.declared.names.SplitNames.{SplitNames}
-use Rattle.split_proof.proofs.Spaces.{ItemsHold}
+use Rattle.wasm_valid.specs.Prelude.{ItemsHold}
 use Rattle.split_behaves_proof.specs.Worlds.{placeholders_for}
 use Rattle.split_behaves_proof.specs.Addresses.{split_pairing}
 use Rattle.split_behaves_proof.specs.Begins.{FirstStepsAgree, unlinked, trapped, begun}

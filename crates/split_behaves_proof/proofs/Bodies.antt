@@ -9,7 +9,7 @@ use Rattle.wasm_tree_spec.specs.Prelude.{Operand, Space, Types, Functions, Table
 use Rattle.wasm_tree.specs.declared.instr.Instr.{out-Instr}
 use Rattle.wasm_tree.specs.declared.module.Func as tree
 use Rattle.wasm_tree.proofs.OperandLaws.{passes_both}
-use Rattle.wasm_valid.specs.Prelude.{refs_of}
+use Rattle.wasm_valid.specs.Prelude.{refs_of, ItemsHold}
 use Rattle.wasm_meaning.specs.Prelude.{Inst, Environment, own_count}
 use Rattle.index_remap.specs.declared.remap.Remap.{Remap}
 use Rattle.index_remap_proof.specs.Indices.{Indices}
@@ -30,7 +30,7 @@ use Rattle.split_proof.proofs.Fits.{body_exact}
 use Rattle.split_proof.proofs.Operands.{Met, all_wanted}
 use Rattle.split_proof.proofs.PrimarySpaces as spaces
 use Rattle.split_proof.proofs.SharedFuncs.{ref_named}
-use Rattle.split_proof.proofs.Spaces.{ItemsHold, func_holds}
+use Rattle.split_proof.proofs.Spaces.{func_holds}
 use Rattle.split_proof.proofs.Typed.{slot_call_renumbered}
 use Rattle.split_behaves_proof.specs.Worlds.{type_in}
 use Rattle.split_behaves_proof.specs.Addresses.{defined_address, is_partner, may_stand, moved_addresses, slot_table_address, split_pairing}

@@ -11,7 +11,7 @@ use Rattle.wasm_tree.specs.declared.module.ExportDesc.TheVariants as ex
 use Rattle.wasm_tree.specs.declared.module.Func as tree
 use Rattle.wasm_tree.specs.declared.module.ImportDesc.TheVariants as im
 use Rattle.wasm_valid.specs.declared.kinds.ItemKind.TheVariants as kind
-use Rattle.wasm_valid.specs.Prelude.{const_type, elem_refs, export_func, export_refs, global_refs, const_func, IsValid, ElemModeHolds, DataModeHolds}
+use Rattle.wasm_valid.specs.Prelude.{const_type, elem_refs, export_func, export_refs, global_refs, const_func, IsValid, ElemModeHolds, DataModeHolds, ItemsHold}
 use Rattle.wasm_meaning.specs.Prelude.{Inst, Val, Environment, own_globals, imports_of, LoaderWorld, own_count, defined_count}
 use Rattle.wasm_meaning.specs.World as world
 use Rattle.index_remap.specs.declared.remap.Remap.{Remap}
@@ -37,7 +37,6 @@ use Rattle.split_proof.proofs.Bodies.{BodyLaws}
 use Rattle.split_proof.proofs.Fits.{EntriesAreThere, exact, covers_exact}
 use Rattle.split_proof.proofs.PrimaryItems as primary
 use Rattle.split_proof.proofs.PrimarySpaces as spaces
-use Rattle.split_proof.proofs.Spaces.{ItemsHold}
 use Rattle.split_behaves_proof.specs.Worlds.{split_world}
 use Rattle.split_behaves_proof.specs.Addresses.{is_partner}
 use Rattle.split_behaves_proof.specs.Laws.{CanBeSplit}

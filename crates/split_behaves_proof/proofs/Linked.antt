@@ -23,7 +23,8 @@ use Rattle.split_spec.specs.declared.names.SplitNames.{SplitNames}
 use Rattle.split_spec.specs.Prelude.{primary_func, in_slots, place_among, slot_segment, slot_table, type_index}
 use Rattle.split_proof.proofs.PrimaryItems as items
 use Rattle.split_proof.proofs.PrimarySpaces as spaces
-use Rattle.split_proof.proofs.Spaces.{ItemsHold, func_holds}
+use Rattle.split_proof.proofs.Spaces.{func_holds}
+use Rattle.wasm_valid.specs.Prelude.{ItemsHold}
 use Rattle.split_behaves_proof.specs.Addresses.{is_partner, split_pairing}
 use Rattle.split_behaves_proof.specs.Laws.{CanBeSplit}
 use Rattle.split_behaves_proof.proofs.Partners.{one_to_one, shares_own}

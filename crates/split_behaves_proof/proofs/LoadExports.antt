@@ -10,7 +10,7 @@ use Rattle.index_remap.specs.Prelude.{declared_refs, new_export, new_export_desc
 use Rattle.world_simulation.proofs.Declared.{Keeps, keeps}
 use Rattle.split_spec.specs.Prelude.{defined_at, slot_table, entities, exports_for_secondary, from_primary, is_from_primary, is_named_from_primary, marks_from_primary, name_from_primary, slots_name, added_exports, primary_map, primary_tree, HasSlots}
 use Rattle.split_spec.specs.Primary.{primary_with}
-use Rattle.split_proof.proofs.Spaces.{ItemsHold}
+use Rattle.wasm_valid.specs.Prelude.{ItemsHold}
 
 -- ---- exports by name ----
 

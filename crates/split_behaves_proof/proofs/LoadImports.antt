@@ -15,7 +15,8 @@ use Rattle.split_spec.specs.Secondary.{secondary_with}
 use Rattle.split_proof.specs.Premises.{CanMove}
 use Rattle.split_proof.proofs.PrimarySpaces as spaces
 use Rattle.split_proof.proofs.SharedFuncs.{shared_left, shared_within}
-use Rattle.split_proof.proofs.Spaces.{ItemsHold, type_there}
+use Rattle.split_proof.proofs.Spaces.{type_there}
+use Rattle.wasm_valid.specs.Prelude.{ItemsHold}
 use Rattle.split_behaves_proof.proofs.LoadExports.{primary, primary_types, primary_keeps, among_all, slots_exported, func_exported, table_exported, memory_exported, global_exported}
 
 -- ---- imports that are there ----

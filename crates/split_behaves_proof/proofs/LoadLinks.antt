@@ -22,7 +22,8 @@ use Rattle.world_extension_proof.specs.Typed.{IsTyped}
 use Rattle.split_spec.specs.declared.names.SplitNames.{SplitNames}
 use Rattle.split_spec.specs.Prelude.{defined_at, in_slots, slot_segment, slot_table, slot_table_type, primary_map, primary_with, HasSlots, secondary_func, secondary_map, secondary_with}
 use Rattle.split_proof.specs.Premises.{CanMove}
-use Rattle.split_proof.proofs.Spaces.{ItemsHold, func_holds}
+use Rattle.split_proof.proofs.Spaces.{func_holds}
+use Rattle.wasm_valid.specs.Prelude.{ItemsHold}
 use Rattle.split_behaves_proof.specs.Loads.{IsLoaded, Loads, references}
 use Rattle.split_behaves_proof.proofs.LoadImports.{first, slots_offered, imports_supplied}
 use Rattle.split_behaves_proof.proofs.Placeholders.{slot_stays}

@@ -23,7 +23,7 @@ use Rattle.split_spec.specs.Prelude.{defined_at, slot_table, entities, from_prim
 use Rattle.split_proof.specs.Premises.{CanMove}
 use Rattle.split_proof.proofs.SecondarySpaces as second_spaces
 use Rattle.split_proof.proofs.SharedFuncs.{shared_within}
-use Rattle.split_proof.proofs.Spaces.{ItemsHold}
+use Rattle.wasm_valid.specs.Prelude.{ItemsHold}
 use Rattle.split_behaves_proof.specs.Loads.{NamesWhatThePrimaryHas}
 use Rattle.split_behaves_proof.proofs.LoadExports.{marked_at, slots_exported, func_exported, table_exported, memory_exported, global_exported}
 use Rattle.split_behaves_proof.proofs.LoadImports.{first, func_offered, table_offered, memory_offered, global_offered, slots_offered, second, second_tree, second_keeps, supply, slots_import}

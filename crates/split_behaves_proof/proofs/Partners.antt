@@ -11,7 +11,7 @@ use Rattle.world_simulation.specs.Prelude.{SharesOwn}
 use Rattle.split_spec.specs.Prelude.{is_left, left_marks, primary_map}
 use Rattle.split_proof.specs.Premises.{CanMove}
 use Rattle.split_proof.proofs.PrimarySpaces as spaces
-use Rattle.split_proof.proofs.Spaces.{ItemsHold}
+use Rattle.wasm_valid.specs.Prelude.{ItemsHold}
 use Rattle.split_behaves_proof.specs.Addresses.{is_left_at, is_partner, split_pairing}
 
 -- ---- spaces of which each address stays ----

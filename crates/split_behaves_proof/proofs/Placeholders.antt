@@ -16,7 +16,8 @@ use Rattle.split_spec.specs.declared.names.SplitNames.{SplitNames}
 use Rattle.split_spec.specs.Prelude.{placeholder_imports, type_index}
 use Rattle.split_spec.specs.Primary.{primary_with}
 use Rattle.split_proof.proofs.PrimarySpaces as spaces
-use Rattle.split_proof.proofs.Spaces.{ItemsHold, type_there}
+use Rattle.split_proof.proofs.Spaces.{type_there}
+use Rattle.wasm_valid.specs.Prelude.{ItemsHold}
 use Rattle.split_behaves_proof.specs.Worlds.{placeholders_for, secondaries_for, split_world, type_in}
 use Rattle.split_behaves_proof.specs.Laws.{CanBeSplit}
 

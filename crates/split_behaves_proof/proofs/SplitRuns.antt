@@ -8,7 +8,7 @@ use Rattle.wasm_meaning.specs.Prelude.{Inst, Environment, LoaderRun, LoaderWorld
 use Rattle.index_remap.specs.Prelude.{OptRel, none, some, nil, BegunRel, closed, TickSkips, calls_placeholder, FramesBetween}
 use Rattle.world_extension_proof.specs.Over.{IsOver}
 use Rattle.split_spec.specs.declared.names.SplitNames.{SplitNames}
-use Rattle.split_proof.proofs.Spaces.{ItemsHold}
+use Rattle.wasm_valid.specs.Prelude.{ItemsHold}
 use Rattle.split_behaves_proof.specs.Addresses.{split_pairing}
 use Rattle.split_behaves_proof.specs.Begins.{RunsRelated}
 use Rattle.split_behaves_proof.specs.Laws.{CanBeSplit, most_params}

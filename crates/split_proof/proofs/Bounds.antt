@@ -11,7 +11,8 @@ use Rattle.split_proof.proofs.PrimaryItems as primary
 use Rattle.split_proof.proofs.PrimarySpaces as primary_spaces
 use Rattle.split_proof.proofs.SecondaryItems as secondary
 use Rattle.split_proof.proofs.SecondarySpaces as secondary_spaces
-use Rattle.split_proof.proofs.Spaces.{ItemsHold, func_holds}
+use Rattle.split_proof.proofs.Spaces.{func_holds}
+use Rattle.wasm_valid.specs.Prelude.{ItemsHold}
 
 abbrev pub FewLocals : Module → Type 0
 FewLocals t = (i : ℕ) (f : Func) → slice_get t.funcs i ≡ Some f → local_count t.types f < 2 ^ 32

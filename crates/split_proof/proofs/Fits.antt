@@ -7,12 +7,12 @@ use Rattle.wasm_tree.specs.declared.module.ConstExpr.TheVariants as const
 use Rattle.wasm_tree.specs.declared.module.ImportDesc.TheVariants as im
 use Rattle.wasm_tree.specs.Operands.{named}
 use Rattle.wasm_tree.proofs.OperandLaws.{passes_inside}
-use Rattle.wasm_valid.specs.Prelude.{IsValid, ImportHolds}
+use Rattle.wasm_valid.specs.Prelude.{IsValid, ImportHolds, ItemsHold}
 use Rattle.index_remap.specs.declared.remap.Remap.{Remap}
 use Rattle.index_remap.specs.Prelude.{fits_func, fits_import, fits_tree, has, has_entry, fits_const, fits_import_desc, gets, slot_call}
 use Rattle.index_remap_proof.specs.Trees.{Covers}
 use Rattle.split_spec.specs.Prelude.{call_by_slot, slot_table, type_index, in_slots}
-use Rattle.split_proof.proofs.Spaces.{ItemsHold, type_there}
+use Rattle.split_proof.proofs.Spaces.{type_there}
 
 -- a map that is as long as each index space has an entry for each index that a valid module names
 abbrev pub EntriesAreThere : Type 0

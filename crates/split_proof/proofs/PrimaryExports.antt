@@ -7,7 +7,7 @@ use Rattle.wasm_tree_spec.specs.Prelude.{Space, Functions, Tables, Memories, Glo
 use Rattle.wasm_tree.specs.declared.module.ExportDesc.TheVariants as ex
 use Rattle.wasm_tree.specs.declared.module.ImportDesc.TheVariants as im
 use Rattle.wasm_valid.specs.declared.kinds.ItemKind.TheVariants as kind
-use Rattle.wasm_valid.specs.Prelude.{elem_refs, export_func, export_refs, global_refs, HoldsAt, InSpace}
+use Rattle.wasm_valid.specs.Prelude.{elem_refs, export_func, export_refs, global_refs, HoldsAt, InSpace, ItemsHold}
 use Rattle.index_remap.specs.declared.remap.Remap.{Remap}
 use Rattle.index_remap.specs.Prelude.{new_export, new_export_desc}
 use Rattle.index_remap_proof.specs.Trees.{TreesAgree}
@@ -17,7 +17,6 @@ use Rattle.split_proof.specs.Premises.{CanMove}
 use Rattle.split_proof.proofs.Names.{Distinct, HasLetter, distinct_append, letters_apart, named, named_distinct, named_letter}
 use Rattle.split_proof.proofs.PrimarySpaces as spaces
 use Rattle.split_proof.proofs.SharedFuncs.{shared_left, shared_within}
-use Rattle.split_proof.proofs.Spaces.{ItemsHold}
 
 -- where none is taken, no export has one of the names
 none_taken : (m : Module) (names : List (List ℕ)) → name_taken m names ≡ None → (i j : ℕ) (x : List ℕ) → slice_get names i ≡ Some x → slice_get (map (λ e. e.name) m.exports) j ≡ Some x → ⊥

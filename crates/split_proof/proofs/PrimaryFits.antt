@@ -6,7 +6,7 @@ use Rattle.base_kept.proofs.Laws.{kept_from}
 use Rattle.wasm_tree_spec.specs.Prelude.{Space, Types, Functions, Tables, Memories, Globals, ElementSegments, DataSegments, Export, ExportDesc, Func, Module, all_operands_pass, called, imported_funcs, funcs_of, tables_of, memories_of, globals_of}
 use Rattle.wasm_tree.specs.declared.module.ExportDesc.TheVariants as ex
 use Rattle.wasm_tree.specs.declared.module.ImportDesc.TheVariants as im
-use Rattle.wasm_valid.specs.Prelude.{IsValid}
+use Rattle.wasm_valid.specs.Prelude.{IsValid, ItemsHold}
 use Rattle.index_remap.specs.declared.remap.Remap.{Remap}
 use Rattle.index_remap.specs.Prelude.{entries, fits_data, fits_elem, fits_export, fits_export_desc, fits_func, fits_global, fits_import, fits_start, fits_tree, has, has_entry}
 use Rattle.index_remap_proof.specs.Trees.{Covers}
@@ -16,7 +16,7 @@ use Rattle.split_proof.proofs.Fits.{EntriesAreThere, body_exact, call_passes, ca
 use Rattle.split_proof.proofs.PassedCalls.{calls_pass}
 use Rattle.split_proof.proofs.PrimarySpaces.{imports_hold, left_many, primary_at, r}
 use Rattle.split_proof.proofs.SharedFuncs.{shared_within}
-use Rattle.split_proof.proofs.Spaces.{ItemsHold, func_holds}
+use Rattle.split_proof.proofs.Spaces.{func_holds}
 
 module _ (entries_there : EntriesAreThere) (namespace : ℕ → List ℕ) (prefix : List ℕ) (m : Module) (valid : IsValid m) (holds : ItemsHold m) (moved : List ℕ) (can : CanMove m moved) where
   abbrev map_of : Remap

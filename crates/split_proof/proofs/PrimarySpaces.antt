@@ -10,7 +10,7 @@ use Rattle.base_kept.proofs.Laws.{kept_at, kept_from, kept_map}
 use Rattle.wasm_tree_spec.specs.Prelude.{Types, Functions, Tables, Memories, Globals, ElementSegments, DataSegments, Func, Import, ImportDesc, Module, func_of, table_of, memory_of, global_of, imported_funcs, imported_tables, imported_globals, funcs_of, tables_of, memories_of, globals_of}
 use Rattle.wasm_tree.specs.declared.types.RefType.TheVariants.{Func as func_ref}
 use Rattle.wasm_tree.specs.declared.module.ImportDesc.TheVariants as im
-use Rattle.wasm_valid.specs.Prelude.{elem_types, table_types, ImportHolds}
+use Rattle.wasm_valid.specs.Prelude.{elem_types, table_types, ImportHolds, ItemsHold}
 use Rattle.index_remap.specs.declared.remap.Remap.{Remap}
 use Rattle.index_remap.specs.Prelude.{new_data, new_elem, new_func, new_global, new_import, new_import_desc, renumbered_tree}
 use Rattle.index_remap_proof.specs.Indices.{Indices}
@@ -19,7 +19,7 @@ use Rattle.split_plan.specs.Words.{is_defined}
 use Rattle.split_plan.specs.Plans.{body_uses_segment}
 use Rattle.split_spec.specs.Prelude.{in_slots, place_among, slot_segment, slot_table, slot_table_type, type_index, is_needed, is_left, left_marks, placeholder_imports, primary_func, primary_funcs, primary_map, primary_tree}
 use Rattle.split_proof.specs.Premises.{CanMove}
-use Rattle.split_proof.proofs.Spaces.{ItemsHold, Moves, moves, func_holds, import_holds, type_there}
+use Rattle.split_proof.proofs.Spaces.{Moves, moves, func_holds, import_holds, type_there}
 
 module _ (namespace : ℕ → List ℕ) (prefix : List ℕ) (m : Module) (holds : ItemsHold m) (moved : List ℕ) (can : CanMove m moved) where
   abbrev pub r : Remap

@@ -5,7 +5,7 @@ use Rattle.base_kept.specs.Kept.{new_places}
 use Rattle.wasm_tree_spec.specs.Prelude.{Operand, Space, Types, Functions, Tables, Memories, Globals, ElementSegments, DataSegments, Func, Module, all_operands_pass, called, imported_funcs, funcs_of, tables_of, memories_of, globals_of}
 use Rattle.wasm_tree.specs.declared.module.ImportDesc.TheVariants as im
 use Rattle.wasm_tree.proofs.OperandLaws.{passes_both}
-use Rattle.wasm_valid.specs.Prelude.{IsValid}
+use Rattle.wasm_valid.specs.Prelude.{IsValid, ItemsHold}
 use Rattle.index_remap.specs.declared.remap.Remap.{Remap}
 use Rattle.index_remap.specs.Prelude.{entries, fits_func, fits_import, fits_tree, has, has_entry}
 use Rattle.split_plan.specs.Segments.{names_segment}
@@ -18,7 +18,7 @@ use Rattle.split_proof.proofs.Operands.{all_wanted}
 use Rattle.split_proof.proofs.PassedCalls.{calls_pass}
 use Rattle.split_proof.proofs.SecondaryItems.{imports_hold}
 use Rattle.split_proof.proofs.SecondarySpaces.{own_at, own_many, own_moves, places_many, r}
-use Rattle.split_proof.proofs.Spaces.{ItemsHold, func_holds}
+use Rattle.split_proof.proofs.Spaces.{func_holds}
 
 module _ (laws : BodyLaws) (entries_there : EntriesAreThere) (names : SplitNames) (m : Module) (valid : IsValid m) (holds : ItemsHold m) (moved own : List ℕ) (before : ℕ) (can : CanMove m own) where
   abbrev map_of : Remap

@@ -7,7 +7,7 @@ use Rattle.wasm_tree_spec.specs.Prelude.{Operand, Space, Types, Functions, Table
 use Rattle.wasm_tree.specs.declared.module.ImportDesc.TheVariants as im
 use Rattle.wasm_valid_bodies.specs.Typing.{WellTyped}
 use Rattle.wasm_valid.specs.declared.kinds.ItemKind.TheVariants as kind
-use Rattle.wasm_valid.specs.Prelude.{ImportHolds, body_context}
+use Rattle.wasm_valid.specs.Prelude.{ImportHolds, body_context, ItemsHold}
 use Rattle.index_remap.specs.declared.remap.Remap.{Remap}
 use Rattle.index_remap.specs.Prelude.{func_type, new_func, new_import, new_import_desc, renumbered_all, is_opaque_call}
 use Rattle.index_remap_proof.specs.ButForReferences.{IsValidButForReferences}
@@ -18,7 +18,7 @@ use Rattle.split_proof.specs.Premises.{CanMove}
 use Rattle.split_proof.proofs.Bodies.{BodyLaws, CodeIsTyped, MetAgrees, body_typed, entry_agrees}
 use Rattle.split_proof.proofs.Operands.{Met}
 use Rattle.split_proof.proofs.SecondarySpaces.{agree, funcs_many, own_at, own_entry, own_many, own_moves, own_type, r, slot_table_at, stays, u}
-use Rattle.split_proof.proofs.Spaces.{ItemsHold, entity_holds, func_holds}
+use Rattle.split_proof.proofs.Spaces.{entity_holds, func_holds}
 use Rattle.split_proof.proofs.SlotCalls.{slot_typed, through_slot_typed}
 use Rattle.split_proof.proofs.Typed.{call_renumbered, call_typed}
 

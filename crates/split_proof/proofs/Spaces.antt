@@ -5,7 +5,7 @@ use Rattle.wasm_tree_spec.specs.Prelude.{Space, Types, Functions, Tables, Memori
 use Rattle.wasm_tree.specs.declared.module.ImportDesc.TheVariants as im
 use Rattle.wasm_valid.specs.declared.kinds.ItemKind.{ItemKind}
 use Rattle.wasm_valid.specs.declared.kinds.ItemKind.TheVariants as kind
-use Rattle.wasm_valid.specs.Prelude.{HoldsAt, ImportHolds, LimitsHold, count_of}
+use Rattle.wasm_valid.specs.Prelude.{HoldsAt, ImportHolds, LimitsHold, count_of, ItemsHold}
 use Rattle.wasm_valid.specs.Validity.{PagesHold}
 use Rattle.split_spec.specs.Prelude.{entities}
 use Rattle.split_plan.specs.Segments.{names_segment, uses_segment}
@@ -34,10 +34,6 @@ moves m f d s =
       typed = ap (slice_get (funcs_of m)) (sym back) ∙ append_right (imported_funcs m.imports) (map (λ f. f.ty) m.funcs) (f - n) ∙ map_at (λ f. f.ty) m.funcs (f - n) g.0 g.1;
       names_none = ap (λ (o : Option Func). option_map_or (λ f. uses_segment f.body) o false) (sym g.1) ∙ s;
     }
-
--- each item of a module holds
-abbrev pub ItemsHold : Module → Type 0
-ItemsHold m = (n : ItemKind) (i : ℕ) → i < count_of m true n → HoldsAt m n i
 
 func_desc : (d : ImportDesc) (ty : ℕ) → func_of d ≡ Some ty → d ≡ im.Func ty
 func_desc (im.Func x) ty e = let same : x ≡ ty = cc in ap im.Func same

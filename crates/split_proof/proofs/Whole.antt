@@ -5,7 +5,7 @@ use Rattle.base_kept.proofs.Laws.{kept_most}
 use Rattle.wasm_tree_spec.specs.Prelude.{Memories, Module, IsBounded, imported_memories, memories_of}
 use Rattle.wasm_valid.specs.declared.kinds.ItemKind.{ItemKind}
 use Rattle.wasm_valid.specs.declared.kinds.ItemKind.TheVariants as kind
-use Rattle.wasm_valid.specs.Prelude.{IsSingle, IsValid, count_of}
+use Rattle.wasm_valid.specs.Prelude.{IsSingle, IsValid, count_of, ItemsHold}
 use Rattle.module_limits.specs.Counts.{CountsAreWithinWhereNoneIsOver, over_limit}
 use Rattle.index_remap.specs.Prelude.{declared}
 use Rattle.index_remap_proof.specs.ButForReferences.{HoldsButForReferences, IsValidButForReferences}
@@ -21,7 +21,6 @@ use Rattle.split_proof.proofs.PrimaryItems as primary
 use Rattle.split_proof.proofs.PrimarySpaces as primary_spaces
 use Rattle.split_proof.proofs.SecondaryItems as secondary
 use Rattle.split_proof.proofs.SecondarySpaces as secondary_spaces
-use Rattle.split_proof.proofs.Spaces.{ItemsHold}
 
 -- what the laws below say
 pub record Laws : Type 0 where

@@ -3,13 +3,12 @@ use Rattle.base_lists.proofs.Common.{◌≡◌, ℕ, ◌<◌, ◌^◌, arith, Li
 use Rattle.base_kept.specs.Kept.{kept}
 use Rattle.base_kept.proofs.Laws.{kept_most}
 use Rattle.wasm_tree_spec.specs.Prelude.{Functions, IsBounded, Module, funcs_of, imported_funcs}
-use Rattle.wasm_valid.specs.Prelude.{IsValid}
+use Rattle.wasm_valid.specs.Prelude.{IsValid, ItemsHold}
 use Rattle.index_remap.specs.Prelude.{declared, fits_tree, renumbered_tree}
 use Rattle.module_limits.specs.Counts.{over_limit}
 use Rattle.split_proof.specs.Premises.{CanMove}
 use Rattle.split_proof.proofs.PrimarySpaces as primary_spaces
 use Rattle.split_proof.proofs.SecondarySpaces as secondary_spaces
-use Rattle.split_proof.proofs.Spaces.{ItemsHold}
 use Rattle.split_spec.specs.declared.names.SplitNames.{SplitNames}
 use Rattle.split_spec.specs.Prelude.{marks_from_primary, left_marks, primary, primary_map, primary_tree, secondary, secondary_map, secondary_tree, type_index}
 use Rattle.split_spec.specs.Primary.{primary_with}

@@ -6,7 +6,7 @@ use Rattle.wasm_tree_spec.specs.Prelude.{Export, ExportDesc, Module, funcs_of}
 use Rattle.wasm_tree.specs.declared.module.ExportDesc.TheVariants as ex
 use Rattle.wasm_valid.specs.declared.kinds.ItemKind.{ItemKind}
 use Rattle.wasm_valid.specs.declared.kinds.ItemKind.TheVariants as kind
-use Rattle.wasm_valid.specs.Prelude.{HoldsAt, InSpace, count_of}
+use Rattle.wasm_valid.specs.Prelude.{HoldsAt, InSpace, count_of, ItemsHold}
 use Rattle.wasm_meaning.specs.Prelude.{Text, export_named, same_text}
 use Rattle.eval_snapshot_spec.specs.Evaluated.{first_missing, func_exported, func_named, funcs_named}
 use Rattle.tools_cli_eval.specs.Named.{AreFuncsOf}
@@ -31,10 +31,6 @@ exported_there (e ∷ es) name d h = by (same_text e.name name) h (exported_ther
         (n : ℕ) × (x : Export) × (slice_get (e ∷ es) n ≡ Some x) × (x.desc ≡ d)
     by true k later = (0, e, refl, same_Some e.desc d k)
     by false k later = let (n, x, at, is) = later k in (suc n, x, at, is)
-
--- items of a valid module hold
-abbrev pub ItemsHold : Module → Type 0
-ItemsHold m = (k : ItemKind) (i : ℕ) → i < count_of m true k → HoldsAt m k i
 
 within : {A : Type 0} (xs : List A) (n : ℕ) (x : A) → slice_get xs n ≡ Some x → n < length xs
 within [] n x e = absurd (cc)

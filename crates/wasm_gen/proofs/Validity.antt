@@ -10,7 +10,7 @@ use Rattle.wasm_tree.specs.declared.module.ExportDesc.TheVariants as exported
 use Rattle.wasm_valid_bodies.specs.Typing.{Context, Fits, Gives, WellTyped, Operand, gives_of, signature_in}
 use Rattle.wasm_valid.specs.declared.kinds.ItemKind.{ItemKind}
 use Rattle.wasm_valid.specs.declared.kinds.ItemKind.TheVariants as kind
-use Rattle.wasm_valid.specs.Prelude.{HoldsAt, ImportHolds, IsValid, body_context, count_of}
+use Rattle.wasm_valid.specs.Prelude.{HoldsAt, ImportHolds, IsValid, body_context, count_of, ValidWhereItemsHold}
 use Rattle.wasm_gen.specs.Draws.{draw}
 use Rattle.wasm_gen.specs.Modules.{unary, numbered, exports_of, module_of, operation, joined, first_func, first_module, passed, second_func, second_imports, second_from, a, f, g}
 
@@ -152,14 +152,10 @@ module _ (state count : ℕ) (some : 1 ≤ count) (few : count < 2 ^ 31) where
 
 -- ---- both ----
 
--- a module is valid exactly where its items hold
-abbrev pub ByItems : Type 0
-ByItems = (m : Module) → IsValid m ↔ ((k : ItemKind) (i : ℕ) → i < count_of m true k → HoldsAt m k i)
-
-pub first_valid : (law : ByItems) (seed count : ℕ) (m : Module) → count ≤ 100000 → m ≡ first_module seed count → IsValid m
+pub first_valid : (law : ValidWhereItemsHold) (seed count : ℕ) (m : Module) → count ≤ 100000 → m ≡ first_module seed count → IsValid m
 first_valid law seed count m few e = subst IsValid (sym e) ((law (first_module seed count)).1 (first_holds seed count (omega (arith, few))))
 
-pub second_valid : (law : ByItems) (state count : ℕ) (m : Module) → 1 ≤ count → count ≤ 100000 → m ≡ second_from state count → IsValid m
+pub second_valid : (law : ValidWhereItemsHold) (state count : ℕ) (m : Module) → 1 ≤ count → count ≤ 100000 → m ≡ second_from state count → IsValid m
 second_valid law state count m some few e = subst IsValid (sym e) ((law (second_from state count)).1 (second_holds state count some (omega (arith, few))))
 
 no_locals : (make : ℕ → Func) (n : ℕ) → ((i : ℕ) → local_count (unary ∷ []) (make i) ≡ 1) → (i : ℕ) (x : Func) → slice_get (map make (numbers 0 n)) i ≡ Some x → local_count (unary ∷ []) x < 2 ^ 32

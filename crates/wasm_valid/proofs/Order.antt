@@ -4,7 +4,7 @@ use Rattle.wasm_tree_spec.specs.Prelude.{Module}
 use Rattle.wasm_valid.specs.declared.kinds.ItemKind.{ItemKind}
 use Rattle.wasm_valid.specs.declared.kinds.ItemKind.TheVariants as kind
 use Rattle.wasm_valid.specs.declared.kinds.Invalid.{Invalid}
-use Rattle.wasm_valid.specs.Prelude.{Item, item, span, order, items, count_of, HoldsAt, EachHolds, IsValid, IsSingle, index_of}
+use Rattle.wasm_valid.specs.Prelude.{Item, item, span, order, items, count_of, HoldsAt, EachHolds, IsValid, IsSingle, ItemsHold, index_of}
 use Rattle.wasm_valid.specs.First.{IsFirstOf, IsAnswer}
 
 pub each_append : (m : Module) (xs ys : List Item) → EachHolds m xs → EachHolds m ys → EachHolds m (xs ++ ys)
@@ -129,6 +129,6 @@ each_item m valid kind.Elem i lt = at m 8 kind.Elem refl valid i lt
 each_item m valid kind.Segment i lt = at m 9 kind.Segment refl valid i lt
 each_item m valid kind.Body i lt = at m 10 kind.Body refl valid i lt
 
-pub all_items : (m : Module) → ((k : ItemKind) (i : ℕ) → i < count_of m true k → HoldsAt m k i) → (ks : List ItemKind) → EachHolds m (all_of m true ks)
+pub all_items : (m : Module) → ItemsHold m → (ks : List ItemKind) → EachHolds m (all_of m true ks)
 all_items m h [] = tt
 all_items m h (k ∷ ks) = each_append m (span k 0 (count_of m true k)) (all_of m true ks) (span_pass m k (count_of m true k) (h k)) (all_items m h ks)

@@ -146,3 +146,10 @@ EachHolds m (x ∷ xs) = HoldsAt m x.kind x.place × EachHolds m xs
 -- The module is valid: each item is, except that the number of memories is not tested.
 abbrev pub IsValid : Module → Type 0
 IsValid m = EachHolds m (items m true)
+
+-- Each item of the module is valid, by its kind and position. The number of memories is not tested.
+abbrev pub ItemsHold : Module → Type 0
+ItemsHold m = (k : ItemKind) (i : ℕ) → i < count_of m true k → HoldsAt m k i
+
+abbrev pub ValidWhereItemsHold : Type 0
+ValidWhereItemsHold = (m : Module) → IsValid m ↔ ItemsHold m

@@ -3,7 +3,7 @@ use Rattle.base_lists.proofs.Common.{◌≡◌, ◌∙◌, sym, ap, ap₂, ℕ, 
 use Rattle.wasm_tree_spec.specs.Prelude.{ValType, FuncType, Module, type_of_func}
 use Rattle.wasm_valid.specs.declared.kinds.ItemKind.{ItemKind}
 use Rattle.wasm_valid.specs.declared.kinds.ItemKind.TheVariants as kind
-use Rattle.wasm_valid.specs.Prelude.{IsValid, HoldsAt, count_of, start_count}
+use Rattle.wasm_valid.specs.Prelude.{IsValid, HoldsAt, count_of, start_count, ValidWhereItemsHold}
 use Rattle.wasm_meaning.specs.Prelude.{Text, Inst, Store, sites, Environment, ExternalValue, all_of, World, Begun, own_store, insts_from, stores_from, seen_as, all_there, is_matched, segments, begun, instantiate, StartDependsOnlyOnItsFrames}
 use Rattle.index_remap.specs.Prelude.{CodeIsRelatedToItself, RelatedTicksAgree, OthersStay}
 use Rattle.world_simulation.specs.Prelude.{OwnEntitiesCorrespond}
@@ -45,7 +45,7 @@ instantiated env w b h =
       | inr c ↦ let none = c.1 in cc
     ]
 
-module _ (items : (m : Module) → IsValid m ↔ ((k : ItemKind) (i : ℕ) → i < count_of m true k → HoldsAt m k i)) (below : StartDependsOnlyOnItsFrames) (extend : StepsExtend) (itself : CodeIsRelatedToItself) (ticks : RelatedTicksAgree) (others : OthersStay) (own : OwnEntitiesCorrespond) where
+module _ (items : ValidWhereItemsHold) (below : StartDependsOnlyOnItsFrames) (extend : StepsExtend) (itself : CodeIsRelatedToItself) (ticks : RelatedTicksAgree) (others : OthersStay) (own : OwnEntitiesCorrespond) where
   -- the start of a valid module
   start_type : (m : Module) (x : ℕ) → IsValid m → m.start ≡ Some x → type_of_func m x ≡ Some nothing_to_nothing
   start_type m x valid e =

@@ -5,7 +5,7 @@ use Rattle.wasm_tree.specs.declared.module.ImportDesc.TheVariants as im
 use Rattle.wasm_tree.specs.declared.module.ExportDesc.TheVariants as ex
 use Rattle.wasm_valid.specs.declared.kinds.ItemKind.{ItemKind}
 use Rattle.wasm_valid.specs.declared.kinds.ItemKind.TheVariants as kind
-use Rattle.wasm_valid.specs.Prelude.{const_type, IsValid, HoldsAt, count_of, InSpace, ElemModeHolds, DataModeHolds}
+use Rattle.wasm_valid.specs.Prelude.{const_type, IsValid, HoldsAt, count_of, InSpace, ElemModeHolds, DataModeHolds, ValidWhereItemsHold}
 use Rattle.wasm_meaning.specs.Prelude.{Text, Part, has_kind, same_text, imports_of, module_at, export_named, defined_count}
 use Rattle.world_simulation.proofs.Alone.{global_desc, global_kind, funcs_counted, tables_counted, memories_counted, globals_counted}
 use Rattle.world_sequential_proof.proofs.Joined.{ExportsThere}
@@ -39,7 +39,7 @@ constant_typed m e ty h x is =
     let i = imported m x g.0 g.1 (ltb-true _ _ both.0) in
     record { at = i.at; is_place = i.is_place; import = i.import; is_import = i.is_import; type = g.0; is_global = i.is_global; fixed = not-true g.0.mutable both.1 }
 
-module _ (items : (m : Module) → IsValid m ↔ ((k : ItemKind) (i : ℕ) → i < count_of m true k → HoldsAt m k i)) where
+module _ (items : ValidWhereItemsHold) where
   pub valid_constants : (m : Module) → IsValid m → Constants m
   valid_constants m valid = record {
     globals = λ n g at. constant_typed m g.init g.ty.ty (global_typed n g at);

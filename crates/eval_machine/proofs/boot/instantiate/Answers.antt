@@ -4,7 +4,7 @@ use Rattle.eval_spec.specs.declared.limits.TheConstants.{MOST_TURNS}
 use Rattle.eval_spec.specs.Prelude.{stop_of, instantiated}
 use Rattle.eval_machine.specs.declared.kept.Kept.{Kept}
 use Rattle.eval_machine.specs.Prelude.{FillsTables, IsInstantiated, PoursDatas, elems_end}
-use Rattle.eval_machine.proofs.First.{ItemsHold}
+use Rattle.wasm_valid.specs.Prelude.{ItemsHold}
 use Rattle.eval_machine.proofs.Instantiated.{datas_stop, elems_stop, globals_typed, is_instantiated, limits_few}
 use Rattle.eval_machine.proofs.boot.instantiate.Goals as goal
 
