@@ -2,12 +2,15 @@
 
 ghost use Rattle.std.specs.Prelude.{◌<◌, ◌^◌, length, IfOk};
 
-use dce_graph::{Graph, GraphFault, read_graph};
-use std::alloc::Global;
+use dce_graph::{Graph, GraphFault, ImportPair, read_graph};
+use std::alloc::{AllocError, Global};
 use std::test::Fail;
 
+// A file, and what is told where it is refused.
+type Row = (&'static [u8], &'static str);
+
 // Files that are refused, each with what is told.
-const REFUSED: &[(&[u8], &str)] = &[
+const REFUSED: &[Row] = &[
     (b"{", "text"),
     (b"", "text"),
     (b"[] []", "text"),
@@ -78,67 +81,129 @@ pub(crate) fn graph_of(alloc: Global, text: &[u8]) -> Result<Graph, Fail>
     }
 }
 
+// Whether this is told of a fault.
+fn is_told(alloc: Global, fault: &GraphFault, expected: &str) -> Result<bool, Fail> {
+    let told = told(alloc, fault)?;
+    Ok(told.as_str() == expected)
+}
+
+// Whether a file is refused, and this is told.
+fn is_refused(alloc: Global, text: &[u8], expected: &str) -> Result<bool, Fail> {
+    if text.len() >= 0x1_0000_0000 {
+        return Err(Fail::new("too long"));
+    }
+    match read_graph(alloc, text) {
+        Ok(_graph) => Ok(false),
+        Err(fault) => is_told(alloc, &fault, expected),
+    }
+}
+
+// The place of the first file that is read, or of which something else is told, if there is one.
+fn first_not_refused(alloc: Global, files: &[Row]) -> Result<Option<usize>, Fail> {
+    for (place, (text, expected)) in files.iter().enumerate() {
+        if !is_refused(alloc, text, expected)? {
+            return Ok(Some(place));
+        }
+    }
+    Ok(None)
+}
+
 #[test]
 fn files_are_refused_by_the_first_rule_that_they_break(rt: HostRuntime) -> Result<(), Fail> {
-    for (text, expected) in REFUSED {
-        if text.len() >= 0x1_0000_0000 {
-            return Err(Fail::new("too long"));
-        }
-        match read_graph(rt.alloc(), text) {
-            Ok(_graph) => assert!(rt; false, "read, not {expected}"),
-            Err(fault) => assert_eq!(rt; told(rt.alloc(), &fault)?.as_str(), *expected),
-        }
+    assert_eq!(rt; first_not_refused(rt.alloc(), REFUSED)?, None);
+    Ok(())
+}
+
+fn add_times(text: &mut Vec<u8>, count: usize, byte: u8) -> Result<(), AllocError> {
+    for _ in 0..count {
+        text.push(byte)?;
     }
     Ok(())
 }
 
 // An array in arrays, so many deep, under a key that is ignored.
-fn nested(alloc: Global, depth: usize) -> Result<Vec<u8>, Fail> {
+fn nested(alloc: Global, depth: usize) -> Result<Vec<u8>, AllocError> {
     let mut text = Vec::from_slice(alloc, b"[{\"name\":\"a\",\"x\":")?;
-    for _level in 0..depth {
-        text.push(b'[')?;
-    }
-    for _level in 0..depth {
-        text.push(b']')?;
-    }
+    add_times(&mut text, depth, b'[')?;
+    add_times(&mut text, depth, b']')?;
     text.extend_from_slice(b"}]")?;
     Ok(text)
 }
 
+// How many nodes a graph with this array has.
+fn nested_count(alloc: Global, depth: usize) -> Result<usize, Fail> {
+    let text = nested(alloc, depth)?;
+    let graph = graph_of(alloc, text.as_slice())?;
+    Ok(graph.nodes.len())
+}
+
+// Whether a graph with this array is refused as no text.
+fn nested_is_refused(alloc: Global, depth: usize) -> Result<bool, Fail> {
+    let text = nested(alloc, depth)?;
+    is_refused(alloc, text.as_slice(), "text")
+}
+
 #[test]
 fn nesting_of_127_is_read_and_of_128_is_not(rt: HostRuntime) -> Result<(), Fail> {
-    let graph = graph_of(rt.alloc(), nested(rt.alloc(), 125)?.as_slice())?;
-    assert_eq!(rt; graph.nodes.len(), 1);
-    let deeper = nested(rt.alloc(), 126)?;
-    if deeper.len() >= 0x1_0000_0000 {
-        return Err(Fail::new("too long"));
-    }
-    match read_graph(rt.alloc(), deeper.as_slice()) {
-        Ok(_graph) => assert!(rt; false, "read"),
-        Err(fault) => assert_eq!(rt; told(rt.alloc(), &fault)?.as_str(), "text"),
-    }
+    assert_eq!(rt; nested_count(rt.alloc(), 125)?, 1);
+    assert!(rt; nested_is_refused(rt.alloc(), 126)?);
     Ok(())
+}
+
+const ENTRIES: &[u8] =
+    b"[{\"name\":\"a\",\"root\":true,\"reaches\":[\"c\",\"a\"],\"export\":\"e\",\"x\":[0e999,-0,18446744073709551616]},{\"name\":\"b\",\"import\":[\"m\",\"f\"],\"root\":false},{\"name\":\"c\",\"name\":\"c\"}]";
+
+// Whether node 0 is a root named a that reaches nodes 2 and 0 and denotes an export and no import.
+fn has_first(graph: &Graph) -> bool {
+    match graph.nodes.get(0) {
+        Some(node) => {
+            node.name.as_str() == "a"
+                && node.root
+                && node.reaches.as_slice() == [2, 0].as_slice()
+                && node.export.is_some()
+                && node.import.is_none()
+        }
+        None => false,
+    }
+}
+
+// Whether an import is the f of module m.
+fn is_f_of_m(import: &Option<ImportPair>) -> bool {
+    match import {
+        Some(pair) => pair.module.as_str() == "m" && pair.base.as_str() == "f",
+        None => false,
+    }
+}
+
+// Whether node 1 is no root, and denotes this import.
+fn has_second(graph: &Graph) -> bool {
+    match graph.nodes.get(1) {
+        Some(node) => !node.root && is_f_of_m(&node.import),
+        None => false,
+    }
+}
+
+// Names the first thing of a graph that is not as that file has it, or nothing.
+fn unlike_entries(graph: &Graph) -> &'static str {
+    if graph.nodes.len() != 3 {
+        return "how many nodes there are";
+    }
+    if !has_first(graph) {
+        return "the first node";
+    }
+    if !has_second(graph) {
+        return "the second node";
+    }
+    ""
+}
+
+fn entries_unlike(alloc: Global) -> Result<&'static str, Fail> {
+    let graph = graph_of(alloc, ENTRIES)?;
+    Ok(unlike_entries(&graph))
 }
 
 #[test]
 fn a_graph_has_a_node_for_each_entry(rt: HostRuntime) -> Result<(), Fail> {
-    let text =
-        b"[{\"name\":\"a\",\"root\":true,\"reaches\":[\"c\",\"a\"],\"export\":\"e\",\"x\":[0e999,-0,18446744073709551616]},{\"name\":\"b\",\"import\":[\"m\",\"f\"],\"root\":false},{\"name\":\"c\",\"name\":\"c\"}]";
-    let graph = graph_of(rt.alloc(), text)?;
-    assert_eq!(rt; graph.nodes.len(), 3);
-    if let Some(first) = graph.nodes.get(0) {
-        assert_eq!(rt; first.name.as_str(), "a");
-        assert!(rt; first.root);
-        assert_eq!(rt; first.reaches.as_slice(), [2, 0].as_slice());
-        assert!(rt; first.export.is_some());
-        assert!(rt; first.import.is_none());
-    }
-    if let Some(second) = graph.nodes.get(1) {
-        assert!(rt; !second.root);
-        if let Some(pair) = &second.import {
-            assert_eq!(rt; pair.module.as_str(), "m");
-            assert_eq!(rt; pair.base.as_str(), "f");
-        }
-    }
+    assert_eq!(rt; entries_unlike(rt.alloc())?, "");
     Ok(())
 }

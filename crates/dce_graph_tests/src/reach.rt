@@ -1,10 +1,12 @@
 // What is reached of small modules by small graphs.
 
+ghost use Rattle.std.specs.Prelude.{◌<◌, ◌^◌, length};
+
 use crate::files::graph_of;
-use dce_graph::{Reached, reached};
-use std::alloc::Global;
+use dce_graph::{Graph, Reached, reached};
+use std::alloc::{AllocError, Global};
 use std::test::Fail;
-use wasm_bytes::Items;
+use wasm_bytes::{Items, NoMemory};
 use wasm_read::read;
 use wasm_valid::{Valid, validate};
 
@@ -35,40 +37,55 @@ fn valid_of(alloc: Global, bytes: &[u8]) -> Result<Valid, Fail> {
     }
 }
 
+// What is reached of a module by a graph, both of which are then dropped.
+fn marks_by(alloc: Global, graph: Graph, valid: Valid) -> Result<Reached, NoMemory>
+    requires { length graph.nodes < 2 ^ 32 }
+{
+    reached(alloc, &graph, &valid)
+}
+
 fn marks_of(alloc: Global, bytes: &[u8], text: &[u8]) -> Result<Reached, Fail> {
     let graph = graph_of(alloc, text)?;
     let valid = valid_of(alloc, bytes)?;
-    match reached(alloc, &graph, &valid) {
-        Ok(marks) => Ok(marks),
-        Err(_none) => Err(Fail::new("no memory")),
-    }
+    Ok(marks_by(alloc, graph, valid)?)
 }
 
-// `+` for each mark that is set, `-` for others.
-fn shown(alloc: Global, marks: &Items<bool>) -> Result<String, Fail> {
-    let mut text = String::new(alloc);
+// Adds `+` for each mark that is set, `-` for others.
+fn add_marks(text: &mut String, marks: &Items<bool>) -> Result<(), AllocError> {
     for mark in marks.as_slice() {
         text.push(if *mark { '+' } else { '-' })?;
     }
-    Ok(text)
+    Ok(())
 }
 
-fn all_shown(alloc: Global, marks: &Reached) -> Result<String, Fail> {
-    let nodes = shown(alloc, &marks.nodes)?;
-    let exports = shown(alloc, &marks.exports)?;
-    let imports = shown(alloc, &marks.imports)?;
-    let funcs = shown(alloc, &marks.funcs)?;
-    let globals = shown(alloc, &marks.globals)?;
-    Ok(format!(in alloc; "{nodes} {exports} {imports} {funcs} {globals}")?)
+// Adds a space, and the same.
+fn add_next(text: &mut String, marks: &Items<bool>) -> Result<(), AllocError> {
+    text.push(' ')?;
+    add_marks(text, marks)
+}
+
+fn add_all(text: &mut String, marks: &Reached) -> Result<(), AllocError> {
+    add_marks(text, &marks.nodes)?;
+    add_next(text, &marks.exports)?;
+    add_next(text, &marks.imports)?;
+    add_next(text, &marks.funcs)?;
+    add_next(text, &marks.globals)
+}
+
+// The marks of nodes, exports, imports, functions and globals that are reached.
+fn shown(alloc: Global, bytes: &[u8], text: &[u8]) -> Result<String, Fail> {
+    let marks = marks_of(alloc, bytes, text)?;
+    let mut shown = String::new(alloc);
+    add_all(&mut shown, &marks)?;
+    Ok(shown)
 }
 
 #[test]
 fn an_import_that_is_reached_reaches_its_nodes(rt: HostRuntime) -> Result<(), Fail> {
     let text =
         b"[{\"name\":\"out\",\"root\":true,\"reaches\":[\"A\"]},{\"name\":\"A\",\"export\":\"a\"},{\"name\":\"cb\",\"import\":[\"env\",\"cb\"],\"reaches\":[\"B\"]},{\"name\":\"B\",\"export\":\"b\"},{\"name\":\"C\",\"export\":\"c\"}]";
-    let marks = marks_of(rt.alloc(), CALLING, text)?;
     assert_eq!(rt;
-        all_shown(rt.alloc(), &marks)?.as_str(),
+        shown(rt.alloc(), CALLING, text)?.as_str(),
         "++++- ++- + ++++ "
     );
     Ok(())
@@ -78,8 +95,10 @@ fn an_import_that_is_reached_reaches_its_nodes(rt: HostRuntime) -> Result<(), Fa
 fn a_node_does_not_reach_its_import(rt: HostRuntime) -> Result<(), Fail> {
     let text =
         b"[{\"name\":\"cb\",\"root\":true,\"import\":[\"env\",\"cb\"],\"reaches\":[\"B\"]},{\"name\":\"B\",\"export\":\"b\"},{\"name\":\"none\",\"root\":true,\"export\":\"d\"}]";
-    let marks = marks_of(rt.alloc(), CALLING, text)?;
-    assert_eq!(rt; all_shown(rt.alloc(), &marks)?.as_str(), "+++ -+- - --+- ");
+    assert_eq!(rt;
+        shown(rt.alloc(), CALLING, text)?.as_str(),
+        "+++ -+- - --+- "
+    );
     Ok(())
 }
 
@@ -87,9 +106,8 @@ fn a_node_does_not_reach_its_import(rt: HostRuntime) -> Result<(), Fail> {
 fn a_function_in_an_active_segment_is_reached(rt: HostRuntime) -> Result<(), Fail> {
     let text =
         b"[{\"name\":\"main\",\"root\":true,\"reaches\":[\"run\",\"mem\"]},{\"name\":\"run\",\"export\":\"run\"},{\"name\":\"mem\",\"export\":\"memory\"},{\"name\":\"ctors\",\"export\":\"__wasm_call_ctors\"}]";
-    let marks = marks_of(rt.alloc(), LINKED, text)?;
     assert_eq!(rt;
-        all_shown(rt.alloc(), &marks)?.as_str(),
+        shown(rt.alloc(), LINKED, text)?.as_str(),
         "+++- +-+ + +--++ -"
     );
     Ok(())
@@ -97,9 +115,8 @@ fn a_function_in_an_active_segment_is_reached(rt: HostRuntime) -> Result<(), Fai
 
 #[test]
 fn roots_of_the_module_are_reached_by_an_empty_graph(rt: HostRuntime) -> Result<(), Fail> {
-    let marks = marks_of(rt.alloc(), ROOTS, b"[]")?;
     assert_eq!(rt;
-        all_shown(rt.alloc(), &marks)?.as_str(),
+        shown(rt.alloc(), ROOTS, b"[]")?.as_str(),
         " -- ++++ -+-++- ++--"
     );
     Ok(())
@@ -109,9 +126,8 @@ fn roots_of_the_module_are_reached_by_an_empty_graph(rt: HostRuntime) -> Result<
 fn an_exported_global_reaches_its_initialiser(rt: HostRuntime) -> Result<(), Fail> {
     let text =
         b"[{\"name\":\"x\",\"root\":true,\"export\":\"x\"},{\"name\":\"h\",\"import\":[\"m\",\"h\"]},{\"name\":\"i\",\"import\":[\"m\",\"h\"]},{\"name\":\"j\",\"import\":[\"m\",\"j\"]}]";
-    let marks = marks_of(rt.alloc(), ROOTS, text)?;
     assert_eq!(rt;
-        all_shown(rt.alloc(), &marks)?.as_str(),
+        shown(rt.alloc(), ROOTS, text)?.as_str(),
         "+++- +- ++++ -++++- ++-+"
     );
     Ok(())
@@ -121,7 +137,9 @@ fn an_exported_global_reaches_its_initialiser(rt: HostRuntime) -> Result<(), Fai
 fn imports_of_one_module_and_field_reach_the_same_nodes(rt: HostRuntime) -> Result<(), Fail> {
     let text =
         b"[{\"name\":\"a\",\"root\":true,\"export\":\"a\"},{\"name\":\"b\",\"root\":true,\"export\":\"b\"},{\"name\":\"c\",\"import\":[\"env\",\"cb\"]},{\"name\":\"d\",\"import\":[\"env\",\"cc\"]},{\"name\":\"e\",\"import\":[\"env\",\"cb\"]}]";
-    let marks = marks_of(rt.alloc(), IMPORTED_TWICE, text)?;
-    assert_eq!(rt; all_shown(rt.alloc(), &marks)?.as_str(), "+++-+ ++ ++ ++ ");
+    assert_eq!(rt;
+        shown(rt.alloc(), IMPORTED_TWICE, text)?.as_str(),
+        "+++-+ ++ ++ ++ "
+    );
     Ok(())
 }

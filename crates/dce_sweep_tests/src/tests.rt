@@ -7,7 +7,7 @@ use std::alloc::Global;
 use std::test::Fail;
 use wasm_bytes::{Items, Name, NoMemory};
 use wasm_tree::{Export, ExportDesc, Func, FuncType, Module};
-use wasm_valid::validate;
+use wasm_valid::{Valid, validate};
 
 fn blank(alloc: Global) -> Func
     ensures { result ≡ modules.blank }
@@ -68,34 +68,76 @@ fn two(alloc: Global) -> Result<Module, NoMemory>
 fn second(alloc: Global) -> Result<Reached, NoMemory>
     ensures { IfOk result (λ r. r ≡ modules.second) }
 {
+    let exports = Items::from_slice(alloc, &[true])?;
+    let funcs = Items::from_slice(alloc, &[false, true])?;
     Ok(Reached {
         nodes: Items::new(alloc),
-        exports: Items::from_slice(alloc, &[true])?,
+        exports,
         imports: Items::new(alloc),
-        funcs: Items::from_slice(alloc, &[false, true])?,
+        funcs,
         globals: Items::new(alloc),
     })
 }
 
+// The two functions, known to be valid.
+#[tactic(auto, using(crate::proofs::Closed::bounded))]
+fn valid_two(alloc: Global) -> Result<Valid, Fail>
+    ensures { IfOk result (λ valid. valid ≡ modules.two) }
+{
+    match validate(alloc, two(alloc)?) {
+        Ok(valid) => Ok(valid),
+        Err(_rejected) => Err(Fail::new("not valid")),
+    }
+}
+
+// What sweeping leaves of the two functions, with these marks of what is reached.
+#[tactic(auto, using(crate::proofs::Closed::closed))]
+fn swept(alloc: Global, marks: &Reached) -> Result<Valid, Fail>
+    requires { marks.now ≡ modules.second }
+{
+    let input = valid_two(alloc)?;
+    match sweep(alloc, input, marks) {
+        Ok(left) => Ok(left),
+        Err(_fault) => Err(Fail::new("not swept")),
+    }
+}
+
+// What sweeping leaves of the two functions if only the second is reached.
+fn left_of_two(alloc: Global) -> Result<Valid, Fail> {
+    let marks = second(alloc)?;
+    swept(alloc, &marks)
+}
+
+// Whether export 0 is function 0.
+fn exports_first(module: &Module) -> bool {
+    match module.exports.get(0) {
+        Some(export) => export.desc == ExportDesc::Func(0),
+        None => false,
+    }
+}
+
+// Names the first thing of a module that is not as it is to be where only the second function is
+// left, or nothing.
+fn unlike_left(module: &Module) -> &'static str {
+    if module.types.len() != 1 {
+        return "the types";
+    }
+    if module.funcs.len() != 1 {
+        return "the functions";
+    }
+    if !exports_first(module) {
+        return "the export";
+    }
+    ""
+}
+
+fn unlike_swept(alloc: Global) -> Result<&'static str, Fail> {
+    let left = left_of_two(alloc)?;
+    Ok(unlike_left(left.module()))
+}
+
 #[test]
-#[tactic(auto, using(crate::proofs::Closed::closed, crate::proofs::Closed::bounded))]
 fn a_function_that_is_not_reached_is_removed(rt: HostRuntime) -> Result<(), Fail> {
-    let alloc = rt.alloc();
-    let (Ok(module), Ok(marks)) = (two(alloc), second(alloc)) else {
-        return Err(Fail::new("no memory"));
-    };
-    let Ok(input) = validate(alloc, module) else {
-        return Err(Fail::new("not valid"));
-    };
-    let Ok(left) = sweep(alloc, input, &marks) else {
-        return Err(Fail::new("not swept"));
-    };
-    let module = left.module();
-    assert_eq!(rt; module.types.len(), 1);
-    assert_eq!(rt; module.funcs.len(), 1);
-    assert_eq!(rt;
-        module.exports.get(0).map(|export| export.desc),
-        Some(ExportDesc::Func(0))
-    );
+    assert_eq!(rt; unlike_swept(rt.alloc())?, "");
     Ok(())
 }

@@ -1,8 +1,7 @@
 // Modules that are too great to be spelled out: their first bytes, and the rest by a rule.
 
-use crate::modules::module;
-use std::alloc::Global;
-use std::process::Abort;
+use crate::modules::spelled;
+use std::alloc::{AllocError, Global};
 use std::test::Fail;
 use wasm_valid::Valid;
 
@@ -22,30 +21,27 @@ pub(crate) const SEGMENTS_16384: &[u8] =
 pub(crate) const SEGMENTS_16385: &[u8] =
     b"\x00\x61\x73\x6D\x01\x00\x00\x00\x05\x04\x01\x00\x81\x08\x0B\x8D\x80\x0A\x81\x80\x01";
 
-fn spelled(rt: &impl Abort, alloc: Global, bytes: &[u8]) -> Result<Valid, Fail> {
-    if bytes.len() >= 4_294_967_296 {
-        return Err(Fail::new("too many bytes"));
+// Adds these bytes so many times.
+fn add_times(bytes: &mut Vec<u8>, count: usize, added: &[u8]) -> Result<(), AllocError> {
+    for _ in 0..count {
+        bytes.extend_from_slice(added)?;
     }
-    Ok(module(rt, alloc, bytes))
+    Ok(())
+}
+
+// Adds so many blocks, each in the one before, and the end of their function.
+fn add_blocks(bytes: &mut Vec<u8>, count: usize) -> Result<(), AllocError> {
+    add_times(bytes, count, b"\x02\x40")?;
+    add_times(bytes, count, &[0x0B])?;
+    bytes.push(0x0B)?;
+    Ok(())
 }
 
 /// A module with one function of so many blocks, each in the one before.
-pub(crate) fn nested(
-    rt: &impl Abort,
-    alloc: Global,
-    before: &[u8],
-    count: usize,
-) -> Result<Valid, Fail> {
-    let mut bytes = Vec::new(alloc);
-    bytes.extend_from_slice(before)?;
-    for _ in 0..count {
-        bytes.extend_from_slice(b"\x02\x40")?;
-    }
-    for _ in 0..count {
-        bytes.push(0x0B)?;
-    }
-    bytes.push(0x0B)?;
-    spelled(rt, alloc, bytes.as_slice())
+pub(crate) fn nested(alloc: Global, before: &[u8], count: usize) -> Result<Valid, Fail> {
+    let mut bytes = Vec::from_slice(alloc, before)?;
+    add_blocks(&mut bytes, count)?;
+    spelled(alloc, bytes.as_slice())
 }
 
 // An active data segment of one zero byte, at the first place of a block, whose offset is spelled with five bytes.
@@ -67,17 +63,17 @@ fn segment(block: u16) -> [u8; 10] {
     ]
 }
 
-/// A module with a memory and so many data segments of one byte, each in a block of its own.
-pub(crate) fn scattered(
-    rt: &impl Abort,
-    alloc: Global,
-    before: &[u8],
-    count: u16,
-) -> Result<Valid, Fail> {
-    let mut bytes = Vec::new(alloc);
-    bytes.extend_from_slice(before)?;
+// Adds so many data segments, each in a block of its own.
+fn add_segments(bytes: &mut Vec<u8>, count: u16) -> Result<(), AllocError> {
     for block in 0..count {
         bytes.extend_from_slice(&segment(block))?;
     }
-    spelled(rt, alloc, bytes.as_slice())
+    Ok(())
+}
+
+/// A module with a memory and so many data segments of one byte, each in a block of its own.
+pub(crate) fn scattered(alloc: Global, before: &[u8], count: u16) -> Result<Valid, Fail> {
+    let mut bytes = Vec::from_slice(alloc, before)?;
+    add_segments(&mut bytes, count)?;
+    spelled(alloc, bytes.as_slice())
 }

@@ -3,11 +3,10 @@
 ghost use Rattle.std.specs.Prelude.{◌<◌, ◌^◌, IfOk, length};
 ghost use Rattle.eval_machine.specs.Kept.{Rests};
 
-use crate::modules::module;
+use crate::modules::{module, spelled};
 use eval_machine::{Booted, Machine, Ran};
 use eval_spec::Stop;
 use std::alloc::Global;
-use std::process::Abort;
 use std::test::Fail;
 use wasm_tree::ConstExpr;
 use wasm_valid::Valid;
@@ -48,7 +47,7 @@ fn end(machine: &mut Machine, input: &Valid, runs: &[(u32, Ran)]) -> Result<(), 
 }
 
 /// What is seen of a machine: the first place whose byte is not zero, a global, whether segment 0 is dropped, and how many blocks are written.
-#[derive(Clone, Copy, Debug, PartialEq, Eq)]
+#[derive(Clone, Copy)]
 pub(crate) struct Seen {
     pub(crate) nonzero: Option<u64>,
     pub(crate) global: Option<ConstExpr>,
@@ -65,6 +64,19 @@ fn see(machine: &Machine, global: u32) -> Seen {
     }
 }
 
+// These functions of a machine, one after the other, end so, and this is seen then.
+fn seen_after(
+    machine: &mut Machine,
+    input: &Valid,
+    runs: &[(u32, Ran)],
+    global: u32,
+) -> Result<Seen, Fail>
+    requires { Rests input.now machine.old }
+{
+    end(machine, input, runs)?;
+    Ok(see(machine, global))
+}
+
 /// These functions, one after the other, end so, and this is seen then, with the value of one global.
 pub(crate) fn after(
     alloc: Global,
@@ -73,13 +85,11 @@ pub(crate) fn after(
     global: u32,
 ) -> Result<Seen, Fail> {
     let mut machine = ready(alloc, input)?;
-    end(&mut machine, input, runs)?;
-    Ok(see(&machine, global))
+    seen_after(&mut machine, input, runs, global)
 }
 
-/// The same, for the module that these bytes spell.
+/// What is seen after these runs of functions of the module that these bytes spell.
 pub(crate) fn after_runs(
-    rt: &impl Abort,
     alloc: Global,
     bytes: &[u8],
     runs: &[(u32, Ran)],
@@ -87,7 +97,7 @@ pub(crate) fn after_runs(
 ) -> Result<Seen, Fail>
     requires { length bytes.now < 2 ^ 32 }
 {
-    let input = module(rt, alloc, bytes);
+    let input = module(alloc, bytes)?;
     after(alloc, &input, runs, global)
 }
 
@@ -106,71 +116,51 @@ fn byte_of(alloc: Global, input: &Valid, at: u64) -> Result<Option<u8>, Fail> {
 }
 
 /// A byte after the instantiation, if the memory has it.
-pub(crate) fn byte_at_first(
-    rt: &impl Abort,
-    alloc: Global,
-    bytes: &[u8],
-    at: u64,
-) -> Result<Option<u8>, Fail>
+pub(crate) fn byte_at_first(alloc: Global, bytes: &[u8], at: u64) -> Result<Option<u8>, Fail>
     requires { length bytes.now < 2 ^ 32 }
 {
-    let input = module(rt, alloc, bytes);
+    let input = module(alloc, bytes)?;
     byte_of(alloc, &input, at)
 }
 
-/// This stops the instantiation or the start.
-pub(crate) fn stops_boot(
-    rt: &impl Abort,
-    alloc: Global,
-    input: &Valid,
-    stop: Stop,
-) -> Result<(), Fail> {
-    let Booted::Stopped(why) = Machine::boot(alloc, input)? else {
-        return Err(Fail::new("nothing stops the instantiation"));
-    };
-    assert_eq!(rt; why, stop);
-    Ok(())
+/// What stops the instantiation or the start, if anything does.
+pub(crate) fn boot_stop(alloc: Global, input: &Valid) -> Result<Option<Stop>, Fail> {
+    match Machine::boot(alloc, input)? {
+        Booted::Ready(_machine) => Ok(None),
+        Booted::Stopped(stop) => Ok(Some(stop)),
+    }
 }
 
-/// The same, for the module that these bytes spell.
-pub(crate) fn is_not_ready(
-    rt: &impl Abort,
-    alloc: Global,
-    bytes: &[u8],
-    stop: Stop,
-) -> Result<(), Fail>
-    requires { length bytes.now < 2 ^ 32 }
-{
-    let input = module(rt, alloc, bytes);
-    stops_boot(rt, alloc, &input, stop)
+/// What stops the instantiation or the start of the module that these bytes spell, if anything does.
+pub(crate) fn boot_stop_of(alloc: Global, bytes: &[u8]) -> Result<Option<Stop>, Fail> {
+    let input = spelled(alloc, bytes)?;
+    boot_stop(alloc, &input)
 }
 
-fn each(machine: &mut Machine, input: &Valid, count: u32, stop: Stop) -> Result<(), Fail>
+// Whether each of so many functions of the module is stopped so.
+fn each(machine: &mut Machine, input: &Valid, count: u32, stop: Stop) -> Result<bool, Fail>
     requires { Rests input.now machine.old }
 {
     for func in 0..count {
         if run(machine, input, func)? != Ran::Stopped(stop) {
-            return Err(Fail::new("a function is not stopped so"));
+            return Ok(false);
         }
     }
-    Ok(())
+    Ok(true)
 }
 
-fn each_of(alloc: Global, input: &Valid, count: u32, stop: Stop) -> Result<(), Fail> {
+fn each_of(alloc: Global, input: &Valid, count: u32, stop: Stop) -> Result<bool, Fail> {
     let mut machine = ready(alloc, input)?;
     each(&mut machine, input, count, stop)
 }
 
-/// Each of so many functions of the module is stopped so.
+/// Whether each of so many functions of the module that these bytes spell is stopped so.
 pub(crate) fn each_is_stopped(
-    rt: &impl Abort,
     alloc: Global,
     bytes: &[u8],
     count: u32,
     stop: Stop,
-) -> Result<(), Fail>
-    requires { length bytes.now < 2 ^ 32 }
-{
-    let input = module(rt, alloc, bytes);
+) -> Result<bool, Fail> {
+    let input = spelled(alloc, bytes)?;
     each_of(alloc, &input, count, stop)
 }

@@ -3,7 +3,7 @@
 ghost use Rattle.std.specs.Prelude.{◌<◌, ◌^◌, length};
 
 use std::alloc::Global;
-use std::process::Abort;
+use std::test::Fail;
 use wasm_read::read;
 use wasm_valid::{Valid, validate};
 
@@ -96,14 +96,22 @@ pub(crate) const UNDONE: &[u8] =
     b"\x00\x61\x73\x6D\x01\x00\x00\x00\x01\x04\x01\x60\x00\x00\x03\x03\x02\x00\x00\x05\x03\x01\x00\x01\x06\x06\x01\x7E\x01\x42\x03\x0B\x0C\x01\x01\x0A\x23\x02\x11\x00\x41\x05\x41\x01\x3A\x00\x00\x42\x04\x24\x00\xFC\x09\x00\x00\x0B\x0F\x00\x41\x09\x41\x00\x41\x01\xFC\x08\x00\x00\xFC\x09\x00\x0B\x0B\x04\x01\x01\x01\x07";
 
 /// The module that these bytes spell.
-pub(crate) fn module(rt: &impl Abort, alloc: Global, bytes: &[u8]) -> Valid
+pub(crate) fn module(alloc: Global, bytes: &[u8]) -> Result<Valid, Fail>
     requires { length bytes.now < 2 ^ 32 }
 {
     let Ok(module) = read(alloc, bytes) else {
-        panic!(rt; "the module is not read");
+        return Err(Fail::new("the module is not read"));
     };
-    let Ok(valid) = validate(alloc, module) else {
-        panic!(rt; "the module is not valid");
-    };
-    valid
+    match validate(alloc, module) {
+        Ok(valid) => Ok(valid),
+        Err(_rejected) => Err(Fail::new("the module is not valid")),
+    }
+}
+
+/// The module that these bytes spell, if they are not too many.
+pub(crate) fn spelled(alloc: Global, bytes: &[u8]) -> Result<Valid, Fail> {
+    if bytes.len() >= 4_294_967_296 {
+        return Err(Fail::new("too many bytes"));
+    }
+    module(alloc, bytes)
 }

@@ -1,14 +1,10 @@
-ghost use Rattle.std.specs.Prelude.{◌<◌, ◌^◌, IfOk, length};
-ghost use Rattle.split_plan.specs.Plans.{IsPlan};
+ghost use Rattle.std.specs.Prelude.{◌<◌, ◌^◌, length};
 
-use crate::modules::{ADD, CALL, LINKED, module};
-use split_plan::{Plan, plan};
+use crate::modules::{ADD, CALL, LINKED, module, planned};
 use split_slots::{Pair, SplitFault, SplitNames, split};
 use std::alloc::Global;
-use std::process::Abort;
 use std::test::Fail;
-use wasm_bytes::{Items, Name};
-use wasm_names::function_names;
+use wasm_bytes::{Name, NoMemory};
 use wasm_valid::Valid;
 use wasm_write::write;
 
@@ -56,18 +52,15 @@ const NAMESPACE: &[u8] =
 const SLOTS: &[u8] =
     b"\x00\x61\x73\x6D\x01\x00\x00\x00\x01\x07\x01\x60\x02\x7F\x7F\x01\x7F\x03\x02\x01\x00\x07\x0A\x01\x06\x25\x73\x6C\x6F\x74\x73\x00\x00\x0A\x09\x01\x07\x00\x20\x00\x20\x01\x6A\x0B";
 
-fn names(alloc: Global) -> Result<SplitNames, Fail> {
+fn names(alloc: Global) -> Result<SplitNames, NoMemory> {
+    let import_namespace = Name::from_text(alloc, "primary")?;
+    let placeholder_namespace = Name::from_text(alloc, "placeholder")?;
+    let export_prefix = Name::from_text(alloc, "%")?;
     Ok(SplitNames {
-        import_namespace: Name::from_text(alloc, "primary")?,
-        placeholder_namespace: Name::from_text(alloc, "placeholder")?,
-        export_prefix: Name::from_text(alloc, "%")?,
+        import_namespace,
+        placeholder_namespace,
+        export_prefix,
     })
-}
-
-fn words(alloc: Global, word: &str) -> Result<Items<Name>, Fail> {
-    let mut words = Items::new(alloc);
-    words.keep(Name::from_text(alloc, word)?)?;
-    Ok(words)
 }
 
 fn told(alloc: Global, fault: &SplitFault) -> Result<String, Fail> {
@@ -82,32 +75,26 @@ fn told(alloc: Global, fault: &SplitFault) -> Result<String, Fail> {
     })
 }
 
-// The plan of a split of this module, where this word names what moves.
-fn planned(alloc: Global, input: &Valid, bytes: &[u8], word: &str) -> Result<Plan, Fail>
-    requires { length bytes.now < 2 ^ 32 }
-    ensures { IfOk result (λ plan. IsPlan input.now plan) }
-{
-    let listed = function_names(alloc, bytes)?;
-    let words = words(alloc, word)?;
-    match plan(alloc, input, &listed, Some(&words), None) {
-        Ok(plan) => Ok(plan),
-        Err(_) => Err(Fail::new("no plan")),
-    }
-}
-
-// The split of these bytes, where this word names what moves.
-fn tried(
-    rt: &impl Abort,
+// The split of these bytes under these names, where this word names what moves.
+fn split_under(
     alloc: Global,
     bytes: &[u8],
     word: &str,
+    names: &SplitNames,
 ) -> Result<Result<Pair, SplitFault>, Fail>
     requires { length bytes.now < 2 ^ 32 }
 {
-    let names = names(alloc)?;
-    let input = module(rt, alloc, bytes);
+    let input = module(alloc, bytes)?;
     let plan = planned(alloc, &input, bytes, word)?;
-    Ok(split(alloc, input, &plan, &names))
+    Ok(split(alloc, input, &plan, names))
+}
+
+// The split of these bytes, where this word names what moves.
+fn tried(alloc: Global, bytes: &[u8], word: &str) -> Result<Result<Pair, SplitFault>, Fail>
+    requires { length bytes.now < 2 ^ 32 }
+{
+    let names = names(alloc)?;
+    split_under(alloc, bytes, word, &names)
 }
 
 // Whether a module is spelled so.
@@ -132,29 +119,28 @@ fn unlike(
     Ok("")
 }
 
-// Both modules are spelled so.
-fn is_split(
-    rt: &impl Abort,
+// Which module of the split of these bytes is not spelled so, where this word names what moves, or
+// nothing.
+fn unlike_split(
     alloc: Global,
     bytes: &[u8],
     word: &str,
     primary: &[u8],
     secondary: &[u8],
-) -> Result<(), Fail>
+) -> Result<&'static str, Fail>
     requires { length bytes.now < 2 ^ 32 }
 {
-    let Ok(pair) = tried(rt, alloc, bytes, word)? else {
-        return Err(Fail::new("not split"));
-    };
-    assert_eq!(rt; unlike(alloc, &pair, primary, secondary)?, "");
-    Ok(())
+    match tried(alloc, bytes, word)? {
+        Ok(pair) => unlike(alloc, &pair, primary, secondary),
+        Err(_fault) => Err(Fail::new("not split")),
+    }
 }
 
 // The fault that is told.
-fn refusal(rt: &impl Abort, alloc: Global, bytes: &[u8], word: &str) -> Result<String, Fail>
+fn refusal(alloc: Global, bytes: &[u8], word: &str) -> Result<String, Fail>
     requires { length bytes.now < 2 ^ 32 }
 {
-    match tried(rt, alloc, bytes, word)? {
+    match tried(alloc, bytes, word)? {
         Ok(_) => Err(Fail::new("split")),
         Err(fault) => told(alloc, &fault),
     }
@@ -162,35 +148,37 @@ fn refusal(rt: &impl Abort, alloc: Global, bytes: &[u8], word: &str) -> Result<S
 
 #[test]
 fn an_exported_function_is_called_through_a_trampoline(rt: HostRuntime) -> Result<(), Fail> {
-    is_split(&rt, rt.alloc(), ADD, "add", ADD_PRIMARY, ADD_SECONDARY)
+    let unlike = unlike_split(rt.alloc(), ADD, "add", ADD_PRIMARY, ADD_SECONDARY)?;
+    assert_eq!(rt; unlike, "");
+    Ok(())
 }
 
 #[test]
 fn a_function_that_is_only_called_is_called_through_its_slot(rt: HostRuntime) -> Result<(), Fail> {
-    is_split(&rt, rt.alloc(), CALL, "g", CALL_PRIMARY, CALL_SECONDARY)
+    let unlike = unlike_split(rt.alloc(), CALL, "g", CALL_PRIMARY, CALL_SECONDARY)?;
+    assert_eq!(rt; unlike, "");
+    Ok(())
 }
 
 #[test]
 fn no_table_of_the_module_holds_a_slot(rt: HostRuntime) -> Result<(), Fail> {
-    is_split(
-        &rt,
-        rt.alloc(),
-        LINKED,
-        "twice",
-        LINKED_PRIMARY,
-        LINKED_SECONDARY,
-    )
+    let alloc = rt.alloc();
+    let unlike = unlike_split(alloc, LINKED, "twice", LINKED_PRIMARY, LINKED_SECONDARY)?;
+    assert_eq!(rt; unlike, "");
+    Ok(())
 }
 
 #[test]
 fn where_nothing_moves_there_is_no_slot(rt: HostRuntime) -> Result<(), Fail> {
-    is_split(&rt, rt.alloc(), COPY, "i", COPY_PRIMARY, COPY_SECONDARY)
+    let unlike = unlike_split(rt.alloc(), COPY, "i", COPY_PRIMARY, COPY_SECONDARY)?;
+    assert_eq!(rt; unlike, "");
+    Ok(())
 }
 
 #[test]
 fn an_import_may_have_the_namespace(rt: HostRuntime) -> Result<(), Fail> {
     assert_eq!(rt;
-        refusal(&rt, rt.alloc(), NAMESPACE, "add")?.as_str(),
+        refusal(rt.alloc(), NAMESPACE, "add")?.as_str(),
         "namespace 0"
     );
     Ok(())
@@ -199,7 +187,7 @@ fn an_import_may_have_the_namespace(rt: HostRuntime) -> Result<(), Fail> {
 #[test]
 fn an_export_may_have_the_name_of_the_slot_table(rt: HostRuntime) -> Result<(), Fail> {
     assert_eq!(rt;
-        refusal(&rt, rt.alloc(), SLOTS, "%slots")?.as_str(),
+        refusal(rt.alloc(), SLOTS, "%slots")?.as_str(),
         "prefix %slots"
     );
     Ok(())
