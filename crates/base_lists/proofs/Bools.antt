@@ -50,12 +50,12 @@ both_equal Less p = refl
 both_equal Equal p = refl
 both_equal Greater p = refl
 
--- each test stays true
+-- if a' is true wherever a is, and b' wherever b is, both are true wherever a and b are
 pub and_keeps : (a a' b b' : Bool) → (a ≡ true → a' ≡ true) → (b ≡ true → b' ≡ true) → a && b ≡ true → a' && b' ≡ true
 and_keeps false a' b b' s t h = cc
 and_keeps true a' b b' s t h = ap (λ z. z && b') (s refl) ∙ t h
 
--- a test that implies another does not pass with that other failing
+-- if b is true wherever a is, a is never true where b is false
 pub and_not : (a b : Bool) → (a ≡ true → b ≡ true) → a && not b ≡ false
 and_not false b h = refl
 and_not true b h = ap not (h refl)

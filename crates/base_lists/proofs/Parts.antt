@@ -1,5 +1,5 @@
 -- The lengths of parts of lists.
-use Rattle.std.proofs.Common.{◌≡◌, ℕ, zero, suc, ◌+◌, ◌≤◌, List, [], ◌∷◌, length, take, drop, Option, Some, None, option_and_then, refl, sym, ap, arith, ◌++◌}
+use Rattle.std.proofs.Common.{◌≡◌, ℕ, zero, suc, ◌+◌, ◌≤◌, List, [], ◌∷◌, length, take, drop, Option, Some, None, option_and_then, refl, sym, ap, arith}
 use Rattle.base_lists.specs.Parts.{split_at, slice, copies, overwrite}
 use Rattle.base_lists.proofs.Options.{and_then_is, is_some_there}
 use Rattle.std.proofs.lemmas.List.{length-append, length-drop}

@@ -1,5 +1,5 @@
 -- What a chain of results came to.
-use Rattle.std.proofs.Common.{◌≡◌, ℕ, ◌<◌, ◌≤◌, cond, nat_lt, Result, Ok, Err, ap, refl, ⊎_elim}
+use Rattle.std.proofs.Common.{◌≡◌, ℕ, ◌≤◌, cond, nat_lt, Result, Ok, Err, ap, refl, ⊎_elim}
 use Rattle.base_lists.specs.Results.{◌>>=◌}
 use Rattle.std.proofs.lemmas.Bool.{cases_lt, le-ltb, lt-ltb}
 

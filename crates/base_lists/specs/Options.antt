@@ -1,4 +1,5 @@
--- Chains of look-ups, each of which may find nothing.
+-- Chains of look-ups, each of which may find nothing; an option that has whatever another has, and
+-- one that is there only if a test is true.
 use Rattle.std.specs.Prelude.{◌≡◌, List, [], ◌∷◌, Bool, cond, Option, Some, None, option_and_then}
 
 -- What `f` gives for the value, if there is one, as `Option::and_then`.
@@ -11,7 +12,7 @@ abbrev pub all_there : {A B : Type 0} → (A → Option B) → List A → Option
 all_there f [] = Some []
 all_there f (x ∷ xs) = f x >>= λ y. all_there f xs >>= λ ys. Some (y ∷ ys)
 
--- If the first is there, the second is the same.
+-- If there is a value in the first, the same value is in the second.
 abbrev pub Keeps : {A : Type 0} → Option A → Option A → Type 0
 Keeps {A} x y = (v : A) → x ≡ Some v → y ≡ Some v
 

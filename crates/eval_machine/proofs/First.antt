@@ -8,7 +8,7 @@ use Rattle.wasm_tree.specs.declared.module.ConstExpr.TheVariants as const
 use Rattle.wasm_tree.specs.declared.module.Func as tree
 use Rattle.wasm_num.specs.Operations.{W32, W64, wrapped}
 use Rattle.wasm_valid_bodies.specs.Typing.{only}
-use Rattle.wasm_valid.specs.Prelude.{const_type, HoldsAt, count_of, ItemsHold}
+use Rattle.wasm_valid.specs.Prelude.{const_type, ItemsHold}
 use Rattle.wasm_valid.specs.declared.kinds.ItemKind.{ItemKind}
 use Rattle.wasm_valid.specs.declared.kinds.ItemKind.TheVariants as kind
 use Rattle.wasm_meaning.specs.Prelude.{copies, RefVal, FuncRef, ExternRef, Val, Num, Ref, Func, Code, Global, Elem, Table, Store, type_of, zero_of, ref_of, null_of, declared, elem_with, global_with, joined_stores, new_elem, new_func}

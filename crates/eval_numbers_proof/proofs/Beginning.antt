@@ -10,7 +10,7 @@ use Rattle.wasm_tree.specs.declared.module.ElemMode.TheVariants as elem
 use Rattle.wasm_num.specs.Operations.{W32}
 use Rattle.wasm_valid.specs.declared.kinds.ItemKind.{ItemKind}
 use Rattle.wasm_valid.specs.declared.kinds.ItemKind.TheVariants as kind
-use Rattle.wasm_valid.specs.Prelude.{HoldsAt, count_of, ItemsHold}
+use Rattle.wasm_valid.specs.Prelude.{ItemsHold}
 use Rattle.wasm_meaning.specs.Prelude.{Gives, copies, overwrite, RefVal, Table, Memory, Store, num_of, ref_of, null_of, zero_of, no_bytes, no_items, Bytes, Filled, PlacedSegment, copy_slots, copy_bytes, elem_with, global_with, joined_stores, new_elem, new_func, or_trapped, run_elem_with, run_data_with, segments_in, store_with}
 use Rattle.eval_spec.specs.declared.stop.Stop.TheVariants as why
 use Rattle.eval_spec.specs.Prelude.{State, Stage, Going, Stopped, Finished, Test, first_held, stopped_or, written_after, copied_slots, data_tests, elem_tests, filled_from, imported_store, in_order, instantiated, own_inst, place_in, state_at_first, value_in, with_data, with_data_mode, with_elem, with_elem_mode, with_segments}

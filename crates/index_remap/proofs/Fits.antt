@@ -1,5 +1,5 @@
--- What holds of a whole list holds of each item, and of a block what holds of what it holds.
-use Rattle.base_lists.proofs.Common.{◌≡◌, ℕ, ◌<◌, List, [], ◌∷◌, length, get_or, Bool, ◌&&◌, IsTrue, refl, sym, ap, ap₂, ◌∙◌, list_all, map, slice_get_read, list_all-append, list_all-map, left_true, right_true, list_all_each}
+-- If a remap has the entries that a block, loop or if needs, it has those that the code inside needs.
+use Rattle.base_lists.proofs.Common.{◌≡◌, ℕ, List, [], ◌∷◌, Bool, ◌&&◌, IsTrue, refl, sym, ap, ap₂, ◌∙◌, list_all, map, list_all-append, list_all-map, left_true, right_true}
 use Rattle.wasm_tree_spec.specs.Prelude.{BlockType, Instr, fold_out-Instr, map-Instr, Block, Loop, If, outs-Block, outs-Loop, outs-If, all_pass_step}
 use Rattle.wasm_tree.specs.declared.instr.Instr.TheOpen.{Instr-F}
 use Rattle.index_remap.specs.declared.remap.Remap.{Remap}

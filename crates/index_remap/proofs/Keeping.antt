@@ -1,5 +1,5 @@
 -- What is there stays there, through the words of which the types of instructions are made.
-use Rattle.base_lists.proofs.Common.{◌≡◌, Bool, true, false, ◌&&◌, [], ◌∷◌, Option, Some, None, refl, ap, ◌∙◌, option_map, option_and_then}
+use Rattle.base_lists.proofs.Common.{◌≡◌, Bool, true, false, [], ◌∷◌, Option, Some, None, refl, ap, ◌∙◌, option_and_then}
 use Rattle.wasm_tree_spec.specs.Prelude.{RefType, Ref, FuncType}
 use Rattle.wasm_tree.specs.declared.types.RefType.TheVariants.{Func}
 use Rattle.wasm_valid_bodies.specs.Typing.{Gives, signature_in, only, both}

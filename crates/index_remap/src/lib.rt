@@ -49,7 +49,7 @@ pub use renumbering::renumber;
 /// - `replaced`: the same holds if calls of opaque functions are replaced by code that may stand in
 ///   their place; an index that only such calls name needs no entry.
 /// - `not_opaque`: if the list of functions whose calls are replaced is empty, the body with other
-///   indices is the body of which `replaced` speaks.
+///   indices is such a body, with no call replaced.
 /// - `reflexive`: code is related to itself over an instance whose addresses are in the code
 ///   relation with themselves.
 /// - `typed`: a well-typed body stays well typed with other indices and replaced calls, over the

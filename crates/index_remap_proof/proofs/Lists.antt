@@ -1,7 +1,6 @@
--- Places that renumbering keeps, what a test guards, and the marks of numbers that a list has.
+-- Places that renumbering keeps, and the marks of numbers that a list has.
 use Rattle.base_lists.proofs.Common.{◌≡◌, ℕ, zero, suc, ◌+◌, ◌<◌, ◌≤◌, Bool, true, false, List, length, Option, Some, refl, sym, ap, ◌∙◌, arith, add-zero, slice_get, lt-ltb, slice_get_within, slice_get_there}
 use Rattle.base_lists.specs.Members.{is_among}
-use Rattle.wasm_valid_bodies.specs.Typing.{only}
 use Rattle.index_remap.specs.Prelude.{has, Keeps}
 use Rattle.wasm_valid.specs.Prelude.{named_from}
 
@@ -13,8 +12,6 @@ place_kept xs ys i j k lt = let x = slice_get_there xs i lt in slice_get_within 
 
 pub has_at : {A : Type 0} (xs : List A) (ys : List ℕ) (i : ℕ) (x : A) → length xs ≤ length ys → slice_get xs i ≡ Some x → has ys i ≡ true
 has_at xs ys i x le e = let lt = slice_get_within xs i x e in lt-ltb _ _ (omega arith)
-
--- ---- what is there by the words of types ----
 
 -- ---- marks ----
 
@@ -37,5 +34,3 @@ is_marked refs n x h =
     let e : 0 + x ≡ x = omega arith in
     let k = sym (named_get refs 0 n x lt ∙ ap (λ z. Some (is_among refs z)) e) ∙ h in
     cc
-
--- ---- what is there for each ----

@@ -1,5 +1,5 @@
 -- A valid tree with other indices: each item comes from the one that it was. And the indices that a valid tree names.
-use Rattle.base_lists.proofs.Common.{◌≡◌, ℕ, zero, suc, ◌<◌, ◌↔◌, Bool, true, ◌&&◌, List, [], ◌∷◌, ◌++◌, length, map, take, Option, Some, None, refl, sym, ap, ap₂, ◌∙◌, subst, arith, slice_get, slice_index, Contains, option_map, flat_map, filter_map, cons_option, ltb-true, length-map, map-append, slice_get_there, map_at, map_from, list_all_each, list_all, and_then_is, left_true, right_true, only_true}
+use Rattle.base_lists.proofs.Common.{◌≡◌, ℕ, zero, suc, ◌<◌, Bool, true, ◌&&◌, List, [], ◌∷◌, ◌++◌, length, map, take, Option, Some, None, refl, sym, ap, ap₂, ◌∙◌, subst, arith, slice_get, slice_index, Contains, option_map, flat_map, filter_map, cons_option, ltb-true, length-map, map-append, slice_get_there, map_at, map_from, list_all_each, list_all, and_then_is, left_true, right_true, only_true}
 use Rattle.base_lists.specs.Members.{is_among}
 use Rattle.base_lists.proofs.Members.{among_map}
 use Rattle.wasm_tree_spec.specs.Prelude.{ValType, Func, ImportDesc, Export, ExportDesc, ElemMode, ElemSeg, DataMode, ConstExpr, Module, funcs_of, globals_of, PassesLayerByLayer}

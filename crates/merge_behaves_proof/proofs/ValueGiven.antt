@@ -1,8 +1,8 @@
 -- What the laws of lower crates say that the values and stores of parts and of their merged module rest on.
-use Rattle.base_lists.proofs.Common.{◌≡◌, ◌↔◌, ℕ, ◌<◌, List, length, Some, None, true, IsTrue, slice_get, slice_get_within, arith}
+use Rattle.base_lists.proofs.Common.{◌≡◌, ℕ, ◌<◌, List, length, Some, None, true, IsTrue, slice_get, slice_get_within, arith}
 use Rattle.wasm_tree_spec.specs.Prelude.{Ref, Func, GlobalDef, ElemSeg, DataSeg, ValType, ConstExpr, Module}
 use Rattle.wasm_valid.specs.declared.kinds.ItemKind.TheVariants as kind
-use Rattle.wasm_valid.specs.Prelude.{const_type, IsValid, HoldsAt, ElemModeHolds, DataModeHolds, count_of, ValidWhereItemsHold}
+use Rattle.wasm_valid.specs.Prelude.{const_type, IsValid, ElemModeHolds, DataModeHolds, ValidWhereItemsHold}
 use Rattle.wasm_valid.specs.declared.kinds.ItemKind.{ItemKind}
 use Rattle.wasm_meaning.specs.Prelude.{Inst, Part, Read, module_at, read_of, Environment}
 use Rattle.index_remap.specs.Prelude.{fits_tree, RenumberedCodeIsRelated}

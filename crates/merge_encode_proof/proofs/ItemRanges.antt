@@ -1,5 +1,5 @@
 -- The items of a valid module, whose other numbers are in range, are in range.
-use Rattle.base_lists.proofs.Common.{◌≡◌, ℕ, zero, suc, ◌<◌, ◌^◌, Bool, true, false, nat_lt, List, length, Option, Some, None, refl, sym, ap, ◌∙◌, subst, arith, slice_get, option_and_then, IsUtf8, nat_tests, slice_get_within, same_Some, length-map, and_from, list_all, IsTrue, list_all_from}
+use Rattle.base_lists.proofs.Common.{◌≡◌, ℕ, zero, suc, ◌<◌, ◌^◌, Bool, true, false, nat_lt, List, length, Option, Some, None, refl, sym, ap, ◌∙◌, subst, arith, slice_get, option_and_then, IsUtf8, nat_tests, slice_get_within, same_Some, length-map, and_from, IsTrue, list_all_from}
 use Rattle.base_lists.proofs.Every.{every_placed}
 use Rattle.wasm_tree_spec.specs.Prelude.{FuncType, TableType, ValType, ImportDesc, Import, ExportDesc, Export, ConstExpr, GlobalDef, ElemMode, ElemSeg, DataMode, DataSeg, Func, Module, funcs_of, tables_of, globals_of, IsBounded, PassesLayerByLayer, all_operands_pass, Ref, Operand, is_memory_zero, memory_zero_all, memory_zero_funcs}
 use Rattle.wasm_tree.specs.declared.module.ImportDesc.TheVariants as import

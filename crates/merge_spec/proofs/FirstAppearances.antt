@@ -1,8 +1,6 @@
 -- The types of the parts, each once, in the order of their first appearance.
-use Rattle.base_lists.proofs.Common.{◌≡◌, ◌∙◌, sym, ap, ap₂, subst, refl, ℕ, zero, suc, ◌+◌, ◌<◌, List, [], ◌∷◌, ◌++◌, length, Some, Bool, true, false, cond, ◌||◌, ◌&&◌, slice_get, arith, ◌⊎◌, inl, inr, append_assoc, append-nil, list_any, slice_get_within, and_parts, and_from, each_same_is, each_same_self, list_any_there, Has, append_at_left, append_from, has_left, push_last}
-use Rattle.wasm_tree_spec.specs.Prelude.{FuncType, ValType, Module, same_func_type, same_type, same_types}
-use Rattle.wasm_tree.specs.declared.types.ValType.TheVariants as valt
-use Rattle.wasm_tree.specs.declared.types.RefType.TheVariants as reft
+use Rattle.base_lists.proofs.Common.{◌≡◌, ◌∙◌, sym, ap, ap₂, subst, refl, ℕ, zero, suc, ◌+◌, ◌<◌, List, [], ◌∷◌, ◌++◌, length, Some, Bool, true, false, cond, ◌||◌, slice_get, arith, ◌⊎◌, inl, inr, append_assoc, append-nil, list_any, slice_get_within, list_any_there, Has, append_at_left, append_from, has_left, push_last}
+use Rattle.wasm_tree_spec.specs.Prelude.{FuncType, ValType, Module, same_func_type}
 use Rattle.index_remap.specs.Prelude.{declared, declared_refs, with_declared}
 use Rattle.merge_names.specs.Names.{new_names}
 use Rattle.merge_spec.specs.Prelude.{with_type, with_types, export_names}
@@ -10,8 +8,6 @@ use Rattle.merge_spec.specs.Merged.{merged, merged_types}
 use Rattle.merge_spec.specs.Joined.{joined_module}
 use Rattle.merge_spec.specs.Types.{AreFirstAppearances, MergedTypesAreDistinct, part_types}
 use Rattle.index_remap.proofs.SlotCalls.{func_type_is, func_type_self}
-
--- ---- equal types ----
 
 -- ---- what is among types ----
 

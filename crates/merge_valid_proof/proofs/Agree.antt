@@ -4,7 +4,7 @@ use Rattle.wasm_tree_spec.specs.Prelude.{Space, Types, Functions, Tables, Memori
 use Rattle.wasm_tree.specs.declared.module.ImportDesc.TheVariants as im
 use Rattle.wasm_valid.specs.declared.kinds.ItemKind.{ItemKind}
 use Rattle.wasm_valid.specs.declared.kinds.ItemKind.TheVariants as kind
-use Rattle.wasm_valid.specs.Prelude.{table_types, elem_types, HoldsAt, ImportHolds, count_of, ItemsHold}
+use Rattle.wasm_valid.specs.Prelude.{table_types, elem_types, ImportHolds, ItemsHold}
 use Rattle.wasm_meaning.specs.Prelude.{Text, EndsArePaths, numbers, defined_before, Part, module_at}
 use Rattle.index_remap.specs.declared.remap.Remap.{Remap}
 use Rattle.index_remap.specs.Prelude.{Keeps}

@@ -1,5 +1,5 @@
 -- What functions stand in the stores in which a module and its split begin.
-use Rattle.base_lists.proofs.Common.{◌≡◌, ◌∙◌, ap, ap₂, sym, subst, refl, ℕ, zero, suc, ◌+◌, ◌-◌, ◌⊎◌, inl, inr, List, [], ◌∷◌, ◌++◌, map, length, Option, Some, None, true, arith, append-nil, option_and_then, slice_get, slice_index, pos, option_map_or, length-append, slice_get_within, same_Some, numbers_index, and_then_is, all_there_at, all_there_length, append_at_left, append_from, append_right, map_from, map_twice, slice_get_there, slice_index_is, all_there_back, there_among, place_is, no_place}
+use Rattle.base_lists.proofs.Common.{◌≡◌, ◌∙◌, ap, ap₂, sym, subst, refl, ℕ, zero, suc, ◌+◌, ◌-◌, ◌⊎◌, inl, inr, List, [], ◌∷◌, ◌++◌, map, length, Option, Some, None, true, arith, append-nil, option_and_then, slice_get, slice_index, pos, option_map_or, length-append, same_Some, numbers_index, and_then_is, all_there_at, append_at_left, append_from, append_right, map_from, map_twice, slice_get_there, slice_index_is, all_there_back, there_among, place_is, no_place}
 use Rattle.wasm_tree_spec.specs.Prelude.{FuncType, Module, funcs_of, tables_of, type_of_func, Functions}
 use Rattle.wasm_tree.specs.declared.module.Func as tree
 use Rattle.wasm_meaning.specs.Prelude.{Code, Func, Own, Pair, Placeholder, Store, Environment, own_funcs, Added, added, next_inst, LoaderWorld, begun_of, begun_under, placeholders_from, placeholders_of, primary_added, store_under, supplied, Begun, all_there, alone, const_value, insts_from, instantiate, joined_stores, new_func, own_count}

@@ -3,7 +3,7 @@ use Rattle.base_lists.proofs.Common.{◌≡◌, ◌∙◌, ap, ap₂, sym, subst
 use Rattle.wasm_tree_spec.specs.Prelude.{Space, Functions, Tables, Memories, Globals, FuncType, ConstExpr, ElemSeg, GlobalDef, Module, imported_funcs, funcs_of}
 use Rattle.wasm_tree.specs.declared.module.ConstExpr.TheVariants as const
 use Rattle.wasm_tree.specs.declared.module.Func as tree
-use Rattle.wasm_meaning.specs.Prelude.{Code, Elem, Func, Global, Inst, RefVal, FuncRef, Store, Text, declared, Environment, ExternalValue, all_of, sites, Begun, World, alone, all_there, defined_count, insts_from, instantiate, is_matched, joined_stores, links, numbers, own_count, own_store, part_store, seen_as, starts_of, stores_from, value_of}
+use Rattle.wasm_meaning.specs.Prelude.{Code, Elem, Func, Global, Inst, RefVal, FuncRef, Store, Text, declared, Environment, ExternalValue, all_of, sites, Begun, World, alone, all_there, defined_count, insts_from, instantiate, is_matched, joined_stores, links, numbers, own_count, own_store, part_store, seen_as, starts_of, stores_from}
 use Rattle.wasm_meaning.specs.World as world
 use Rattle.index_remap.specs.declared.remap.Remap.{Remap}
 use Rattle.index_remap.specs.Prelude.{declared_refs, Pairing, OptRel, none, some, ListRel, GlobalRel, ElemRel, KeyRel, BegunRel, new_const, new_elem, new_func, new_global, EntryByEntry}

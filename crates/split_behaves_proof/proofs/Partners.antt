@@ -1,9 +1,8 @@
 -- The relation of addresses is one to one, and relates each of the environment's own entities to itself.
-use Rattle.base_lists.proofs.Common.{◌≡◌, ◌∙◌, ap, sym, refl, ℕ, suc, ◌+◌, ◌-◌, ◌<◌, ◌≤◌, ◌&&◌, List, length, drop, Some, Bool, true, false, cond, nat_eq, nat_lt, arith, slice_get, slice_index, map, lt-ltb, ltb-true, eqb-true, nat_tests, length-append, length-map, left_true, right_true, numbers_at, and_from}
+use Rattle.base_lists.proofs.Common.{◌≡◌, ◌∙◌, ap, sym, refl, ℕ, suc, ◌+◌, ◌-◌, ◌<◌, ◌≤◌, ◌&&◌, List, length, drop, Some, Bool, true, false, cond, nat_eq, nat_lt, arith, slice_index, map, lt-ltb, ltb-true, eqb-true, nat_tests, length-append, length-map, left_true, right_true, and_from}
 use Rattle.std.proofs.Common.{eq-eqb}
-use Rattle.base_lists.specs.Places.{numbers}
-use Rattle.base_kept.specs.Kept.{kept, is_marked, kept_before}
-use Rattle.base_kept.proofs.Laws.{kept_at, marked_apart}
+use Rattle.base_kept.specs.Kept.{is_marked, kept_before}
+use Rattle.base_kept.proofs.Laws.{marked_apart}
 use Rattle.wasm_tree_spec.specs.Prelude.{Space, Types, Functions, Tables, Memories, Globals, ElementSegments, DataSegments, Module, imported_funcs, funcs_of}
 use Rattle.wasm_meaning.specs.Prelude.{Environment, own_count, defined_count}
 use Rattle.index_remap.specs.Prelude.{OneToOne}

@@ -1,14 +1,13 @@
 -- The primary module of a split imports its placeholders behind all that the module imports, in the order of their slots.
-use Rattle.base_lists.proofs.Common.{◌≡◌, ◌≢◌, ◌∙◌, ap, sym, subst, refl, ℕ, zero, suc, ◌+◌, ◌^◌, ◌<◌, ◌≤◌, List, [], ◌∷◌, ◌++◌, length, map, Some, None, Bool, true, false, cond, nat_eq, arith, true≢false, ⊎_elim, slice_get, slice_index, unwrap_or, option_and_then, decimal, pos, flat_map, bytes_eq, decimal_injective, slice_get_within, bytes_eq-Decides, cond_is, left_true, right_true, length-numbers, numbers_at, pigeons, slice_get_there, slice_index_is, each_same_is, each_same_self, and_from, cases_Bool, same_number}
+use Rattle.base_lists.proofs.Common.{◌≡◌, ◌≢◌, ◌∙◌, ap, sym, subst, refl, ℕ, zero, suc, ◌+◌, ◌^◌, ◌<◌, ◌≤◌, List, [], ◌∷◌, ◌++◌, length, map, Some, None, Bool, true, false, cond, nat_eq, arith, true≢false, ⊎_elim, slice_get, slice_index, unwrap_or, option_and_then, decimal, pos, flat_map, bytes_eq, decimal_injective, slice_get_within, bytes_eq-Decides, cond_is, left_true, right_true, length-numbers, numbers_at, pigeons, slice_get_there, slice_index_is, and_from, cases_Bool, same_number}
 use Rattle.base_lists.proofs.Same.{text_is, text_self}
 use Rattle.base_lists.proofs.Every.{every_from}
 use Rattle.std.proofs.Common.{eq-eqb}
-use Rattle.base_lists.specs.Every.{Every}
 use Rattle.base_lists.specs.Places.{first_place, numbers}
 use Rattle.wasm_num.specs.Operations.{wrapped}
 use Rattle.wasm_tree_spec.specs.Prelude.{FuncType, Import, Module, funcs_of, type_of_func}
 use Rattle.wasm_tree.specs.declared.module.ImportDesc.TheVariants as im
-use Rattle.wasm_meaning.specs.Prelude.{Text, Pair, same_pair, same_text, pair_of, flat, LoaderWorld, placeholders_of, slot_of}
+use Rattle.wasm_meaning.specs.Prelude.{Pair, same_pair, same_text, pair_of, flat, LoaderWorld, placeholders_of, slot_of}
 use Rattle.index_remap.specs.Prelude.{declared_refs}
 use Rattle.world_loader_proof.specs.Stubbed.{ArePlaceholders, ImportsThemLast}
 use Rattle.world_simulation.proofs.Declared.{Keeps, keeps}

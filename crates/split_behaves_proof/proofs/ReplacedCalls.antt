@@ -1,13 +1,12 @@
 -- A call of a function that moves in the first run, where other code stands in place of it in the second: it calls what is in the function's slot, or the function that is
 -- loaded for it.
-use Rattle.base_lists.proofs.Common.{◌≡◌, ◌∙◌, refl, sym, ap, ap₂, subst, ℕ, suc, ◌+◌, ◌≤◌, ◌&&◌, List, [], ◌∷◌, ◌++◌, Option, Some, None, Bool, true, false, arith, slice_get, nat_eq, option_and_then, ℤ, and_parts, eqb-true, same_Some, and_then_is, map_from, each_same_is, unwrap_or_false_is, place_is}
-use Rattle.std.specs.Prelude.{unwrap_or}
+use Rattle.base_lists.proofs.Common.{◌≡◌, ◌∙◌, refl, sym, ap, ap₂, subst, ℕ, suc, ◌+◌, ◌≤◌, ◌&&◌, List, [], ◌∷◌, ◌++◌, Option, Some, None, Bool, true, false, arith, slice_get, nat_eq, option_and_then, ℤ, and_parts, eqb-true, same_Some, and_then_is, map_from, unwrap_or_false_is, place_is}
 use Rattle.base_lists.specs.Options.{◌>>=◌}
 use Rattle.base_simulation.specs.Machines.{Machine, noted}
 use Rattle.wasm_num.specs.Operations.{W32, wrapped}
-use Rattle.wasm_tree_spec.specs.Prelude.{Functions, ValType, FuncType, Instr, Call, CallIndirect, I32Const, Module, same_func_type, same_type, same_types}
+use Rattle.wasm_tree_spec.specs.Prelude.{Functions, ValType, FuncType, Instr, Call, CallIndirect, I32Const, Module, same_func_type}
 use Rattle.wasm_tree.specs.declared.instr.Instr.{out-Instr}
-use Rattle.wasm_meaning.specs.Prelude.{Outcome, Gives, bind, or_ill_typed, Caller, Calls, Entry, Frame, Func, FuncRef, Host, Inst, Level, Num, Placeholder, Ran, Running, Starter, Store, Val, pop_typed, type_at, type_of_func, act, enter, enter_at, perform, step, to_mark, Environment, own_count, LoaderRun, LoaderWorld, tick_loader, Out, Run, Steps, made, tick, transition, transition_at, trapped_to}
+use Rattle.wasm_meaning.specs.Prelude.{Outcome, Gives, bind, or_ill_typed, Caller, Calls, Entry, Frame, Func, FuncRef, Host, Inst, Level, Num, Placeholder, Ran, Running, Starter, Store, Val, pop_typed, type_at, type_of_func, enter, enter_at, perform, step, to_mark, Environment, own_count, LoaderRun, LoaderWorld, tick_loader, Out, Run, Steps, made, tick, transition, transition_at, trapped_to}
 use Rattle.index_remap.specs.Prelude.{FrameRel, LevelRel, ListRel, OneToOne, Pairing, ResRel, ValRel, cons, done, nil, trap, wrong, IsBegun, closed, CodeAt, InSlot, WithPassing, at_code}
 use Rattle.index_remap.specs.Trampolines as with_frames
 use Rattle.base_lists.specs.Related.{PairRel}

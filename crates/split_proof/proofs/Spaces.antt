@@ -5,7 +5,7 @@ use Rattle.wasm_tree_spec.specs.Prelude.{Space, Types, Functions, Tables, Memori
 use Rattle.wasm_tree.specs.declared.module.ImportDesc.TheVariants as im
 use Rattle.wasm_valid.specs.declared.kinds.ItemKind.{ItemKind}
 use Rattle.wasm_valid.specs.declared.kinds.ItemKind.TheVariants as kind
-use Rattle.wasm_valid.specs.Prelude.{HoldsAt, ImportHolds, LimitsHold, count_of, ItemsHold}
+use Rattle.wasm_valid.specs.Prelude.{ImportHolds, LimitsHold, ItemsHold}
 use Rattle.wasm_valid.specs.Validity.{PagesHold}
 use Rattle.split_spec.specs.Prelude.{entities}
 use Rattle.split_plan.specs.Segments.{names_segment, uses_segment}

@@ -9,7 +9,6 @@ use Rattle.wasm_tree_spec.specs.Prelude.{FuncType, GlobalType, Limits, TableType
 use Rattle.wasm_tree.specs.declared.instr.Instr.TheVariants as i
 use Rattle.wasm_tree.specs.declared.module.ConstExpr.TheVariants as const
 use Rattle.wasm_tree.specs.declared.module.DataMode.TheVariants as «data»
-use Rattle.wasm_tree.specs.declared.module.ElemMode.TheVariants as elem
 use Rattle.wasm_tree.specs.declared.module.ExportDesc.TheVariants as ex
 use Rattle.wasm_tree.specs.declared.module.ImportDesc.TheVariants as im
 use Rattle.index_remap.specs.Prelude.{declaring}
@@ -20,8 +19,6 @@ use Rattle.split_spec.specs.Prelude.{primary, HasSlots, secondary, namespace_tak
 use Rattle.split_spec.specs.Primary.{primary_with}
 use Rattle.split_spec.specs.Secondary.{secondary_with}
 use Rattle.split_spec.specs.Examples.{primary_word, placeholder_word, names, slots_word, empty, func, import, export, limits, table, segment, nothing, gives_number, number_to_number, takes_number, takes_two, slots_import, calling, calling_primary, calling_secondary, shared_word, numbered_placeholder}
-
--- ---- words ----
 
 -- ---- a function that is exported ----
 

@@ -10,17 +10,19 @@ use Rattle.wasm_tree.specs.declared.module.ExportDesc.TheVariants as ex
 use Rattle.wasm_tree.specs.declared.module.ImportDesc.TheVariants as im
 use Rattle.split_spec.specs.declared.names.SplitNames.{SplitNames}
 
--- "primary", "placeholder" and "%"
+-- "primary".
 abbrev pub primary_word : List ℕ
 primary_word = 112 ∷ 114 ∷ 105 ∷ 109 ∷ 97 ∷ 114 ∷ 121 ∷ []
 
+-- "placeholder".
 abbrev pub placeholder_word : List ℕ
 placeholder_word = 112 ∷ 108 ∷ 97 ∷ 99 ∷ 101 ∷ 104 ∷ 111 ∷ 108 ∷ 100 ∷ 101 ∷ 114 ∷ []
 
+-- The names that the splits of the examples add; the prefix is "%".
 abbrev pub names : SplitNames
 names = record { import_namespace = primary_word; placeholder_namespace = placeholder_word; export_prefix = 37 ∷ [] }
 
--- "%slots"
+-- "%slots", the name of the export of the slot table.
 abbrev pub slots_word : List ℕ
 slots_word = 37 ∷ 115 ∷ 108 ∷ 111 ∷ 116 ∷ 115 ∷ []
 
@@ -60,14 +62,15 @@ takes_number = record { params = valt.I32 ∷ []; results = [] }
 abbrev pub takes_two : FuncType
 takes_two = record { params = valt.I32 ∷ valt.I32 ∷ []; results = valt.I32 ∷ [] }
 
--- the imports of the secondary module where nothing but the slot table is shared
+-- The import of a slot table that has so many slots, in the secondary module.
 abbrev pub slots_import : ℕ → Import
 slots_import count = import primary_word slots_word (im.Table (table count))
 
--- the first function, which is exported as "f", calls the second
+-- The first function, which is exported as "f", calls the second.
 abbrev pub calling : Module
 calling = record empty { types = gives_number ∷ []; funcs = func 0 (i.Call 1 ∷ []) ∷ func 0 (i.I32Const (pos 7) ∷ []) ∷ []; exports = export (102 ∷ []) (ex.Func 0) ∷ [] }
 
+-- The primary module of `calling` if the second function moves.
 abbrev pub calling_primary : Module
 calling_primary = record calling {
   imports = import placeholder_word (48 ∷ []) (im.Func 0) ∷ [];
@@ -77,13 +80,16 @@ calling_primary = record calling {
   elems = segment 0 0 (const.Func 0 ∷ []) ∷ [];
 }
 
+-- The secondary module of `calling` if the second function moves.
 abbrev pub calling_secondary : Module
 calling_secondary = record empty { types = gives_number ∷ []; imports = slots_import 1 ∷ []; funcs = func 0 (i.I32Const (pos 7) ∷ []) ∷ []; elems = segment 0 0 (const.Func 0 ∷ []) ∷ [] }
 
--- "%f0", "%f1", "%f3", "%m0" and "%g1"
+-- The name under which the primary module exports something for the secondary one: "%", the letter
+-- of its kind, and its index in the input module, a digit. Letter and digit are given as bytes.
 abbrev pub shared_word : (kind index : ℕ) → List ℕ
 shared_word kind index = 37 ∷ kind ∷ index ∷ []
 
--- "placeholder.0" and "placeholder.1"
+-- The module name of the placeholders of one of several secondary modules: "placeholder." and a
+-- digit, which is given as a byte.
 abbrev pub numbered_placeholder : ℕ → List ℕ
 numbered_placeholder digit = placeholder_word ++ 46 ∷ digit ∷ []

@@ -2,8 +2,9 @@
 //! reads them, and its matches are looked up.
 //!
 //! Only for simple commands does the contract of `clap` say exactly what results, and simple
-//! commands have other rules than this program, so the pass is needed. Here a value after `=` may begin with `-`,
-//! no value is empty, and `-o=x`, `--` and `--help` do not parse (docs/DECISIONS.md).
+//! commands have other rules than this program, so the pass is needed. Here a value after `=` may
+//! begin with `-`, no value is empty, and `-o=x`, `--` and `--help` do not parse
+//! (docs/DECISIONS.md).
 #![tactic(auto)]
 
 mod argument;

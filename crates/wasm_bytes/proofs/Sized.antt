@@ -2,7 +2,7 @@
 use Rattle.base_lists.proofs.Common.{◌≡◌, ℕ, ◌≤◌, List, ◌++◌, length, take, drop, Result, Ok, Err, cond, ⊎_elim, refl, sym, ap, ◌∙◌, subst, arith, append_assoc, cases_lt, lt-ltb, le-ltb, nat_lt, bind_ok}
 use Rattle.std.proofs.Common.{length-append}
 use Rattle.wasm_bytes.specs.declared.cursor.Wrong.TheVariants.{Short}
-use Rattle.wasm_bytes.specs.Prelude.{Takes, last_unsigned, join_unsigned, ◌>>=◌, IsBytes, sized_at, U32, Sized}
+use Rattle.wasm_bytes.specs.Prelude.{Takes, last_unsigned, join_unsigned, IsBytes, sized_at, U32, Sized}
 use Rattle.wasm_bytes.specs.Reading.{take_at, unsigned_at}
 use Rattle.wasm_bytes.proofs.NumberLaws.{reading_of_spelled, spelled_of_reading, unsigned_ends}
 use Rattle.wasm_bytes.proofs.Lists.{take_all, drop_all, halves, taken, Took}

@@ -1,5 +1,5 @@
 -- What is read as a name map is one.
-use Rattle.base_lists.proofs.Common.{◌≡◌, ℕ, zero, suc, ◌+◌, ◌≤◌, List, [], ◌∷◌, ◌++◌, length, Ok, true, ⊎_elim, refl, sym, ap, ◌∙◌, subst, arith, append-nil, le-ltb, eqb-true, ◌==◌, IsStrictlyIncreasing, cond_is, bind_ok, ok_pair, err_ok, within_most}
+use Rattle.base_lists.proofs.Common.{◌≡◌, ℕ, zero, suc, ◌+◌, ◌≤◌, List, [], ◌∷◌, ◌++◌, length, Ok, true, ⊎_elim, refl, sym, ap, ◌∙◌, subst, arith, append-nil, le-ltb, eqb-true, IsStrictlyIncreasing, cond_is, bind_ok, ok_pair, err_ok, within_most}
 use Rattle.std.proofs.lemmas.List.{nil_from_length}
 use Rattle.wasm_bytes.specs.Prelude.{U32, Named, Vector, IsBytes}
 use Rattle.wasm_bytes.proofs.Lists.{Took, small_rest}

@@ -1,5 +1,5 @@
 -- Steps of the loops that read so many items.
-use Rattle.base_lists.proofs.Common.{◌≡◌, ℕ, suc, ◌+◌, ◌-◌, ◌<◌, ◌≤◌, Bool, ◌||◌, List, [], ◌∷◌, ◌++◌, Result, Ok, Err, refl, sym, ap, ◌∙◌, arith, append_assoc, list_any, or-false, or_assoc, list_any-append}
+use Rattle.base_lists.proofs.Common.{◌≡◌, ℕ, suc, ◌+◌, ◌-◌, ◌<◌, Bool, List, [], ◌∷◌, ◌++◌, Result, Ok, Err, refl, sym, ap, ◌∙◌, arith, append_assoc}
 use Rattle.wasm_bytes.specs.Prelude.{◌>>=◌}
 use Rattle.wasm_read_spec.specs.declared.fault.Fault.{Fault}
 use Rattle.wasm_read_spec.specs.declared.fault.Fault.TheVariants as fault
@@ -67,5 +67,3 @@ each_stop_in item next whole n i state items bs (Malformed s) lt bad h = each_er
 each_stop_in item next whole n i state items bs (MalformedBody f) lt bad h = each_err item next whole n i state items bs (MalformedBody f) lt bad h
 each_stop_in item next whole n i state items bs (Unsupported s f) lt bad h = each_err item next whole n i state items bs (Unsupported s f) lt bad h
 each_stop_in item next whole n i state items bs (Limit w) lt bad h = each_err item next whole n i state items bs (Limit w) lt bad h
-
--- ---- a test of the items that were read

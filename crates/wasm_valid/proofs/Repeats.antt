@@ -1,9 +1,8 @@
 -- Names that came before.
-use Rattle.base_lists.proofs.Common.{◌≡◌, ℕ, zero, suc, ◌+◌, ◌<◌, ◌↔◌, Bool, true, false, cond, is_some, IsTrue, ◌||◌, List, [], ◌∷◌, ◌++◌, length, take, drop, get_or, map, Option, Some, refl, sym, ap, ◌∙◌, subst, append_assoc, append-nil, slice_get, Contains, list_any, bytes_eq, bytes_eq-Decides, take-map, at_drop_more, same_tests, mapped_more, list_any-append}
+use Rattle.base_lists.proofs.Common.{◌≡◌, ℕ, zero, suc, ◌+◌, ◌<◌, ◌↔◌, Bool, true, false, IsTrue, List, [], ◌∷◌, ◌++◌, length, take, drop, get_or, map, Option, Some, refl, sym, ap, ◌∙◌, subst, append_assoc, append-nil, slice_get, Contains, list_any, bytes_eq, take-map, at_drop_more, mapped_more}
 use Rattle.base_lists.proofs.Texts.{text_among, text_not_among}
 use Rattle.std.specs.Prelude.{unwrap_or}
 use Rattle.std.specs.Cmp.{IsEquivalence}
-use Rattle.std.proofs.lemmas.Map.Views.{list_any-from_Contains, Contains-from_any}
 use Rattle.wasm_tree_spec.specs.Prelude.{Export, Module}
 use Rattle.wasm_valid.specs.declared.kinds.ItemKind.TheVariants as kind
 use Rattle.wasm_valid.specs.Names.{repeats_after}

@@ -1,6 +1,6 @@
 -- When a body is well typed: there is a list of stacks, one before, between and after its
 -- instructions (WebAssembly Core 2.0, sections 3.3.8 and 3.3.9).
-use Rattle.std.specs.Prelude.{◌≡◌, ℕ, ◌^◌, Bool, true, false, cond, ◌&&◌, nat_lt, nat_le, List, [], ◌∷◌, ◌++◌, map, reverse, Option, Some, None, slice_get, option_map}
+use Rattle.std.specs.Prelude.{◌≡◌, ℕ, ◌^◌, Bool, true, false, ◌&&◌, nat_lt, nat_le, List, [], ◌∷◌, ◌++◌, map, reverse, Option, Some, None, slice_get, option_map}
 use Rattle.base_lists.specs.Options.{◌>>=◌}
 use Rattle.wasm_tree_spec.specs.Prelude.{RefType, ValType, I32, I64, Ref, FuncType, BlockType, Value, GlobalType, MemArg, Instr, Row_of-Instr, end_of-Instr, more_of-Instr, Unreachable, Nop, Block', Loop', If', Br, BrIf, BrTable, Return, Call, CallIndirect, Drop, Select, SelectTyped, LocalGet, LocalSet, LocalTee, GlobalGet, GlobalSet, TableGet, TableSet, Load, Store, MemorySize, MemoryGrow, I32Const, I64Const, Un, Bin, RefNull, RefIsNull, RefFunc, MemoryInit, DataDrop, MemoryCopy, MemoryFill, TableInit, ElemDrop, TableCopy, TableGrow, TableSize, TableFill, same_ref}
 use Rattle.wasm_tree.specs.declared.types.RefType.TheVariants.{Func, Extern}

@@ -12,7 +12,7 @@ use Rattle.world_simulation.proofs.Copied.{then_holds}
 use Rattle.wasm_meaning.proofs.Outcomes.{stopped}
 use Rattle.world_extension_proof.specs.Extends.{TableExtends, MemoryExtends, GlobalExtends, EachExtends, Extends, StaysIn, Kept, AddedModulesExtend, LoaderKept, LoadersExtend}
 use Rattle.world_extension_proof.proofs.Extends
-use Rattle.world_extension_proof.proofs.Extends.{stays, table_stays, memory_stays, global_stays, each_stays, each_then, table, memory, elem_drops, data_drops, changed_extends}
+use Rattle.world_extension_proof.proofs.Extends.{stays, table_stays, memory_stays, global_stays, each_then, table, memory, elem_drops, data_drops, changed_extends}
 use Rattle.world_extension_proof.proofs.TickExtends.{after_kept, answer_leaves, tick_extends, stepping_begun, call_extends}
 
 -- ---- what is there stays ----

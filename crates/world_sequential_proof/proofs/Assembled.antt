@@ -1,9 +1,9 @@
 -- All of it together: what a world that begins well gives to the sequential run.
-use Rattle.base_lists.proofs.Common.{◌≡◌, ◌∙◌, sym, ap, ap₂, ℕ, ◌<◌, List, [], Some, true, arith, ◌↔◌, and_then_is, same_Some, inl, inr, cond_is}
+use Rattle.base_lists.proofs.Common.{◌≡◌, ◌∙◌, sym, ap, ap₂, ℕ, List, [], Some, true, arith, and_then_is, same_Some, inl, inr, cond_is}
 use Rattle.wasm_tree_spec.specs.Prelude.{ValType, FuncType, Module, type_of_func}
 use Rattle.wasm_valid.specs.declared.kinds.ItemKind.{ItemKind}
 use Rattle.wasm_valid.specs.declared.kinds.ItemKind.TheVariants as kind
-use Rattle.wasm_valid.specs.Prelude.{IsValid, HoldsAt, count_of, start_count, ValidWhereItemsHold}
+use Rattle.wasm_valid.specs.Prelude.{IsValid, start_count, ValidWhereItemsHold}
 use Rattle.wasm_meaning.specs.Prelude.{Text, Inst, Store, sites, Environment, ExternalValue, all_of, World, Begun, own_store, insts_from, stores_from, seen_as, all_there, is_matched, segments, begun, instantiate, StartDependsOnlyOnItsFrames}
 use Rattle.index_remap.specs.Prelude.{CodeIsRelatedToItself, RelatedTicksAgree, OthersStay}
 use Rattle.world_simulation.specs.Prelude.{OwnEntitiesCorrespond}

@@ -1,5 +1,5 @@
 -- Worlds of one module each: their instances, what their imports denote, whether these match, and that they are linked.
-use Rattle.base_lists.proofs.Common.{◌≡◌, arith, ℕ, zero, suc, List, [], ◌∷◌, ◌++◌, length, Option, Some, true, false, refl, sym, ap, ◌∙◌, slice_get, unwrap_or, and_then_is, is_some_there, all_there_length, fun_ext, is_some, length_rel, same_there, there, then_rel, then_same_is, then_eq, opt_self, self_rel, all_rel}
+use Rattle.base_lists.proofs.Common.{◌≡◌, arith, ℕ, zero, suc, List, [], ◌∷◌, ◌++◌, length, Option, Some, true, false, refl, sym, ap, ◌∙◌, slice_get, unwrap_or, and_then_is, all_there_length, fun_ext, length_rel, same_there, there, then_rel, then_same_is, then_eq, opt_self, self_rel, all_rel}
 use Rattle.wasm_tree_spec.specs.Prelude.{Space, FuncType, Import, ImportDesc, Module}
 use Rattle.wasm_tree.specs.declared.module.ImportDesc.TheVariants as im
 use Rattle.wasm_meaning.specs.Prelude.{Inst, Store, Site, Text, has_kind, places, sites, imports_of, Environment, ExternalValue, all_of, numbers, own_count, defined_count, space, sites_in, is_match, is_matched, insts_from, stores_from, own_store, all_there, links, alone, seen_as}
