@@ -84,6 +84,7 @@ impl Instr {
     /// Returns the indices that the instruction itself names, in the order of its fields
     /// (WebAssembly Core 2.0, section 2.4). Labels and locals are in no index space of the
     /// module, so they do not count; nor does what instructions inside a block name.
+    #[inline(always)]
     pub fn operands(&self) -> Operands
         ensures { listed result ≡ operands_of self.now }
     {
