@@ -12,8 +12,8 @@ use Rattle.index_remap.specs.declared.remap.Remap.{Remap}
 use Rattle.index_remap.specs.Prelude.{new_const, new_import, new_import_desc, new_func, new_global, new_export, new_elem_mode, new_elem, new_data_mode, new_data, declared_refs}
 use Rattle.dce_sweep_spec.specs.Marks.{Marks}
 use Rattle.dce_sweep_spec.specs.Swept.{is_kept_ref, kept_items, kept_elem, defined_funcs, defined_globals, sweep_map, renumbered_kept, swept}
-use Rattle.wasm_write_proof.specs.Ranges.{ConstInRange, ImportDescInRange, ImportInRange, ExportInRange, ElemModeInRange, ElemInRange, DataModeInRange, FuncInRange, InRange}
-use Rattle.merge_encode_proof.specs.Numbers.{ConstNumberInRange, ImportLimitsInRange, ImportNumbersInRange, FuncNumbersInRange, ElemOffsetInRange, ElemNumbersInRange, DataOffsetInRange, NumbersInRange, NumbersStay}
+use Rattle.wasm_write_proof.specs.Ranges.{ConstInRange, ImportDescInRange, ImportInRange, ExportInRange, ElemModeInRange, ElemInRange, DataModeInRange, FuncInRange, InRange, NumbersStay}
+use Rattle.merge_encode_proof.specs.Numbers.{ConstNumberInRange, ImportLimitsInRange, ImportNumbersInRange, FuncNumbersInRange, ElemOffsetInRange, ElemNumbersInRange, DataOffsetInRange, NumbersInRange}
 use Rattle.merge_encode_proof.proofs.Bodies.{body_keeps}
 use Rattle.merge_encode_proof.proofs.Consts.{number_of, new_number}
 use Rattle.merge_encode_proof.proofs.Modules.{declared_numbers}

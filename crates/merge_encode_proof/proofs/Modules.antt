@@ -13,8 +13,8 @@ use Rattle.merge_names.specs.Names.{new_names}
 use Rattle.merge_spec.specs.Prelude.{staying, map_of, merged_desc, merged_global, merged_elem, merged_data, starts, start_calls, export_names}
 use Rattle.merge_spec.specs.Merged.{merged_import, defined_funcs, all_exports, merged}
 use Rattle.merge_spec.specs.Joined.{joined_module}
-use Rattle.wasm_write_proof.specs.Ranges.{LimitsInRange, ConstInRange, ExportInRange, ElemInRange, DataModeInRange, FuncInRange, InRange}
-use Rattle.merge_encode_proof.specs.Numbers.{ConstNumberInRange, ImportLimitsInRange, ImportNumbersInRange, FuncNumbersInRange, ElemNumbersInRange, DataOffsetInRange, NumbersInRange, NumbersStay}
+use Rattle.wasm_write_proof.specs.Ranges.{LimitsInRange, ConstInRange, ExportInRange, ElemInRange, DataModeInRange, FuncInRange, InRange, NumbersStay}
+use Rattle.merge_encode_proof.specs.Numbers.{ConstNumberInRange, ImportLimitsInRange, ImportNumbersInRange, FuncNumbersInRange, ElemNumbersInRange, DataOffsetInRange, NumbersInRange}
 use Rattle.merge_encode_proof.proofs.Bodies.{body_keeps, calls_in}
 use Rattle.merge_encode_proof.proofs.Lists.{every_by_part, every_flat}
 use Rattle.merge_encode_proof.proofs.Limits.{PartsInRange, import_in, met_limits_in}

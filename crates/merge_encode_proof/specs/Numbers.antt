@@ -1,6 +1,6 @@
 -- What validity does not bound: the numbers of a tree that are no indices of its index spaces, and its names.
-use Rattle.std.proofs.Common.{◌≡◌, ℕ, List, IsTrue, IsUtf8}
-use Rattle.wasm_tree_spec.specs.Prelude.{Space, Instr, mapped_all, TableType, ImportDesc, Import, Export, ConstExpr, GlobalDef, ElemMode, ElemSeg, DataMode, DataSeg, LocalGroup, Func, Module}
+use Rattle.std.proofs.Common.{IsTrue, IsUtf8}
+use Rattle.wasm_tree_spec.specs.Prelude.{TableType, ImportDesc, Import, Export, ConstExpr, GlobalDef, ElemMode, ElemSeg, DataMode, DataSeg, LocalGroup, Func, Module}
 use Rattle.wasm_write_proof.specs.Ranges.{all_numbers_in, IsU32, LimitsInRange}
 use Rattle.wasm_bytes.specs.Prelude.{IsWithin}
 use Rattle.wasm_tree.specs.declared.module.ImportDesc.TheVariants as import
@@ -8,9 +8,6 @@ use Rattle.wasm_tree.specs.declared.module.ConstExpr.TheVariants as const
 use Rattle.wasm_tree.specs.declared.module.ElemMode.TheVariants as elem
 use Rattle.wasm_tree.specs.declared.module.DataMode.TheVariants as segment
 use Rattle.base_lists.specs.Every.{Every}
-
-abbrev pub NumbersStay : Type 0
-NumbersStay = (f : Space → ℕ → ℕ) (code : List Instr) → all_numbers_in (mapped_all f code) ≡ all_numbers_in code
 
 abbrev pub ConstNumberInRange : ConstExpr → Type 0
 ConstNumberInRange (const.I32 z) = IsWithin 32 z

@@ -8,8 +8,8 @@ use Rattle.wasm_tree_spec.specs.Prelude.{Space, Functions, Tables, Memories, Glo
 use Rattle.wasm_tree.specs.declared.module.ExportDesc.TheVariants as ex
 use Rattle.module_limits.specs.Counts.{CountsAreWithinWhereNoneIsOver, over_limit}
 use Rattle.index_remap.specs.Prelude.{declared, declared_refs, new_import, renumbered_tree}
-use Rattle.wasm_write_proof.specs.Ranges.{InRange, LimitsInRange}
-use Rattle.merge_encode_proof.specs.Numbers.{NumbersStay, ElemNumbersInRange, FuncNumbersInRange, ImportNumbersInRange, NumbersInRange}
+use Rattle.wasm_write_proof.specs.Ranges.{InRange, LimitsInRange, NumbersStay}
+use Rattle.merge_encode_proof.specs.Numbers.{ElemNumbersInRange, FuncNumbersInRange, ImportNumbersInRange, NumbersInRange}
 use Rattle.merge_encode_proof.proofs.Modules.{declared_numbers}
 use Rattle.split_spec.specs.Prelude.{call_through_slot, in_slots, params_of, place_among, slot_segment, slot_table, slot_table_type, exports_for_secondary, from_primary, name_from_primary, added_exports, left_marks, placeholder_imports, primary_func, primary_funcs, primary_map, primary_tree}
 use Rattle.split_spec.specs.Primary.{primary_with}

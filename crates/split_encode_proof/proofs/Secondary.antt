@@ -5,8 +5,8 @@ use Rattle.base_lists.specs.Every.{Every}
 use Rattle.wasm_tree_spec.specs.Prelude.{Space, Types, Functions, Tables, Memories, Globals, ElementSegments, DataSegments, Limits, TableType, Import, ImportDesc, Func, Module, IsBounded, funcs_of, globals_of, imported_funcs, imported_memories, imported_tables, memories_of, memory_of, table_of, tables_of}
 use Rattle.wasm_tree.specs.declared.module.ImportDesc.TheVariants as im
 use Rattle.index_remap.specs.Prelude.{declared_refs, renumbered_tree}
-use Rattle.wasm_write_proof.specs.Ranges.{all_numbers_in, InRange, LimitsInRange}
-use Rattle.merge_encode_proof.specs.Numbers.{NumbersStay, FuncNumbersInRange, ImportLimitsInRange, ImportNumbersInRange, NumbersInRange}
+use Rattle.wasm_write_proof.specs.Ranges.{all_numbers_in, InRange, LimitsInRange, NumbersStay}
+use Rattle.merge_encode_proof.specs.Numbers.{FuncNumbersInRange, ImportLimitsInRange, ImportNumbersInRange, NumbersInRange}
 use Rattle.merge_encode_proof.proofs.Modules.{declared_numbers}
 use Rattle.split_spec.specs.declared.names.SplitNames.{SplitNames}
 use Rattle.split_spec.specs.Prelude.{defined_at, in_slots, place_among, slot_table, slot_table_type, entities, from_primary, imports_from_primary, name_from_primary, slots_name, secondary_call, secondary_call_by_place, secondary_func, secondary_imports, secondary_map, secondary_tree}

@@ -1,5 +1,5 @@
 -- A module in range has its other numbers in range, and keeps them with other indices.
-use Rattle.base_lists.proofs.Common.{◌≡◌, ℕ, List, Option, Some, slice_get, IsUtf8, every_at, chosen_from, right_true, ◌∙◌}
+use Rattle.base_lists.proofs.Common.{◌≡◌, ℕ, List, Option, Some, IsUtf8, every_at, chosen_from, right_true, ◌∙◌}
 use Rattle.base_lists.proofs.Every.{every_with, every_from, every_map}
 use Rattle.std.proofs.Common.{filter_map}
 use Rattle.base_lists.specs.Every.{Every}
@@ -9,8 +9,8 @@ use Rattle.wasm_tree.specs.declared.module.ElemMode.TheVariants as elem
 use Rattle.wasm_tree.specs.declared.module.DataMode.TheVariants as segment
 use Rattle.index_remap.specs.declared.remap.Remap.{Remap}
 use Rattle.index_remap.specs.Prelude.{entry, new_const, new_data, new_data_mode, new_elem, new_elem_mode, new_export, new_func, new_global, new_import, new_import_desc, renumbered_tree}
-use Rattle.wasm_write_proof.specs.Ranges.{small_operand, all_numbers_in, ConstInRange, DataModeInRange, ElemInRange, ElemModeInRange, ExportInRange, FuncInRange, ImportDescInRange, ImportInRange, InRange}
-use Rattle.merge_encode_proof.specs.Numbers.{ConstNumberInRange, DataOffsetInRange, ElemNumbersInRange, ElemOffsetInRange, FuncNumbersInRange, ImportLimitsInRange, ImportNumbersInRange, NumbersInRange, NumbersStay}
+use Rattle.wasm_write_proof.specs.Ranges.{small_operand, all_numbers_in, ConstInRange, DataModeInRange, ElemInRange, ElemModeInRange, ExportInRange, FuncInRange, ImportDescInRange, ImportInRange, InRange, NumbersStay}
+use Rattle.merge_encode_proof.specs.Numbers.{ConstNumberInRange, DataOffsetInRange, ElemNumbersInRange, ElemOffsetInRange, FuncNumbersInRange, ImportLimitsInRange, ImportNumbersInRange, NumbersInRange}
 use Rattle.merge_encode_proof.proofs.Consts.{new_number, number_of}
 
 -- ---- lists ----

@@ -1,12 +1,12 @@
 -- What is in range in an instruction: its operands, its other numbers, and what it holds.
 use Rattle.base_lists.proofs.Common.{◌≡◌, arith, ℕ, Bool, true, false, ◌&&◌, ◌||◌, not, nat_eq, List, [], ◌∷◌, ◌++◌, refl, sym, ap, ◌∙◌, subst, list_all, if◌then◌else◌, nat_tests, and_from, left_true, right_true}
 use Rattle.base_lists.specs.Every.{Every}
-use Rattle.wasm_tree_spec.specs.Prelude.{Space, Memories, Operand, BlockType, Instr, fold_out-Instr, map-Instr, Block, Loop, If, outs-Block, outs-Loop, outs-If, same_space, operands, operands_of, block_operands, held, map_operands, mapped_all, operands_pass, all_operands_pass, is_memory_zero, memory_zero_all}
+use Rattle.wasm_tree_spec.specs.Prelude.{Space, Memories, Operand, BlockType, Instr, fold_out-Instr, map-Instr, Block, Loop, If, outs-Block, outs-Loop, outs-If, same_space, operands, operands_of, block_operands, held, map_operands, operands_pass, all_operands_pass, is_memory_zero, memory_zero_all}
 use Rattle.wasm_tree.specs.declared.instr.Instr.{out-Instr}
 use Rattle.wasm_tree.specs.declared.instr.Instr.TheOpen.{Instr-F}
 use Rattle.wasm_tree.specs.Operands.{map_block, mapped}
 use Rattle.wasm_tree.proofs.OperandLaws.{tested_inside, passes_inside, mapped_all_same, passes_both, passes_more}
-use Rattle.wasm_write_proof.specs.Ranges.{small, small_operand, spelled_operand, small_numbers, numbers_in, all_numbers_in, spellable, all_spellable, all_in_range}
+use Rattle.wasm_write_proof.specs.Ranges.{small, small_operand, spelled_operand, small_numbers, numbers_in, all_numbers_in, spellable, all_spellable, all_in_range, NumbersStay}
 
 numbers_map : {X Y : Type 0} (g : X → Y) (layer : Instr-F X) → small_numbers (map-Instr X Y g layer) ≡ small_numbers layer
 numbers_map g (Instr-F.Block ty body) = refl
@@ -26,8 +26,7 @@ own_numbers : (f : Space → ℕ → ℕ) (i : Instr) → small_numbers (out-Ins
 own_numbers f i =
     ap (λ x. small_numbers (out-Instr x)) (fold_out-Instr Instr (map_operands f) i) ∙ numbers_moved f (map-Instr Instr Instr (mapped f) (out-Instr i)) ∙ numbers_map (mapped f) (out-Instr i)
 
--- code with other indices has the other numbers that it had
-pub numbers_stay : (f : Space → ℕ → ℕ) (code : List Instr) → all_numbers_in (mapped_all f code) ≡ all_numbers_in code
+pub numbers_stay : NumbersStay
 numbers_stay f = mapped_all_same f numbers_in numbers_in small_numbers small_numbers numbers_inside numbers_inside (own_numbers f)
 
 -- ---- operands ----

@@ -1,9 +1,9 @@
 -- What holds of each tree that a program has, because its numbers have types and its names are
 -- text: each number is in the range of its type, and each name is UTF-8.
-use Rattle.std.specs.Prelude.{ℕ, ◌^◌, ◌<◌, List, Bool, true, ◌&&◌, if◌then◌else◌, nat_lt, nat_eq, Option, Some, None, ℤ, pos, negsuc, IsTrue, IsUtf8}
+use Rattle.std.specs.Prelude.{◌≡◌, ℕ, ◌^◌, ◌<◌, List, Bool, true, ◌&&◌, if◌then◌else◌, nat_lt, nat_eq, Option, Some, None, ℤ, pos, negsuc, IsTrue, IsUtf8}
 use Rattle.std.specs.List.{list_all}
 use Rattle.wasm_bytes.specs.Prelude.{IsWithin}
-use Rattle.wasm_tree_spec.specs.Prelude.{Limits, TableType, Memories, Operand, Instr, fold-Instr, ImportDesc, Import, ExportDesc, Export, ConstExpr, GlobalDef, ElemMode, ElemSeg, DataMode, DataSeg, LocalGroup, Func, Module, same_space, held, operands_pass, all_operands_pass}
+use Rattle.wasm_tree_spec.specs.Prelude.{Limits, TableType, Space, Memories, Operand, Instr, fold-Instr, ImportDesc, Import, ExportDesc, Export, ConstExpr, GlobalDef, ElemMode, ElemSeg, DataMode, DataSeg, LocalGroup, Func, Module, same_space, held, mapped_all, operands_pass, all_operands_pass}
 use Rattle.wasm_tree.specs.declared.instr.Instr.TheOpen.{Instr-F}
 use Rattle.wasm_tree.specs.declared.module.ImportDesc.TheVariants as import
 use Rattle.wasm_tree.specs.declared.module.ExportDesc.TheVariants as export
@@ -80,6 +80,10 @@ numbers_in = fold-Instr Bool number_step
 
 abbrev pub all_numbers_in : List Instr → Bool
 all_numbers_in = list_all numbers_in
+
+-- Other indices do not change whether the numbers of code that are no operands are in range.
+abbrev pub NumbersStay : Type 0
+NumbersStay = (f : Space → ℕ → ℕ) (code : List Instr) → all_numbers_in (mapped_all f code) ≡ all_numbers_in code
 
 abbrev pub in_range : Instr → Bool
 in_range i = operands_pass small_operand i && numbers_in i

@@ -3,14 +3,11 @@
 
 ghost use Rattle.std.specs.Prelude.{◌≡◌, true, ℕ, List, ◌<◌, ◌^◌, length, false, IsTrue};
 ghost use Rattle.wasm_tree.specs.declared.module.Module.{Module as Tree};
-ghost use Rattle.wasm_tree.specs.declared.instr.Instr.{Instr as Code};
 ghost use Rattle.wasm_tree.specs.declared.space.Operand.{Operand as Named};
-ghost use Rattle.wasm_tree.specs.declared.space.Space.{Space as IndexSpace};
 ghost use Rattle.wasm_tree.specs.MemoryZero.{is_memory_zero, memory_zero_funcs};
-ghost use Rattle.wasm_tree.specs.Operands.{mapped_all};
 ghost use Rattle.wasm_read_spec.specs.Files.{Spells, Within};
 ghost use Rattle.wasm_write_spec.specs.Plain.{plain};
-ghost use Rattle.wasm_write_proof.specs.Ranges.{InRange, all_numbers_in, small_operand, spelled_operand};
+ghost use Rattle.wasm_write_proof.specs.Ranges.{InRange, NumbersStay, small_operand, spelled_operand};
 ghost use Rattle.wasm_write_proof.specs.SmallSizes.{SmallSizes};
 ghost use Rattle.wasm_write_proof.specs.TreeLimits.{WithinLimits};
 
@@ -46,5 +43,5 @@ pub fn encoded_operands_are_in_range()
 /// Renumbering code does not change whether its numbers that are no operands (labels, locals,
 /// constants, alignments and offsets) are in range.
 pub fn renumbering_keeps_numbers_in_range()
-    ensures { (f : IndexSpace → ℕ → ℕ) (code : List Code) → all_numbers_in (mapped_all f code) ≡ all_numbers_in code }
+    ensures { NumbersStay }
 {}
