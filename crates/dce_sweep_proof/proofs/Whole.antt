@@ -1,7 +1,7 @@
 -- What is left of a valid module is valid, a u32 can count what it has, and it has no memory more.
-use Rattle.base_lists.proofs.Common.{◌≡◌, sym, subst, ℕ, ◌+◌, ◌^◌, ◌<◌, ◌≤◌, List, [], ◌∷◌, length, None, ◌↔◌, arith, length-append}
+use Rattle.base_lists.proofs.Common.{◌≡◌, sym, subst, ℕ, ◌+◌, ◌^◌, ◌<◌, ◌≤◌, List, [], ◌∷◌, length, None, arith, length-append}
 use Rattle.wasm_tree_spec.specs.Prelude.{Module, IsBounded}
-use Rattle.wasm_valid.specs.Prelude.{IsSingle, IsValid, ItemsHold}
+use Rattle.wasm_valid.specs.Prelude.{IsSingle, IsValid, ItemsHold, ValidWhereItemsHold}
 use Rattle.index_remap.specs.declared.remap.Remap.{Remap}
 use Rattle.index_remap.specs.Prelude.{declared, declared_refs, declaring, with_declared}
 use Rattle.index_remap_proof.specs.Indices.{Indices}
@@ -17,7 +17,7 @@ use Rattle.dce_sweep_proof.proofs.ComesFrom.{ConstantsAreKept, agree, each_stand
 
 -- what the laws below say
 pub record Laws : Type 0 where
-  pub items : (m : Module) → IsValid m ↔ ItemsHold m
+  pub items : ValidWhereItemsHold
   pub constants : ConstantsAreKept
   pub undeclared : (m : Remap) (kept : Indices) (t u : Module) → IsValid t → TreesAgree m kept t u → EachItemComesFrom m kept t u → IsValidButForReferences u
   pub valid : (t : Module) → IsValidButForReferences t → IsValid (declared t)

@@ -1,7 +1,7 @@
 -- A snapshot is valid, a u32 can count what it has, and it has no memory more.
-use Rattle.base_lists.proofs.Common.{◌≡◌, ◌↔◌, sym, subst, refl, ℕ, ◌+◌, ◌^◌, ◌<◌, ◌≤◌, List, [], ◌∷◌, length, map, Some, None, true, slice_get, arith, ⊎_elim, length-append, length-map, filter_map_most}
+use Rattle.base_lists.proofs.Common.{◌≡◌, sym, subst, refl, ℕ, ◌+◌, ◌^◌, ◌<◌, ◌≤◌, List, [], ◌∷◌, length, map, Some, None, true, slice_get, arith, ⊎_elim, length-append, length-map, filter_map_most}
 use Rattle.wasm_tree_spec.specs.Prelude.{FuncType, Func, Module, IsBounded, local_count, param_count, func_of, funcs_of, imported_funcs}
-use Rattle.wasm_valid.specs.Prelude.{IsSingle, IsValid, ItemsHold}
+use Rattle.wasm_valid.specs.Prelude.{IsSingle, IsValid, ItemsHold, ValidWhereItemsHold}
 use Rattle.wasm_meaning.specs.Prelude.{Text}
 use Rattle.module_limits.specs.Counts.{CountsAreWithin, CountsAreWithinWhereNoneIsOver, over_limit}
 use Rattle.index_remap.specs.Prelude.{declared, declared_refs, declaring, with_declared}
@@ -14,7 +14,7 @@ use Rattle.eval_snapshot_proof.proofs.Trees.{CodeLaws, added_type, func_from, gl
 -- what the laws below say
 pub record Laws : Type 0 where
   pub code : CodeLaws
-  pub items : (m : Module) → IsValid m ↔ ItemsHold m
+  pub items : ValidWhereItemsHold
   pub valid : (t : Module) → IsValidButForReferences t → IsValid (declared t)
   pub single : (t : Module) → IsSingle t → IsSingle (declared t)
   pub bounded : (t : Module) → IsBounded t → length t.elems + 1 < 2 ^ 32 → IsBounded (declared t)

@@ -14,7 +14,7 @@ use Rattle.wasm_tree.specs.declared.module.ConstExpr.TheVariants as const
 use Rattle.wasm_valid_bodies.specs.Typing.{only}
 use Rattle.wasm_valid.specs.declared.kinds.ItemKind.{ItemKind}
 use Rattle.wasm_valid.specs.declared.kinds.ItemKind.TheVariants as kind
-use Rattle.wasm_valid.specs.Prelude.{const_type, const_func, elem_refs, global_refs, export_refs, named_of, refs_of, elem_types, HoldsAt, ImportHolds, InSpace, ElemModeHolds, DataModeHolds, IsSingle, IsValid, body_context, count_of, ValidWhereItemsHold}
+use Rattle.wasm_valid.specs.Prelude.{const_type, const_func, elem_refs, global_refs, export_refs, named_of, refs_of, elem_types, HoldsAt, ImportHolds, InSpace, ElemModeHolds, DataModeHolds, IsSingle, IsValid, body_context, ValidWhereItemsHold, ItemsHold}
 use Rattle.index_remap.specs.Prelude.{refs_all, body_refs, offset_refs, outside_refs, declared_refs, declaring, with_declared, declared, Keeps}
 use Rattle.index_remap.specs.References.{offset_func}
 use Rattle.index_remap_proof.specs.ButForReferences.{any_named, HoldsButForReferences, IsValidButForReferences}
@@ -220,7 +220,7 @@ module _ (t : Module) where
     abbrev s : ElemSeg
     s = declaring rs
 
-    more_holds : (k : ItemKind) (i : ℕ) → i < count_of (with_segment s) true k → HoldsAt (with_segment s) k i
+    more_holds : ItemsHold (with_segment s)
     more_holds kind.Import i lt = let (x, at, p) = weak kind.Import i lt in (x, at, import_same s x.desc p)
     more_holds kind.Memories i lt = absurd (omega arith)
     more_holds kind.Func i lt = weak kind.Func i lt

@@ -6,9 +6,8 @@ use Rattle.wasm_tree.specs.declared.module.ExportDesc.TheVariants as ex
 use Rattle.wasm_tree.specs.declared.module.ElemMode.TheVariants as elem
 use Rattle.wasm_tree.specs.declared.module.DataMode.TheVariants as «data»
 use Rattle.wasm_tree.specs.declared.module.ConstExpr.TheVariants as const
-use Rattle.wasm_valid.specs.declared.kinds.ItemKind.{ItemKind}
 use Rattle.wasm_valid.specs.declared.kinds.ItemKind.TheVariants as kind
-use Rattle.wasm_valid.specs.Prelude.{const_type, named_from, refs_of, table_types, HoldsAt, ImportHolds, InSpace, ElemModeHolds, DataModeHolds, IsValid, body_context, count_of, start_count, ValidWhereItemsHold}
+use Rattle.wasm_valid.specs.Prelude.{const_type, refs_of, table_types, HoldsAt, ImportHolds, InSpace, ElemModeHolds, DataModeHolds, IsValid, body_context, start_count, ValidWhereItemsHold, ItemsHold}
 use Rattle.index_remap.specs.declared.remap.Remap.{Remap}
 use Rattle.index_remap.specs.Prelude.{has, fits_const, fits_func, fits_import, fits_import_desc, fits_global, fits_export, fits_export_desc, fits_elem, fits_elem_mode, fits_data, fits_start, fits_tree}
 use Rattle.index_remap.specs.Renumbered.{fits_data_mode}
@@ -76,10 +75,7 @@ module _ (law : PassesLayerByLayer) (m : Remap) (t : Module) (k : Covers m t) wh
   data_mode_fits («data».Active memory offset) h = and_from _ _ (has_here m.mems (length (memories_of t)) memory k.memories h.0) (const_fits offset _ h.1)
   data_mode_fits «data».Passive h = refl
 
-  abbrev EachHere : Type 0
-  EachHere = (n : ItemKind) (i : ℕ) → i < count_of t true n → HoldsAt t n i
-
-  module _ (each : EachHere) where
+  module _ (each : ItemsHold t) where
     imports_fit : (i : ℕ) (x : Import) → slice_get t.imports i ≡ Some x → fits_import m x ≡ true
     imports_fit i x e = here (each kind.Import i (slice_get_within t.imports i x e))
       where

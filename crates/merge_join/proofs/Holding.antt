@@ -1,21 +1,9 @@
--- What the parts hold, as their validity gives it, and what has entries in a map that fits.
-use Rattle.base_lists.proofs.Common.{◌≡◌, sym, subst, refl, ℕ, zero, suc, ◌<◌, arith, slice_get, Some, List, [], ◌∷◌, length, true, IsTrue, get_or, ◌↔◌, list_all, left_true, right_true}
+-- What has entries in a map that fits.
+use Rattle.base_lists.proofs.Common.{◌≡◌, sym, subst, ℕ, ◌<◌, List, length, IsTrue, get_or, list_all, left_true, right_true}
 use Rattle.wasm_tree_spec.specs.Prelude.{Import, Module}
-use Rattle.wasm_valid.specs.declared.kinds.ItemKind.{ItemKind}
-use Rattle.wasm_valid.specs.Prelude.{HoldsAt, IsValid, count_of, ItemsHold}
 use Rattle.index_remap.specs.declared.remap.Remap.{Remap}
 use Rattle.index_remap.specs.Prelude.{fits_func, fits_tree, fits_import, fits_import_desc, fits_global, fits_export, fits_start, fits_elem, fits_data}
 use Rattle.base_lists.proofs.Each.{all_at_place}
-
-abbrev pub ValidIsHeld : Type 0
-ValidIsHeld = (m : Module) → IsValid m ↔ ItemsHold m
-
-pub read_there : {A : Type 0} (xs : List A) (i : ℕ) (d : A) → i < length xs → slice_get xs i ≡ Some (get_or xs i d)
-read_there [] i d lt = absurd (omega (arith, lt))
-read_there (x ∷ xs) zero d lt = refl
-read_there (x ∷ xs) (suc i) d lt = read_there xs i d (omega (arith, lt))
-
--- ---- entries for what a module names ----
 
 -- so much of a tree as has entries
 pub record Fitting (r : Remap) (m : Module) : Type 0 where

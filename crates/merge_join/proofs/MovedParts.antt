@@ -4,7 +4,7 @@ use Rattle.wasm_tree_spec.specs.Prelude.{ConstExpr, GlobalDef, Func, TableType, 
 use Rattle.wasm_tree.specs.declared.module.ConstExpr.TheVariants as const
 use Rattle.wasm_tree.specs.declared.module.ElemMode.TheVariants as elem
 use Rattle.wasm_tree.specs.declared.module.DataMode.TheVariants as data'
-use Rattle.wasm_valid.specs.Prelude.{const_type, IsValid, ElemModeHolds, DataModeHolds}
+use Rattle.wasm_valid.specs.Prelude.{const_type, IsValid, ElemModeHolds, DataModeHolds, ValidWhereItemsHold}
 use Rattle.wasm_valid.specs.declared.kinds.ItemKind.TheVariants as kind
 use Rattle.wasm_meaning.specs.Prelude.{Part, module_at}
 use Rattle.index_remap.specs.declared.remap.Remap.{Remap}
@@ -16,7 +16,6 @@ use Rattle.merge_join.specs.Reads.{HasType}
 use Rattle.merge_join.specs.Moved.{moved_const, moved_global, moved_elem_mode, moved_elem, moved_data_mode, moved_data, with_moved, AreValues}
 use Rattle.merge_join.specs.Planned.{IsMoved}
 use Rattle.merge_join.proofs.ByPart.{named_length, part_more, flat_is}
-use Rattle.merge_join.proofs.Holding.{ValidIsHeld}
 use Rattle.merge_join.proofs.Reading.{becomes_new}
 
 map_alike : {A B : Type 0} (f g : A → B) (xs : List A) → ((i : ℕ) (x : A) → slice_get xs i ≡ Some x → f x ≡ g x) → map f xs ≡ map g xs
@@ -47,7 +46,7 @@ abbrev with_part : List Part → ℕ → Module → Module → Module
 with_part ps p m t =
     behind t (map (new_func (map_of ps p m)) m.funcs) m.tables m.mems (map (merged_global ps p) m.globals) (map (merged_elem ps p (map_of ps p m)) m.elems) (map (merged_data ps p (map_of ps p m)) m.datas)
 
-module _ (law : ValidIsHeld) (ps : List Part) (p : ℕ) (m : Module) (values : List ConstExpr) (at : module_at ps p ≡ Some m) (valid : IsValid m) (are : AreValues ps p values) where
+module _ (law : ValidWhereItemsHold) (ps : List Part) (p : ℕ) (m : Module) (values : List ConstExpr) (at : module_at ps p ≡ Some m) (valid : IsValid m) (are : AreValues ps p values) where
   abbrev r : Remap
   r = map_of ps p m
 
@@ -142,7 +141,7 @@ filled_more ps p m at =
     ∙ ap (made t.funcs t.tables t.mems t.globals t.elems) (part_more (λ p m. map (merged_data ps p (map_of ps p m)) m.datas) ps p m old.datas new.datas at refl refl)
 
 -- a part of which this was moved, with this map and these values
-pub moved_more : ValidIsHeld → (ps : List Part) (p : ℕ) (m : Module) (r : Remap) (values : List ConstExpr) (old new : Module) → module_at ps p ≡ Some m → IsValid m → r ≡ map_of ps p m → AreValues ps p values →
+pub moved_more : ValidWhereItemsHold → (ps : List Part) (p : ℕ) (m : Module) (r : Remap) (values : List ConstExpr) (old new : Module) → module_at ps p ≡ Some m → IsValid m → r ≡ map_of ps p m → AreValues ps p values →
     old ≡ filled ps (take p ps) → new ≡ with_moved r values m old → new ≡ filled ps (take (p + 1) ps)
 moved_more law ps p m r values old new at valid is are was now =
     now ∙ ap (λ r. with_moved r values m old) is ∙ module_moved law ps p m values at valid are old ∙ ap (with_part ps p m) was ∙ filled_more ps p m at

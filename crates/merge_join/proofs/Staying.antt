@@ -1,5 +1,5 @@
 -- The imports that stay, one after the other.
-use Rattle.base_lists.proofs.Common.{◌≡◌, ◌∙◌, sym, ap, refl, ℕ, suc, ◌+◌, ◌<◌, List, [], ◌∷◌, ◌++◌, length, Option, Some, None, Bool, true, false, cond, slice_get, get_or, append_assoc, append-nil, option_and_then, filter, filter_map, cons_option, filter-append, filter_map-append}
+use Rattle.base_lists.proofs.Common.{◌≡◌, ◌∙◌, sym, ap, refl, ℕ, suc, ◌+◌, ◌<◌, List, [], ◌∷◌, ◌++◌, length, Option, Some, None, Bool, true, false, cond, slice_get, get_or, append_assoc, append-nil, option_and_then, filter, filter_map, cons_option, filter-append, filter_map-append, slice_get-get_or}
 use Rattle.merge_join.proofs.Sites.{sites_in_more}
 use Rattle.wasm_tree_spec.specs.Prelude.{Limits, Import, ImportDesc, Module}
 use Rattle.wasm_tree.specs.declared.module.ImportDesc.TheVariants as im
@@ -10,7 +10,6 @@ use Rattle.merge_spec.specs.Faults.{kept_limits}
 use Rattle.merge_spec.specs.Merged.{staying}
 use Rattle.merge_join.specs.Kept.{kept_desc}
 use Rattle.merge_join.specs.LinkedParts.{site}
-use Rattle.merge_join.proofs.Holding.{read_there}
 use Rattle.merge_valid_proof.proofs.MergedSpaces.{import_is}
 
 -- ---- one import ----
@@ -36,7 +35,7 @@ made i a b d e p q r = sym (ap (λ a. Some (import_of a b d)) p ∙ ap (λ b. So
 pub import_made : (ps : List Part) (s : Site) (m : Module) (r : Remap) (kept : Option Limits) (is : List Import) (i : Import) (a b : Text) (d : ImportDesc) → stays ps s ≡ true → module_at ps s.part ≡ Some m → is ≡ m.imports → s.import < length is → i ≡ get_or is s.import i →
     r ≡ map_of ps s.part m → kept ≡ kept_limits ps s → a ≡ i.«module» → b ≡ i.field → d ≡ kept_desc r kept i.desc → merged_import ps s ≡ Some (record { «module» = a; field = b; desc = d })
 import_made ps s m r kept is i a b d stay at same lt here map limits p q e =
-    let there : import_at ps s ≡ Some i = ap (λ o. option_and_then (λ m. slice_get m.imports s.import) o) at ∙ ap (λ l. slice_get l s.import) (sym same) ∙ read_there is s.import i lt ∙ ap Some (sym here) in
+    let there : import_at ps s ≡ Some i = ap (λ o. option_and_then (λ m. slice_get m.imports s.import) o) at ∙ ap (λ l. slice_get l s.import) (sym same) ∙ slice_get-get_or is s.import i lt ∙ ap Some (sym here) in
     let desc : d ≡ merged_desc ps s m i.desc =
     e ∙ ap (λ r. kept_desc r kept i.desc) map ∙ ap (λ k. kept_desc (map_of ps s.part m) k i.desc) (limits ∙ kept_is ps s i stay there) ∙ desc_is ps s m i.desc in
     import_is ps s m i at there ∙ made i a b d (merged_desc ps s m i.desc) p q desc

@@ -1,7 +1,7 @@
 -- The merged module with its references declared is valid, a u32 can count what it has, and it has at most one memory.
-use Rattle.base_lists.proofs.Common.{◌≡◌, ◌∙◌, ap, sym, subst, refl, ℕ, ◌+◌, ◌^◌, ◌<◌, List, length, Option, Some, None, ◌↔◌, IsTrue, false}
+use Rattle.base_lists.proofs.Common.{◌≡◌, ◌∙◌, ap, sym, subst, refl, ℕ, ◌+◌, ◌^◌, ◌<◌, List, length, Option, Some, None, IsTrue, false}
 use Rattle.wasm_tree_spec.specs.Prelude.{ConstExpr, Module, IsBounded}
-use Rattle.wasm_valid.specs.Prelude.{IsValid, IsSingle, ItemsHold}
+use Rattle.wasm_valid.specs.Prelude.{IsValid, IsSingle, ItemsHold, ValidWhereItemsHold}
 use Rattle.wasm_meaning.specs.Prelude.{Text, EndsArePaths, Part, module_at}
 use Rattle.wasm_meaning.specs.Laws.{ReadsArePaths}
 use Rattle.index_remap.specs.declared.remap.Remap.{Remap}
@@ -28,7 +28,7 @@ joined_is parts mode = refl
 
 -- what the laws below say
 pub record Laws : Type 0 where
-  pub items : (m : Module) → IsValid m ↔ ItemsHold m
+  pub items : ValidWhereItemsHold
   pub entries : (m : Remap) (t : Module) → IsValid t → Covers m t → IsTrue (fits_tree m t)
   pub named : (m : Remap) (t : Module) → IsTrue (fits_tree m t) → TreeNamesOnly (with_entry m) t
   pub constants : (m : Remap) (kept : Indices) (t u : Module) (e : ConstExpr) → TreesAgree m kept t u → ConstNamesOnly kept e → ReadsImport m u e → ConstComesFrom t u e (new_const m e)

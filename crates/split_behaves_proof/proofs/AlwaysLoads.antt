@@ -1,9 +1,9 @@
 -- In each run of a split module under its loader, each secondary module can be loaded wherever it is: once it is instantiated, the indices of the primary module's instance go on
 -- to name what the primary module says.
-use Rattle.base_lists.proofs.Common.{◌≡◌, ◌↔◌, ◌∙◌, ap, sym, subst, refl, ℕ, zero, suc, ◌^◌, ◌<◌, List, [], ◌∷◌, length, Option, Some, None, Bool, true, false, cond, arith, same_Some, and_then_is}
+use Rattle.base_lists.proofs.Common.{◌≡◌, ◌∙◌, ap, sym, subst, refl, ℕ, zero, suc, ◌^◌, ◌<◌, List, [], ◌∷◌, length, Option, Some, None, Bool, true, false, cond, arith, same_Some, and_then_is}
 use Rattle.base_lists.specs.Options.{◌>>=◌, all_there}
 use Rattle.wasm_tree_spec.specs.Prelude.{Module, IsBounded}
-use Rattle.wasm_valid.specs.Prelude.{IsValid, ItemsHold}
+use Rattle.wasm_valid.specs.Prelude.{IsValid, ValidWhereItemsHold}
 use Rattle.base_simulation.specs.Machines.{state_after}
 use Rattle.wasm_meaning.specs.Prelude.{Gives, Inst, Store, Opening, CallsPlaceholder, Environment, Begun, address_in, Added, added, Move, InstanceTrapped, Out, Steps, Makes, Pending, Closed, began, fresh_run, LoaderWorld, LoaderRun, secondary_of, store_under, supplied, primary_added, begun_of, loader_made, tick_loader, fresh_loader}
 use Rattle.index_remap.specs.Prelude.{IsBegun}
@@ -25,7 +25,7 @@ use Rattle.split_behaves_proof.proofs.Placeholders.{moved_few}
 
 -- what the laws below say
 pub record LoadLaws : Type 0 where
-  pub items : (m : Module) → IsValid m ↔ ItemsHold m
+  pub items : ValidWhereItemsHold
   pub primary : (namespace : ℕ → List ℕ) (prefix : List ℕ) (m : Module) (moved : List ℕ) → IsValid m → IsBounded m → CanMove m moved → prefix_taken prefix m moved ≡ None → IsValid (primary_with namespace prefix m moved)
   pub secondary : (names : SplitNames) (m : Module) (moved own : List ℕ) (before : ℕ) → IsValid m → CanMove m own → IsValid (secondary_with names m moved own before)
   pub leave : AddedModulesLeave

@@ -1,11 +1,11 @@
 -- Both modules of a split are valid, have no memory more than the module, and what they have can be counted.
-use Rattle.base_lists.proofs.Common.{◌≡◌, ◌↔◌, ap, sym, subst, ℕ, ◌<◌, ◌≤◌, List, length, None, true, arith}
+use Rattle.base_lists.proofs.Common.{◌≡◌, ap, sym, subst, ℕ, ◌<◌, ◌≤◌, List, length, None, true, arith}
 use Rattle.std.proofs.lemmas.List.{append-nil}
 use Rattle.base_kept.proofs.Laws.{kept_most}
 use Rattle.wasm_tree_spec.specs.Prelude.{Memories, Module, IsBounded, imported_memories, memories_of}
 use Rattle.wasm_valid.specs.declared.kinds.ItemKind.{ItemKind}
 use Rattle.wasm_valid.specs.declared.kinds.ItemKind.TheVariants as kind
-use Rattle.wasm_valid.specs.Prelude.{IsSingle, IsValid, count_of, ItemsHold}
+use Rattle.wasm_valid.specs.Prelude.{IsSingle, IsValid, count_of, ValidWhereItemsHold}
 use Rattle.module_limits.specs.Counts.{CountsAreWithinWhereNoneIsOver, over_limit}
 use Rattle.index_remap.specs.Prelude.{declared}
 use Rattle.index_remap_proof.specs.ButForReferences.{HoldsButForReferences, IsValidButForReferences}
@@ -25,7 +25,7 @@ use Rattle.split_proof.proofs.SecondarySpaces as secondary_spaces
 -- what the laws below say
 pub record Laws : Type 0 where
   pub bodies : BodyLaws
-  pub items : (m : Module) → IsValid m ↔ ItemsHold m
+  pub items : ValidWhereItemsHold
   pub valid : (t : Module) → IsValidButForReferences t → IsValid (declared t)
   pub single : (t : Module) → IsSingle t → IsSingle (declared t)
   pub within : CountsAreWithinWhereNoneIsOver

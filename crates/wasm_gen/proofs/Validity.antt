@@ -1,5 +1,5 @@
 -- Both modules of a sample are valid, and their parts are counted by a u32.
-use Rattle.base_lists.proofs.Common.{◌≡◌, ◌∙◌, ap, sym, refl, subst, ℕ, zero, suc, ◌+◌, ◌-◌, ◌*◌, ◌%◌, ◌^◌, ◌<◌, ◌≤◌, List, [], ◌∷◌, ◌++◌, map, length, take, replicate, Contains, ◌↔◌, true, Option, Some, None, option_map, slice_get, decimal, arith, filter_map, cons_option, decimal_injective, append_cancel_left, length-append, length-map, length-replicate, map-append, slice_get-get_or, append_at_left, map_at, map_from, map_twice, replicate_at, slice_get_there, length-numbers, numbers_at, numbers_is, numbers_append}
+use Rattle.base_lists.proofs.Common.{◌≡◌, ◌∙◌, ap, sym, refl, subst, ℕ, zero, suc, ◌+◌, ◌-◌, ◌*◌, ◌%◌, ◌^◌, ◌<◌, ◌≤◌, List, [], ◌∷◌, ◌++◌, map, length, take, replicate, Contains, true, Option, Some, None, option_map, slice_get, decimal, arith, filter_map, cons_option, decimal_injective, append_cancel_left, length-append, length-map, length-replicate, map-append, slice_get-get_or, append_at_left, map_at, map_from, map_twice, replicate_at, slice_get_there, length-numbers, numbers_at, numbers_is, numbers_append}
 use Rattle.std.proofs.Math.Seq.{take-append_seam}
 use Rattle.base_lists.specs.Options.{◌>>=◌}
 use Rattle.base_lists.specs.Places.{numbers}
@@ -8,9 +8,8 @@ use Rattle.wasm_tree_spec.specs.Prelude.{I32, LocalGet, Bin, Import, ImportDesc,
 use Rattle.wasm_tree.specs.declared.module.ImportDesc.TheVariants as imported
 use Rattle.wasm_tree.specs.declared.module.ExportDesc.TheVariants as exported
 use Rattle.wasm_valid_bodies.specs.Typing.{Context, Fits, Gives, WellTyped, Operand, gives_of, signature_in}
-use Rattle.wasm_valid.specs.declared.kinds.ItemKind.{ItemKind}
 use Rattle.wasm_valid.specs.declared.kinds.ItemKind.TheVariants as kind
-use Rattle.wasm_valid.specs.Prelude.{HoldsAt, ImportHolds, IsValid, body_context, count_of, ValidWhereItemsHold}
+use Rattle.wasm_valid.specs.Prelude.{ImportHolds, IsValid, body_context, ValidWhereItemsHold, ItemsHold}
 use Rattle.wasm_gen.specs.Draws.{draw}
 use Rattle.wasm_gen.specs.Modules.{unary, numbered, exports_of, module_of, operation, joined, first_func, first_module, passed, second_func, second_imports, second_from, a, f, g}
 
@@ -85,8 +84,8 @@ module _ (imports : List Import) (func : ℕ → Func) (letter : List ℕ) (inde
       (few : count < 2 ^ 32)
       (from : (i : ℕ) (x : Import) → slice_get imports i ≡ Some x → x.desc ≡ imported.Func 0)
       (spaced : length (funcs_of whole) ≡ index + count)
-      (typed : (i : ℕ) → i < count → ((func i).ty ≡ 0) × WellTyped (body_context whole (func i) unary) (func i).body [] (I32 ∷ []))
-      (k : ItemKind) (i : ℕ) → i < count_of whole true k → HoldsAt whole k i
+      (typed : (i : ℕ) → i < count → ((func i).ty ≡ 0) × WellTyped (body_context whole (func i) unary) (func i).body [] (I32 ∷ [])) →
+      ItemsHold whole
   holds few from spaced typed kind.Import i lt = let x = slice_get_there imports i lt in (x.0, x.1, subst (λ d. ImportHolds whole d) (sym (from i x.0 x.1)) (omega arith))
   holds few from spaced typed kind.Memories i lt = absurd (omega (arith, lt))
   holds few from spaced typed kind.Func i lt =
@@ -116,7 +115,7 @@ module _ (seed count : ℕ) (few : count < 2 ^ 31) where
   first_spaced : length (funcs_of (first_module seed count)) ≡ 0 + count
   first_spaced = length-map (map (first_func seed) (numbers 0 count)) (λ (x : Func). x.ty) ∙ many (first_func seed) 0 count ∙ (let z : count ≡ 0 + count = omega arith in z)
 
-  pub first_holds : (k : ItemKind) (i : ℕ) → i < count_of (first_module seed count) true k → HoldsAt (first_module seed count) k i
+  pub first_holds : ItemsHold (first_module seed count)
   first_holds = holds [] (first_func seed) f 0 count (omega (arith, few)) (λ i x h. cc) first_spaced
       (λ i lt. (refl, joined_typed (body_context (first_module seed count) (first_func seed i) unary) (draw seed (i * 2 + 1)) (draw seed (i * 2 + 2)) refl))
 
@@ -146,7 +145,7 @@ module _ (state count : ℕ) (some : 1 ≤ count) (few : count < 2 ^ 31) where
   import_desc : (i : ℕ) (x : Import) → slice_get (second_imports count) i ≡ Some x → x.desc ≡ imported.Func 0
   import_desc i x h = let y = map_from _ (numbers 0 count) i x h in ap (λ (z : Import). z.desc) (sym y.2)
 
-  pub second_holds : (k : ItemKind) (i : ℕ) → i < count_of second true k → HoldsAt second k i
+  pub second_holds : ItemsHold second
   second_holds = holds (second_imports count) (second_func state count) g count count (omega (arith, few)) import_desc second_spaced
       (λ i lt. (refl, passed_typed (body_context second (second_func state count i) unary) (draw state (i + 1) % count) refl (callee_there (draw state (i + 1))) refl))
 

@@ -116,7 +116,7 @@ place_holds m k i (suc n) (suc j) lt h = let e : j + suc i ≡ suc j + i = omega
 at : (m : Module) (p : ℕ) (k : ItemKind) → slice_get order p ≡ Some k → IsValid m → (i : ℕ) → i < count_of m true k → HoldsAt m k i
 at m p k e valid i lt = subst (HoldsAt m k) (add-zero i) (place_holds m k 0 (count_of m true k) i lt (kind_holds m order p k e valid))
 
-pub each_item : (m : Module) → IsValid m → (k : ItemKind) (i : ℕ) → i < count_of m true k → HoldsAt m k i
+pub each_item : (m : Module) → IsValid m → ItemsHold m
 each_item m valid kind.Import i lt = at m 0 kind.Import refl valid i lt
 each_item m valid kind.Memories i lt = absurd (omega arith)
 each_item m valid kind.Func i lt = at m 2 kind.Func refl valid i lt
