@@ -2,14 +2,14 @@
 pub use Rattle.base_lists.proofs.Bools.{and_false, cond_is, either_true, left_either, left_true, right_either, right_true, same_tests}
 pub use Rattle.base_lists.proofs.Each.{any_from_place, every_at, list_all_each, list_all_from, list_any_there, there_contains}
 pub use Rattle.base_lists.proofs.Filtered.{all_counted, chosen_from, filter_map_most, first_at, has_chosen, is_kept, kept_is, place_back, place_of, place_there, places_many}
-pub use Rattle.base_lists.proofs.Found.{absent, present}
+pub use Rattle.base_lists.proofs.Found.{found_nothing, found_something}
 pub use Rattle.base_lists.proofs.Members.{among_append, among_joined, among_left, among_right, among_there, no_place, none_among, place_is, the_one, there_among}
 pub use Rattle.base_lists.proofs.Numbers.{add_next, length-numbers, map_numbers_index, number_is, numbers_append, numbers_at, numbers_index, numbers_is, numbers_more, same_number}
 pub use Rattle.base_lists.proofs.Options.{all_there_at, all_there_back, all_there_from, all_there_length, all_there_same, and_then_is, is_some_there, keeps_map, keeps_only, keeps_then, only_rest, only_true, option_map_is, unwrap_or_false_is}
 pub use Rattle.base_lists.proofs.Parts.{copies_length, overwrite_fits, overwritten_length, split_take}
 pub use Rattle.base_lists.proofs.Pigeons.{pigeons}
 pub use Rattle.base_lists.proofs.Places.{Has, append_at_left, append_from, append_left, append_right, drop_at, has_left, has_right, index_left, index_right, map_at, map_from, map_stays, map_twice, push_before, push_last, replicate_at, set_at, set_other, slice_get_none, slice_get_there, slice_index_is}
-pub use Rattle.base_lists.proofs.Related.{all_rel, any_there, append_rel, at_put_there, both_at, both_in, both_map, cond_two, copies_rel, each_rel, either_all, get_rel, left_there, length_rel, maps_rel, opt_at, opt_both, opt_self, overwrite_rel, put_rel, right_there, same_there, self_rel, then_all, then_eq, then_rel, then_same, then_same_is, there, with_there}
+pub use Rattle.base_lists.proofs.Related.{all_rel, any_there, append_rel, both_at, both_in, both_map, cond_two, copies_rel, each_rel, either_all, get_rel, left_there, length_rel, maps_rel, opt_at, opt_both, opt_self, overwrite_rel, put_rel, right_there, same_there, self_rel, then_all, then_eq, then_rel, then_same, then_same_is, there, with_there}
 pub use Rattle.base_lists.proofs.Results.{bind_ok, err_ok, ok_pair, within_most}
 pub use Rattle.base_lists.proofs.Same.{each_same_is, each_same_self}
 pub use Rattle.base_lists.proofs.Walk.{mapped_more, none_past, part, part_at, part_more}

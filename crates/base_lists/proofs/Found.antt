@@ -17,13 +17,14 @@ nothing (x ∷ xs) zero = (λ e. cc, λ l. absurd (omega arith))
 nothing (x ∷ xs) (suc i) = (λ e. omega (arith, (nothing xs i).0 e), λ l. (nothing xs i).1 (omega arith))
 
 -- nothing is found exactly from the length on
-pub absent : {T : Type 0} (r : Option (Bor T)) (xs : List T) (i : ℕ) → option_copied r ≡ slice_get xs i → IsNone r ↔ (length xs ≤ i)
-absent r xs i e =
+pub found_nothing : {T : Type 0} (r : Option (Bor T)) (xs : List T) (i : ℕ) → option_copied r ≡ slice_get xs i → IsNone r ↔ (length xs ≤ i)
+found_nothing r xs i e =
     let same : is_some r ≡ is_some (slice_get xs i) = sym (is_some_copied r) ∙ ap is_some e in
     (λ h. (nothing xs i).0 (sym same ∙ h), λ l. same ∙ (nothing xs i).1 l)
 
-pub present : {T : Type 0} (x : T) (xs : List T) (i : ℕ) → Some x ≡ slice_get xs i → (true ≡ false) ↔ (length xs ≤ i)
-present x xs i e = (λ h. (nothing xs i).0 (sym (ap is_some e) ∙ h), λ l. ap is_some e ∙ (nothing xs i).1 l)
+-- what is found stands before the end
+pub found_something : {T : Type 0} (x : T) (xs : List T) (i : ℕ) → Some x ≡ slice_get xs i → (true ≡ false) ↔ (length xs ≤ i)
+found_something x xs i e = (λ h. (nothing xs i).0 (sym (ap is_some e) ∙ h), λ l. ap is_some e ∙ (nothing xs i).1 l)
 
 no_type_at : {T : Type 0} (ts : List T) (is : List ℕ) (i : ℕ) (m : Option ℕ) → slice_get is i ≡ m →
     (is_some (option_and_then (slice_get ts) m) ≡ false) ↔ ((length is ≤ i) ⊎ ((x : ℕ) × (slice_get is i ≡ Some x) × (length ts ≤ x)))

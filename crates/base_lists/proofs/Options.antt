@@ -8,6 +8,11 @@ pub and_then_is : {A B : Type 0} (o : Option A) (f : A → Option B) (y : B) →
 and_then_is None f y h = absurd (let k = h in cc)
 and_then_is (Some x) f y h = (x, refl, h)
 
+-- if nothing is made of what is there, nothing is there
+pub then_none : {A B : Type 0} (o : Option A) (f : A → B) → option_and_then (λ a. Some (f a)) o ≡ None → o ≡ None
+then_none None f e = refl
+then_none (Some a) f e = cc
+
 pub option_map_is : {A B : Type 0} (f : A → B) (o : Option A) (y : B) → option_map f o ≡ Some y → (x : A) × (o ≡ Some x) × (f x ≡ y)
 option_map_is f None y h = absurd (let k = h in cc)
 option_map_is f (Some x) y h = (x, refl, (let same : f x ≡ y = cc in same))

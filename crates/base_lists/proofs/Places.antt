@@ -127,8 +127,3 @@ pub replicate_within : {A : Type 0} (a b : A) (n i : ℕ) → slice_get (replica
 replicate_within a b zero i e = cc
 replicate_within a b (suc n) zero e = omega arith
 replicate_within a b (suc n) (suc i) e = let lt = replicate_within a b n i e in omega arith
-
-pub drop_most : (n : ℕ) (bytes : List ℕ) → length (drop n bytes) ≤ length bytes
-drop_most zero bytes = omega arith
-drop_most (suc n) [] = omega arith
-drop_most (suc n) (b ∷ bs) = let h = drop_most n bs in omega arith

@@ -1,32 +1,33 @@
 -- Options and lists that are related, and a property of what is there.
-use Rattle.std.proofs.Common.{◌≡◌, ℕ, zero, suc, ◌<◌, List, [], ◌∷◌, ◌++◌, map, length, drop, Option, Some, None, Bool, true, false, cond, is_some, option_and_then, slice_get, slice_set, refl, sym, ap, subst, arith}
+use Rattle.std.proofs.Common.{◌≡◌, ℕ, zero, suc, ◌<◌, List, [], ◌∷◌, ◌++◌, map, length, drop, Option, Some, None, Bool, true, false, cond, is_some, option_and_then, slice_get, slice_set, refl, ap, subst, arith}
 use Rattle.base_lists.specs.Options.{all_there}
 use Rattle.base_lists.specs.Parts.{copies, onto, overwrite, split_at}
 use Rattle.base_lists.specs.Related.{OptRel, none, some, BothRel, both, ListRel, nil, cons, IfThere, absent, present, PairRel}
-use Rattle.base_lists.proofs.Places.{set_other, slice_get_there}
+use Rattle.base_lists.proofs.Places.{slice_get_there}
 
 -- ---- options ----
 
+-- what follows two related options is related if it is so for any two related values
 pub then_rel : {A B C D : Type 0} {P : A → B → Type 0} {Q : C → D → Type 0} {o : Option A} {p : Option B} {f : A → Option C} {g : B → Option D} → OptRel P o p → ((a : A) (b : B) → P a b → OptRel Q (f a) (g b)) → OptRel Q (option_and_then f o) (option_and_then g p)
 then_rel none h = none
 then_rel (some q) h = h _ _ q
 
--- with what the first came to
+-- the same, where what follows may use what the first option has
 pub then_rel_is : {A B C D : Type 0} {P : A → B → Type 0} {Q : C → D → Type 0} {o : Option A} {p : Option B} {f : A → Option C} {g : B → Option D} → OptRel P o p → ((a : A) (b : B) → o ≡ Some a → P a b → OptRel Q (f a) (g b)) → OptRel Q (option_and_then f o) (option_and_then g p)
 then_rel_is none h = none
 then_rel_is (some q) h = h _ _ refl q
 
--- the same on both sides
+-- what follows one option in two ways is related if it is so for each value that the option may have
 pub then_same : {A C D : Type 0} {Q : C → D → Type 0} {f : A → Option C} {g : A → Option D} (o : Option A) → ((a : A) → OptRel Q (f a) (g a)) → OptRel Q (option_and_then f o) (option_and_then g o)
 then_same None h = none
 then_same (Some a) h = h a
 
--- with what it is
+-- the same, where what follows may use what the option has
 pub then_same_is : {A C D : Type 0} {Q : C → D → Type 0} {f : A → Option C} {g : A → Option D} (o : Option A) → ((a : A) → o ≡ Some a → OptRel Q (f a) (g a)) → OptRel Q (option_and_then f o) (option_and_then g o)
 then_same_is None h = none
 then_same_is (Some a) h = h a refl
 
--- the same follows from what is related
+-- what follows two related options is equal if it is so for any two related values
 pub then_eq : {A B C : Type 0} {P : A → B → Type 0} {o : Option A} {p : Option B} {f : A → Option C} {g : B → Option C} → OptRel P o p → ((a : A) (b : B) → P a b → f a ≡ g b) → option_and_then f o ≡ option_and_then g p
 then_eq r h = grind arith
 
@@ -51,14 +52,14 @@ module _ {A B : Type 0} {P : A → B → Type 0} where
   pub opt_at : {o p : Option A} {q r : Option B} → o ≡ p → q ≡ r → OptRel P p r → OptRel P o q
   opt_at e f h = rw (e, f) h
 
-  -- both are there or neither, where each is there with the other
+  -- two options are related if each is there where the other is, and what they have is related
   pub both_or_none : (o : Option A) (p : Option B) → ((a : A) (b : B) → o ≡ Some a → p ≡ Some b → P a b) → ((a : A) → o ≡ Some a → (b : B) × (p ≡ Some b)) → ((b : B) → p ≡ Some b → (a : A) × (o ≡ Some a)) → OptRel P o p
   both_or_none None None pair left right = none
   both_or_none (Some a) (Some b) pair left right = some (pair a b refl refl)
   both_or_none (Some a) None pair left right = cc (left a refl).1
   both_or_none None (Some b) pair left right = cc (right b refl).1
 
--- both are there or neither
+-- the same, with a test of whether they are there
 pub alike_there : {A B : Type 0} {P : A → B → Type 0} (o : Option A) (p : Option B) → is_some o ≡ is_some p → ((a : A) (b : B) → o ≡ Some a → p ≡ Some b → P a b) → OptRel P o p
 alike_there o p e pair = grind (arith, none, some)
 
@@ -123,7 +124,7 @@ pub length_rel : {A B : Type 0} {P : A → B → Type 0} {xs : List A} {ys : Lis
 length_rel nil = refl
 length_rel (cons p r) = ap suc (length_rel r)
 
--- what is so of related items
+-- if Q relates whatever P relates, it relates the lists that P relates item by item
 pub each_rel : {A B : Type 0} {P Q : A → B → Type 0} {xs : List A} {ys : List B} → ((a : A) (b : B) → P a b → Q a b) → ListRel P xs ys → ListRel Q xs ys
 each_rel h nil = nil
 each_rel h (cons p r) = cons (h _ _ p) (each_rel h r)
@@ -180,6 +181,3 @@ pub at_put_here : {A : Type 0} (xs : List A) (n : ℕ) (v : A) → slice_get (sl
 at_put_here [] n v = refl
 at_put_here (x ∷ xs) zero v = refl
 at_put_here (x ∷ xs) (suc n) v = at_put_here xs n v
-
-pub at_put_there : {A : Type 0} (xs : List A) (n m : ℕ) (v : A) → (n ≡ m → ⊥) → slice_get (slice_set xs n v) m ≡ slice_get xs m
-at_put_there xs n m v h = set_other xs n m v (λ e. h (sym e))

@@ -1,6 +1,7 @@
 -- Two writes that follow one another are one.
-use Rattle.base_lists.proofs.Common.{◌≡◌, ℕ, suc, ◌+◌, ◌-◌, ◌*◌, ◌<◌, ◌≤◌, List, [], ◌∷◌, ◌++◌, length, Bool, true, false, ◌&&◌, ◌||◌, nat_lt, slice_index, refl, sym, ap, ap₂, ◌∙◌, inl, inr, arith, add-zero, cases_lt, and_parts, ltb-true, get_or_append_left, get_or-append_right, same_tests, left_either, right_either, or-false}
+use Rattle.base_lists.proofs.Common.{◌≡◌, ℕ, suc, ◌+◌, ◌-◌, ◌*◌, ◌<◌, ◌≤◌, List, [], ◌∷◌, ◌++◌, length, Bool, true, ◌&&◌, ◌||◌, nat_lt, slice_index, refl, sym, ap, ap₂, ◌∙◌, inl, inr, arith, add-zero, cases_lt, and_parts, ltb-true, get_or_append_left, get_or-append_right, same_tests, left_either, right_either, or-false, or_assoc}
 use Rattle.std.proofs.Common.{length-append, take-append-drop}
+use Rattle.std.proofs.Math.Bool.{or_comm}
 use Rattle.std.proofs.lemmas.Bool.{or_cases}
 use Rattle.block_pool.specs.Blocks.{with_part}
 use Rattle.block_pool.specs.Pages.{Contents, Pages, Writes, written_over, reaches, with_reached, size}
@@ -38,16 +39,6 @@ reaches_both at n m b =
       ]
       | inr f ↦ right_either _ _ (reaches_from (at + n) m b (record { some = omega arith; before = omega arith; behind = omega arith }))
     ])
-
-or_assoc : (x y z : Bool) → ((x || y) || z) ≡ (x || (y || z))
-or_assoc true y z = refl
-or_assoc false y z = refl
-
-or_comm : (x y : Bool) → (x || y) ≡ (y || x)
-or_comm true true = refl
-or_comm true false = refl
-or_comm false true = refl
-or_comm false false = refl
 
 pub reached_joined : (at n m j : ℕ) (ws : List Bool) → with_reached (at + n) m j (with_reached at n j ws) ≡ with_reached at (n + m) j ws
 reached_joined at n m j [] = refl

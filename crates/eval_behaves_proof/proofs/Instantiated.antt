@@ -1,11 +1,12 @@
 -- Where an environment links a module whose evaluation is quiet, both are instantiated to what is related, and the functions to be called correspond.
 use Rattle.base_lists.proofs.Common.{◌≡◌, ◌∙◌, ap, subst, refl, ℕ, suc, ◌<◌, List, [], ◌∷◌, ◌++◌, map, length, Bool, true, false, cond, Option, Some, None, is_some, inl, inr, arith, slice_get, IsTrue, same_Some, chosen_from, and_then_is, is_some_there, append_from, map_from, slice_get_there, append_rel}
-use Rattle.wasm_tree_spec.specs.Prelude.{Functions, Export, ExportDesc, ImportDesc, Module, func_of, funcs_of, imported_funcs}
+use Rattle.wasm_tree_spec.specs.Prelude.{Functions, ExportDesc, ImportDesc, Module, func_of, funcs_of, imported_funcs}
 use Rattle.wasm_tree.specs.declared.module.ExportDesc.TheVariants as ex
 use Rattle.wasm_tree.specs.declared.module.ImportDesc.TheVariants as im
 use Rattle.wasm_tree.specs.declared.module.Func as tree
 use Rattle.wasm_valid.specs.Prelude.{IsValid}
-use Rattle.wasm_meaning.specs.Prelude.{Text, Inst, export_named, same_text, Environment, Filled, all_there, alone, begun, joined_stores, links, own_store, segments, start_in}
+use Rattle.wasm_meaning.specs.Prelude.{Text, Inst, export_named, Environment, Filled, all_there, alone, begun, joined_stores, links, own_store, segments, start_in}
+use Rattle.wasm_meaning.proofs.Exports.{exported_there}
 use Rattle.index_remap.specs.Prelude.{ListRel, cons, nil}
 use Rattle.index_remap_proof.specs.Indices.{ExportNamesOnly, ImportNamesOnly, TreeNamesOnly, with_entry}
 use Rattle.world_simulation.specs.Prelude.{one}
@@ -36,15 +37,6 @@ instantiated_first m (Going s es) o (n ∷ ns) t e = absurd (let k = e in cc)
 -- ---- the functions that are called ----
 
 module _ (m : Module) (names : TreeNamesOnly (with_entry (each_index m)) m) where
-  exported_there : (es : List Export) (name : Text) (d : ExportDesc) → export_named es name ≡ Some d → (k : ℕ) × (e : Export) × (slice_get es k ≡ Some e) × (e.desc ≡ d)
-  exported_there [] name d h = absurd (let k = h in cc)
-  exported_there (e ∷ es) name d h = by (same_text e.name name) h (exported_there es name d)
-    where
-      by : (b : Bool) → cond b (Some e.desc) (export_named es name) ≡ Some d → (export_named es name ≡ Some d → (k : ℕ) × (x : Export) × (slice_get es k ≡ Some x) × (x.desc ≡ d)) →
-          (k : ℕ) × (x : Export) × (slice_get (e ∷ es) k ≡ Some x) × (x.desc ≡ d)
-      by true q again = (0, e, refl, same_Some e.desc d q)
-      by false q again = let r = again q in (suc r.0, r.1, r.2, r.3)
-
   exported_func : (d : ExportDesc) (f : ℕ) → ExportNamesOnly (with_entry (each_index m)) d → func_exported d ≡ Some f → f < length (funcs_of m)
   exported_func (ex.Func g) f h e = subst (λ f. f < length (funcs_of m)) (same_Some g f e) (below (length (funcs_of m)) g h)
   exported_func (ex.Table n) f h e = absurd (let k = e in cc)

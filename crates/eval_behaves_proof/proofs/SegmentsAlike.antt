@@ -1,5 +1,5 @@
 -- A segment that the quiet run copies is copied in an environment too, and what is left is related but for what is unknown then.
-use Rattle.base_lists.proofs.Common.{◌≡◌, ◌∙◌, sym, ap, ap₂, subst, refl, ℕ, ◌<◌, List, length, Bool, false, not, Some, inl, inr, arith, slice_get, nat_lt, slice_get_past, cases_lt, le-ltb, numbers_is, at_put_there, opt_at}
+use Rattle.base_lists.proofs.Common.{◌≡◌, ◌∙◌, sym, ap, ap₂, subst, refl, ℕ, ◌<◌, List, length, Bool, false, not, Some, inl, inr, arith, slice_get, nat_lt, slice_get_past, cases_lt, le-ltb, numbers_is, opt_at, set_other}
 use Rattle.std.specs.Prelude.{unwrap_or}
 use Rattle.std.proofs.lemmas.Bool.{or_parts}
 use Rattle.wasm_tree_spec.specs.Prelude.{Tables, Memories, ElementSegments, DataSegments, ConstExpr, ElemMode, ElemSeg, DataMode, DataSeg, Module, memories_of, tables_of}
@@ -133,7 +133,7 @@ module _ (env : Environment) (m : Module) (fs : List tree.Func) (i : Inst) (is :
           funcs = refl;
           turns = refl;
         };
-        others = λ k other. at_put_there s.store.elems n k no_items other;
+        others = λ k other. set_other s.store.elems n k no_items (λ e. other (sym e));
       })
 
   elem_none : (n : ℕ) (s t : State) (x : Store) → StoreRelOff S s.unknown s.store x → Finished s ≡ Finished t → ElemAlike n s t (record { store = x; trapped = false })

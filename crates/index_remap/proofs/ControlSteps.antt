@@ -10,7 +10,7 @@ use Rattle.wasm_meaning.proofs.Outcomes.{then_given, then_found}
 use Rattle.index_remap.specs.Related
 use Rattle.index_remap.specs.Prelude.{Pairing, OptRel, none, some, ResRel, done, trap, wrong, ListRel, nil, cons, RefRel, func, extern, ValRel, Names, BlockRel, empty, value, indexed, OpRel, CodeRel, end, then, instead, TableRel, LevelRel, BodyRel, keep, goes, calls, ends, Unknowns, StoreRelOff, read_by, ReadsKnown, known, ActOff}
 use Rattle.index_remap.specs.Related.{SameType}
-use Rattle.index_remap.proofs.Rel.{bind_rel, cond_rel, or_trap_rel, bind_found, bind_is}
+use Rattle.index_remap.proofs.Rel.{bind_rel, or_trap_rel, bind_found, bind_is}
 use Rattle.base_lists.proofs.Related.{onto_rel, past_rel, split_rel}
 use Rattle.index_remap.proofs.ValueSteps.{bind_num, bind_num_is, pop_typed_rel, go_rel, values_rel}
 use Rattle.index_remap.proofs.TableSteps.{bind_table, slot_known}
@@ -34,7 +34,7 @@ module _ (R : Pairing) (off : Unknowns) (ev ew : Env) (st : StoreRelOff R off ev
   call_indirect_rel s t n m r e p reads =
       bind_table R off ev ew st n m _ _ r p (λ a _ _ _ is _ table. bind_num_is R W32 _ _ r.values (λ i _ _ top v.
       bind_rel (or_trap_rel (table.slots.each i (slot_known R off ev ew st _ a i reads (then_found _ is ∙ then_given _ top)))) (λ _ _ x. bind_rel (func_ref_rel x) (λ _ _ q. bind_is (same_there (st.types q)) (λ f _. bind_is e (λ u _.
-      cond_rel (same_func_type u f) (done (calls q v r)) trap))))))
+      cond_two (ResRel (ActOff R off ev.inst ew.inst)) (same_func_type u f) (done (calls q v r)) trap))))))
 
   -- ---- ends and branches ----
 
@@ -60,7 +60,7 @@ module _ (R : Pairing) (off : Unknowns) (ev ew : Env) (st : StoreRelOff R off ev
 
   pub branch_if_rel : {h k : Body} (n : ℕ) → BodyRel R ev.inst ew.inst h k → ResRel (ActOff R off ev.inst ew.inst) (branch_if h n) (branch_if k n)
   branch_if_rel n r =
-      bind_num R W32 _ _ r.values (λ i _ _ v. cond_rel (nat_eq i 0) (done (goes (known keep) (values_rel R off ev ew st r v))) (branch_rel n (values_rel R off ev ew st r v)))
+      bind_num R W32 _ _ r.values (λ i _ _ v. cond_two (ResRel (ActOff R off ev.inst ew.inst)) (nat_eq i 0) (done (goes (known keep) (values_rel R off ev ew st r v))) (branch_rel n (values_rel R off ev ew st r v)))
 
   pub branch_table_rel : {h k : Body} (ns : List ℕ) (last : ℕ) → BodyRel R ev.inst ew.inst h k → ResRel (ActOff R off ev.inst ew.inst) (branch_table h ns last) (branch_table k ns last)
   branch_table_rel ns last r = bind_num R W32 _ _ r.values (λ i _ _ v. branch_rel (unwrap_or (slice_get ns i) last) (values_rel R off ev ew st r v))

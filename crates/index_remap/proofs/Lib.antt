@@ -12,6 +12,7 @@ pub mod ControlGroup
 pub mod StepsAgree
 pub mod Known
 pub mod Shown
+pub mod Received
 pub mod Runs
 pub mod Others
 pub mod Shapes

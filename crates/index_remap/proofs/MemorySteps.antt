@@ -1,11 +1,11 @@
 -- Steps on memories and data segments agree.
-use Rattle.base_lists.proofs.Common.{◌≡◌, ℕ, ◌+◌, ◌%◌, List, refl, subst, there}
+use Rattle.base_lists.proofs.Common.{◌≡◌, ℕ, ◌+◌, ◌%◌, List, refl, subst, there, cond_two}
 use Rattle.wasm_tree_spec.specs.Prelude.{Memories, DataSegments, LoadOp, StoreOp, MemArg}
 use Rattle.wasm_meaning.specs.Prelude.{Outcome, Gives, bind, slice, copies, or_trap, load_width, store_from, stored, Val, Memory, Env, Body, written, load_from, with_memory, writes, store_into, memory_may_grow, pop_three, init_memory}
 use Rattle.wasm_num.specs.Operations.{W32}
 use Rattle.wasm_meaning.specs.Memory.{load, store, memory_size, memory_grow, memory_init, data_drop, memory_copy, memory_fill}
 use Rattle.index_remap.specs.Prelude.{Pairing, ResRel, done, ListRel, cons, ValRel, number, Names, ArgRel, BodyRel, memory_grows, set_memory, drop_data, goes, asks_grow, Unknowns, StoreRelOff, known, ActOff}
-use Rattle.index_remap.proofs.Rel.{bind_same, cond_rel, bind_found, bind_rel_is}
+use Rattle.index_remap.proofs.Rel.{bind_same, bind_found, bind_rel_is}
 use Rattle.base_lists.specs.Related.{PairRel}
 use Rattle.index_remap.proofs.ValueSteps.{bind_num, values_rel, on_values_rel, pushes_rel}
 
@@ -36,7 +36,7 @@ module _ (R : Pairing) (off : Unknowns) (ev ew : Env) (st : StoreRelOff R off ev
 
   pub memory_grow_rel : {h k : Body} (n m : ℕ) → BodyRel R ev.inst ew.inst h k → Names R.of Memories ev.inst.mems ew.inst.mems n m → ResRel (ActOff R off ev.inst ew.inst) (memory_grow ev h n) (memory_grow ew k m)
   memory_grow_rel n m r p =
-      bind_memory n m _ _ r p (λ _ _ m q. bind_num R W32 _ _ r.values (λ c _ _ v. cond_rel (memory_may_grow m c) (done (asks_grow (memory_grows q) (values_rel R off ev ew st r v))) (pushes_rel R off ev ew st (values_rel R off ev ew st r v) number)))
+      bind_memory n m _ _ r p (λ _ _ m q. bind_num R W32 _ _ r.values (λ c _ _ v. cond_two (ResRel (ActOff R off ev.inst ew.inst)) (memory_may_grow m c) (done (asks_grow (memory_grows q) (values_rel R off ev ew st r v))) (pushes_rel R off ev ew st (values_rel R off ev ew st r v) number)))
 
   three_rel : {vs ws : List Val} → ListRel (ValRel R) vs ws → ResRel (PairRel (◌≡◌ {A = ℕ × ℕ × ℕ}) (ListRel (ValRel R))) (pop_three vs) (pop_three ws)
   three_rel r = bind_num R W32 _ _ r (λ n _ _ r. bind_num R W32 _ _ r (λ s _ _ r. bind_num R W32 _ _ r (λ d _ _ r. done (record { first = refl; second = r }))))

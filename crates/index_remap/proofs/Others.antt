@@ -1,5 +1,5 @@
 -- Related changes leave what has no partner, in either store.
-use Rattle.base_lists.proofs.Common.{◌≡◌, ℕ, List, refl, subst, ◌∙◌, slice_set, slice_get, at_put_there}
+use Rattle.base_lists.proofs.Common.{◌≡◌, ℕ, List, refl, subst, ◌∙◌, slice_set, slice_get, sym, set_other}
 use Rattle.wasm_tree_spec.specs.Prelude.{Space, Tables, Memories, Globals, ElementSegments, DataSegments}
 use Rattle.wasm_meaning.specs.Prelude.{Table, Memory, Global, Store, Change, Keep, SetGlobal, SetMemory, SetTable, DropElem, DropData, changed, no_items, no_bytes}
 use Rattle.index_remap.specs.Prelude.{Pairing, ChangeRel, turned, HasNoPartner, KeepsOthers}
@@ -33,7 +33,7 @@ module _ (R : Pairing) where
 
   -- an address that has a partner is not one that has none
   elsewhere : {A : Type 0} (k : Space) (xs : List A) (a b : ℕ) (v : A) (c : ℕ) → R.of k a b → HasNoPartner R k c → slice_get (slice_set xs b v) c ≡ slice_get xs c
-  elsewhere k xs a b v c r h = at_put_there xs b c v (λ e. h a (subst (λ x. R.of k a x) e r))
+  elsewhere k xs a b v c r h = set_other xs b c v (λ e. h a (subst (λ x. R.of k a x) (sym e) r))
 
   pub change_keeps : {before s : Store} {c : Change} → Partnered R c → KeepsOthers R before s → KeepsOthers R before (changed s c)
   change_keeps keep h = h

@@ -1,10 +1,11 @@
 -- Outcomes that are related, and what is written at related addresses.
-use Rattle.base_lists.proofs.Common.{◌≡◌, ℕ, List, Option, Some, None, Bool, true, false, cond, option_and_then, slice_get, refl, sym, subst, slice_set, at_put_there}
+use Rattle.base_lists.proofs.Common.{◌≡◌, ℕ, List, Option, Some, None, true, option_and_then, slice_get, refl, sym, subst, slice_set, set_other}
 use Rattle.base_lists.proofs.Related.{at_put_here}
 use Rattle.wasm_tree_spec.specs.Prelude.{Space}
 use native.Mathlib.Decide.{ℕ_discrete}
 use Rattle.wasm_meaning.specs.Prelude.{Outcome, Gives, Traps, IllTyped, or_trap, bind, or_ill_typed}
 use Rattle.wasm_meaning.proofs.Outcomes.{AllOf, ill_typed, stopped, just}
+pub use Rattle.wasm_meaning.proofs.Outcomes.{bind_same}
 use Rattle.index_remap.specs.Prelude.{Pairing, OneToOne, OneToOneWhereWritten, is_written, OptRel, none, some, BothRel, both, ResRel, done, trap, wrong}
 
 -- ---- outcomes ----
@@ -13,12 +14,6 @@ pub bind_rel : {A B C D : Type 0} {P : A → B → Type 0} {Q : C → D → Type
 bind_rel trap h = trap
 bind_rel wrong h = wrong
 bind_rel (done q) h = h _ _ q
-
--- the same on both sides
-pub bind_same : {A C D : Type 0} {Q : C → D → Type 0} {f : A → Outcome C} {g : A → Outcome D} (o : Outcome A) → ((a : A) → ResRel Q (f a) (g a)) → ResRel Q (bind o f) (bind o g)
-bind_same Traps h = trap
-bind_same IllTyped h = wrong
-bind_same (Gives a) h = h a
 
 pub bind_eq : {A C D : Type 0} {Q : C → D → Type 0} {f : A → Outcome C} {g : A → Outcome D} {o p : Outcome A} → o ≡ p → ((a : A) → ResRel Q (f a) (g a)) → ResRel Q (bind o f) (bind p g)
 bind_eq {Q = Q} {f = f} {g = g} {o = o} e h = subst (λ x. ResRel Q (bind o f) (bind x g)) e (bind_same o h)
@@ -57,10 +52,6 @@ any IllTyped = ill_typed
 any Traps = stopped
 any (Gives a) = just tt
 
-pub cond_rel : {A B : Type 0} {P : A → B → Type 0} (b : Bool) {x y : Outcome A} {u v : Outcome B} → ResRel P x u → ResRel P y v → ResRel P (cond b x y) (cond b u v)
-cond_rel true p q = p
-cond_rel false p q = q
-
 -- ---- a write at related addresses ----
 
 -- what is one to one is so where something is written
@@ -83,7 +74,7 @@ module _ (R : Pairing) (apart : OneToOneWhereWritten R) (k : Space) (may : is_wr
       go (yes e) (yes f) = rw (← e, ← f, at_put_here xs a v, at_put_here ys b w) (written (all a b r))
       go (yes e) (no f) = absurd (f (apart.right may a b d r (subst (λ x. R.of k x d) (sym e) q)))
       go (no e) (yes f) = absurd (e (apart.left may a c b r (subst (λ x. R.of k c x) (sym f) q)))
-      go (no e) (no f) = rw (at_put_there xs a c v e, at_put_there ys b d w f) (elsewhere e (all c d q))
+      go (no e) (no f) = rw (set_other xs a c v (λ z. e (sym z)), set_other ys b d w (λ z. f (sym z))) (elsewhere e (all c d q))
 
 module _ (R : Pairing) (apart : OneToOneWhereWritten R) (k : Space) (may : is_written k ≡ true) {A B : Type 0} (P : A → B → Type 0) (xs : List A) (ys : List B) (v : A) (w : B) where
   pub write_rel : {a b : ℕ} → R.of k a b → ((c d : ℕ) → R.of k c d → BothRel P (slice_get xs c) (slice_get ys d)) → P v w → (c d : ℕ) → R.of k c d → BothRel P (slice_get (slice_set xs a v) c) (slice_get (slice_set ys b w) d)

@@ -1,16 +1,15 @@
 -- Related runs have equal traces.
-use Rattle.base_lists.proofs.Common.{◌≡◌, ℕ, ◌^◌, List, [], ◌∷◌, Option, Some, None, Bool, true, false, cond, option_and_then, slice_get, refl, ap, subst, ◌∙◌, nat_eq, nat_lt, there, then_rel, then_same, then_all, any_there, get_rel, append_rel, length_rel, copies_rel, overwrite_rel}
-use Rattle.wasm_tree_spec.specs.Prelude.{Functions, Memories, RefType, ValType}
+use Rattle.base_lists.proofs.Common.{◌≡◌, ℕ, List, [], ◌∷◌, Option, Some, None, Bool, true, false, cond, option_and_then, slice_get, refl, ap, subst, ◌∙◌, nat_eq, there, then_rel, then_same, get_rel, append_rel, length_rel, copies_rel, overwrite_rel}
+use Rattle.wasm_tree_spec.specs.Prelude.{Functions, Memories, RefType}
 use Rattle.wasm_tree.specs.declared.types.RefType.TheVariants as reft
-use Rattle.wasm_tree.specs.declared.types.ValType.TheVariants as valt
 use Rattle.wasm_num.specs.Operations.{W32}
-use Rattle.wasm_meaning.specs.Prelude.{Outcome, Gives, overwrite, RefVal, Val, Num, Table, Memory, Store, Change, SetTable, Growth, Entry, Caller, Host, Starter, Opening, Ended, Growing, Next, typed, null_of, ref_of, memory_may_grow, table_may_grow, give, enter_at, step, same_text, Shown, Number, Null, OwnFunc, ExternNumber, Function, ExternalValue, FuncKey, TableKey, MemoryKey, GlobalKey, Owned, same_key, look_up, owned_at, func_of, func_value, received, received_ref, received_all, Begun, Event, InstanceTrapped, Returned, Asked, Got, Place, TableOf, MemoryOf, GlobalOf, Named, Move, Call, Invoke, Take, Answer, Refuse, Grant, Deny, Get, Size, Set, Extend, Phase, Pending, Opened, Closed, Run, Out, Transition, Steps, Makes, made, place_at, trapped_to, run_after, called, is_mark, delivered, grown_table, answered, refused, granted, decided, shows, got, size_of, does, byte_of, set, extended, moved, at_entries, or_bad, or_closed, next_move, began, nothing_in, started, open_next, is_taken_closed, closed_move, in_phase, transition_at}
+use Rattle.wasm_meaning.specs.Prelude.{Outcome, overwrite, RefVal, Val, Num, Table, Memory, Store, Change, SetTable, Growth, Entry, Caller, Host, Starter, Opening, Ended, Growing, Next, null_of, memory_may_grow, table_may_grow, give, enter_at, step, same_text, Shown, ExternalValue, TableKey, MemoryKey, GlobalKey, same_key, func_of, received_ref, received_all, Begun, Event, InstanceTrapped, Returned, Asked, Got, Place, TableOf, MemoryOf, GlobalOf, Named, Move, Call, Invoke, Take, Answer, Refuse, Grant, Deny, Get, Size, Set, Extend, Phase, Pending, Opened, Closed, Run, Out, Transition, Steps, Makes, made, place_at, trapped_to, run_after, called, is_mark, delivered, grown_table, answered, refused, granted, decided, shows, got, size_of, does, byte_of, set, extended, moved, at_entries, or_bad, or_closed, next_move, began, nothing_in, started, open_next, is_taken_closed, closed_move, in_phase, transition_at}
 use Rattle.wasm_meaning.specs.Run.{trapped_at, showing, with_change, view_of}
 use Rattle.index_remap.specs.Prelude.{Pairing, OneToOne, OptRel, none, some, ResRel, done, trap, wrong, ListRel, nil, cons, RefRel, func, extern, ValRel, number, reference, TableRel, StoreRel, mark, opening, waiting, ended, growing, ChangeRel, set_global, set_memory, set_table, GrowthRel, memory_grows, table_grows, NextRel, ran, asked, asked_grow, loads, returned, ExternalValueRel, a_func, a_table, a_memory, a_global, KeyRel, BegunRel, PhaseRel, fresh, pending, opened, closed, RunRel, OutRel, MoveSkips, NextMoveSkips, TickSkips, calls_placeholder}
 use Rattle.index_remap.proofs.Rel.{written}
 use Rattle.base_lists.proofs.Related.{then_rel_is, either_rel, if_there_at}
-use Rattle.base_lists.specs.Related.{PairRel, IfThere, absent, present}
-use Rattle.index_remap.proofs.ValueSteps.{Fits}
+use Rattle.base_lists.specs.Related.{PairRel}
+use Rattle.index_remap.proofs.Received.{look_rel, func_of_rel, received_rel, received_ref_rel, received_all_rel, fits_received}
 use Rattle.index_remap.proofs.Shown.{show_rel, show_all_rel}
 use Rattle.index_remap.proofs.TableSteps.{may_same}
 use Rattle.index_remap.proofs.StepsAgree.{Stacks, TopView, top_none, top_mark, top_opening, top_waiting, top_ended, top_growing, top_running, changed_rel}
@@ -26,44 +25,6 @@ module _ (R : Pairing) (apart : OneToOne R) (B C : Store → Store → List Entr
 
   phase_rel : {r q : Run} {p o : Phase} → RunRel R B F r q → PhaseRel R F p o → RunRel R B F (record r { phase = p }) (record q { phase = o })
   phase_rel h x = record { store = h.store; entries = h.entries; phase = x; shown = h.shown; view = h.view; owned = h.owned; moves = h.moves }
-
-  -- ---- values received ----
-
-  look_rel : {K : Type 0} (is : K → Bool) {xs ys : List (K × ExternalValue)} → ListRel (KeyRel R) xs ys → OptRel (ExternalValueRel R) (look_up is xs) (look_up is ys)
-  look_rel is nil = none
-  look_rel is (cons {b = b} o os) = rw o.key (either_rel (is b.0) (some o.thing) (look_rel is os))
-
-  func_of_rel : {x y : ExternalValue} → ExternalValueRel R x y → OptRel (R.of Functions) (func_of x) (func_of y)
-  func_of_rel (a_func n) = some n
-  func_of_rel (a_table n) = none
-  func_of_rel (a_memory n) = none
-  func_of_rel (a_global n) = none
-
-  value_rel : {o p : Option ℕ} → OptRel (R.of Functions) o p → OptRel (ValRel R) (option_and_then (λ a. Some (func_value a)) o) (option_and_then (λ a. Some (func_value a)) p)
-  value_rel o = then_rel o (λ _ _ p. some (reference (func (some p))))
-
-  received_rel : {o p : Owned} {xs ys : List ℕ} (t : ValType) (x : Shown) → ListRel (KeyRel R) o p → ListRel (R.of Functions) xs ys → OptRel (ValRel R) (received o xs t x) (received p ys t x)
-  received_rel valt.I32 (Number n) o s = either_rel (nat_lt n (2 ^ 32)) (some number) none
-  received_rel valt.I64 (Number n) o s = either_rel (nat_lt n (2 ^ 64)) (some number) none
-  received_rel (valt.Ref reft.Func) Null o s = some (reference (func none))
-  received_rel (valt.Ref reft.Func) (OwnFunc p t) o s = value_rel (then_rel (look_rel (same_key (FuncKey p t)) o) (λ _ _ x. func_of_rel x))
-  received_rel (valt.Ref reft.Func) (Function k) o s = value_rel (get_rel s k)
-  received_rel (valt.Ref reft.Extern) Null o s = some (reference extern)
-  received_rel (valt.Ref reft.Extern) (ExternNumber n) o s = some (reference extern)
-  received_rel _ _ o s = none
-
-  ref_of_rel : {v w : Val} → ValRel R v w → OptRel (RefRel R) (ref_of v) (ref_of w)
-  ref_of_rel number = none
-  ref_of_rel (reference p) = some p
-
-  received_ref_rel : {o p : Owned} {xs ys : List ℕ} (t : RefType) (x : Shown) → ListRel (KeyRel R) o p → ListRel (R.of Functions) xs ys → OptRel (RefRel R) (received_ref o xs t x) (received_ref p ys t x)
-  received_ref_rel t x o s = then_rel (received_rel (valt.Ref t) x o s) (λ _ _ v. ref_of_rel v)
-
-  received_all_rel : {o p : Owned} {ms ns : List ℕ} (ts : List ValType) (xs : List Shown) → ListRel (KeyRel R) o p → ListRel (R.of Functions) ms ns → OptRel (ListRel (ValRel R)) (received_all o ms ts xs) (received_all p ns ts xs)
-  received_all_rel [] [] o s = some nil
-  received_all_rel (t ∷ ts) (x ∷ xs) o s = then_rel (received_rel t x o s) (λ _ _ v. then_rel (received_all_rel ts xs o s) (λ _ _ vs. some (cons v vs)))
-  received_all_rel [] (x ∷ xs) o s = none
-  received_all_rel (t ∷ ts) [] o s = none
 
   -- ---- what follows a step ----
 
@@ -114,30 +75,9 @@ module _ (R : Pairing) (apart : OneToOne R) (B C : Store → Store → List Entr
 
   -- ---- moves ----
 
-  all_cond : {A : Type 0} {P : A → Type 0} (a : A) (b : Bool) → P a → IfThere P (cond b (Some a) None)
-  all_cond a true p = present p
-  all_cond a false p = absent
-
-  -- what is received has the type
-  received_type : (o : Owned) (ms : List ℕ) (t : ValType) (x : Shown) → IfThere (λ v. typed t v ≡ Gives v) (received o ms t x)
-  received_type o ms valt.I32 (Number n) = all_cond _ (nat_lt n (2 ^ 32)) refl
-  received_type o ms valt.I64 (Number n) = all_cond _ (nat_lt n (2 ^ 64)) refl
-  received_type o ms (valt.Ref reft.Func) Null = present refl
-  received_type o ms (valt.Ref reft.Func) (OwnFunc p t) = then_all (any_there (option_and_then func_of (owned_at o (FuncKey p t)))) (λ a _. present refl)
-  received_type o ms (valt.Ref reft.Func) (Function k) = then_all (any_there (slice_get ms k)) (λ a _. present refl)
-  received_type o ms (valt.Ref reft.Extern) Null = present refl
-  received_type o ms (valt.Ref reft.Extern) (ExternNumber n) = present refl
-  received_type o ms _ _ = absent
-
-  fits_received : (o : Owned) (ms : List ℕ) (ts : List ValType) (xs : List Shown) → IfThere (Fits ts) (received_all o ms ts xs)
-  fits_received o ms [] [] = present nil
-  fits_received o ms (t ∷ ts) (x ∷ xs) = then_all (received_type o ms t x) (λ v e. then_all (fits_received o ms ts xs) (λ vs f. present (cons e f)))
-  fits_received o ms [] (x ∷ xs) = absent
-  fits_received o ms (t ∷ ts) [] = absent
-
   called_rel : {r q : Run} {es fs : List Entry} {a b : ℕ} (xs : List Shown) → RunRel R B F r q → C r.store q.store es fs → R.of Functions a b → ¬ R.listed a → OptRel TransitionRel (called r es xs a) (called q fs xs b)
   called_rel {r} {q} {es} {fs} {a} {b} xs h e n free =
-      then_rel_is (there (h.store.types n)) (λ t u is same. subst (λ y. OptRel TransitionRel (option_and_then (λ vs. Some (Steps r (enter_at r.store a vs es))) (received_all r.owned r.shown t.params xs)) (option_and_then (λ vs. Some (Steps q (enter_at q.store b vs fs))) (received_all q.owned q.shown y.params xs))) same (then_rel_is (received_all_rel t.params xs h.owned h.shown) (λ vs _ got v. some (steps h (stacks.enters h.store n free is (if_there_at (fits_received r.owned r.shown t.params xs) got) v e)))))
+      then_rel_is (there (h.store.types n)) (λ t u is same. subst (λ y. OptRel TransitionRel (option_and_then (λ vs. Some (Steps r (enter_at r.store a vs es))) (received_all r.owned r.shown t.params xs)) (option_and_then (λ vs. Some (Steps q (enter_at q.store b vs fs))) (received_all q.owned q.shown y.params xs))) same (then_rel_is (received_all_rel R t.params xs h.owned h.shown) (λ vs _ got v. some (steps h (stacks.enters h.store n free is (if_there_at (fits_received r.owned r.shown t.params xs) got) v e)))))
 
   delivered_rel : {r q : Run} {vs ws : List Val} {es fs : List Entry} → RunRel R B F r q → ListRel (ValRel R) vs ws → C r.store q.store es fs → TransitionRel (delivered r vs es) (delivered q ws fs)
   delivered_rel {r} {q} {vs} {ws} {es} {fs} h v e = rw (stacks.marked e) (either (is_mark fs))
@@ -147,7 +87,7 @@ module _ (R : Pairing) (apart : OneToOne R) (B C : Store → Store → List Entr
       either false = steps h (stacks.gives h.store v e)
 
   answered_rel : {r q : Run} {es fs : List Entry} (xs : List Shown) → RunRel R B F r q → TopView R (written apart) C r.store q.store es fs → OptRel TransitionRel (answered r xs es) (answered q xs fs)
-  answered_rel xs h (top_waiting {ts = ts} e) = then_rel (received_all_rel ts xs h.owned h.shown) (λ _ _ v. some (delivered_rel h v e))
+  answered_rel xs h (top_waiting {ts = ts} e) = then_rel (received_all_rel R ts xs h.owned h.shown) (λ _ _ v. some (delivered_rel h v e))
   answered_rel xs h (top_none e) = none
   answered_rel xs h (top_mark e) = none
   answered_rel xs h (top_opening x e) = none
@@ -207,14 +147,14 @@ module _ (R : Pairing) (apart : OneToOne R) (B C : Store → Store → List Entr
   set_rel : {r q : Run} {x y : ExternalValue} (n : ℕ) (v : Shown) → RunRel R B F r q → ExternalValueRel R x y → OptRel TransitionRel (set r x n v) (set q y n v)
   set_rel n v h (a_func p) = none
   set_rel {r} {q} n v h (a_table p) =
-      then_rel (there (h.store.tables p)) (λ t u x. then_rel (at_type x.type (received_ref_rel u.ty v h.owned h.shown)) (λ _ _ v. then_rel (overwrite_rel n x.slots (cons v nil)) (λ _ _ s.
+      then_rel (there (h.store.tables p)) (λ t u x. then_rel (at_type x.type (received_ref_rel R u.ty v h.owned h.shown)) (λ _ _ v. then_rel (overwrite_rel n x.slots (cons v nil)) (λ _ _ s.
       does_rel h (set_table p (record { type = x.type; most = x.most; slots = s })))))
     where
       at_type : {s t : RefType} → s ≡ t → OptRel (RefRel R) (received_ref r.owned r.shown t v) (received_ref q.owned q.shown t v) → OptRel (RefRel R) (received_ref r.owned r.shown s v) (received_ref q.owned q.shown t v)
       at_type {t = t} e o = rw e o
   set_rel n v h (a_memory p) = then_memory_at h p (λ m. then_same (byte_of v) (λ b. then_same (overwrite m.bytes n (b ∷ [])) (λ bytes. does_rel h (set_memory p))))
   set_rel n v h (a_global p) =
-      then_rel (there (h.store.globals p)) (λ _ e g. rw g.type (either_rel (nat_eq n 0) (either_rel e.ty.mutable (then_rel (received_rel e.ty.ty v h.owned h.shown) (λ _ _ w. does_rel h (set_global p (record { type = refl; value = w })))) none) none))
+      then_rel (there (h.store.globals p)) (λ _ e g. rw g.type (either_rel (nat_eq n 0) (either_rel e.ty.mutable (then_rel (received_rel R e.ty.ty v h.owned h.shown) (λ _ _ w. does_rel h (set_global p (record { type = refl; value = w })))) none) none))
 
   null_rel : (t : RefType) → RefRel R (null_of t) (null_of t)
   null_rel reft.Func = func none
@@ -227,15 +167,15 @@ module _ (R : Pairing) (apart : OneToOne R) (B C : Store → Store → List Entr
   extended_rel n h (a_global p) = none
 
   place_at_rel : {r q : Run} (p : Place) → RunRel R B F r q → OptRel (ExternalValueRel R) (place_at r p) (place_at q p)
-  place_at_rel (TableOf p) h = look_rel (same_key (TableKey p)) h.owned
-  place_at_rel (MemoryOf p) h = look_rel (same_key (MemoryKey p)) h.owned
-  place_at_rel (GlobalOf p) h = look_rel (same_key (GlobalKey p)) h.owned
-  place_at_rel (Named n) h = look_rel (same_text n) h.view
+  place_at_rel (TableOf p) h = look_rel R (same_key (TableKey p)) h.owned
+  place_at_rel (MemoryOf p) h = look_rel R (same_key (MemoryKey p)) h.owned
+  place_at_rel (GlobalOf p) h = look_rel R (same_key (GlobalKey p)) h.owned
+  place_at_rel (Named n) h = look_rel R (same_text n) h.view
 
   moved_rel : {r q : Run} (m : Move) → RunRel R B F r q → C r.store q.store r.entries q.entries → TopView R (written apart) C r.store q.store r.entries q.entries → MoveSkips R r.view r.shown m → OptRel TransitionRel (moved r m) (moved q m)
-  moved_rel (Call i xs) h c w free = then_rel_is (look_rel (same_text i) h.view) (λ _ _ is x. then_rel_is (func_of_rel x) (λ a _ of n. called_rel xs h (stacks.push mark c) n (free a (ap (option_and_then func_of) is ∙ of))))
+  moved_rel (Call i xs) h c w free = then_rel_is (look_rel R (same_text i) h.view) (λ _ _ is x. then_rel_is (func_of_rel R x) (λ a _ of n. called_rel xs h (stacks.push mark c) n (free a (ap (option_and_then func_of) is ∙ of))))
   moved_rel (Invoke k xs) h c w free = then_rel_is (get_rel h.shown k) (λ a _ is n. called_rel xs h (stacks.push mark c) n (free a is))
-  moved_rel (Take i) h c w free = then_rel (look_rel (same_text i) h.view) (λ _ _ x. then_rel (func_of_rel x) (λ _ _ n. shows_rel h (reference (func (some n)))))
+  moved_rel (Take i) h c w free = then_rel (look_rel R (same_text i) h.view) (λ _ _ x. then_rel (func_of_rel R x) (λ _ _ n. shows_rel h (reference (func (some n)))))
   moved_rel (Answer xs) h c w free = answered_rel xs h w
   moved_rel Refuse h c w free = refused_rel h w
   moved_rel Grant h c w free = none

@@ -6,7 +6,7 @@ use Rattle.wasm_tree.specs.declared.instr.Instr.TheOpen.{Instr-F}
 use Rattle.wasm_meaning.specs.Prelude.{Gives, bind, onto, or_ill_typed, Val, Func, Store, Change, Level, Frame, Entry, Running, Caller, Mark, Opening, Waiting, Ended, Growing, Growth, Env, Body, Act, Goes, Calls, AsksGrow, Ends, type_at, with_values, exec, step_code, step_levels, act, frame_of, give_levels, give, enter, enter_at, to_mark, changed, is_mark}
 use Rattle.wasm_meaning.specs.Control.{call_address}
 use Rattle.index_remap.specs.Related
-use Rattle.index_remap.specs.Prelude.{Pairing, OneToOneWhereWritten, OptRel, none, some, ResRel, done, wrong, ListRel, nil, cons, ValRel, OpRel, CodeRel, end, then, instead, FuncRel, defined, own, slot, TableRel, GlobalRel, ElemRel, StoreRel, LevelRel, FrameRel, EntryRel, mark, opening, waiting, growing, BodyRel, GrowthRel, ChangeRel, keep, set_global, set_memory, set_table, drop_elem, drop_data, ActRel, goes, calls, asks_grow, ends, NextRel, ran, asked, asked_grow, loads, returned, NotOpaque, TopSkips, NextKnown, TopKnown, Unknowns, none_unknown, StoreRelOff, read_by, ReadsKnown, known, ActOff, Values, Memories, Control, GroupAgrees}
+use Rattle.index_remap.specs.Prelude.{Pairing, OneToOneWhereWritten, OptRel, none, some, ResRel, done, wrong, ListRel, nil, cons, ValRel, OpRel, CodeRel, end, then, instead, FuncRel, defined, own, slot, TableRel, GlobalRel, ElemRel, StoreRel, LevelRel, FrameRel, EntryRel, mark, opening, waiting, growing, BodyRel, GrowthRel, ChangeRel, keep, set_global, set_memory, set_table, drop_elem, drop_data, ActRel, goes, calls, asks_grow, ends, NextRel, ran, asked, asked_grow, loads, returned, NotOpaque, NextKnown, TopKnown, Unknowns, none_unknown, StoreRelOff, read_by, ReadsKnown, known, ActOff, Values, Memories, Control, GroupAgrees, HaveTypes}
 use Rattle.index_remap.specs.Related.{NextRelBy}
 use Rattle.index_remap.specs.Unknown.{read_next, read_levels}
 use Rattle.index_remap.specs.Groups.{Group, group_of}
@@ -14,7 +14,7 @@ use Rattle.index_remap.proofs.Rel.{res_map}
 use Rattle.base_lists.specs.Related.{PairRel}
 use Rattle.base_lists.proofs.Related.{onto_rel}
 use Rattle.index_remap.proofs.Unknown.{to_off, to_related, changed_off, none_left_by, all_is_known, act_known}
-use Rattle.index_remap.proofs.ValueSteps.{Fits, zeros_rel}
+use Rattle.index_remap.proofs.ValueSteps.{zeros_rel}
 use Rattle.index_remap.proofs.ControlSteps.{end_level_rel}
 use Rattle.index_remap.proofs.ValueGroup.{values_agree}
 use Rattle.index_remap.proofs.MemoryGroup.{memories_agree}
@@ -88,7 +88,7 @@ module _ (R : Pairing) (apart : OneToOneWhereWritten R) where
     pub marks : {s t : Store} {es fs : List Entry} → B s t es fs → ResRel (PairRel (◌≡◌ {A = Caller}) (C s t)) (to_mark es) (to_mark fs)
     pub marked : {s t : Store} {es fs : List Entry} → C s t es fs → is_mark es ≡ is_mark fs
     pub gives : {s t : Store} {vs ws : List Val} {es fs : List Entry} → StoreRel R s t → ListRel (ValRel R) vs ws → C s t es fs → ResRel (NextRel R B) (give s vs es) (give t ws fs)
-    pub enters : {s t : Store} {a b : ℕ} {u : FuncType} {vs ws : List Val} {es fs : List Entry} → StoreRel R s t → R.of space.Functions a b → ¬ R.listed a → type_at s a ≡ Some u → Fits u.params vs → ListRel (ValRel R) vs ws → C s t es fs → ResRel (NextRel R B) (enter_at s a vs es) (enter_at t b ws fs)
+    pub enters : {s t : Store} {a b : ℕ} {u : FuncType} {vs ws : List Val} {es fs : List Entry} → StoreRel R s t → R.of space.Functions a b → ¬ R.listed a → type_at s a ≡ Some u → HaveTypes u.params vs → ListRel (ValRel R) vs ws → C s t es fs → ResRel (NextRel R B) (enter_at s a vs es) (enter_at t b ws fs)
 
   module _ (S : Store → Store → Type 0) (B C : Store → Store → List Entry → List Entry → Type 0) (steady : (s t : Store) (es fs : List Entry) → C s t es fs → B s t es fs) (push : (s t : Store) (e f : Entry) (es fs : List Entry) → EntryRel R e f → C s t es fs → B s t (e ∷ es) (f ∷ fs)) where
     pub enter_rel : {s t : Store} {f g : Func} {vs ws : List Val} {es fs : List Entry} → S s t → FuncRel R f g → ListRel (ValRel R) vs ws → C s t es fs → NextRelBy R S B (enter s f vs es) (enter t g ws fs)

@@ -1,5 +1,5 @@
 -- Steps on tables and element segments agree.
-use Rattle.base_lists.proofs.Common.{◌≡◌, ◌∙◌, ℕ, ◌+◌, ◌<◌, ◌≤◌, List, length, Option, Some, Bool, true, not, ap, subst, arith, slice_get, there, copies_rel}
+use Rattle.base_lists.proofs.Common.{◌≡◌, ◌∙◌, ℕ, ◌+◌, ◌<◌, ◌≤◌, List, length, Option, Some, Bool, true, not, ap, subst, arith, slice_get, there, copies_rel, cond_two}
 use Rattle.wasm_tree_spec.specs.Prelude.{Tables, ElementSegments}
 use Rattle.wasm_tree.specs.declared.instr.Instr.TheOpen.{Instr-F}
 use Rattle.wasm_meaning.specs.Prelude.{Outcome, Gives, Val, RefVal, Table, Env, Body, GrowTable, AsksGrow, type_of_ref, same_ref, pop_three, with_table, fits, writes_table, table_may_grow, init_table}
@@ -8,14 +8,14 @@ use Rattle.wasm_meaning.specs.Tables.{table_get, table_set, table_size, table_gr
 use Rattle.wasm_meaning.proofs.Outcomes.{then_given, then_found}
 use Rattle.index_remap.specs.Prelude.{Pairing, OptRel, ResRel, done, wrong, ListRel, nil, cons, RefRel, ValRel, number, reference, Names, BodyRel, table_grows, drop_elem, goes, asks_grow, Unknowns, is_place_among, RefsOff, TableOff, StoreRelOff, ReadPlace, ReadsSlots, read_by, ReadsKnown, known, ActOff}
 use Rattle.index_remap.specs.Unknown.{off_slots}
-use Rattle.index_remap.proofs.Rel.{bind_rel, bind_found, bind_found_is, cond_rel, or_trap_rel}
+use Rattle.index_remap.proofs.Rel.{bind_rel, bind_found, bind_found_is, or_trap_rel}
 use Rattle.index_remap.proofs.Off.{slice_off, overwrite_off}
 use Rattle.index_remap.proofs.ValueSteps.{bind_num, bind_num_is, pop_ref_rel, ref_type_rel, values_rel, pushes_rel}
 use Rattle.index_remap.proofs.MemorySteps.{bind_three_is}
 
 module _ (R : Pairing) where
   pub fits_rel : (t u : Table) {r s : RefVal} → t.ty ≡ u.ty → RefRel R r s → ResRel (RefRel R) (fits t r) (fits u s)
-  fits_rel t u {s = s} type r = rw (type, ref_type_rel R r) (cond_rel (same_ref u.ty (type_of_ref s)) (done r) wrong)
+  fits_rel t u {s = s} type r = rw (type, ref_type_rel R r) (cond_two (ResRel (RefRel R)) (same_ref u.ty (type_of_ref s)) (done r) wrong)
 
 pub may_same : (t u : Table) (n : ℕ) → length t.slots ≡ length u.slots → t.most ≡ u.most → table_may_grow t n ≡ table_may_grow u n
 may_same t u n size most = rw (size, most)
@@ -55,7 +55,7 @@ module _ (R : Pairing) (off : Unknowns) (ev ew : Env) (st : StoreRelOff R off ev
   pub table_grow_rel : {h k : Body} (n m : ℕ) → BodyRel R ev.inst ew.inst h k → Names R.of Tables ev.inst.tables ew.inst.tables n m → ResRel (ActOff R off ev.inst ew.inst) (table_grow ev h n) (table_grow ew k m)
   table_grow_rel n m r p =
       bind_table n m _ _ r p (λ _ _ t u _ p x. bind_num R W32 _ _ r.values (λ c _ _ v. bind_rel (pop_ref_rel R v) (λ _ _ s. bind_rel (fits_rel R t u x.type s.first) (λ _ _ y.
-      rw (may_same t u c x.slots.size x.most) (cond_rel (table_may_grow u c) (done (asked (values_rel R off ev ew st r s.second) x.slots.size p y)) (pushes_rel R off ev ew st (values_rel R off ev ew st r s.second) number))))))
+      rw (may_same t u c x.slots.size x.most) (cond_two (ResRel (ActOff R off ev.inst ew.inst)) (table_may_grow u c) (done (asked (values_rel R off ev ew st r s.second) x.slots.size p y)) (pushes_rel R off ev ew st (values_rel R off ev ew st r s.second) number))))))
 
   pub table_fill_rel : {h k : Body} (n m : ℕ) → BodyRel R ev.inst ew.inst h k → Names R.of Tables ev.inst.tables ew.inst.tables n m → ResRel (ActOff R off ev.inst ew.inst) (table_fill ev h n) (table_fill ew k m)
   table_fill_rel n m r p =

@@ -9,14 +9,10 @@ use Rattle.wasm_num.specs.declared.BinOp.{BinOp}
 use Rattle.wasm_meaning.specs.Prelude.{Outcome, Gives, IllTyped, or_trap, bind, RefVal, Val, Num, Global, Env, Body, type_of_ref, type_of, same_type, pop, pop_num, pop_ref, typed, pop_typed, null_of, zero_of, zeros, unary, binary, ref_is_null, select_of, select_any, select_typed, go, with_values, on_values, pushes, local_put, global_put, global_set}
 use Rattle.wasm_num.specs.Operations.{Width, W32, W64, un_from, bin_from, bin_value}
 use Rattle.wasm_meaning.specs.Values.{is_null, is_number, second_type, local_get, local_set, local_tee, global_get, ref_func}
-use Rattle.index_remap.specs.Prelude.{Pairing, none, some, ResRel, done, wrong, ListRel, nil, cons, RefRel, func, extern, ValRel, number, reference, Names, BodyRel, keep, set_global, goes, Unknowns, StoreRelOff, ReadsGlobal, read_by, ReadsKnown, known, ActOff}
-use Rattle.index_remap.proofs.Rel.{bind_rel, bind_same, bind_eq, cond_rel, bind_all, any, bind_found, bind_found_is}
+use Rattle.index_remap.specs.Prelude.{Pairing, none, some, ResRel, done, wrong, ListRel, nil, cons, RefRel, func, extern, ValRel, number, reference, Names, BodyRel, keep, set_global, goes, Unknowns, StoreRelOff, ReadsGlobal, read_by, ReadsKnown, known, ActOff, HaveTypes}
+use Rattle.index_remap.proofs.Rel.{bind_rel, bind_same, bind_eq, bind_all, any, bind_found, bind_found_is}
 use Rattle.base_lists.specs.Related.{PairRel}
 use Rattle.wasm_meaning.proofs.Outcomes.{AllOf, just, then_found}
-
--- each value has its type
-abbrev pub Fits : List ValType → List Val → Type 0
-Fits = ListRel (λ t v. typed t v ≡ Gives v)
 
 pub typed_is : (t : ValType) (v w : Val) → typed t v ≡ Gives w → typed t w ≡ Gives w
 typed_is t v w e = go (same_type t (type_of v)) refl e
@@ -25,7 +21,7 @@ typed_is t v w e = go (same_type t (type_of v)) refl e
     go true q f = let h : v ≡ w = cc f in subst (λ x. cond (same_type t (type_of x)) (Gives x) IllTyped ≡ Gives x) h (ap (λ b. cond b (Gives v) IllTyped) q)
     go false q f = cc f
 
-pub pop_typed_all : (ts : List ValType) (vs : List Val) → AllOf (λ p. Fits ts p.0) (pop_typed ts vs)
+pub pop_typed_all : (ts : List ValType) (vs : List Val) → AllOf (λ p. HaveTypes ts p.0) (pop_typed ts vs)
 pop_typed_all [] vs = just nil
 pop_typed_all (t ∷ ts) vs =
     bind_all (pop_typed_all ts vs) (λ p _ r. bind_all (any (pop p.1)) (λ q _ _. bind_all (any (typed t q.0)) (λ v e _. just (cons (typed_is t q.0 v e) r))))
@@ -64,7 +60,7 @@ module _ (R : Pairing) where
   type_rel (reference p) = ap valt.Ref (ref_type_rel p)
 
   pub typed_rel : {v w : Val} (t : ValType) → ValRel R v w → ResRel (ValRel R) (typed t v) (typed t w)
-  typed_rel {v} {w} t p = subst (λ u. ResRel (ValRel R) (typed t v) (cond (same_type t u) (Gives w) IllTyped)) (type_rel p) (cond_rel (same_type t (type_of v)) (done p) wrong)
+  typed_rel {v} {w} t p = subst (λ u. ResRel (ValRel R) (typed t v) (cond (same_type t u) (Gives w) IllTyped)) (type_rel p) (cond_two (ResRel (ValRel R)) (same_type t (type_of v)) (done p) wrong)
 
   pub pop_typed_rel : {vs ws : List Val} (ts : List ValType) → ListRel (ValRel R) vs ws → ResRel (PairRel (ListRel (ValRel R)) (ListRel (ValRel R))) (pop_typed ts vs) (pop_typed ts ws)
   pop_typed_rel [] r = done (record { first = nil; second = r })
@@ -157,7 +153,7 @@ module _ (R : Pairing) (off : Unknowns) (ev ew : Env) (st : StoreRelOff R off ev
 
   global_put_rel : {h k : Body} {v w : Val} {a b : ℕ} (g e : Global) → R.of Globals a b → g.ty ≡ e.ty → BodyRel R ev.inst ew.inst h k → ValRel R v w → ResRel (ActOff R off ev.inst ew.inst) (global_put h a g v) (global_put k b e w)
   global_put_rel g e n type r v =
-      rw type (cond_rel e.ty.mutable (bind_rel (typed_rel R e.ty.ty v) (λ x y new. done (goes (known (set_global n (record { type = refl; value = new }))) r))) wrong)
+      rw type (cond_two (ResRel (ActOff R off ev.inst ew.inst)) e.ty.mutable (bind_rel (typed_rel R e.ty.ty v) (λ x y new. done (goes (known (set_global n (record { type = refl; value = new }))) r))) wrong)
 
   pub global_set_rel : {h k : Body} (n m : ℕ) → BodyRel R ev.inst ew.inst h k → Names R.of Globals ev.inst.globals ew.inst.globals n m → ResRel (ActOff R off ev.inst ew.inst) (global_set ev h n) (global_set ew k m)
   global_set_rel n m r p =

@@ -1,13 +1,14 @@
 -- Stores and configurations that are related by a relation of addresses.
 use Rattle.std.proofs.Common.{◌≡◌, ℕ, List, [], ◌∷◌, ◌++◌, Option, Some, None, Bool, true, false, slice_get}
 pub use Rattle.base_lists.specs.Related.{BothRel, ListRel, OptRel, both, cons, nil, none, some}
+pub use Rattle.wasm_meaning.specs.Outcomes.{ResRel, done, trap, wrong}
 use Rattle.wasm_tree_spec.specs.Prelude.{Space, Functions, Tables, Memories, Globals, ElementSegments, DataSegments, RefType, ValType, BlockType, FuncType, LoadOp, StoreOp, MemArg, Instr, out-Instr}
 use Rattle.std.specs.Prelude.{ℤ}
 use Rattle.wasm_tree.specs.declared.types.BlockType.TheVariants as bt
 use Rattle.wasm_num.specs.declared.UnOp.{UnOp}
 use Rattle.wasm_num.specs.declared.BinOp.{BinOp}
 use Rattle.wasm_tree.specs.declared.instr.Instr.TheOpen.{Instr-F}
-use Rattle.wasm_meaning.specs.Prelude.{Outcome, Gives, Traps, IllTyped, Pair, RefVal, FuncRef, ExternRef, Val, Num, Ref, Inst, Func, Code, Own, Placeholder, Table, Memory, Global, Elem, Store, Level, Frame, Growth, GrowMemory, GrowTable, Entry, Running, Mark, Opening, Waiting, Ended, Growing, Body, Change, Keep, SetGlobal, SetMemory, SetTable, DropElem, DropData, Act, Goes, Calls, AsksGrow, Ends, Next, Ran, CallsOwn, WaitsGrowth, CallsPlaceholder, EndsCall, type_at, own_at, act}
+use Rattle.wasm_meaning.specs.Prelude.{Gives, Pair, RefVal, FuncRef, ExternRef, Val, Num, Ref, Inst, Func, Code, Own, Placeholder, Table, Memory, Global, Elem, Store, Level, Frame, Growth, GrowMemory, GrowTable, Entry, Running, Mark, Opening, Waiting, Ended, Growing, Body, Change, Keep, SetGlobal, SetMemory, SetTable, DropElem, DropData, Act, Goes, Calls, AsksGrow, Ends, Next, Ran, CallsOwn, WaitsGrowth, CallsPlaceholder, EndsCall, type_at, own_at, act}
 use Rattle.wasm_num.specs.Operations.{Width}
 
 -- The simulation relation of the addresses of two stores (`of`), the code relation (`named`), the
@@ -39,12 +40,6 @@ is_written _ = true
 pub record OneToOneWhereWritten (R : Pairing) : Type 0 where
   pub right : {k : Space} → is_written k ≡ true → (a b c : ℕ) → R.of k a b → R.of k a c → b ≡ c
   pub left : {k : Space} → is_written k ≡ true → (a b c : ℕ) → R.of k a c → R.of k b c → a ≡ b
-
--- Both give related values, or both trap, or both are ill typed.
-pub data ResRel {A B : Type 0} (P : A → B → Type 0) : Outcome A → Outcome B → Type 0 where
-  done : {a : A} {b : B} → P a b → ResRel P (Gives a) (Gives b)
-  trap : ResRel P Traps Traps
-  wrong : ResRel P IllTyped IllTyped
 
 pub data RefRel (R : Pairing) : RefVal → RefVal → Type 0 where
   func : {a b : Option ℕ} → OptRel (R.of Functions) a b → RefRel R (FuncRef a) (FuncRef b)

@@ -1,6 +1,6 @@
 -- What a constant expression of a part becomes, by what is read through the part's imported globals.
-use Rattle.base_lists.proofs.Common.{◌≡◌, ◌∙◌, ap, sym, subst, refl, ℕ, zero, suc, ◌+◌, ◌<◌, List, [], ◌∷◌, ◌++◌, length, Option, Some, None, Bool, true, false, cond, ◌&&◌, not, nat_lt, arith, slice_get, get_or, option_and_then, unwrap_or, is_some, cons_option, ltb-true, slice_get-map, slice_get_within, get_or_from_slice_get, and_then_is, left_true, right_true, only_true}
-use Rattle.wasm_tree_spec.specs.Prelude.{Globals, ValType, GlobalType, Import, ConstExpr, Module, globals_of, global_of, imported_globals}
+use Rattle.base_lists.proofs.Common.{◌≡◌, ◌∙◌, ap, sym, subst, refl, ℕ, zero, suc, ◌+◌, ◌<◌, List, [], ◌∷◌, length, Option, Some, None, Bool, true, false, cond, ◌&&◌, not, nat_lt, arith, slice_get, get_or, option_and_then, unwrap_or, is_some, cons_option, ltb-true, slice_get-map, slice_get_within, get_or_from_slice_get, and_then_is, left_true, right_true, only_true, not-true, append_left, map}
+use Rattle.wasm_tree_spec.specs.Prelude.{Globals, ValType, GlobalType, Import, ConstExpr, Module, globals_of, global_of, imported_globals, GlobalDef}
 use Rattle.std.specs.Option.{option_map}
 use Rattle.wasm_tree.specs.declared.module.ImportDesc.TheVariants as im
 use Rattle.wasm_tree.specs.declared.module.ConstExpr.TheVariants as const
@@ -21,11 +21,6 @@ use Rattle.merge_join.specs.Reads.{AreReads, HasType}
 use Rattle.world_simulation.proofs.Alone.{global_desc, global_kind}
 
 -- ---- an imported global ----
-
-front_only : {A : Type 0} (xs ys : List A) (i : ℕ) (x : A) → i < length xs → slice_get (xs ++ ys) i ≡ Some x → slice_get xs i ≡ Some x
-front_only [] ys i x l h = absurd (omega (arith, l))
-front_only (z ∷ xs) ys zero x l h = h
-front_only (z ∷ xs) ys (suc i) x l h = front_only xs ys i x (omega (arith, l)) h
 
 -- where the import of a global stands
 record Found (is : List Import) (from x : ℕ) (g : GlobalType) : Type 0 where
@@ -78,16 +73,12 @@ pub record ReadsGlobal (m : Module) (x : ℕ) : Type 0 where
   pub at : slice_get (imported_globals m.imports) x ≡ Some global
   pub fixed : global.mutable ≡ false
 
-not_true : (b : Bool) → not b ≡ true → b ≡ false
-not_true true h = cc
-not_true false h = refl
-
 pub reads_global : (m : Module) (x : ℕ) (ty : ValType) → const_type m (const.Global x) ≡ Some ty → ReadsGlobal m x
 reads_global m x ty h =
     let g = and_then_is (slice_get (globals_of m) x) (λ g. only (nat_lt x (length (imported_globals m.imports)) && not g.mutable) (Some g.ty)) ty h in
     let b = only_true (nat_lt x (length (imported_globals m.imports)) && not g.0.mutable) (Some g.0.ty) ty g.2 in
     let lt = ltb-true _ _ (left_true _ _ b) in
-    record { global = g.0; at = front_only (imported_globals m.imports) _ x g.0 lt g.1; fixed = not_true g.0.mutable (right_true (nat_lt x (length (imported_globals m.imports))) _ b) }
+    record { global = g.0; at = sym (append_left (imported_globals m.imports) (map (λ (d : GlobalDef). d.ty) m.globals) x lt) ∙ g.1; fixed = not-true g.0.mutable (right_true (nat_lt x (length (imported_globals m.imports))) _ b) }
 
 -- the entry of an imported global is what reading it gives
 module _ (ps : List Part) (p : ℕ) (reads : List (Option Read)) (are : AreReads ps p reads) (x : ℕ) (typed : HasType ps p (const.Global x)) where

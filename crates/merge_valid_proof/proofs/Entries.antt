@@ -1,5 +1,5 @@
 -- The new index of an entry of a part's index space stands in the merged module for an entity of the same type.
-use Rattle.base_lists.proofs.Common.{◌≡◌, ◌∙◌, ap, ap₂, sym, subst, refl, ℕ, zero, suc, ◌+◌, ◌-◌, ◌<◌, ◌≤◌, List, [], ◌∷◌, ◌++◌, length, Option, Some, None, true, arith, ◌⊎◌, inl, inr, option_and_then, unwrap_or, false, slice_get, filter, is_some_there, and_then_is, slice_get_within, slice_get_none, append_from, Has, first_at, is_kept, place_of, places_many}
+use Rattle.base_lists.proofs.Common.{◌≡◌, ◌∙◌, ap, ap₂, sym, subst, refl, ℕ, ◌+◌, ◌-◌, ◌<◌, ◌≤◌, List, length, Option, Some, None, true, arith, ◌⊎◌, inl, inr, option_and_then, unwrap_or, false, slice_get, filter, is_some_there, and_then_is, slice_get_within, slice_get_none, append_from, Has, first_at, is_kept, place_of, places_many, append_left}
 use Rattle.wasm_tree_spec.specs.Prelude.{Space, same_space, Import, ExportDesc, Module, index_of_export, space_of_export, space_of_import}
 use Rattle.wasm_meaning.specs.Prelude.{Text, EndsArePaths, defined_before, Part, Site, End, Defined, Outside, Entity, first_place, module_at, import_at, imports_of, has_kind, imported_as, sites, same_site, is_outside, linked_end}
 use Rattle.merge_spec.specs.Prelude.{External, asked, asked_at, merged, imports_kind, imported_count}
@@ -42,13 +42,8 @@ import_entry k m i n y e t =
     let c = and_then_is (slice_get (space k m) i) (type_of m k) y t in
     let at : n ≡ r.0 = (let z = r.2 in omega (arith, z)) in
     let l : i < length (imported k m) = (let a = slice_get_within (imports_of k m) i n (e) in let q = imports_many k m in omega (arith, a, q)) in
-    let got : slice_get (imported k m) i ≡ Some c.0 = front_only (imported k m) (own k m) i c.0 l c.1 in
+    let got : slice_get (imported k m) i ≡ Some c.0 = sym (append_left (imported k m) (own k m) i l) ∙ c.1 in
     record { import = r.1; at = ap (slice_get m.imports) at ∙ r.3; of_kind = r.4; entry = c.0; adds = sym r.5 ∙ got; typed = c.2 }
-  where
-    front_only : {A : Type 0} (xs ys : List A) (i : ℕ) (x : A) → i < length xs → slice_get (xs ++ ys) i ≡ Some x → slice_get xs i ≡ Some x
-    front_only [] ys i x l h = absurd (omega (arith, l))
-    front_only (z ∷ xs) ys zero x l h = h
-    front_only (z ∷ xs) ys (suc i) x l h = front_only xs ys i x (omega (arith, l)) h
 
 -- the import that an entity is, by the entry of the space
 pub imported_is : (parts : List Part) (k : Space) (p : ℕ) (m : Module) (what : ExportDesc) (i : ℕ) → module_at parts p ≡ Some m → space_of_export what ≡ k → index_of_export what ≡ i →

@@ -1,5 +1,5 @@
 -- What the indices of the module name, and what their entries name in the primary module with stubs in place of its placeholders.
-use Rattle.base_lists.proofs.Common.{◌≡◌, ◌↔◌, ◌∙◌, ap, sym, subst, refl, ℕ, zero, suc, ◌+◌, ◌-◌, ◌<◌, ◌≤◌, ◌&&◌, ◌⊎◌, inl, inr, List, [], ◌∷◌, ◌++◌, map, length, drop, Option, Some, Bool, true, arith, option_and_then, slice_get, slice_index, IsTrue, cases_lt, length-append, length-map, map-append, slice_get_within, same_Some, left_true, right_true, has_chosen, numbers_at, numbers_index, append_left, append_right, map_at, slice_get_there, and_from, get_rel, opt_at, then_rel, among_right, there_among}
+use Rattle.base_lists.proofs.Common.{◌≡◌, ◌∙◌, ap, sym, subst, refl, ℕ, zero, suc, ◌+◌, ◌-◌, ◌<◌, ◌≤◌, ◌&&◌, ◌⊎◌, inl, inr, List, [], ◌∷◌, ◌++◌, map, length, drop, Option, Some, Bool, true, arith, option_and_then, slice_get, slice_index, IsTrue, cases_lt, length-append, length-map, map-append, slice_get_within, same_Some, left_true, right_true, has_chosen, numbers_at, numbers_index, append_left, append_right, map_at, slice_get_there, and_from, get_rel, opt_at, then_rel, among_right, there_among}
 use Rattle.base_lists.specs.Places.{numbers}
 use Rattle.base_kept.specs.Kept.{kept}
 use Rattle.base_kept.proofs.Laws.{kept_at}
@@ -11,7 +11,7 @@ use Rattle.wasm_tree.specs.declared.module.ExportDesc.TheVariants as ex
 use Rattle.wasm_tree.specs.declared.module.Func as tree
 use Rattle.wasm_tree.specs.declared.module.ImportDesc.TheVariants as im
 use Rattle.wasm_valid.specs.declared.kinds.ItemKind.TheVariants as kind
-use Rattle.wasm_valid.specs.Prelude.{const_type, elem_refs, export_func, export_refs, global_refs, const_func, IsValid, ElemModeHolds, DataModeHolds, ItemsHold}
+use Rattle.wasm_valid.specs.Prelude.{const_type, elem_refs, export_func, export_refs, global_refs, const_func, ElemModeHolds, DataModeHolds, ItemsHold, ValidWhereItemsHold}
 use Rattle.wasm_meaning.specs.Prelude.{Inst, Val, Environment, own_globals, imports_of, LoaderWorld, own_count, defined_count}
 use Rattle.wasm_meaning.specs.World as world
 use Rattle.index_remap.specs.declared.remap.Remap.{Remap}
@@ -46,7 +46,7 @@ use Rattle.split_behaves_proof.proofs.Placeholders.{same}
 -- what the laws below say
 pub record Laws : Type 0 where
   pub bodies : BodyLaws
-  pub items : (m : Module) → IsValid m ↔ ItemsHold m
+  pub items : ValidWhereItemsHold
   pub entries : EntriesAreThere
   pub tree_named : (r : Remap) (t : Module) → IsTrue (fits_tree r t) → TreeNamesOnly (with_entry r) t
   pub code : ReplacedCodeIsRelated

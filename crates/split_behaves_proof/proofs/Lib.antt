@@ -24,7 +24,6 @@ mod AlwaysLoads
 mod LoadCode
 mod LoadKeeps
 mod InstancesRelated
-mod Received
 mod MovedCalls
 mod Settled
 mod Arrived

@@ -1,5 +1,5 @@
 -- The code of functions that are loaded is related to theirs in the module alone.
-use Rattle.base_lists.proofs.Common.{◌≡◌, ◌∙◌, ap, ap₂, sym, subst, refl, ℕ, zero, suc, ◌+◌, ◌-◌, ◌<◌, ◌&&◌, ◌||◌, List, [], ◌∷◌, ◌++◌, length, not, Option, Some, None, Bool, true, false, nat_eq, arith, true≢false, ⊎_elim, slice_get, slice_index, unwrap_or, pos, nat_lt, list_any, ltb-true, slice_get_within, same_Some, left_true, right_true, length-numbers, numbers_index, append_at_left, append_right, Has, and_from, cases_Bool, either_true, left_either, right_either, any_from_place, among_there, there_among, place_is, no_place, none_among, the_one}
+use Rattle.base_lists.proofs.Common.{◌≡◌, ◌∙◌, ap, ap₂, sym, subst, refl, ℕ, zero, suc, ◌+◌, ◌-◌, ◌<◌, ◌&&◌, ◌||◌, List, [], ◌∷◌, ◌++◌, length, not, Option, Some, None, Bool, true, false, nat_eq, arith, true≢false, ⊎_elim, slice_get, slice_index, unwrap_or, pos, nat_lt, list_any, ltb-true, slice_get_within, same_Some, left_true, right_true, length-numbers, numbers_index, append_at_left, append_right, Has, and_from, cases_Bool, either_true, left_either, right_either, any_from_place, among_there, there_among, place_is, no_place, none_among, the_one, not-true}
 use Rattle.base_lists.specs.Members.{is_among}
 use Rattle.std.proofs.Common.{eq-eqb}
 use Rattle.base_lists.specs.Options.{◌>>=◌}
@@ -75,10 +75,6 @@ module _ (laws : Laws) (namespace : ℕ → List ℕ) (names : SplitNames) (m : 
   same_space_self : (s : Space) → same_space s s ≡ true
   same_space_self s = grind arith
 
-  not_true : (b : Bool) → not b ≡ true → b ≡ false
-  not_true true h = sym h
-  not_true false h = refl
-
   module _ (n : ℕ) (f : tree.Func) (at : slice_get (defined_at m own) n ≡ Some f) where
     body_goes_on : Met goes_on (λ test. any_operand_passes test f.body)
     body_goes_on o occurs =
@@ -134,7 +130,7 @@ module _ (laws : Laws) (namespace : ℕ → List ℕ) (names : SplitNames) (m : 
             (defined_address env m o.index, a.moves p.0 o.index p.1, is_moved_address laws namespace names m moved owns g env p.0 o.index p.1)
         by false e =
             let rest = right_true (has_entry exact_map o) (not (names_segment o) && goes_on o) h in
-            entry_names o.space o.index (not_true (names_segment o) (left_true (not (names_segment o)) (goes_on o) rest)) (left_true (has_entry exact_map o) (not (names_segment o) && goes_on o) h)
+            entry_names o.space o.index (not-true (names_segment o) (left_true (not (names_segment o)) (goes_on o) rest)) (left_true (has_entry exact_map o) (not (names_segment o) && goes_on o) h)
             (⊎_elim (λ l. absurd (true≢false (sym l ∙ e))) (λ s. s) (either_true (is_opaque_call moved o) (is_from_primary moved (defined_at m own) o.space o.index) (right_true (not (names_segment o)) (goes_on o) rest)))
 
     body_named : (n p : ℕ) (f : ℕ) (at : slice_get own p ≡ Some f) → slice_get (defined_at m own) n ≡ Some (moves p f at).func → ListLayers (OthersNamed R second_map moved i k) (moves p f at).func.body

@@ -3,10 +3,9 @@ use Rattle.base_lists.proofs.Common.{◌≡◌, ◌∙◌, refl, sym, ap, subst,
 use Rattle.wasm_tree_spec.specs.Prelude.{Space, Functions, ValType, FuncType, Instr, Call}
 use Rattle.wasm_tree.specs.declared.instr.Instr.{out-Instr}
 use Rattle.wasm_tree.specs.declared.instr.Instr.TheOpen.{Instr-F}
-use Rattle.wasm_meaning.specs.Prelude.{Outcome, Gives, Traps, IllTyped, bind, or_ill_typed, split_at, RefVal, Val, Inst, Store, Level, Frame, Entry, Running, Caller, Host, Starter, Mark, Opening, Env, Body, Act, Goes, Calls, AsksGrow, Ends, pop_typed, with_values, type_at, end_level, resume, exec, step_code, step_levels, act, frame_of, enter_at, perform, step, to_mark, same_text, Shown, func_of, look_up, received_all, Run, Move, Out, Transition, Steps, Makes, Phase, Fresh, Pending, Opened, Closed, Trapped, InstanceTrapped, BadMove, viewed_at, trapped_to, run_after, made, called, moved, at_entries, or_bad, next_move, nothing_in, started, or_closed, open_next, in_phase, transition_at, transition, tick}
+use Rattle.wasm_meaning.specs.Prelude.{Outcome, Gives, Traps, IllTyped, bind, or_ill_typed, split_at, RefVal, Val, Inst, Store, Level, Frame, Entry, Running, Caller, Host, Starter, Mark, Opening, Env, Body, Act, Goes, Calls, AsksGrow, Ends, pop_typed, with_values, type_at, end_level, resume, exec, step_code, step_levels, act, frame_of, enter_at, perform, step, to_mark, same_text, Shown, func_of, look_up, received_all, Run, Move, Transition, Steps, Makes, Phase, Fresh, Pending, Opened, Closed, Trapped, InstanceTrapped, BadMove, trapped_to, made, called, moved, at_entries, or_bad, next_move, nothing_in, started, or_closed, in_phase, transition_at, transition}
 use Rattle.wasm_meaning.specs.Run as run
-use Rattle.wasm_meaning.specs.Run.{trapped_at}
-use Rattle.index_remap.specs.Prelude.{Pairing, OneToOne, OptRel, none, some, ResRel, done, trap, wrong, BothRel, both, ListRel, nil, cons, ValRel, OpRel, CodeRel, end, then, instead, StoreRel, LevelRel, FrameRel, EntryRel, BodyRel, ActRel, calls, NotOpaque, TopSkips, PhaseRel, fresh, pending, opened, closed, IsBegun, passed_with, MoveSkips, NextMoveSkips, TickSkips, calls_placeholder, WithPassing, FramesBetween, HaveTypes, at_code, Values, Memories, Control, GroupAgrees, none_unknown, RefsOff, StoreRelOff, ReadPlace, ReadsNothing, ReadsGlobal, ReadsSlots, ReadsItems, IsKnown, ActOff}
+use Rattle.index_remap.specs.Prelude.{Pairing, OneToOne, OptRel, none, some, ResRel, done, trap, wrong, BothRel, both, ListRel, nil, cons, ValRel, OpRel, CodeRel, end, then, instead, StoreRel, LevelRel, FrameRel, EntryRel, BodyRel, calls, NotOpaque, PhaseRel, fresh, pending, opened, closed, IsBegun, passed_with, MoveSkips, NextMoveSkips, TickSkips, calls_placeholder, WithPassing, FramesBetween, HaveTypes, at_code, Values, Memories, Control, none_unknown, RefsOff, StoreRelOff, ReadPlace, ReadsNothing, ReadsGlobal, ReadsSlots, ReadsItems, ActOff}
 use Rattle.index_remap.specs.Related as to
 use Rattle.index_remap.specs.Trampolines as with_frames
 use Rattle.index_remap.specs.Groups.{Group, group_of}
@@ -14,9 +13,6 @@ use Rattle.index_remap.proofs.Rel.{written}
 use Rattle.base_lists.specs.Related.{PairRel}
 use Rattle.base_lists.proofs.Related.{if_there_at}
 use Rattle.index_remap.proofs.ValueSteps.{pop_typed_all, pop_typed_rel}
-use Rattle.index_remap.proofs.ValueGroup.{values_agree}
-use Rattle.index_remap.proofs.MemoryGroup.{memories_agree}
-use Rattle.index_remap.proofs.ControlGroup.{control_agrees}
 use Rattle.index_remap.proofs.Known.{op_known}
 use Rattle.index_remap.proofs.StepsAgree.{frame_rel, left_rel, each_group}
 use Rattle.index_remap.proofs.FramesBetween.{frames as top_frames, again, between}
@@ -24,7 +20,7 @@ use Rattle.wasm_meaning.proofs.Outcomes.{all_at}
 use Rattle.split_behaves_proof.specs.Begins.{RunsRelated}
 use Rattle.split_behaves_proof.specs.MovedCalls.{EntersInBoth, ReplacementCode, NoCallBegins, StepsCallMovedTogether, skips, enters, EveryStepCallsMovedTogether}
 use Rattle.split_behaves_proof.specs.MovedCalls as way
-use Rattle.split_behaves_proof.proofs.Received.{look_rel, func_of_rel, received_all_rel, fits_received}
+use Rattle.index_remap.proofs.Received.{look_rel, func_of_rel, received_all_rel, fits_received}
 use Rattle.index_remap.proofs.Unknown.{all_is_known}
 
 -- ---- what calls ----

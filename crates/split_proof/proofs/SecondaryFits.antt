@@ -1,5 +1,5 @@
 -- The map of a secondary module has an entry for each index that is named in its tree.
-use Rattle.base_lists.proofs.Common.{◌≡◌, ◌∙◌, ap, sym, refl, ℕ, ◌+◌, ◌-◌, ◌<◌, List, [], ◌∷◌, map, length, Bool, true, false, ◌&&◌, not, Option, Some, None, ⊎_elim, slice_get, arith, true≢false, IsTrue, list_all, length-append, length-map, slice_get_within, left_true, right_true, list_all_from, length-numbers, map_from, slice_get_there, and_from, cases_Bool, place_is}
+use Rattle.base_lists.proofs.Common.{◌≡◌, ◌∙◌, ap, sym, refl, ℕ, ◌+◌, ◌-◌, ◌<◌, List, [], ◌∷◌, map, length, Bool, true, false, ◌&&◌, not, Option, Some, None, ⊎_elim, slice_get, arith, true≢false, IsTrue, list_all, length-append, length-map, slice_get_within, left_true, right_true, list_all_from, length-numbers, map_from, slice_get_there, and_from, cases_Bool, place_is, not-true}
 use Rattle.base_lists.specs.Places.{numbers}
 use Rattle.base_kept.specs.Kept.{new_places}
 use Rattle.wasm_tree_spec.specs.Prelude.{Operand, Space, Types, Functions, Tables, Memories, Globals, ElementSegments, DataSegments, Func, Module, all_operands_pass, called, imported_funcs, funcs_of, tables_of, memories_of, globals_of}
@@ -60,13 +60,9 @@ module _ (laws : BodyLaws) (entries_there : EntriesAreThere) (names : SplitNames
   abbrev is_plain : Operand → Bool
   is_plain o = has_entry old o && not (names_segment o)
 
-  not_true : (b : Bool) → not b ≡ true → b ≡ false
-  not_true true h = sym h
-  not_true false h = refl
-
   plain_fits : (o : Operand) → not o.called ≡ true → is_plain o ≡ true → has_entry map_of o ≡ true
   plain_fits o n h =
-      others o.space o.called o.index (not_true (names_segment o) (right_true (has_entry old o) (not (names_segment o)) h)) (left_true (has_entry old o) (not (names_segment o)) h)
+      others o.space o.called o.index (not-true (names_segment o) (right_true (has_entry old o) (not (names_segment o)) h)) (left_true (has_entry old o) (not (names_segment o)) h)
 
   call_fits : (f : ℕ) → is_plain (called f) ≡ true → all_operands_pass (has_entry map_of) (secondary_call m moved own f) ≡ true
   call_fits f h = by (place_among own f) (place_among moved f) refl refl

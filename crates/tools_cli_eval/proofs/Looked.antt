@@ -1,13 +1,14 @@
 -- Exports and functions that are looked up by their names.
-use Rattle.base_lists.proofs.Common.{◌≡◌, ◌∙◌, ap, sym, refl, subst, ℕ, zero, suc, ◌+◌, ◌-◌, ◌<◌, ◌≤◌, arith, List, [], ◌∷◌, ◌++◌, append_assoc, length, drop, get_or, slice_get, is_some, Bool, true, false, cond, Option, Some, None, bytes_eq, at_drop_more, drop_more, same_Some, bytes_eq-Decides, same_tests}
+use Rattle.base_lists.proofs.Common.{◌≡◌, ◌∙◌, ap, sym, refl, subst, ℕ, zero, suc, ◌+◌, ◌-◌, ◌<◌, ◌≤◌, arith, List, [], ◌∷◌, ◌++◌, append_assoc, length, drop, get_or, is_some, cond, Option, Some, None, bytes_eq, at_drop_more, drop_more, same_Some, bytes_eq-Decides, same_tests, slice_get_within}
 use Rattle.base_lists.proofs.Same.{text_is, text_self}
 use Rattle.base_lists.specs.Options.{◌>>=◌}
 use Rattle.wasm_tree_spec.specs.Prelude.{Export, ExportDesc, Module, funcs_of}
 use Rattle.wasm_tree.specs.declared.module.ExportDesc.TheVariants as ex
 use Rattle.wasm_valid.specs.declared.kinds.ItemKind.{ItemKind}
 use Rattle.wasm_valid.specs.declared.kinds.ItemKind.TheVariants as kind
-use Rattle.wasm_valid.specs.Prelude.{HoldsAt, InSpace, count_of, ItemsHold}
+use Rattle.wasm_valid.specs.Prelude.{InSpace, ItemsHold}
 use Rattle.wasm_meaning.specs.Prelude.{Text, export_named, same_text}
+use Rattle.wasm_meaning.proofs.Exports.{exported_there}
 use Rattle.eval_snapshot_spec.specs.Evaluated.{first_missing, func_exported, func_named, funcs_named}
 use Rattle.tools_cli_eval.specs.Named.{AreFuncsOf}
 
@@ -22,21 +23,6 @@ export_before es at e name above within is =
     at_drop_more (λ l. export_named l name) es (at - 1) e (omega (arith, above, within))
     ∙ (ap (λ x. export_named (x ∷ drop (at - 1 + 1) es) name) (sym is) ∙ (ap (λ n. export_named (e ∷ drop n es) name) same ∙ ap (λ b. cond b (Some e.desc) (export_named (drop at es) name)) (same_bytes e.name name)))
 
--- what is found under a name is exported
-exported_there : (es : List Export) (name : Text) (d : ExportDesc) → export_named es name ≡ Some d → (n : ℕ) × (e : Export) × (slice_get es n ≡ Some e) × (e.desc ≡ d)
-exported_there [] name d h = absurd (cc)
-exported_there (e ∷ es) name d h = by (same_text e.name name) h (exported_there es name d)
-  where
-    by : (b : Bool) → cond b (Some e.desc) (export_named es name) ≡ Some d → (export_named es name ≡ Some d → (n : ℕ) × (x : Export) × (slice_get es n ≡ Some x) × (x.desc ≡ d)) →
-        (n : ℕ) × (x : Export) × (slice_get (e ∷ es) n ≡ Some x) × (x.desc ≡ d)
-    by true k later = (0, e, refl, same_Some e.desc d k)
-    by false k later = let (n, x, at, is) = later k in (suc n, x, at, is)
-
-within : {A : Type 0} (xs : List A) (n : ℕ) (x : A) → slice_get xs n ≡ Some x → n < length xs
-within [] n x e = absurd (cc)
-within (y ∷ ys) zero x e = omega arith
-within (y ∷ ys) (suc n) x e = let h = within ys n x e in omega (arith, h)
-
 pub func_there : (m : Module) → ItemsHold m → (name : Text) (func : ℕ) → func_named m name ≡ Some func → func < length (funcs_of m)
 func_there m hold name func h = by (export_named m.exports name) refl h
   where
@@ -48,7 +34,7 @@ func_there m hold name func h = by (export_named m.exports name) refl h
     by (Some (ex.Func f)) e k =
         let is : f ≡ func = same_Some f func k in
         let (n, x, at, desc) = exported_there m.exports name (ex.Func f) e in
-        let item = hold kind.Export n (within m.exports n x at) in
+        let item = hold kind.Export n (slice_get_within m.exports n x at) in
         let same : item.0 ≡ x = same_Some item.0 x (sym item.1 ∙ at) in
         let space : InSpace m (ex.Func f) = subst (InSpace m) (ap (λ (y : Export). y.desc) same ∙ desc) item.2 in
         subst (λ g. g < length (funcs_of m)) is space

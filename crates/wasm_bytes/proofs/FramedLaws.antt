@@ -1,6 +1,5 @@
 -- What is read behind the header is what the whole file frames.
-use Rattle.std.proofs.Common.{◌≡◌, ℕ, zero, suc, ◌≤◌, List, [], ◌∷◌, ◌++◌, length, drop, Result, Ok, Err, IfOk, ◌⊎◌, inl, inr, refl, sym, ap, ◌∙◌, subst, arith, length-append}
-use Rattle.base_lists.proofs.Places.{drop_most}
+use Rattle.std.proofs.Common.{◌≡◌, ℕ, zero, suc, ◌≤◌, List, [], ◌∷◌, ◌++◌, length, drop, Result, Ok, Err, IfOk, ◌⊎◌, inl, inr, refl, sym, ap, ◌∙◌, subst, arith, length-append, length-drop}
 use Rattle.std.specs.Prelude.{IsOkAnd}
 use Rattle.wasm_bytes.specs.declared.framing.Frame.{Frame as Place}
 use Rattle.wasm_bytes.specs.declared.framing.FrameFault.{FrameFault}
@@ -37,7 +36,7 @@ only bytes (Err NoMemory) g ss f = inl refl
 
 bad_read : (bytes : List ℕ) (n : ℕ) → IsBytes bytes → HasHeader bytes → frames_behind bytes ≡ Err n → FirstBad bytes n
 bad_read bytes n small h e =
-    let b = bad_sound (length bytes) 0 0 n (drop 8 bytes) (drop_most 8 bytes) (bytes_drop 8 bytes small) e in
+    let b = bad_sound (length bytes) 0 0 n (drop 8 bytes) (omega (arith, length-drop 8 bytes)) (bytes_drop 8 bytes small) e in
     let same : b.0 ≡ n = omega (arith, b.1) in
     subst (FirstBad bytes) same (header, drop 8 bytes, refl, b.2, header_split bytes h)
 

@@ -11,6 +11,7 @@ mod LinkingAndSegmentRuns
 pub mod Walks
 pub mod Linked
 pub mod Counts
+pub mod Exports
 mod StartFrames
 pub mod Outcomes
 mod Touches

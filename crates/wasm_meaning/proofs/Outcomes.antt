@@ -1,6 +1,6 @@
--- What holds of what a part of a step comes to, where it gives something.
+-- What holds of what a part of a step comes to, where it gives something, and outcomes that are related.
 use Rattle.std.proofs.Common.{◌≡◌, Bool, true, false, cond, Option, Some, None, refl, ap, subst}
-use Rattle.wasm_meaning.specs.Outcomes.{Outcome, Gives, Traps, IllTyped, bind, or_trap, or_ill_typed}
+use Rattle.wasm_meaning.specs.Outcomes.{Outcome, Gives, Traps, IllTyped, ResRel, done, trap, wrong, bind, or_trap, or_ill_typed}
 
 -- P of what is there
 pub data AllOf {A : Type 0} (P : A → Type 0) : Outcome A → Type 0 where
@@ -39,3 +39,11 @@ then_given f e = ap (λ x. bind x f) e
 
 pub then_found : {A B : Type 0} {o : Option A} {a : A} (f : A → Outcome B) → o ≡ Some a → bind (or_ill_typed o) f ≡ f a
 then_found f e = ap (λ x. bind (or_ill_typed x) f) e
+
+-- ---- related outcomes ----
+
+-- what follows one outcome in two ways is related if it is so for each value that the outcome may give
+pub bind_same : {A C D : Type 0} {Q : C → D → Type 0} {f : A → Outcome C} {g : A → Outcome D} (o : Outcome A) → ((a : A) → ResRel Q (f a) (g a)) → ResRel Q (bind o f) (bind o g)
+bind_same Traps h = trap
+bind_same IllTyped h = wrong
+bind_same (Gives a) h = h a

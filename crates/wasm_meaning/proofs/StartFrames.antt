@@ -1,24 +1,13 @@
 -- A start does not see what it stands on.
-use Rattle.base_lists.proofs.Common.{◌≡◌, ℕ, List, [], ◌∷◌, ◌++◌, length, Option, Some, None, Bool, true, false, cond, option_and_then, slice_get, refl, ap, subst, nat_eq, then_same}
+use Rattle.base_lists.proofs.Common.{◌≡◌, ℕ, List, [], ◌∷◌, ◌++◌, length, Option, Some, None, Bool, true, false, slice_get, refl, ap, subst, nat_eq, then_same}
 use Rattle.base_lists.specs.Related.{OptRel, none, some}
 use Rattle.base_lists.proofs.Related.{either_rel}
 use Rattle.wasm_tree_spec.specs.Prelude.{ValType, FuncType}
 use Rattle.wasm_num.specs.Operations.{W32}
-use Rattle.wasm_meaning.specs.Prelude.{Outcome, Gives, Traps, IllTyped, bind, overwrite, or_ill_typed, Pair, FuncRef, Val, Num, Ref, Func, Code, Own, Placeholder, Store, Change, Keep, SetGlobal, SetMemory, SetTable, DropElem, DropData, Growth, GrowMemory, GrowTable, Level, Frame, Entry, Running, Caller, Host, Starter, Mark, Opening, Waiting, Ended, Growing, Act, Goes, Calls, AsksGrow, Ends, Next, Ran, CallsOwn, WaitsGrowth, CallsPlaceholder, EndsCall, pop_typed, null_of, with_values, memory_may_grow, table_may_grow, type_at, act, frame_of, give_levels, give, enter, enter_at, changed, perform, to_mark, Shown, ExternalValue, FuncAt, TableAt, MemoryAt, GlobalAt, func_of, received, received_ref, received_all, Move, Call, Invoke, Take, Answer, Refuse, Grant, Deny, Get, Size, Set, Extend, Phase, Run, Out, Transition, Steps, Makes, made, viewed_at, place_at, show_all, trapped_to, run_after, called, is_mark, delivered, answered, refused, grown_table, granted, decided, shows, got, size_of, does, byte_of, set, extended, moved, at_entries, or_bad, next_move, tick, IsBottom, GivesNothing, a_frame, a_call, over, AgreeOnFrames, ended, trapped}
+use Rattle.wasm_meaning.specs.Prelude.{Outcome, Gives, bind, overwrite, or_ill_typed, Pair, FuncRef, Val, Num, Ref, Func, Code, Own, Placeholder, Store, Change, Keep, SetGlobal, SetMemory, SetTable, DropElem, DropData, Growth, GrowMemory, GrowTable, Level, Frame, Entry, Running, Caller, Host, Starter, Mark, Opening, Waiting, Ended, Growing, Act, Goes, Calls, AsksGrow, Ends, Next, Ran, CallsOwn, WaitsGrowth, CallsPlaceholder, EndsCall, pop_typed, null_of, with_values, memory_may_grow, table_may_grow, type_at, act, frame_of, give_levels, give, enter, enter_at, changed, perform, to_mark, Shown, ExternalValue, FuncAt, TableAt, MemoryAt, GlobalAt, func_of, received, received_ref, received_all, Move, Call, Invoke, Take, Answer, Refuse, Grant, Deny, Get, Size, Set, Extend, Phase, Run, Out, Transition, Steps, Makes, made, viewed_at, place_at, show_all, trapped_to, run_after, called, is_mark, delivered, answered, refused, grown_table, granted, decided, shows, got, size_of, does, byte_of, set, extended, moved, at_entries, or_bad, next_move, tick, IsBottom, GivesNothing, a_frame, a_call, over, AgreeOnFrames, ended, trapped, ResRel, done, trap, wrong}
+use Rattle.wasm_meaning.proofs.Outcomes.{bind_same}
 use Rattle.wasm_meaning.specs.Run.{show, grown_memory}
 use Rattle.wasm_meaning.specs.StartFrames.{goes_on}
-
--- ---- outcomes ----
-
-data OutcomeRel {A B : Type 0} (P : A → B → Type 0) : Outcome A → Outcome B → Type 0 where
-  gives : {a : A} {b : B} → P a b → OutcomeRel P (Gives a) (Gives b)
-  traps : OutcomeRel P Traps Traps
-  ill_typed : OutcomeRel P IllTyped IllTyped
-
-bind_same : {A B C : Type 0} {P : B → C → Type 0} {f : A → Outcome B} {g : A → Outcome C} (o : Outcome A) → ((a : A) → OutcomeRel P (f a) (g a)) → OutcomeRel P (bind o f) (bind o g)
-bind_same (Gives a) h = h a
-bind_same Traps h = traps
-bind_same IllTyped h = ill_typed
 
 -- ---- entries ----
 
@@ -73,40 +62,40 @@ module _ (cs ds : List Entry) (low : IsBottom cs) (other : IsBottom ds) (p q : P
 
   -- ---- what a step of the machine comes to ----
 
-  give_levels_below : (s : Store) (vs : List Val) (f : Frame) (ls : List Level) (es : List Entry) → GivesNothing (Running f ∷ es) → OutcomeRel (NextRel s.funcs) (give_levels s vs f ls (es ++ cs)) (give_levels s vs f ls (es ++ ds))
-  give_levels_below s vs f [] es g = ill_typed
-  give_levels_below s vs f (l ∷ ls) es g = gives (ran (_ ∷ es) refl (same_top refl g))
+  give_levels_below : (s : Store) (vs : List Val) (f : Frame) (ls : List Level) (es : List Entry) → GivesNothing (Running f ∷ es) → ResRel (NextRel s.funcs) (give_levels s vs f ls (es ++ cs)) (give_levels s vs f ls (es ++ ds))
+  give_levels_below s vs f [] es g = wrong
+  give_levels_below s vs f (l ∷ ls) es g = done (ran (_ ∷ es) refl (same_top refl g))
 
-  give_below : (s : Store) (vs : List Val) {es : List Entry} → GivesNothing es → OutcomeRel (NextRel s.funcs) (give s vs (es ++ cs)) (give s vs (es ++ ds))
+  give_below : (s : Store) (vs : List Val) {es : List Entry} → GivesNothing es → ResRel (NextRel s.funcs) (give s vs (es ++ cs)) (give s vs (es ++ ds))
   give_below s vs (a_frame {f = f} n) = give_levels_below s vs f f.levels [] (a_frame n)
-  give_below s vs a_call = ill_typed
+  give_below s vs a_call = wrong
   give_below s vs (over {e = Running f} {es = es} o g) = give_levels_below s vs f f.levels es (over refl g)
-  give_below s vs (over {e = Mark} {es = es} o g) = gives (ends_call es refl g)
+  give_below s vs (over {e = Mark} {es = es} o g) = done (ends_call es refl g)
   give_below s vs (over {e = Opening xs} o g) = cc
-  give_below s vs (over {e = Waiting ts} o g) = ill_typed
-  give_below s vs (over {e = Ended ws} o g) = ill_typed
-  give_below s vs (over {e = Growing x} o g) = ill_typed
+  give_below s vs (over {e = Waiting ts} o g) = wrong
+  give_below s vs (over {e = Ended ws} o g) = wrong
+  give_below s vs (over {e = Growing x} o g) = wrong
 
   -- what the lowest frame gives is nothing
-  ends_lowest : (s : Store) {ts : List ValType} (vs : List Val) → ts ≡ [] → OutcomeRel (NextRel s.funcs) (bind (pop_typed ts vs) (λ w. give s w.0 cs)) (bind (pop_typed ts vs) (λ w. give s w.0 ds))
-  ends_lowest s vs n = rw (n, low.gives s, other.gives s) (gives (ran_out refl))
+  ends_lowest : (s : Store) {ts : List ValType} (vs : List Val) → ts ≡ [] → ResRel (NextRel s.funcs) (bind (pop_typed ts vs) (λ w. give s w.0 cs)) (bind (pop_typed ts vs) (λ w. give s w.0 ds))
+  ends_lowest s vs n = rw (n, low.gives s, other.gives s) (done (ran_out refl))
 
   enter_below : (s : Store) (f : Func) (vs : List Val) (es : List Entry) → GivesNothing es → NextRel s.funcs (enter s f vs (es ++ cs)) (enter s f vs (es ++ ds))
   enter_below s (Code t i ls c) vs es g = ran (_ ∷ es) refl (over refl g)
   enter_below s (Own pair t) vs es g = calls_own (_ ∷ es) refl (over refl g)
   enter_below s (Placeholder n t) vs es g = placeholder es refl g
 
-  enter_at_below : (s : Store) (a : ℕ) (vs : List Val) (es : List Entry) → GivesNothing es → OutcomeRel (NextRel s.funcs) (enter_at s a vs (es ++ cs)) (enter_at s a vs (es ++ ds))
-  enter_at_below s a vs es g = bind_same (or_ill_typed (slice_get s.funcs a)) (λ f. gives (enter_below s f vs es g))
+  enter_at_below : (s : Store) (a : ℕ) (vs : List Val) (es : List Entry) → GivesNothing es → ResRel (NextRel s.funcs) (enter_at s a vs (es ++ cs)) (enter_at s a vs (es ++ ds))
+  enter_at_below s a vs es g = bind_same (or_ill_typed (slice_get s.funcs a)) (λ f. done (enter_below s f vs es g))
 
-  ends_below : (s : Store) (f : Frame) (es : List Entry) (vs : List Val) → GivesNothing (Running f ∷ es) → OutcomeRel (NextRel s.funcs) (perform s f (es ++ cs) (Ends vs)) (perform s f (es ++ ds) (Ends vs))
+  ends_below : (s : Store) (f : Frame) (es : List Entry) (vs : List Val) → GivesNothing (Running f ∷ es) → ResRel (NextRel s.funcs) (perform s f (es ++ cs) (Ends vs)) (perform s f (es ++ ds) (Ends vs))
   ends_below s f _ vs (a_frame n) = ends_lowest s vs n
   ends_below s f es vs (over o g) = bind_same (pop_typed f.results vs) (λ w. give_below s w.0 g)
 
-  perform_below : (s : Store) (f : Frame) (es : List Entry) → GivesNothing (Running f ∷ es) → (x : Act) → OutcomeRel (NextRel s.funcs) (perform s f (es ++ cs) x) (perform s f (es ++ ds) x)
-  perform_below s f es g (Goes c h) = gives (ran (Running (frame_of f h) ∷ es) (funcs_stay s c) (same_top refl g))
+  perform_below : (s : Store) (f : Frame) (es : List Entry) → GivesNothing (Running f ∷ es) → (x : Act) → ResRel (NextRel s.funcs) (perform s f (es ++ cs) x) (perform s f (es ++ ds) x)
+  perform_below s f es g (Goes c h) = done (ran (Running (frame_of f h) ∷ es) (funcs_stay s c) (same_top refl g))
   perform_below s f es g (Calls a vs h) = bind_same (or_ill_typed (type_at s a)) (λ t. bind_same (pop_typed t.params vs) (λ w. enter_at_below s a w.0 (Running (frame_of f (with_values h w.1)) ∷ es) (same_top refl g)))
-  perform_below s f es g (AsksGrow x m n h) = gives (waits (Growing x ∷ Running (frame_of f h) ∷ es) refl (over refl (same_top refl g)))
+  perform_below s f es g (AsksGrow x m n h) = done (waits (Growing x ∷ Running (frame_of f h) ∷ es) refl (over refl (same_top refl g)))
   perform_below s f es g (Ends vs) = ends_below s f es vs g
 
   -- ---- what follows it ----
@@ -132,21 +121,21 @@ module _ (cs ds : List Entry) (low : IsBottom cs) (other : IsBottom ds) (p q : P
   trapped_below r es n (at_mark fs g) = goes_on r fs n g
   trapped_below r es n at_opening = trapped r
 
-  after_below : {o u : Outcome Next} (r : Run) (es : List Entry) → GivesNothing es → OutcomeRel (NextRel r.store.funcs) o u → Alike r.store.funcs (run_after (first r es) o) (run_after (second r es) u)
-  after_below r es g traps = trapped_below r es refl (to_mark_below g)
-  after_below r es g ill_typed = trapped_below r es refl (to_mark_below g)
-  after_below r es g (gives (ran {s = s} fs n h)) = goes_on (record r { store = s }) fs n h
-  after_below r es g (gives (ran_out {s = s} n)) = ended (record r { store = s }) n
-  after_below r es g (gives (calls_own {vs = vs} {s = s} fs n h)) = goes_on (record r { store = s; shown = (show_all s r.shown vs).1 }) fs n h
-  after_below r es g (gives (waits {s = s} fs n h)) = goes_on (record r { store = s }) fs n h
-  after_below r es g (gives (placeholder {s = s} fs n h)) = trapped_below (record r { store = s }) fs n (to_mark_below h)
-  after_below r es g (gives (ends_call {vs = vs} {s = s} fs n h)) = goes_on (record r { store = s; shown = (show_all s r.shown vs).1 }) fs n h
+  after_below : {o u : Outcome Next} (r : Run) (es : List Entry) → GivesNothing es → ResRel (NextRel r.store.funcs) o u → Alike r.store.funcs (run_after (first r es) o) (run_after (second r es) u)
+  after_below r es g trap = trapped_below r es refl (to_mark_below g)
+  after_below r es g wrong = trapped_below r es refl (to_mark_below g)
+  after_below r es g (done (ran {s = s} fs n h)) = goes_on (record r { store = s }) fs n h
+  after_below r es g (done (ran_out {s = s} n)) = ended (record r { store = s }) n
+  after_below r es g (done (calls_own {vs = vs} {s = s} fs n h)) = goes_on (record r { store = s; shown = (show_all s r.shown vs).1 }) fs n h
+  after_below r es g (done (waits {s = s} fs n h)) = goes_on (record r { store = s }) fs n h
+  after_below r es g (done (placeholder {s = s} fs n h)) = trapped_below (record r { store = s }) fs n (to_mark_below h)
+  after_below r es g (done (ends_call {vs = vs} {s = s} fs n h)) = goes_on (record r { store = s; shown = (show_all s r.shown vs).1 }) fs n h
 
   -- ---- moves ----
 
   -- a step of the machine over both, or steps that the runs make
   data Turn (funcs : List Func) : Transition → Transition → Type 0 where
-    steps : {o u : Outcome Next} (r : Run) (es : List Entry) → r.store.funcs ≡ funcs → GivesNothing es → OutcomeRel (NextRel r.store.funcs) o u → Turn funcs (Steps (first r es) o) (Steps (second r es) u)
+    steps : {o u : Outcome Next} (r : Run) (es : List Entry) → r.store.funcs ≡ funcs → GivesNothing es → ResRel (NextRel r.store.funcs) o u → Turn funcs (Steps (first r es) o) (Steps (second r es) u)
     makes : {o u : Out} → Alike funcs o u → Turn funcs (Makes o) (Makes u)
 
   made_below : {funcs : List Func} {t u : Transition} → Turn funcs t u → Alike funcs (made t) (made u)
@@ -160,17 +149,17 @@ module _ (cs ds : List Entry) (low : IsBottom cs) (other : IsBottom ds) (p q : P
   called_below r es fs g h xs a = then_same (type_at r.store a) (λ t. then_same (received_all r.owned r.shown t.params xs) (λ vs. some (steps r es refl g (enter_at_below r.store a vs fs h))))
 
   delivered_low : (r : Run) (es : List Entry) → GivesNothing es → Turn r.store.funcs (delivered (first r es) [] cs) (delivered (second r es) [] ds)
-  delivered_low r es g = rw (unmarked cs low.traps, unmarked ds other.traps, low.gives r.store, other.gives r.store) (steps r es refl g (gives (ran_out refl)))
+  delivered_low r es g = rw (unmarked cs low.traps, unmarked ds other.traps, low.gives r.store, other.gives r.store) (steps r es refl g (done (ran_out refl)))
 
   delivered_below : (r : Run) (es : List Entry) → GivesNothing es → (vs : List Val) {fs : List Entry} → GivesNothing fs → Turn r.store.funcs (delivered (first r es) vs (fs ++ cs)) (delivered (second r es) vs (fs ++ ds))
   delivered_below r es g vs (a_frame n) = steps r es refl g (give_below r.store vs (a_frame n))
-  delivered_below r es g vs a_call = steps r es refl g ill_typed
+  delivered_below r es g vs a_call = steps r es refl g wrong
   delivered_below r es g vs (over {e = Running f} o h) = steps r es refl g (give_below r.store vs (over {e = Running f} refl h))
   delivered_below r es g vs (over {e = Mark} {es = fs} o h) = makes (goes_on r (Ended vs ∷ Mark ∷ fs) refl (over refl (over refl h)))
   delivered_below r es g vs (over {e = Opening xs} o h) = cc
-  delivered_below r es g vs (over {e = Waiting ts} o h) = steps r es refl g ill_typed
-  delivered_below r es g vs (over {e = Ended ws} o h) = steps r es refl g ill_typed
-  delivered_below r es g vs (over {e = Growing x} o h) = steps r es refl g ill_typed
+  delivered_below r es g vs (over {e = Waiting ts} o h) = steps r es refl g wrong
+  delivered_below r es g vs (over {e = Ended ws} o h) = steps r es refl g wrong
+  delivered_below r es g vs (over {e = Growing x} o h) = steps r es refl g wrong
 
   answered_lowest : (r : Run) (es : List Entry) → GivesNothing es → (xs : List Shown) → Moved r (answered (first r es) xs (Waiting [] ∷ cs)) (answered (second r es) xs (Waiting [] ∷ ds))
   answered_lowest r es g [] = some (delivered_low r es g)
@@ -188,11 +177,11 @@ module _ (cs ds : List Entry) (low : IsBottom cs) (other : IsBottom ds) (p q : P
 
   refused_below : (r : Run) (es : List Entry) → GivesNothing es → {fs : List Entry} → GivesNothing fs → Moved r (refused (first r es) (fs ++ cs)) (refused (second r es) (fs ++ ds))
   refused_below r es g (a_frame n) = none
-  refused_below r es g a_call = some (steps r es refl g traps)
+  refused_below r es g a_call = some (steps r es refl g trap)
   refused_below r es g (over {e = Running f} o h) = none
   refused_below r es g (over {e = Mark} o h) = none
   refused_below r es g (over {e = Opening ys} o h) = none
-  refused_below r es g (over {e = Waiting ts} o h) = some (steps r es refl g traps)
+  refused_below r es g (over {e = Waiting ts} o h) = some (steps r es refl g trap)
   refused_below r es g (over {e = Ended ws} o h) = none
   refused_below r es g (over {e = Growing x} o h) = none
 
@@ -276,7 +265,7 @@ module _ (cs ds : List Entry) (low : IsBottom cs) (other : IsBottom ds) (p q : P
   tick_below r (a_frame {f = f} n) = step_below r f [] (a_frame n)
   tick_below r a_call = made_below (next_move_below r (Waiting [] ∷ []) a_call r.moves)
   tick_below r (over {e = Running f} {es = es} o g) = step_below r f es (over refl g)
-  tick_below r (over {e = Mark} {es = es} o g) = after_below r (Mark ∷ es) (over refl g) ill_typed
+  tick_below r (over {e = Mark} {es = es} o g) = after_below r (Mark ∷ es) (over refl g) wrong
   tick_below r (over {e = Opening xs} o g) = cc
   tick_below r (over {e = Waiting ts} {es = es} o g) = made_below (next_move_below r (Waiting ts ∷ es) (over refl g) r.moves)
   tick_below r (over {e = Ended vs} {es = es} o g) = after_below r (Ended vs ∷ es) (over refl g) (give_below r.store vs g)

@@ -10,6 +10,12 @@ pub data Outcome (A : Type 0) : Type 0 where
   Traps : Outcome A
   IllTyped : Outcome A
 
+-- Both give related values, or both trap, or both are ill typed.
+pub data ResRel {A B : Type 0} (P : A → B → Type 0) : Outcome A → Outcome B → Type 0 where
+  done : {a : A} {b : B} → P a b → ResRel P (Gives a) (Gives b)
+  trap : ResRel P Traps Traps
+  wrong : ResRel P IllTyped IllTyped
+
 -- `bind o f` is `f a` if `o` gives `a`; otherwise it is a trap or ill typed, as `o` is.
 abbrev pub bind : {A B : Type 0} → Outcome A → (A → Outcome B) → Outcome B
 bind Traps f = Traps

@@ -6,7 +6,7 @@ pub use Rattle.wasm_meaning.specs.Laws.{EndsArePaths}
 pub use Rattle.wasm_meaning.specs.Linking.{Defined, End, Entity, Outside, Part, Read, Site, consed, count_of, demands, end_of, end_step, entity_step, export_named, first_place, gathered, global_import, has_kind, import_at, import_step, imported_as, imports_of, initial, initials_from, is_outside, joined, joined_step, least, limits_of, linked_end, met, met_limits, module_at, outside_read, pair_of, places, read_of, read_step, same_pair, same_site, same_text, sites, sites_from, sites_in, source_of, space_index}
 pub use Rattle.wasm_meaning.specs.Loader.{LoaderRun, LoaderWorld, Secondary, begun_of, begun_under, events_loaded, fresh_loader, loader_made, placeholders_from, placeholders_of, primary_added, secondary_of, slot_of, store_loaded, store_under, supplied, tick_loader}
 pub use Rattle.wasm_meaning.specs.Memory.{fill_memory, grow_memory, init_memory, load_from, memory_may_grow, pop_three, store_into, with_memory, writes, written}
-pub use Rattle.wasm_meaning.specs.Outcomes.{Gives, IllTyped, Outcome, Traps, bind, copies, onto, or_ill_typed, or_trap, overwrite, slice, split_at, with_entry}
+pub use Rattle.wasm_meaning.specs.Outcomes.{Gives, IllTyped, Outcome, ResRel, Traps, bind, copies, done, onto, or_ill_typed, or_trap, overwrite, slice, split_at, trap, with_entry, wrong}
 pub use Rattle.wasm_meaning.specs.Paths.{EndsWith, LeadsTo, Path, PathStep, ends, goes, walk, walk_on}
 pub use Rattle.wasm_meaning.specs.Run.{Answer, Asked, BadMove, Call, Closed, Deny, Done, Event, Extend, Fresh, Get, GlobalOf, Got, Grant, GrowAsked, InstanceTrapped, Invoke, IsPrefix, LinkFault, Linked, Makes, MemoryOf, Move, Named, Opened, Out, Pending, Phase, Place, Refuse, Returned, Run, Same, Set, Size, Steps, TableOf, Take, Transition, Trapped, answered, at_entries, began, byte_of, called, closed_move, decided, delivered, does, events, events_of, extended, fresh_run, got, granted, grown_table, in_phase, is_mark, is_taken_closed, made, moved, next_move, nothing_in, open_next, or_bad, or_closed, place_at, refused, run_after, set, show_all, shows, size_of, started, tick, transition, transition_at, trapped_to, viewed_at}
 pub use Rattle.wasm_meaning.specs.Sequential.{Added, HasNoActive, JoinsEarlier, NoLateSegments, SequentialRun, added, added_as, addresses_of, all_match, events_sequential, external_value_for, goes_on, next_inst, own_segments, tick_sequential, view_over}

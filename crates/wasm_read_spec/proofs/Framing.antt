@@ -1,8 +1,6 @@
 -- What is read of the frames of a whole file is what it frames.
-use Rattle.base_lists.proofs.Common.{◌≡◌, ℕ, ◌≤◌, List, [], ◌∷◌, ◌++◌, length, take, drop, Result, Ok, Err, Bool, true, false, cond, ◌⊎◌, inl, inr, ⊎_elim, refl, sym, ap, ◌∙◌, subst, arith, eqb-true, and_parts, cases_Bool, ◌==◌}
-use Rattle.std.proofs.Common.{length-append}
+use Rattle.base_lists.proofs.Common.{◌≡◌, ℕ, ◌≤◌, List, [], ◌∷◌, ◌++◌, length, take, drop, Result, Ok, Err, Bool, true, false, cond, ◌⊎◌, inl, inr, ⊎_elim, refl, sym, ap, ◌∙◌, subst, arith, eqb-true, and_parts, cases_Bool, ◌==◌, length-append, length-drop}
 use Rattle.wasm_bytes.proofs.FramedLaws.{header_split}
-use Rattle.base_lists.proofs.Places.{drop_most}
 use Rattle.wasm_bytes.specs.Prelude.{IsBytes, Section, header, HasHeader, Framed, FirstBad, frames_at}
 use Rattle.wasm_bytes.proofs.Lists.{bytes_drop}
 use Rattle.wasm_bytes.proofs.FrameLaws.{frames_sound, frames_complete, bad_sound, bad_complete}
@@ -80,7 +78,7 @@ framed_fault bytes e small k = ⊎_elim
     (λ h.
     let head = same_is _ _ h in
     let r = numbered_err _ e (sym (with_header bytes head) ∙ k) in
-    let b = bad_sound (length bytes) 0 0 r.0 (drop 8 bytes) (drop_most 8 bytes) (bytes_drop 8 bytes small) r.1 in
+    let b = bad_sound (length bytes) 0 0 r.0 (drop 8 bytes) (omega (arith, length-drop 8 bytes)) (bytes_drop 8 bytes small) r.1 in
     let same : b.0 ≡ r.0 = omega (arith, b.1) in
     inr (r.0, r.2, subst (FirstBad bytes) same (header, drop 8 bytes, refl, b.2, header_split bytes head)))
     (λ h.

@@ -1,5 +1,5 @@
 -- Steps of a loop that spells or tests one item at a time.
-use Rattle.base_lists.proofs.Common.{list_any, ◌≡◌, ◌||◌, Bool, ℕ, zero, suc, ◌+◌, ◌<◌, List, [], ◌∷◌, ◌++◌, true, false, map, take, get_or, length, append_assoc, append-nil, refl, sym, subst, ap, ◌∙◌, arith, map-append, take_more, and_false, left_true, right_true}
+use Rattle.base_lists.proofs.Common.{list_any, ◌≡◌, ◌||◌, Bool, ℕ, zero, suc, ◌+◌, ◌<◌, List, [], ◌∷◌, ◌++◌, true, false, map, take, get_or, length, append_assoc, append-nil, refl, sym, subst, ap, ◌∙◌, arith, map-append, take_more, and_false, left_true, right_true, or_assoc}
 use Rattle.std.specs.List.{push}
 use Rattle.base_lists.specs.Every.{Every}
 use Rattle.wasm_write_proof.specs.Ranges.{in_range, all_in_range}
@@ -49,11 +49,7 @@ any_push p [] x b = or_once (p x) b
     or_once : (a b : Bool) → (a || b) ≡ ((a || false) || b)
     or_once true b = refl
     or_once false b = refl
-any_push p (y ∷ ys) x b = or_under (p y) (list_any p ys) (p x || b) ∙ ap (λ c. p y || c) (any_push p ys x b) ∙ sym (or_under (p y) (list_any p (push ys x)) b)
-  where
-    or_under : (a b c : Bool) → ((a || b) || c) ≡ (a || (b || c))
-    or_under true b c = refl
-    or_under false b c = refl
+any_push p (y ∷ ys) x b = or_assoc (p y) (list_any p ys) (p x || b) ∙ ap (λ c. p y || c) (any_push p ys x b) ∙ sym (or_assoc (p y) (list_any p (push ys x)) b)
 
 -- the last item that was left is looked at
 pub any_next : {A : Type 0} (p : A → Bool) (before now : List A) (x : A) (old new whole : Bool) → before ≡ push now x →

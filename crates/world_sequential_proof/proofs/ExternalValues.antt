@@ -1,6 +1,7 @@
 -- What the imports of a part denote is the same whether all parts are instantiated at once or the part's turn has come, where each joined import leads to
 -- an earlier part.
 use Rattle.base_lists.proofs.Common.{◌≡◌, ◌∙◌, refl, sym, ap, ℕ, zero, suc, ◌+◌, ◌-◌, List, [], ◌∷◌, ◌++◌, length, Option, Some, None, cond, arith, option_and_then, slice_get, true, and_then_is, all_there_at, all_there_length, same_Some, append_at_left, append_right, slice_get_none}
+use Rattle.base_lists.proofs.Options.{then_none}
 use Rattle.wasm_tree_spec.specs.Prelude.{Space, Functions, Tables, Memories, Globals, DataSegments, ElementSegments, Types, same_space, Import, ImportDesc, ExportDesc, Module, index_of_export, space_of_export, space_of_import}
 use Rattle.wasm_tree.specs.declared.module.ImportDesc.TheVariants as im
 use Rattle.wasm_tree.specs.declared.module.ExportDesc.TheVariants as ex
@@ -150,10 +151,6 @@ module _ (env : Environment) (parts : List Part) (p : ℕ) (m : Module) (is_part
       let e : index_of_export d ≡ length s.imported + y = omega arith in
       let at : slice_get (space_in i k) (index_of_export d) ≡ slice_get (numbers (base env parts k p) (defined_count k m)) y = cc (s.all, append_right s.imported (numbers (base env parts k p) (defined_count k m)) y) in
       rw (address_is i d, is_part) (ap (option_and_then (external_value_at k)) at)
-    where
-      then_none : {A B : Type 0} (o : Option A) (f : A → B) → option_and_then (λ a. Some (f a)) o ≡ None → o ≡ None
-      then_none None f e = refl
-      then_none (Some a) f e = cc
 
   -- what it imports
   pub imported_is : (t : Site) (x : ExternalValue) → imported_as parts entity ≡ Some t → imported_external_value env parts t ≡ Some x → address_in i d ≡ Some x

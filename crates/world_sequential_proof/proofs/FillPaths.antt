@@ -1,5 +1,6 @@
 -- Where each joined import leads to an earlier part, an import ends with what an earlier part defines, or with an import that stays.
 use Rattle.base_lists.proofs.Common.{◌≡◌, refl, ap, ℕ, zero, suc, ◌+◌, ◌<◌, ◌≤◌, List, length, Option, Some, None, arith, option_and_then, slice_get, slice_get_none, and_then_is, same_Some}
+use Rattle.base_lists.proofs.Options.{then_none}
 use Rattle.wasm_tree_spec.specs.Prelude.{Import, Module, index_of_export, space_of_export}
 use Rattle.wasm_meaning.specs.Prelude.{PathStep, EndsWith, walk, walk_on, Part, Site, Entity, End, Defined, Outside, imports_of, module_at, import_at, export_named, source_of, joined, imported_as, joined_step, import_step, end_of, sites, defined_count, JoinsEarlier}
 use Rattle.world_sequential_proof.proofs.Joined.{ExportsThere}
@@ -41,9 +42,6 @@ module _ (parts : List Part) (there : ExportsThere parts) (earlier : JoinsEarlie
         let a = and_then_is (module_at parts s.part) _ i is in
         by o imp (earlier s.part s.import a.0 i x a.1 a.2 j)
       where
-        then_none : {A B : Type 0} (o : Option A) (f : A → B) → option_and_then (λ a. Some (f a)) o ≡ None → o ≡ None
-        then_none o f e = grind arith
-
         by : (o : Option Site) → imported_as parts x ≡ o → x.part < s.part → Low parts s.part end
         by None imp before =
             let w = exported parts i x j in

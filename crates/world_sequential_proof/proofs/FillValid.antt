@@ -1,12 +1,13 @@
 -- What valid parts give: their constant expressions read imports that are not mutable, and what they export is there.
-use Rattle.base_lists.proofs.Common.{◌≡◌, ◌∙◌, refl, sym, ap, ℕ, suc, ◌+◌, ◌<◌, List, [], ◌∷◌, map, length, Some, true, false, cond, arith, ◌↔◌, not, nat_lt, slice_get, ltb-true, and_parts, not-true, length-append, length-map, slice_get_within, same_Some, slice_get_there, append_left, place_of, and_then_is, only_true}
+use Rattle.base_lists.proofs.Common.{◌≡◌, ◌∙◌, sym, ap, ℕ, ◌+◌, ◌<◌, List, map, length, Some, arith, not, nat_lt, slice_get, ltb-true, and_parts, not-true, length-append, length-map, slice_get_within, same_Some, slice_get_there, append_left, place_of, and_then_is, only_true}
 use Rattle.wasm_tree_spec.specs.Prelude.{Globals, ValType, Ref, GlobalType, Import, Export, ExportDesc, ConstExpr, GlobalDef, ElemSeg, DataSeg, Module, global_of, imported_globals, globals_of, index_of_export, space_of_export}
 use Rattle.wasm_tree.specs.declared.module.ImportDesc.TheVariants as im
 use Rattle.wasm_tree.specs.declared.module.ExportDesc.TheVariants as ex
 use Rattle.wasm_valid.specs.declared.kinds.ItemKind.{ItemKind}
 use Rattle.wasm_valid.specs.declared.kinds.ItemKind.TheVariants as kind
-use Rattle.wasm_valid.specs.Prelude.{const_type, IsValid, HoldsAt, count_of, InSpace, ElemModeHolds, DataModeHolds, ValidWhereItemsHold}
-use Rattle.wasm_meaning.specs.Prelude.{Text, Part, has_kind, same_text, imports_of, module_at, export_named, defined_count}
+use Rattle.wasm_valid.specs.Prelude.{const_type, IsValid, InSpace, ElemModeHolds, DataModeHolds, ValidWhereItemsHold}
+use Rattle.wasm_meaning.specs.Prelude.{Part, has_kind, imports_of, module_at, defined_count}
+use Rattle.wasm_meaning.proofs.Exports.{exported_there}
 use Rattle.world_simulation.proofs.Alone.{global_desc, global_kind, funcs_counted, tables_counted, memories_counted, globals_counted}
 use Rattle.world_sequential_proof.proofs.Joined.{ExportsThere}
 use Rattle.world_sequential_proof.proofs.FillValues.{Constant}
@@ -65,13 +66,6 @@ module _ (items : ValidWhereItemsHold) where
 
   -- ---- exports ----
 
-  export_found : (es : List Export) (field : Text) (d : ExportDesc) → export_named es field ≡ Some d → (n : ℕ) × (e : Export) × (slice_get es n ≡ Some e) × (e.desc ≡ d)
-  export_found [] field d h = cc
-  export_found (e ∷ es) field d h = elim (same_text e.name field) as (λ b. cond b (Some e.desc) (export_named es field) ≡ Some d → (n : ℕ) × (f : Export) × (slice_get (e ∷ es) n ≡ Some f) × (f.desc ≡ d)) [
-    | true ↦ λ h. (0, e, refl, same_Some _ _ h)
-    | false ↦ λ h. let r = export_found es field d h in (suc r.0, r.1, r.2, r.3)
-  ] h
-
   in_space : (m : Module) (d : ExportDesc) → InSpace m d → index_of_export d < length (imports_of (space_of_export d) m) + defined_count (space_of_export d) m
   in_space m (ex.Func x) h = rw (funcs_counted m.imports 0) (simp (length-append, length-map) at h)
   in_space m (ex.Table x) h = rw (tables_counted m.imports 0) (simp length-append at h)
@@ -80,6 +74,6 @@ module _ (items : ValidWhereItemsHold) where
 
   pub valid_exports : (parts : List Part) → ((p : ℕ) (m : Module) → module_at parts p ≡ Some m → IsValid m) → ExportsThere parts
   valid_exports parts valid p m field d is_part named =
-      let e = export_found m.exports field d named in
+      let e = exported_there m.exports field d named in
       let z = (items m).0 (valid p m is_part) kind.Export e.0 (slice_get_within m.exports e.0 e.1 e.2) in
       in_space m d (rw (same_Some z.0 e.1 (sym z.1 ∙ e.2), e.3) at z.2)

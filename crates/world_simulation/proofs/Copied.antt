@@ -1,10 +1,9 @@
--- Lists that are overwritten, stores with room for the segments that are copied, and what is kept where segments without partners are copied.
-use Rattle.base_lists.proofs.Common.{◌≡◌, ℕ, ◌+◌, ◌*◌, ◌≤◌, List, length, Option, Some, true, arith, option_and_then, slice_get, slice_set, length-append, length-drop, and_then_is, is_some_there, at_put_there, split_take}
+-- What holds at places of a list after one is written, stores with room for the segments that are copied, and what is kept where segments without partners are copied.
+use Rattle.base_lists.proofs.Common.{◌≡◌, ℕ, ◌*◌, ◌≤◌, List, length, Option, Some, true, arith, option_and_then, slice_get, slice_set, ◌∙◌, sym, set_other}
 use native.Mathlib.Decide.{ℕ_discrete}
 use Rattle.wasm_tree_spec.specs.Prelude.{Space, Tables, Memories, ElementSegments, DataSegments}
-use Rattle.wasm_meaning.specs.Prelude.{split_at, overwrite, Store, Environment, Filled, or_trapped}
+use Rattle.wasm_meaning.specs.Prelude.{Store, Environment, Filled, or_trapped}
 use Rattle.base_lists.proofs.Related.{at_put_here}
-use Rattle.base_lists.proofs.Parts.{split_lengths}
 use Rattle.world_simulation.specs.Prelude.{Instantiated, DefinedAt}
 
 -- ---- lists ----
@@ -18,7 +17,7 @@ pub set_holds : {A : Type 0} {D : ℕ → Type 0} {P : (m : ℕ) → D m → A �
     ((m : ℕ) (d : D m) (old : A) → slice_get xs n ≡ Some old → P m d old → P m d v) → (m : ℕ) (d : D m) → Holds (P m d) (slice_set xs n v) m
 set_holds xs n v all new m d =
     let k = all m d in
-    elim (ℕ_discrete n m) [ yes e ↦ (v, grind (arith, at_put_here), grind (arith, new)) | no e ↦ (k.0, grind (arith, at_put_there), k.2) ]
+    elim (ℕ_discrete n m) [ yes e ↦ (v, grind (arith, at_put_here), grind (arith, new)) | no e ↦ (k.0, set_other xs n m v (λ z. e (sym z)) ∙ k.1, k.2) ]
 
 -- ---- stores with room ----
 

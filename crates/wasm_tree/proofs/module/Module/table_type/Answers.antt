@@ -1,13 +1,13 @@
-use Rattle.base_lists.proofs.Common.{◌≡◌, Some, slice_get, arith, option_copied, common_steps, absent, present}
+use Rattle.base_lists.proofs.Common.{◌≡◌, Some, slice_get, arith, option_copied, common_steps, found_nothing, found_something}
 use Rattle.wasm_tree.specs.Spaces.{tables_of}
 use Rattle.wasm_tree.proofs.module.Module.table_type.Goals as goal
 
 pub returns-then-left-eq0-clause-none : goal.returns-then-left-eq0-clause-none
 returns-then-left-eq0-clause-none c =
     let value : Some c.in-Table.ty ≡ slice_get (tables_of c.args.self.now) c.args.table = grind (arith, common_steps) in
-    present c.in-Table.ty (tables_of c.args.self.now) c.args.table value
+    found_something c.in-Table.ty (tables_of c.args.self.now) c.args.table value
 
 pub returns-clause-none : goal.returns-clause-none
 returns-clause-none c =
     let value : option_copied c.get.result ≡ slice_get (tables_of c.args.self.now) c.args.table = grind (arith, common_steps) in
-    absent c.get.result (tables_of c.args.self.now) c.args.table value
+    found_nothing c.get.result (tables_of c.args.self.now) c.args.table value

@@ -1,12 +1,12 @@
 -- What the embedder passes to related runs is related, and has its types.
-use Rattle.base_lists.proofs.Common.{◌≡◌, ℕ, ◌^◌, List, [], ◌∷◌, Option, Some, None, Bool, true, false, cond, refl, option_and_then, nat_lt, slice_get, then_all, any_there, then_rel, get_rel}
-use Rattle.wasm_tree_spec.specs.Prelude.{Functions, ValType}
+use Rattle.base_lists.proofs.Common.{◌≡◌, ℕ, ◌^◌, List, [], ◌∷◌, Option, Some, Bool, refl, option_and_then, nat_lt, slice_get, then_all, any_there, either_all, then_rel, get_rel}
+use Rattle.base_lists.proofs.Related.{either_rel}
+use Rattle.base_lists.specs.Related.{IfThere, absent, present}
+use Rattle.wasm_tree_spec.specs.Prelude.{Functions, RefType, ValType}
 use Rattle.wasm_tree.specs.declared.types.ValType.TheVariants as valt
 use Rattle.wasm_tree.specs.declared.types.RefType.TheVariants as reft
-use Rattle.wasm_meaning.specs.Prelude.{Gives, typed, Shown, Number, Null, OwnFunc, ExternNumber, Function, ExternalValue, FuncKey, Owned, same_key, owned_at, look_up, func_of, func_value, received, received_all}
-use Rattle.index_remap.specs.Prelude.{Pairing, OptRel, none, some, ListRel, nil, cons, ValRel, number, reference, func, extern, ExternalValueRel, a_func, a_table, a_memory, a_global, KeyRel, HaveTypes}
-use Rattle.base_lists.specs.Related.{IfThere, absent, present}
-use Rattle.base_lists.proofs.Related.{either_rel}
+use Rattle.wasm_meaning.specs.Prelude.{Gives, Val, typed, ref_of, Shown, Number, Null, OwnFunc, ExternNumber, Function, ExternalValue, FuncKey, Owned, same_key, owned_at, look_up, func_of, func_value, received, received_ref, received_all}
+use Rattle.index_remap.specs.Prelude.{Pairing, OptRel, none, some, ListRel, nil, cons, RefRel, ValRel, number, reference, func, extern, ExternalValueRel, a_func, a_table, a_memory, a_global, KeyRel, HaveTypes}
 
 module _ (R : Pairing) where
   pub look_rel : {K : Type 0} (is : K → Bool) {xs ys : List (K × ExternalValue)} → ListRel (KeyRel R) xs ys → OptRel (ExternalValueRel R) (look_up is xs) (look_up is ys)
@@ -22,7 +22,7 @@ module _ (R : Pairing) where
   value_rel : {o p : Option ℕ} → OptRel (R.of Functions) o p → OptRel (ValRel R) (option_and_then (λ a. Some (func_value a)) o) (option_and_then (λ a. Some (func_value a)) p)
   value_rel o = then_rel o (λ _ _ p. some (reference (func (some p))))
 
-  received_rel : {o p : Owned} {xs ys : List ℕ} (t : ValType) (x : Shown) → ListRel (KeyRel R) o p → ListRel (R.of Functions) xs ys → OptRel (ValRel R) (received o xs t x) (received p ys t x)
+  pub received_rel : {o p : Owned} {xs ys : List ℕ} (t : ValType) (x : Shown) → ListRel (KeyRel R) o p → ListRel (R.of Functions) xs ys → OptRel (ValRel R) (received o xs t x) (received p ys t x)
   received_rel valt.I32 (Number n) o s = either_rel (nat_lt n (2 ^ 32)) (some number) none
   received_rel valt.I64 (Number n) o s = either_rel (nat_lt n (2 ^ 64)) (some number) none
   received_rel (valt.Ref reft.Func) Null o s = some (reference (func none))
@@ -32,19 +32,23 @@ module _ (R : Pairing) where
   received_rel (valt.Ref reft.Extern) (ExternNumber n) o s = some (reference extern)
   received_rel _ _ o s = none
 
+  ref_of_rel : {v w : Val} → ValRel R v w → OptRel (RefRel R) (ref_of v) (ref_of w)
+  ref_of_rel number = none
+  ref_of_rel (reference p) = some p
+
+  pub received_ref_rel : {o p : Owned} {xs ys : List ℕ} (t : RefType) (x : Shown) → ListRel (KeyRel R) o p → ListRel (R.of Functions) xs ys → OptRel (RefRel R) (received_ref o xs t x) (received_ref p ys t x)
+  received_ref_rel t x o s = then_rel (received_rel (valt.Ref t) x o s) (λ _ _ v. ref_of_rel v)
+
   pub received_all_rel : {o p : Owned} {ms ns : List ℕ} (ts : List ValType) (xs : List Shown) → ListRel (KeyRel R) o p → ListRel (R.of Functions) ms ns → OptRel (ListRel (ValRel R)) (received_all o ms ts xs) (received_all p ns ts xs)
   received_all_rel [] [] o s = some nil
   received_all_rel (t ∷ ts) (x ∷ xs) o s = then_rel (received_rel t x o s) (λ _ _ v. then_rel (received_all_rel ts xs o s) (λ _ _ vs. some (cons v vs)))
   received_all_rel [] (x ∷ xs) o s = none
   received_all_rel (t ∷ ts) [] o s = none
 
-all_cond : {A : Type 0} {P : A → Type 0} (a : A) (b : Bool) → P a → IfThere P (cond b (Some a) None)
-all_cond a true p = present p
-all_cond a false p = absent
-
+-- what is received has the type
 received_type : (o : Owned) (ms : List ℕ) (t : ValType) (x : Shown) → IfThere (λ v. typed t v ≡ Gives v) (received o ms t x)
-received_type o ms valt.I32 (Number n) = all_cond _ (nat_lt n (2 ^ 32)) refl
-received_type o ms valt.I64 (Number n) = all_cond _ (nat_lt n (2 ^ 64)) refl
+received_type o ms valt.I32 (Number n) = either_all (nat_lt n (2 ^ 32)) (present refl) absent
+received_type o ms valt.I64 (Number n) = either_all (nat_lt n (2 ^ 64)) (present refl) absent
 received_type o ms (valt.Ref reft.Func) Null = present refl
 received_type o ms (valt.Ref reft.Func) (OwnFunc p t) = then_all (any_there (option_and_then func_of (owned_at o (FuncKey p t)))) (λ a _. present refl)
 received_type o ms (valt.Ref reft.Func) (Function k) = then_all (any_there (slice_get ms k)) (λ a _. present refl)
