@@ -5,7 +5,7 @@ use Rattle.base_lists.specs.Options.{◌>>=◌}
 use Rattle.base_lists.specs.Every.{Every}
 use Rattle.wasm_tree_spec.specs.Prelude.{Globals, Limits, GlobalDef}
 use Rattle.wasm_meaning.specs.Prelude.{Part, Site, End, sites_in, sites_from, sites, end_of, imports_of, Read, read_of}
-use Rattle.merge_spec.specs.Prelude.{or_else, first_fault, end_fault, is_suited, is_under, kept_limits, memory_count, defined_globals_in, defined_globals_from, NamesPart}
+use Rattle.merge_spec.specs.Prelude.{or_else, first_fault, end_fault, is_suited, is_under, kept_limits, memory_count, defined_globals_in, defined_globals_from, NamesPart, LinkFaultsNameParts, NoPartsWantMemory, SeveralMemoriesAddNoFault}
 use Rattle.merge_spec.specs.Faults.{import_fault, clash_fault, memory_fault, DefinedGlobal, defined_globals, value_fault, global_fault, link_fault}
 use Rattle.merge_spec.specs.declared.faults.LinkFault.{LinkFault}
 use Rattle.merge_spec.specs.declared.faults.LinkFault.TheVariants.{ImportMismatch, ImportCycle, LimitsClash, TooManyMemories, GlobalCycle, NoMemory}
@@ -125,10 +125,10 @@ names_part n NoMemory h = tt
 told : (parts : List Part) (many : Bool) (fault : LinkFault) → link_fault parts many ≡ Some fault → IsOf (length parts) fault
 told parts many fault e = let P : Option LinkFault → Type 0 = λ o. IfSome o (IsOf (length parts)) in subst P e (fault_is parts many)
 
-pub fault_names_part : (parts : List Part) (many : Bool) (fault : LinkFault) → link_fault parts many ≡ Some fault → NamesPart (length parts) fault
+pub fault_names_part : LinkFaultsNameParts
 fault_names_part parts many fault e = names_part (length parts) fault (told parts many fault e)
 
-pub fault_not_memory : (parts : List Part) (many : Bool) → link_fault parts many ≡ Some NoMemory → ⊥
+pub fault_not_memory : NoPartsWantMemory
 fault_not_memory parts many e = told parts many NoMemory e
 
 -- ---- where several memories may be
@@ -139,7 +139,7 @@ others_none None (Some f) memories others h = absurd (cc)
 others_none None None (Some f) others h = absurd (cc)
 others_none None None None others h = h
 
-pub none_with_several : (parts : List Part) (many : Bool) → link_fault parts many ≡ None → link_fault parts true ≡ None
+pub none_with_several : SeveralMemoriesAddNoFault
 unfolding link_fault
 none_with_several parts true h = h
 none_with_several parts false h = others_none _ _ (memory_fault parts) _ h

@@ -1,7 +1,7 @@
 -- Why parts are not linked: the first fault, in this order. Every import is compared with its end;
 -- then the limits of staying imports are checked; then the memories are counted; then the values of
 -- globals are followed.
-use Rattle.std.specs.Prelude.{ℕ, suc, ◌+◌, ◌<◌, List, [], ◌∷◌, ◌++◌, length, Option, Some, None, Bool, true, false, cond, nat_lt, slice_get, unwrap_or, ◌&&◌}
+use Rattle.std.specs.Prelude.{◌≡◌, ℕ, suc, ◌+◌, ◌<◌, List, [], ◌∷◌, ◌++◌, length, Option, Some, None, Bool, true, false, cond, nat_lt, slice_get, unwrap_or, ◌&&◌}
 use Rattle.wasm_tree_spec.specs.Prelude.{Memories, Globals, FuncType, Limits, TableType, GlobalType, ImportDesc, ExportDesc, ConstExpr, GlobalDef, Module, type_of_func, tables_of, memories_of, globals_of, same_func_type, same_ref, same_type}
 use Rattle.base_lists.specs.Options.{◌>>=◌}
 use Rattle.wasm_tree.specs.declared.module.ImportDesc.TheVariants as im
@@ -151,3 +151,15 @@ NamesPart parts (LimitsClash part import) = part < parts
 NamesPart parts TooManyMemories = Unit {0}
 NamesPart parts (GlobalCycle part global) = part < parts
 NamesPart parts NoMemory = Unit {0}
+
+-- A fault of linking names a part that is there.
+abbrev pub LinkFaultsNameParts : Type 0
+LinkFaultsNameParts = (parts : List Part) (many : Bool) (fault : LinkFault) → link_fault parts many ≡ Some fault → NamesPart (length parts) fault
+
+-- The want of memory is no fault of the parts.
+abbrev pub NoPartsWantMemory : Type 0
+NoPartsWantMemory = (parts : List Part) (many : Bool) → link_fault parts many ≡ Some NoMemory → ⊥
+
+-- Parts without a fault have none where they may have several memories.
+abbrev pub SeveralMemoriesAddNoFault : Type 0
+SeveralMemoriesAddNoFault = (parts : List Part) (many : Bool) → link_fault parts many ≡ None → link_fault parts true ≡ None

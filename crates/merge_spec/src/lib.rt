@@ -8,6 +8,6 @@ mod links;
 mod parts;
 
 pub use faults::{JoinFault, LinkFault};
-pub use laws::merged_types_are_distinct;
+pub use laws::{link_faults_name_parts, merged_types_are_distinct};
 pub use links::{End, Links, Read};
 pub use parts::Part;

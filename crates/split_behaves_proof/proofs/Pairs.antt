@@ -6,7 +6,7 @@ use Rattle.wasm_valid.specs.Prelude.{IsValid}
 use Rattle.split_spec.specs.declared.names.SplitNames.{SplitNames}
 use Rattle.split_spec.specs.Prelude.{namespace_taken, prefix_taken}
 use Rattle.split_proof.specs.Premises.{CanMove}
-use Rattle.split_behaves_proof.specs.Laws.{CanBeSplit}
+use Rattle.split_behaves_proof.specs.Laws.{PairsCanBeSplit}
 
 -- ---- numbers that rise ----
 
@@ -23,8 +23,7 @@ rises_once xs up i j x a b = ⊎_elim (λ lt. absurd (apart i j x a b lt)) (λ l
 -- ---- the pair ----
 
 -- no import has the namespace of the placeholders, and no export a name that is added
-pub pair_can_be_split : (names : SplitNames) (m : Module) (moved : List ℕ) → IsValid m → IsBounded m → CanMove m moved → IsStrictlyIncreasing moved → namespace_taken names.placeholder_namespace m ≡ None → prefix_taken names.export_prefix m moved ≡ None →
-    CanBeSplit (λ slot. names.placeholder_namespace) names m moved (moved ∷ [])
+pub pair_can_be_split : PairsCanBeSplit
 pair_can_be_split names m moved valid bounded can up namespace prefix = record {
   valid = valid;
   bounded = bounded;

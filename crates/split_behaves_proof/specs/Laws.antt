@@ -2,6 +2,7 @@
 -- can be loaded.
 use Rattle.std.specs.Prelude.{◌≡◌, ℕ, ◌+◌, ◌*◌, ◌<◌, max, false, List, [], ◌∷◌, length, Some, None, slice_get}
 use Rattle.std.specs.List.{flat_map}
+use Rattle.std.specs.List.Sorted.{IsStrictlyIncreasing}
 use Rattle.wasm_tree_spec.specs.Prelude.{Module, IsBounded}
 use Rattle.wasm_valid.specs.Prelude.{IsValid}
 use Rattle.base_simulation.specs.Machines.{state_after}
@@ -75,3 +76,10 @@ SplitModuleEquivalent =
 abbrev pub SecondariesAlwaysLoad : Type 0
 SecondariesAlwaysLoad =
     (namespace : ℕ → List ℕ) (names : SplitNames) (m : Module) (moved : List ℕ) (owns : List (List ℕ)) → CanBeSplit namespace names m moved owns → AlwaysLoads (split_world namespace names m moved owns)
+
+-- a split with one secondary module has the premises, if the functions that move ascend, no import
+-- has the namespace of the placeholders, and no export has an added name
+abbrev pub PairsCanBeSplit : Type 0
+PairsCanBeSplit =
+    (names : SplitNames) (m : Module) (moved : List ℕ) → IsValid m → IsBounded m → CanMove m moved → IsStrictlyIncreasing moved → namespace_taken names.placeholder_namespace m ≡ None → prefix_taken names.export_prefix m moved ≡ None →
+    CanBeSplit (λ slot. names.placeholder_namespace) names m moved (moved ∷ [])

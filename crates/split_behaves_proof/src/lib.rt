@@ -4,7 +4,7 @@
 #![tactic(auto)]
 
 ghost use Rattle.split_behaves_proof.specs.Begins.{FirstStepsOfSplitsAgree, SplitAddressesAreOneToOne, SplitModulesBeginRelated};
-ghost use Rattle.split_behaves_proof.specs.Laws.{SecondariesAlwaysLoad, SplitModuleEquivalent};
+ghost use Rattle.split_behaves_proof.specs.Laws.{PairsCanBeSplit, SecondariesAlwaysLoad, SplitModuleEquivalent};
 ghost use Rattle.split_behaves_proof.specs.MovedCalls.{EveryStepCallsMovedTogether};
 ghost use Rattle.split_behaves_proof.specs.LoadedCode.{InstancesOfSplitsAreRelated, LoadsKeepTheRelation};
 ghost use Rattle.split_behaves_proof.specs.Loads.{SecondariesLoad};
@@ -101,6 +101,14 @@ pub fn loads_preserve_the_relation()
 /// type do not fit, and both steps agree.
 pub fn steps_call_moved_functions_together()
     ensures together { EveryStepCallsMovedTogether }
+{}
+
+/// Proves that a split with one secondary module has the premises of these laws (`CanBeSplit`).
+///
+/// The module is valid, the functions that move can and ascend, no import has the namespace of the
+/// placeholders, and no export has an added name.
+pub fn pairs_can_be_split()
+    ensures { PairsCanBeSplit }
 {}
 
 /// Proves that a split module under the loader of its secondary modules is observationally

@@ -8,7 +8,7 @@ use Rattle.wasm_tree_spec.specs.Prelude.{Func, Module, imported_funcs, funcs_of}
 use Rattle.split_plan.specs.Segments.{uses_segment}
 use Rattle.split_plan.specs.declared.plans.Plan.{Plan}
 use Rattle.split_plan.specs.Words.{is_defined}
-use Rattle.split_plan.specs.Plans.{body_uses_segment, defined_funcs, plan_for, IsPlan}
+use Rattle.split_plan.specs.Plans.{body_uses_segment, defined_funcs, plan_for, IsPlan, WhatIsPlannedIsAPlan}
 
 -- one more number is tested
 pub filter_more : (test : ℕ → Bool) (first at : ℕ) (b : Bool) (old new : List ℕ) → test (first + at) ≡ b → new ≡ old ++ cond b ((first + at) ∷ []) [] → old ≡ filter test (numbers first at) → new ≡ filter test (numbers first (at + 1))
@@ -72,7 +72,7 @@ is_there m n le lt =
     let below : n < length (funcs_of m) = omega (arith, lt, length-append (imported_funcs m.imports) (map (λ (f : Func). f.ty) m.funcs), length-map m.funcs (λ (f : Func). f.ty)) in
     both (le-leb (length (imported_funcs m.imports)) n le) (lt-ltb n (length (funcs_of m)) below)
 
-plan_shaped : (m : Module) (wanted : ℕ → Bool) → IsPlan m (plan_for m wanted)
+pub plan_shaped : WhatIsPlannedIsAPlan
 plan_shaped m wanted =
     let first = length (imported_funcs m.imports) in
     let rises = numbers_rise first (length m.funcs) in record {

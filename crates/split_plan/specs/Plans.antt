@@ -72,3 +72,7 @@ pub record IsPlan (m : Module) (p : Plan) : Type 0 where
   pub kept_ascend : IsStrictlyIncreasing p.kept
   pub moved : Every (λ func. (is_defined m func ≡ true) × (body_uses_segment m func ≡ false)) p.moved
   pub kept : Every (λ func. (is_defined m func ≡ true) × (body_uses_segment m func ≡ true)) p.kept
+
+-- Whichever functions are wanted, what is planned for a module is a plan for it.
+abbrev pub WhatIsPlannedIsAPlan : Type 0
+WhatIsPlannedIsAPlan = (m : Module) (wanted : ℕ → Bool) → IsPlan m (plan_for m wanted)

@@ -11,6 +11,6 @@ mod plans;
 mod segments;
 
 pub use fault::PlanFault;
-pub use laws::plan_faults_have_causes;
+pub use laws::{plan_faults_have_causes, what_is_planned_is_a_plan};
 pub use planning::plan;
 pub use plans::Plan;

@@ -5,14 +5,13 @@ use Rattle.wasm_valid.specs.Prelude.{IsValid}
 use Rattle.split_spec.specs.declared.names.SplitNames.{SplitNames}
 use Rattle.split_spec.specs.declared.faults.SplitFault.{SplitFault}
 use Rattle.split_proof.specs.Premises.{CanMove}
-use Rattle.split_behaves_proof.specs.Laws.{CanBeSplit}
-use Rattle.split_behaves_proof.proofs.Pairs.{pair_can_be_split}
+use Rattle.split_behaves_proof.specs.Laws.{CanBeSplit, PairsCanBeSplit}
 use Rattle.split_slots.specs.Surveyed.{MaySplit}
 use Rattle.split_slots.specs.declared.splitting.Pair.{Pair}
 
 -- where it may be split, it can be, into one primary and one secondary module
-pub can_be_split : (names : SplitNames) (m : Module) (moved : List ℕ) → IsValid m → IsBounded m → CanMove m moved → IsStrictlyIncreasing moved → MaySplit names m moved → CanBeSplit (λ slot. names.placeholder_namespace) names m moved (moved ∷ [])
-can_be_split names m moved valid bounded can up may = pair_can_be_split names m moved valid bounded can up may.namespace may.prefix
+pub can_be_split : PairsCanBeSplit → (names : SplitNames) (m : Module) (moved : List ℕ) → IsValid m → IsBounded m → CanMove m moved → IsStrictlyIncreasing moved → MaySplit names m moved → CanBeSplit (λ slot. names.placeholder_namespace) names m moved (moved ∷ [])
+can_be_split pairs names m moved valid bounded can up may = pairs names m moved valid bounded can up may.namespace may.prefix
 
 -- what is so of these two modules is so of the pair that has them
 pub of_pair : (P : Module → Module → Type 0) {first second : Module} (r : Result Pair SplitFault) → IfOk r (λ p. p.primary ≡ first) → IfOk r (λ p. p.secondary ≡ second) → P first second → IfOk r (λ p. P p.primary p.secondary)

@@ -22,7 +22,7 @@ use crate::exports::added_exports;
 use crate::finishing::finished;
 use crate::refusing::refuse;
 use crate::surveying::{Survey, surveyed};
-use split_behaves_proof::{secondary_modules_load, split_module_equivalent};
+use split_behaves_proof::{pairs_can_be_split, secondary_modules_load, split_module_equivalent};
 use split_plan::Plan;
 use split_proof::{maps_of_a_split_fit, primary_modules_are_valid, secondary_modules_are_valid};
 use split_spec::{SplitFault, SplitNames};
@@ -164,6 +164,7 @@ fn pair_of(
     maps_of_a_split_fit();
     primary_modules_are_valid();
     secondary_modules_are_valid();
+    pairs_can_be_split();
     split_module_equivalent();
     secondary_modules_load();
     let drafts = drafts_of(alloc, module, moved, names)?;

@@ -12,14 +12,13 @@ use Rattle.wasm_read_spec.specs.declared.fault.ReadFault.TheVariants as fault
 use Rattle.wasm_valid.specs.declared.kinds.Invalid.{Invalid}
 use Rattle.wasm_valid.specs.Prelude.{IsFirstInvalid}
 use Rattle.wasm_read_spec.specs.Prelude.{read_fault, Cause}
-use Rattle.merge_spec.specs.Prelude.{link_fault, NamesPart, repeated_name, joined_module}
+use Rattle.merge_spec.specs.Prelude.{link_fault, LinkFaultsNameParts, NamesPart, NoPartsWantMemory, repeated_name, joined_module}
 use Rattle.merge_spec.specs.Joined.{join_of, outcome}
 use Rattle.module_limits.specs.Counts.{over_limit}
 use Rattle.merge_spec.specs.declared.faults.LinkFault.{LinkFault}
 use Rattle.merge_spec.specs.declared.faults.LinkFault.TheVariants as link
 use Rattle.merge_spec.specs.declared.faults.JoinFault.{JoinFault}
 use Rattle.merge_spec.specs.declared.faults.JoinFault.TheVariants as join
-use Rattle.merge_spec.proofs.FaultParts.{fault_names_part, fault_not_memory}
 use Rattle.dce_exact_proof.specs.Laws.{ExactMarksExist}
 use Rattle.tools_cli.proofs.MergeDecided.{length_parts, length_files}
 use Rattle.tools_cli.proofs.MetadceDecided.{metadce_told}
@@ -34,7 +33,7 @@ use Rattle.tools_cli.proofs.Determined.{AreBytes, SpelledHasNoFault, FirstIsByte
 abbrev pub IsDecided : Bool → Module → Type 0
 IsDecided many tree = IsAccepted many tree ⊎ ((item : Invalid) × IsFirstInvalid tree many item)
 
--- what is known of reading, of validity, of reach, of names and of words
+-- what is known of reading, of validity, of linking, of reach, of names and of words
 pub record Known : Type 0 where
   pub marks : ExactMarksExist
   pub names : NamesAreRead
@@ -42,6 +41,8 @@ pub record Known : Type 0 where
   pub faults : SpelledHasNoFault
   pub causes : (bytes : List ℕ) (many : Bool) (fault : ReadFault) → IsBytes bytes → read_fault bytes many ≡ Some fault → Cause bytes many fault
   pub decided : (many : Bool) (tree : Module) → IsDecided many tree
+  pub link_names : LinkFaultsNameParts
+  pub link_memory : NoPartsWantMemory
 
 abbrev SomeText : Option Text → Type 0
 SomeText o = (text : Text) × (o ≡ Some text)
@@ -112,22 +113,22 @@ no_want (Some name) which m e = cc
 no_want None (Some which) m e = cc
 no_want None None m e = cc
 
-merge_told : (merge : MergeTask) (trees : List Module) → length trees ≡ length merge.sources → (o : Option LinkFault) → link_fault (parts_of merge.sources trees) (many_of (Merge merge)) ≡ o → (decision : Decision) × Merges merge trees decision
-merge_told merge trees each None e =
+merge_told : Known → (merge : MergeTask) (trees : List Module) → length trees ≡ length merge.sources → (o : Option LinkFault) → link_fault (parts_of merge.sources trees) (many_of (Merge merge)) ≡ o → (decision : Decision) × Merges merge trees decision
+merge_told k merge trees each None e =
     let parts = parts_of merge.sources trees in
     joins_told merge trees (join_of parts merge.mode) e refl (no_want (repeated_name parts merge.mode) (over_limit (joined_module parts merge.mode)) (joined_module parts merge.mode))
-merge_told merge trees each (Some fault) e =
+merge_told k merge trees each (Some fault) e =
     let parts = parts_of merge.sources trees in
-    let there : NamesPart (length merge.sources) fault = subst (λ n. NamesPart n fault) (length_parts merge.sources trees each) (fault_names_part parts (many_of (Merge merge)) fault e) in
-    let told = link_told merge fault (λ is. fault_not_memory parts (many_of (Merge merge)) (e ∙ ap Some is)) there in
+    let there : NamesPart (length merge.sources) fault = subst (λ n. NamesPart n fault) (length_parts merge.sources trees each) (k.link_names parts (many_of (Merge merge)) fault e) in
+    let told = link_told merge fault (λ is. k.link_memory parts (many_of (Merge merge)) (e ∙ ap Some is)) there in
     (_, not_linked fault told.0 e told.1)
 
 task_told : Known → (t : Task) (trees : List Module) (contents : List Text) → FirstIsBytes contents → length trees ≡ length (modules_of t) → length contents ≡ length (inputs_of t) → (decision : Decision) × Decides t trees contents decision
-task_told k (Merge merge) trees contents are each all = merge_told merge trees (each ∙ length_files merge.sources) _ refl
+task_told k (Merge merge) trees contents are each all = merge_told k merge trees (each ∙ length_files merge.sources) _ refl
 task_told k (Metadce metadce) trees contents are each all = metadce_told k.marks metadce trees contents each all
 task_told k (Split split) trees contents are each all = split_decides k.names k.words split trees contents are each all
 task_told k (CtorEval eval) trees contents are each all = eval_decides eval trees contents each all
-task_told k (Sample sample) trees contents are each all = sample_decides sample trees contents each all (merge_told sample_merge (sample_modules sample) refl _ refl)
+task_told k (Sample sample) trees contents are each all = sample_decides sample trees contents each all (merge_told k sample_merge (sample_modules sample) refl _ refl)
 
 -- ---- the job
 

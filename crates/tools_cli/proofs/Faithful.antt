@@ -27,21 +27,18 @@ use Rattle.wasm_gen.specs.Laws.{SampleModulesAreValid}
 use Rattle.base_lists.proofs.Texts.{same_texts}
 use Rattle.wasm_names.specs.declared.func_name.FuncName.{FuncName}
 use Rattle.split_plan.specs.declared.plans.Plan.{Plan}
-use Rattle.split_plan.specs.Plans.{IsPlan, is_wanted}
-use Rattle.split_plan.proofs.Chosen.{result_shaped}
+use Rattle.split_plan.specs.Plans.{IsPlan, WhatIsPlannedIsAPlan, is_wanted}
 use Rattle.split_spec.specs.declared.names.SplitNames.{SplitNames}
 use Rattle.split_spec.specs.declared.faults.SplitFault.TheVariants.{NamespaceTaken, PrefixTaken, TooMany}
 use Rattle.split_spec.specs.Prelude.{namespace_taken, prefix_taken, moved_params, too_many, split_fault, primary, primary_with, secondary, secondary_with}
 use Rattle.split_proof.specs.Premises.{CanMove}
-use Rattle.split_behaves_proof.specs.Laws.{SecondariesAlwaysLoad, SplitModuleEquivalent}
-use Rattle.split_behaves_proof.proofs.Pairs.{pair_can_be_split}
+use Rattle.split_behaves_proof.specs.Laws.{PairsCanBeSplit, SecondariesAlwaysLoad, SplitModuleEquivalent}
 use Rattle.wasm_tree_spec.specs.Prelude.{Module, IsBounded, Which, limit, Trampolines, memory_zero_funcs}
 use Rattle.wasm_valid.specs.Prelude.{IsValid, IsSingle}
 use Rattle.base_lists.specs.Every.{Every}
 use Rattle.wasm_read_spec.specs.Prelude.{Spells, Within}
 use Rattle.wasm_meaning.specs.Prelude.{Part, module_at}
-use Rattle.merge_spec.specs.Prelude.{link_fault, linked_world, joined_module, repeated_name}
-use Rattle.merge_spec.proofs.FaultParts.{none_with_several}
+use Rattle.merge_spec.specs.Prelude.{link_fault, linked_world, joined_module, repeated_name, SeveralMemoriesAddNoFault}
 use Rattle.merge_valid_proof.specs.Joinable.{CanBeJoined}
 use Rattle.merge_behaves_proof.specs.Laws.{ObservationallyEquivalent}
 use Rattle.dce_graph.specs.declared.graph.Graph.{Graph}
@@ -72,6 +69,7 @@ pub record Respelled : Type 0 where
   pub plainly : (tree : Module) → IsWritable tree → length (plain tree) < 2 ^ 32 → Spells (plain tree) tree false
   pub ranges : (bytes : List ℕ) (tree : Module) → Spells bytes tree false → InRange tree
   pub bounded : (bytes : List ℕ) (tree : Module) → Spells bytes tree false → Within bytes false → IsBounded tree
+  pub several : SeveralMemoriesAddNoFault
   pub valid : (parts : List Part) (mode : Mode) → CanBeJoined parts mode → IsValid (joined_module parts mode)
   pub single : (parts : List Part) (mode : Mode) → CanBeJoined parts mode → link_fault parts false ≡ None → IsSingle (joined_module parts mode)
   pub sizes : (parts : List Part) (mode : Mode) → CanBeJoined parts mode → IsBounded (joined_module parts mode)
@@ -96,6 +94,8 @@ pub record Respelled : Type 0 where
       → IsValid (primary_with namespace prefix m moved) → IsSingle (primary_with namespace prefix m moved) → IsBounded (primary_with namespace prefix m moved) → InRange (primary_with namespace prefix m moved)
   pub primary_memory : (namespace : ℕ → Text) (prefix : Text) (m : Module) (moved : List ℕ) → IsValid (primary_with namespace prefix m moved) → IsSingle (primary_with namespace prefix m moved) → IsBounded (primary_with namespace prefix m moved)
       → IsTrue (memory_zero_funcs (primary_with namespace prefix m moved).funcs)
+  pub planned : WhatIsPlannedIsAPlan
+  pub pair_can : PairsCanBeSplit
   pub pair_same : SplitModuleEquivalent
   pub pair_loads : SecondariesAlwaysLoad
   pub secondary_valid : (names : SplitNames) (m : Module) (moved own : List ℕ) (before : ℕ) → IsValid m → CanMove m own → IsValid (secondary_with names m moved own before)
@@ -133,7 +133,7 @@ merged_is_sound k parts mode tree sound ranged is =
     let can : CanBeJoined parts mode = record {
       valid = sound_at IsValid (λ p h. h.0) parts sound;
       bounded = sound_at IsBounded (λ p h. h.1) parts sound;
-      linked = none_with_several parts false is.0;
+      linked = k.several parts false is.0;
       names = joins.0;
       sizes = joins.1;
     } in
@@ -336,14 +336,11 @@ no_fault names m moved e =
     record { namespace = none_from NamespaceTaken (namespace_taken names.placeholder_namespace m) first.0; prefix = none_from PrefixTaken (prefix_taken names.export_prefix m moved) second.0; primary_fits = both.0; secondary_fits = both.1 }
 
 -- functions that words tell can move
-plan_shaped : (split : SplitTask) (tree : Module) (names : List FuncName) → IsPlan tree (words_plan split tree names)
-plan_shaped split tree names = result_shaped tree (is_wanted tree names split.words.split split.words.keep) ok refl
-  where
-    ok : Result Plan (Unit {0})
-    ok = Ok (words_plan split tree names)
+plan_shaped : Respelled → (split : SplitTask) (tree : Module) (names : List FuncName) → IsPlan tree (words_plan split tree names)
+plan_shaped k split tree names = k.planned tree (is_wanted tree names split.words.split split.words.keep)
 
-can_move : (split : SplitTask) (tree : Module) (names : List FuncName) → CanMove tree (words_plan split tree names).moved
-can_move split tree names = (plan_shaped split tree names).moved
+can_move : Respelled → (split : SplitTask) (tree : Module) (names : List FuncName) → CanMove tree (words_plan split tree names).moved
+can_move k split tree names = (plan_shaped k split tree names).moved
 
 pair_is_sound : Respelled → (names : SplitNames) (bytes : Text) (tree : Module) (moved : List ℕ) → AreTexts names → IsRead false bytes tree → IsAccepted false tree → CanMove tree moved → HasNoFault names tree moved
     → (IsAccepted false (secondary names tree moved) × IsWritable (secondary names tree moved)) × (IsAccepted false (primary names tree moved) × IsWritable (primary names tree moved))
@@ -379,9 +376,9 @@ splitting_is_sound k split file tree decision text loads (parted names given non
     let loaded = loaded_is false file.0 file.1 (Ok tree) loads in
     let moved = (words_plan split tree names).moved in
     let free = no_fault split.names tree moved none in
-    let sound = pair_is_sound k split.names file.1 tree moved text loaded.0 loaded.1 (can_move split tree names) free in
+    let sound = pair_is_sound k split.names file.1 tree moved text loaded.0 loaded.1 (can_move k split tree names) free in
     let namespace : ℕ → Text = λ slot. split.names.placeholder_namespace in
-    let can = pair_can_be_split split.names tree moved loaded.1.valid (k.bounded file.1 tree loaded.0.spelled loaded.0.within) (can_move split tree names) (plan_shaped split tree names).moved_ascend free.namespace free.prefix in
+    let can = k.pair_can split.names tree moved loaded.1.valid (k.bounded file.1 tree loaded.0.spelled loaded.0.within) (can_move k split tree names) (plan_shaped k split tree names).moved_ascend free.namespace free.prefix in
     record {
       found = names;
       made = (given, none, refl, refl);

@@ -4,7 +4,7 @@ use Rattle.tools_cli.specs.Prelude.{Text, Source, MergeTask, Merge, source_files
 use Rattle.tools_cli.specs.Texts.{join_text}
 use Rattle.wasm_tree_spec.specs.Prelude.{Module}
 use Rattle.wasm_meaning.specs.Prelude.{Part}
-use Rattle.merge_spec.specs.Prelude.{link_fault, NamesPart, Joins}
+use Rattle.merge_spec.specs.Prelude.{link_fault, LinkFaultsNameParts, NamesPart, Joins}
 use Rattle.merge_names.specs.declared.mode.Mode.{Mode}
 use Rattle.merge_spec.specs.declared.faults.LinkFault.{LinkFault}
 use Rattle.merge_spec.specs.declared.faults.LinkFault.TheVariants as link
@@ -14,13 +14,12 @@ use Rattle.tools_cli.specs.Causes.{MergeFails}
 use Rattle.tools_cli.specs.declared.stop.Stop.{Stop}
 use Rattle.tools_cli.proofs.Loading.{stops_weaker}
 use Rattle.tools_cli.specs.Sources.{files_of}
-use Rattle.merge_spec.proofs.FaultParts.{fault_names_part}
 use Rattle.tools_cli.specs.declared.merge.Source as code
 
 -- the part that a fault names is there
-pub names_one : (parts : List Part) (many : Bool) (fault : LinkFault) (n : ℕ) → length parts ≡ n → (fault ≡ link.NoMemory) ⊎ (link_fault parts many ≡ Some fault) → NamesPart n fault
-names_one parts many fault n same (inl none) = subst (NamesPart n) (sym none) tt
-names_one parts many fault n same (inr found) = subst (λ k. NamesPart k fault) same (fault_names_part parts many fault found)
+pub names_one : LinkFaultsNameParts → (parts : List Part) (many : Bool) (fault : LinkFault) (n : ℕ) → length parts ≡ n → (fault ≡ link.NoMemory) ⊎ (link_fault parts many ≡ Some fault) → NamesPart n fault
+names_one law parts many fault n same (inl none) = subst (NamesPart n) (sym none) tt
+names_one law parts many fault n same (inr found) = subst (λ k. NamesPart k fault) same (law parts many fault found)
 
 -- a refusal of parts that do not link or are not joined
 pub link_fails : (merge : MergeTask) (parts : List Part) (fault : LinkFault) (text : Text) → (fault ≡ link.NoMemory) ⊎ (link_fault parts (many_of (Merge merge)) ≡ Some fault) → link_text (source_files merge) fault ≡ Some text → MergeFails merge parts text

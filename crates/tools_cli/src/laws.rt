@@ -14,10 +14,11 @@ use dce_sweep_proof::swept_modules_are_valid;
 use eval_encode_proof::{encoded_trees_begin_in_range, snapshots_are_in_range};
 use merge_behaves_proof::merged_module_equivalent;
 use merge_encode_proof::merged_modules_are_in_range;
+use merge_spec::link_faults_name_parts;
 use merge_valid_proof::merged_modules_are_valid;
-use split_behaves_proof::{secondary_modules_load, split_module_equivalent};
+use split_behaves_proof::{pairs_can_be_split, secondary_modules_load, split_module_equivalent};
 use split_encode_proof::split_modules_are_in_range;
-use split_plan::plan_faults_have_causes;
+use split_plan::{plan_faults_have_causes, what_is_planned_is_a_plan};
 use split_proof::{primary_modules_are_valid, secondary_modules_are_valid};
 use tools_cli_eval::{
     evaluated_modules_are_snapshots, evaluated_modules_are_valid, evaluated_modules_behave,
@@ -27,7 +28,7 @@ use wasm_names::name_lists_are_those_of_the_first_name_section;
 use wasm_read_spec::{
     decoding_is_unique, encoded_trees_are_bounded, faults_have_causes, no_fault_where_encoded,
 };
-use wasm_valid::valid_code_names_memory_zero;
+use wasm_valid::{modules_are_valid_or_have_a_first_invalid_item, valid_code_names_memory_zero};
 use wasm_write_proof::{
     canonical_encoding_encodes, encoded_trees_are_in_range, trees_that_fit_have_small_sizes,
 };
@@ -49,6 +50,8 @@ pub fn command_lines_have_jobs()
 {
     no_fault_where_encoded();
     faults_have_causes();
+    modules_are_valid_or_have_a_first_invalid_item();
+    link_faults_name_parts();
     exact_marks_exist();
     name_lists_are_those_of_the_first_name_section();
     plan_faults_have_causes();
@@ -65,6 +68,7 @@ pub fn done_jobs_are_faithful()
     trees_that_fit_have_small_sizes();
     encoded_trees_are_in_range();
     encoded_trees_are_bounded();
+    link_faults_name_parts();
     merged_modules_are_valid();
     merged_modules_are_in_range();
     merged_module_equivalent();
@@ -77,6 +81,8 @@ pub fn done_jobs_are_faithful()
     primary_modules_are_valid();
     secondary_modules_are_valid();
     split_modules_are_in_range();
+    what_is_planned_is_a_plan();
+    pairs_can_be_split();
     split_module_equivalent();
     secondary_modules_load();
     encoded_trees_begin_in_range();

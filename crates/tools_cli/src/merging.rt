@@ -15,7 +15,7 @@ use crate::refusal::{refuse_join, refuse_link};
 use crate::stop::Stop;
 use merge_join::join;
 use merge_link::resolve;
-use merge_spec::Part;
+use merge_spec::{Part, link_faults_name_parts};
 use std::alloc::Global;
 use wasm_bytes::{Items, Name, NoMemory};
 use wasm_valid::Valid;
@@ -50,6 +50,7 @@ fn merge_parts<'a>(
     ensures merged { IfOk result (λ tree. AreMerged false (named_modules parts) merge.now.mode tree) }
     ensures stops { IfErr result (StopsWith (MergeFails (merge_value merge.now) (named_modules parts))) }
 {
+    link_faults_name_parts();
     let links = match resolve(alloc, &parts) {
         Ok(links) => links,
         Err(fault) => {

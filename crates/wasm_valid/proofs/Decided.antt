@@ -9,11 +9,10 @@ use Rattle.wasm_tree.specs.declared.module.DataMode.TheVariants as «data»
 use Rattle.wasm_valid.specs.declared.kinds.ItemKind.{ItemKind}
 use Rattle.wasm_valid.specs.declared.kinds.ItemKind.TheVariants as kind
 use Rattle.wasm_valid.specs.declared.kinds.Invalid.{Invalid}
-use Rattle.wasm_valid_bodies.specs.Typing.{WellTyped}
-use Rattle.wasm_valid.specs.Prelude.{const_type, table_types, LimitsHold, ImportHolds, InSpace, ElemModeHolds, DataModeHolds, body_context, HoldsAt, Item, EachHolds, index_of}
+use Rattle.wasm_valid_bodies.specs.Typing.{WellTyped, TypingIsDecided}
+use Rattle.wasm_valid.specs.Prelude.{const_type, table_types, LimitsHold, ImportHolds, InSpace, ElemModeHolds, DataModeHolds, body_context, HoldsAt, Item, EachHolds, ValidOrFirstInvalid, index_of, items}
 use Rattle.wasm_valid.specs.Validity.{MostIsAtLeast, MostIsAtMost, PagesHold}
 use Rattle.wasm_valid.specs.First.{IsFirstOf}
-use Rattle.wasm_valid_bodies.proofs.Decided.{typed_or_not}
 
 abbrev Either : Type 0 → Type 0
 Either P = P ⊎ (P → ⊥)
@@ -195,27 +194,27 @@ body_of : (m : Module) (i : ℕ) → Either ((f : Func) × (slice_get m.funcs i 
 body_of m i (inl h) = inl (h.0, h.2.0, h.1, h.2.1, h.2.2)
 body_of m i (inr n) = inr (λ h. n (h.0, h.2, (h.1, h.3, h.4)))
 
-bodies : (m : Module) (i : ℕ) → Either (HoldsAt m kind.Body i)
-bodies m i =
-    body_of m i (entry m.funcs i (Body m) (λ f. entry m.types f.ty (λ t. WellTyped (body_context m f t) f.body [] t.results) (λ t. typed_or_not (body_context m f t) f.body [] t.results)))
+bodies : TypingIsDecided → (m : Module) (i : ℕ) → Either (HoldsAt m kind.Body i)
+bodies typing m i =
+    body_of m i (entry m.funcs i (Body m) (λ f. entry m.types f.ty (λ t. WellTyped (body_context m f t) f.body [] t.results) (λ t. typing (body_context m f t) f.body [] t.results)))
 
-holds : (m : Module) (k : ItemKind) (i : ℕ) → Either (HoldsAt m k i)
-holds m kind.Import i = entry m.imports i (λ x. ImportHolds m x.desc) (λ x. imports m x.desc)
-holds m kind.Memories i = at_most (length (memories_of m)) 1
-holds m kind.Func i = entry m.funcs i (λ f. f.ty < length m.types) (λ f. less f.ty (length m.types))
-holds m kind.Table i = entry m.tables i (λ t. LimitsHold t.limits) (λ t. least t.limits.max t.limits.min)
-holds m kind.Memory i = entry m.mems i PagesHold (λ l. pages l)
-holds m kind.Global i = entry m.globals i (λ g. const_type m g.init ≡ Some g.ty.ty) (λ g. typed m g.init g.ty.ty)
-holds m kind.Export i =
+holds : TypingIsDecided → (m : Module) (k : ItemKind) (i : ℕ) → Either (HoldsAt m k i)
+holds typing m kind.Import i = entry m.imports i (λ x. ImportHolds m x.desc) (λ x. imports m x.desc)
+holds typing m kind.Memories i = at_most (length (memories_of m)) 1
+holds typing m kind.Func i = entry m.funcs i (λ f. f.ty < length m.types) (λ f. less f.ty (length m.types))
+holds typing m kind.Table i = entry m.tables i (λ t. LimitsHold t.limits) (λ t. least t.limits.max t.limits.min)
+holds typing m kind.Memory i = entry m.mems i PagesHold (λ l. pages l)
+holds typing m kind.Global i = entry m.globals i (λ g. const_type m g.init ≡ Some g.ty.ty) (λ g. typed m g.init g.ty.ty)
+holds typing m kind.Export i =
     entry_both m.exports i (λ e. InSpace m e.desc) (λ e. Contains (map (λ (x : Export). x.name) (take i m.exports)) e.name → ⊥) (λ e. in_space m e.desc) (λ e. not_contains (map (λ (x : Export). x.name) (take i m.exports)) e.name)
-holds m kind.Start i = starts m m.start refl
-holds m kind.Elem i =
+holds typing m kind.Start i = starts m m.start refl
+holds typing m kind.Elem i =
     entry_both m.elems i (λ s. (j : ℕ) (e : ConstExpr) → slice_get s.items j ≡ Some e → const_type m e ≡ Some (Ref s.ty)) (λ s. ElemModeHolds m s.ty s.mode) (λ s. each_typed m (Ref s.ty) s.items) (λ s. elem_mode m s.ty s.mode)
-holds m kind.Segment i = entry m.datas i (λ s. DataModeHolds m s.mode) (λ s. data_mode m s.mode)
-holds m kind.Body i = bodies m i
+holds typing m kind.Segment i = entry m.datas i (λ s. DataModeHolds m s.mode) (λ s. data_mode m s.mode)
+holds typing m kind.Body i = bodies typing m i
 
 -- all items hold, or there is a first that does not
-abbrev pub AllOrFirst : Module → List Item → Type 0
+abbrev AllOrFirst : Module → List Item → Type 0
 AllOrFirst m xs = EachHolds m xs ⊎ ((e : Invalid) × IsFirstOf m xs e)
 
 and_more : (m : Module) (x : Item) (xs : List Item) → Either (HoldsAt m x.kind x.place) → AllOrFirst m xs → AllOrFirst m (x ∷ xs)
@@ -223,6 +222,9 @@ and_more m x xs (inr fails) rest = inr (record { kind = x.kind; index = index_of
 and_more m x xs (inl here) (inl all) = inl (here, all)
 and_more m x xs (inl here) (inr (e, (y, before, after, split, hold, fails, kind_is, index_is))) = inr (e, (y, x ∷ before, after, ap (λ l. x ∷ l) split, (here, hold), fails, kind_is, index_is))
 
-pub all_or_first : (m : Module) (xs : List Item) → AllOrFirst m xs
-all_or_first m [] = inl tt
-all_or_first m (x ∷ xs) = and_more m x xs (holds m x.kind x.place) (all_or_first m xs)
+all_or_first : TypingIsDecided → (m : Module) (xs : List Item) → AllOrFirst m xs
+all_or_first typing m [] = inl tt
+all_or_first typing m (x ∷ xs) = and_more m x xs (holds typing m x.kind x.place) (all_or_first typing m xs)
+
+pub valid_or_first_invalid : TypingIsDecided → ValidOrFirstInvalid
+valid_or_first_invalid typing m many = all_or_first typing m (items m many)

@@ -1,5 +1,5 @@
 -- The first invalid item.
-use Rattle.std.specs.Prelude.{◌≡◌, ℕ, ◌+◌, Bool, List, ◌∷◌, ◌++◌, length, Option, Some, None}
+use Rattle.std.specs.Prelude.{◌≡◌, ℕ, ◌+◌, Bool, List, ◌∷◌, ◌++◌, length, Option, Some, None, ◌⊎◌}
 use Rattle.wasm_tree_spec.specs.Prelude.{Module, imported_funcs, imported_tables, imported_memories, imported_globals, memories_of}
 use Rattle.wasm_valid.specs.declared.kinds.ItemKind.{ItemKind}
 use Rattle.wasm_valid.specs.declared.kinds.ItemKind.TheVariants as kind
@@ -34,3 +34,7 @@ IsFirstInvalid m many e = IsFirstOf m (items m many) e
 abbrev pub IsAnswer : Module → List Item → Option Invalid → Type 0
 IsAnswer m xs None = EachHolds m xs
 IsAnswer m xs (Some e) = IsFirstOf m xs e
+
+-- Every module is valid, or has a first invalid item.
+abbrev pub ValidOrFirstInvalid : Type 0
+ValidOrFirstInvalid = (m : Module) (many : Bool) → EachHolds m (items m many) ⊎ ((e : Invalid) × IsFirstInvalid m many e)

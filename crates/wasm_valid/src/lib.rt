@@ -15,6 +15,9 @@ mod validation;
 mod written;
 
 pub use kinds::{Invalid, ItemKind};
-pub use laws::{valid_code_names_memory_zero, valid_where_items_hold};
+pub use laws::{
+    modules_are_valid_or_have_a_first_invalid_item, valid_code_names_memory_zero,
+    valid_where_items_hold,
+};
 pub use named::{mark, mark_const, named_funcs};
 pub use validation::{Rejected, Valid, validate};

@@ -1,6 +1,6 @@
 -- When a body is well typed: there is a list of stacks, one before, between and after its
 -- instructions (WebAssembly Core 2.0, sections 3.3.8 and 3.3.9).
-use Rattle.std.specs.Prelude.{◌≡◌, ℕ, ◌^◌, Bool, true, false, ◌&&◌, nat_lt, nat_le, List, [], ◌∷◌, ◌++◌, map, reverse, Option, Some, None, slice_get, option_map}
+use Rattle.std.specs.Prelude.{◌≡◌, ℕ, ◌^◌, Bool, true, false, ◌&&◌, nat_lt, nat_le, List, [], ◌∷◌, ◌++◌, map, reverse, Option, Some, None, slice_get, option_map, ◌⊎◌}
 use Rattle.base_lists.specs.Options.{◌>>=◌}
 use Rattle.wasm_tree_spec.specs.Prelude.{RefType, ValType, I32, I64, Ref, FuncType, BlockType, Value, GlobalType, MemArg, Instr, Row_of-Instr, end_of-Instr, more_of-Instr, Unreachable, Nop, Block', Loop', If', Br, BrIf, BrTable, Return, Call, CallIndirect, Drop, Select, SelectTyped, LocalGet, LocalSet, LocalTee, GlobalGet, GlobalSet, TableGet, TableSet, Load, Store, MemorySize, MemoryGrow, I32Const, I64Const, Un, Bin, RefNull, RefIsNull, RefFunc, MemoryInit, DataDrop, MemoryCopy, MemoryFill, TableInit, ElemDrop, TableCopy, TableGrow, TableSize, TableFill, same_ref}
 use Rattle.wasm_tree.specs.declared.types.RefType.TheVariants.{Func, Extern}
@@ -272,3 +272,7 @@ LeadsAll c (i ∷ is) s t = (u : Stack) × Fits c i s u × LeadsAll c is u t
 -- The body takes operands `ps` and leaves operands that match `rs` (section 3.3.9).
 abbrev pub WellTyped : Context → List Instr → List ValType → List ValType → Type 0
 WellTyped c is ps rs = Ends (LeadsAll c is) ps rs
+
+-- Every body is well typed, or is not.
+abbrev pub TypingIsDecided : Type 0
+TypingIsDecided = (c : Context) (is : List Instr) (ps rs : List ValType) → WellTyped c is ps rs ⊎ (WellTyped c is ps rs → ⊥)

@@ -7,6 +7,7 @@ mod check;
 mod control;
 mod kept;
 mod labels;
+mod laws;
 mod locals;
 mod memories;
 mod operands;
@@ -17,5 +18,6 @@ mod types;
 mod variables;
 
 pub use check::{Stacks, is_well_typed_body};
+pub use laws::bodies_are_well_typed_or_not;
 pub use locals::Locals;
 pub use scope::Scope;

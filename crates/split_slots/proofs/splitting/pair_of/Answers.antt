@@ -70,7 +70,7 @@ returns-clause-equivalent c =
     let moved = c.args.moved.now in
     let namespace : ℕ → List ℕ = λ slot. names.placeholder_namespace in
     of_pair (λ first second. ObservationallyEquivalent m (pair_in_place names m moved first second) (most_params m moved)) c.finish_both.result (returns-clause-primary c) (returns-clause-secondary c)
-    (c.split_module_equivalent.ensures.equivalent namespace names m moved (moved ∷ []) (can_be_split names m moved c.requires.valid c.requires.bounded c.requires.can c.requires.ascend (c.in_ok-drafts.ensures.none refl)))
+    (c.split_module_equivalent.ensures.equivalent namespace names m moved (moved ∷ []) (can_be_split c.pairs_can_be_split.ensures names m moved c.requires.valid c.requires.bounded c.requires.can c.requires.ascend (c.in_ok-drafts.ensures.none refl)))
 
 pub returns-clause-loads : goal.returns-clause-loads
 returns-clause-loads c =
@@ -79,4 +79,4 @@ returns-clause-loads c =
     let moved = c.args.moved.now in
     let namespace : ℕ → List ℕ = λ slot. names.placeholder_namespace in
     of_pair (λ first second. AlwaysLoads (pair_in_place names m moved first second)) c.finish_both.result (returns-clause-primary c) (returns-clause-secondary c)
-    (c.secondary_modules_load.ensures.always namespace names m moved (moved ∷ []) (can_be_split names m moved c.requires.valid c.requires.bounded c.requires.can c.requires.ascend (c.in_ok-drafts.ensures.none refl)))
+    (c.secondary_modules_load.ensures.always namespace names m moved (moved ∷ []) (can_be_split c.pairs_can_be_split.ensures names m moved c.requires.valid c.requires.bounded c.requires.can c.requires.ascend (c.in_ok-drafts.ensures.none refl)))

@@ -1,6 +1,5 @@
 use Rattle.std.proofs.Common.{◌≡◌, ◌∙◌, ◌+◌, ◌-◌, ◌≤◌, ◌<◌, arith, rules, [], ◌∷◌, ◌++◌, length, get_or, IfSome, Some, refl, subst}
 use Rattle.tool_io.specs.FilesAndSinks.{first_bytes}
-use Rattle.tool_io.proofs.Steps.{rose_earlier}
 use Rattle.tools_cli.proofs.Gathering.{one_file_more, one_turn_more, too_long_told, this_turn, contains_name, same_read, one_name_more, one_total_more}
 use Rattle.wasm_bytes.specs.Reading.{IsBytes}
 use Rattle.tools_cli.proofs.ReadBytes.{one_more_read}
@@ -15,7 +14,7 @@ returns-in-Err-Failed-clause-stops g c =
     let i = c.loop-name.name-index in
     let name = (get_or c.args.names.now i no_word).now in (
       contains_name c.args.names.now i no_word c.loop-name-test.true,
-      rose_earlier _ _ _ (c.loop-name.invariant.reads name) (c.read.ensures.cause (search rules)),
+      (let was = c.loop-name.invariant.reads name in let rose = c.read.ensures.cause (search rules) in omega (arith, was, rose)),
       this_turn (g.F.Files.contents c.args.files.now) c.args.names.now i no_word c.args.most c.loop-name.left c.loop-name-test.true c.loop-name.invariant.turns,
     )
 

@@ -2,7 +2,6 @@ use Rattle.base_lists.proofs.Common.{◌∙◌, ap, sym, arith, false, length, l
 use Rattle.wasm_tree_spec.specs.Prelude.{Globals}
 use Rattle.wasm_meaning.specs.Prelude.{defined_before}
 use Rattle.merge_spec.specs.Prelude.{named_module, named_modules}
-use Rattle.merge_spec.proofs.FaultParts.{none_with_several}
 use Rattle.tools_cli.specs.Prelude.{merge_value, link_text}
 use Rattle.tools_cli.specs.Sources.{files_of}
 use Rattle.tools_cli.proofs.MergeDecided.{names_one, link_fails, join_fails}
@@ -15,11 +14,11 @@ pub resolve-requires-clause-globals : goal.resolve-requires-clause-globals
 resolve-requires-clause-globals c = omega (arith, ap (defined_before Globals (named_modules c.args.parts)) (length-map c.args.parts named_module), c.requires.few.entries Globals)
 
 pub join-requires-clause-linked : goal.join-requires-clause-linked
-join-requires-clause-linked c = none_with_several (named_modules c.args.parts) false c.in-Ok.ensures.linked
+join-requires-clause-linked c = c.link_faults_name_parts.ensures.several (named_modules c.args.parts) false c.in-Ok.ensures.linked
 
 pub refuse_link-requires : goal.refuse_link-requires
 refuse_link-requires c =
-    names_one (named_modules c.args.parts) false c.in-Err.fault _ (length-map c.args.parts named_module ∙ c.requires.each ∙ sym (ap length c.as_slice.ensures.value)) c.in-Err.ensures.fault
+    names_one c.link_faults_name_parts.ensures.names (named_modules c.args.parts) false c.in-Err.fault _ (length-map c.args.parts named_module ∙ c.requires.each ∙ sym (ap length c.as_slice.ensures.value)) c.in-Err.ensures.fault
 
 pub returns-in-Err-clause-stops : goal.returns-in-Err-clause-stops
 returns-in-Err-clause-stops c =
