@@ -12,6 +12,10 @@ pub on_ok : {A E P Q : Type 0} (r : Result A E) → (P → Q) → OnOk r P → O
 on_ok (Ok a) f h = f h
 on_ok (Err e) f h = tt
 
+pub both_ok : {A E P Q R : Type 0} (r : Result A E) → (P → Q → R) → OnOk r P → OnOk r Q → OnOk r R
+both_ok (Ok a) f h k = f h k
+both_ok (Err e) f h k = tt
+
 operands_of_all : (is : List Instr) → all_in_range is ≡ true → all_operands_pass small_operand is ≡ true
 operands_of_all is h = left_true (all_operands_pass small_operand is) (all_numbers_in is) h
 

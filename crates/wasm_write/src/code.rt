@@ -4,16 +4,17 @@ ghost use Rattle.base_lists.specs.Every.{Every};
 ghost use Rattle.wasm_tree.specs.Operands.{block_operands};
 ghost use Rattle.wasm_write_proof.specs.Ranges.{IsU32, small_operand, in_range, all_in_range};
 ghost use Rattle.wasm_tree.specs.DataUse.{uses_data_in, uses_data};
+ghost use Rattle.wasm_bytes.specs.Numbers.{IsWithin};
 ghost use Rattle.wasm_bytes.specs.Writing.{u32_text, s32_text, s64_text};
 ghost use Rattle.wasm_write_spec.specs.PlainValues.{joined, each_text, vector_text, ref_text, val_text, block_type_text};
 ghost use Rattle.wasm_write_spec.specs.PlainCode.{mem_arg_text, instr_text, instrs_text, else_text};
 
+use crate::forms::{Form, form_of};
 use crate::numbers::{spell_number, spell_s32, spell_s64, spell_u32};
-use crate::opcodes::{bin_code, load_code, store_code, un_code};
 use crate::plain::{Plain, spell_vector};
 use crate::target::Target;
 use crate::types::ref_code;
-use wasm_tree::{BlockType, Instr, MemArg, ValType};
+use wasm_tree::{BlockType, Instr, MemArg, RefType, ValType};
 
 /// Writes a memory argument (WebAssembly Core 2.0, section 5.4.6). The index of memory 0 is
 /// omitted.
@@ -23,11 +24,10 @@ fn spell_mem_arg<T: Target>(target: &mut T, arg: &MemArg) -> Result<(), T::Refus
     ensures offset { IsU32 arg.now.offset }
     ensures memory { IsU32 arg.now.memory }
 {
+    spell_u32(target, arg.offset)?;
     if arg.memory == 0 {
-        spell_u32(target, arg.offset)?;
         spell_u32(target, arg.align)
     } else {
-        spell_u32(target, arg.offset)?;
         spell_u32(target, arg.memory)?;
         spell_number(target, u64::from(arg.align) + 64)
     }
@@ -35,7 +35,11 @@ fn spell_mem_arg<T: Target>(target: &mut T, arg: &MemArg) -> Result<(), T::Refus
 
 /// Writes an opcode and an index.
 #[inline]
-fn spell_index<T: Target>(target: &mut T, opcode: u8, index: u32) -> Result<(), T::Refusal>
+pub(crate) fn spell_index<T: Target>(
+    target: &mut T,
+    opcode: u8,
+    index: u32,
+) -> Result<(), T::Refusal>
     ensures text { OnOk result (target.new ≡ T.preceded target.old (opcode ∷ u32_text index)) }
     ensures range { IsU32 index }
 {
@@ -106,6 +110,84 @@ fn spell_typed<T: Target>(target: &mut T, types: &[ValType]) -> Result<(), T::Re
     target.byte(0x1C)
 }
 
+/// Writes a `call_indirect`.
+#[inline]
+fn spell_call_indirect<T: Target>(target: &mut T, ty: u32, table: u32) -> Result<(), T::Refusal>
+    ensures text { OnOk result (target.new ≡ T.preceded target.old ((0x11 ∷ u32_text ty) ++ u32_text table)) }
+    ensures ty { IsU32 ty }
+    ensures table { IsU32 table }
+{
+    spell_u32(target, table)?;
+    spell_index(target, 0x11, ty)
+}
+
+/// Writes an `i32.const`.
+#[inline]
+pub(crate) fn spell_i32_const<T: Target>(target: &mut T, value: i32) -> Result<(), T::Refusal>
+    ensures text { OnOk result (target.new ≡ T.preceded target.old (0x41 ∷ s32_text value)) }
+    ensures range { IsWithin 32 value }
+{
+    spell_s32(target, value)?;
+    target.byte(0x41)
+}
+
+/// Writes an `i64.const`.
+#[inline]
+pub(crate) fn spell_i64_const<T: Target>(target: &mut T, value: i64) -> Result<(), T::Refusal>
+    ensures text { OnOk result (target.new ≡ T.preceded target.old (0x42 ∷ s64_text value)) }
+    ensures range { IsWithin 64 value }
+{
+    spell_s64(target, value)?;
+    target.byte(0x42)
+}
+
+/// Writes a `ref.null`.
+#[inline]
+pub(crate) fn spell_ref_null<T: Target>(target: &mut T, ty: RefType) -> Result<(), T::Refusal>
+    ensures { OnOk result (target.new ≡ T.preceded target.old (0xD0 ∷ ref_text ty)) }
+{
+    target.byte(ref_code(ty))?;
+    target.byte(0xD0)
+}
+
+/// Writes the opcode, the type and the instructions of a block.
+#[inline]
+#[cycle(spell)]
+fn spell_body<T: Target>(
+    target: &mut T,
+    opcode: u8,
+    ty: &BlockType,
+    body: &[Instr],
+    uses: &mut bool,
+) -> Result<(), T::Refusal>
+    ensures text { OnOk result (target.new ≡ T.preceded target.old ((opcode ∷ block_type_text ty.now) ++ instrs_text body.now)) }
+    ensures uses { OnOk result (uses.new ≡ (uses_data body.now || uses.old)) }
+    ensures ty { OnOk result (IsTrue (list_all small_operand (block_operands ty.now))) }
+    ensures body { OnOk result (IsTrue (all_in_range body.now)) }
+{
+    spell_instrs(target, body, uses)?;
+    spell_opener(target, opcode, ty)
+}
+
+/// Writes a block or a loop.
+#[inline]
+#[cycle(spell)]
+fn spell_block<T: Target>(
+    target: &mut T,
+    opcode: u8,
+    ty: &BlockType,
+    body: &[Instr],
+    uses: &mut bool,
+) -> Result<(), T::Refusal>
+    ensures text { OnOk result (target.new ≡ T.preceded target.old ((opcode ∷ block_type_text ty.now) ++ instrs_text body.now ++ 0x0B ∷ [])) }
+    ensures uses { OnOk result (uses.new ≡ (uses_data body.now || uses.old)) }
+    ensures ty { OnOk result (IsTrue (list_all small_operand (block_operands ty.now))) }
+    ensures body { OnOk result (IsTrue (all_in_range body.now)) }
+{
+    target.byte(0x0B)?;
+    spell_body(target, opcode, ty, body, uses)
+}
+
 /// Writes an instruction. `uses` becomes true if it names a data segment.
 #[tactic(auto, using(wasm_tree::proofs::DataUse::uses_block, wasm_tree::proofs::DataUse::uses_loop, wasm_tree::proofs::DataUse::uses_if))]
 #[cycle(spell)]
@@ -114,80 +196,32 @@ fn spell_instr<T: Target>(target: &mut T, instr: &Instr, uses: &mut bool) -> Res
     ensures uses { OnOk result (uses.new ≡ (uses_data_in instr.now || uses.old)) }
     ensures range { OnOk result (IsTrue (in_range instr.now)) }
 {
-    match instr {
-        Instr::Unreachable => target.byte(0x00),
-        Instr::Nop => target.byte(0x01),
-        Instr::Block(ty, body) => {
-            target.byte(0x0B)?;
-            spell_instrs(target, body.as_slice(), uses)?;
-            spell_opener(target, 0x02, ty)
+    match form_of(instr) {
+        Form::Block(ty, body) => spell_block(target, 0x02, ty, body, uses),
+        Form::Loop(ty, body) => spell_block(target, 0x03, ty, body, uses),
+        Form::If(ty, body, other) => {
+            spell_else(target, other, uses)?;
+            spell_body(target, 0x04, ty, body, uses)
         }
-        Instr::Loop(ty, body) => {
-            target.byte(0x0B)?;
-            spell_instrs(target, body.as_slice(), uses)?;
-            spell_opener(target, 0x03, ty)
-        }
-        Instr::If(ty, body, other) => {
-            target.byte(0x0B)?;
-            spell_else(target, other.as_slice(), uses)?;
-            spell_instrs(target, body.as_slice(), uses)?;
-            spell_opener(target, 0x04, ty)
-        }
-        Instr::Br(x) => spell_index(target, 0x0C, *x),
-        Instr::BrIf(x) => spell_index(target, 0x0D, *x),
-        Instr::BrTable(labels, other) => spell_branches(target, labels.as_slice(), *other),
-        Instr::Return => target.byte(0x0F),
-        Instr::Call(x) => spell_index(target, 0x10, *x),
-        Instr::CallIndirect { ty, table } => {
-            spell_u32(target, *table)?;
-            spell_index(target, 0x11, *ty)
-        }
-        Instr::Drop => target.byte(0x1A),
-        Instr::Select => target.byte(0x1B),
-        Instr::SelectTyped(types) => spell_typed(target, types.as_slice()),
-        Instr::LocalGet(x) => spell_index(target, 0x20, *x),
-        Instr::LocalSet(x) => spell_index(target, 0x21, *x),
-        Instr::LocalTee(x) => spell_index(target, 0x22, *x),
-        Instr::GlobalGet(x) => spell_index(target, 0x23, *x),
-        Instr::GlobalSet(x) => spell_index(target, 0x24, *x),
-        Instr::TableGet(x) => spell_index(target, 0x25, *x),
-        Instr::TableSet(x) => spell_index(target, 0x26, *x),
-        Instr::Load(op, arg) => spell_access(target, load_code(*op), arg),
-        Instr::Store(op, arg) => spell_access(target, store_code(*op), arg),
-        Instr::MemorySize(x) => spell_index(target, 0x3F, *x),
-        Instr::MemoryGrow(x) => spell_index(target, 0x40, *x),
-        Instr::I32Const(value) => {
-            spell_s32(target, *value)?;
-            target.byte(0x41)
-        }
-        Instr::I64Const(value) => {
-            spell_s64(target, *value)?;
-            target.byte(0x42)
-        }
-        Instr::Un(op) => target.byte(un_code(*op)),
-        Instr::Bin(op) => target.byte(bin_code(*op)),
-        Instr::RefNull(ty) => {
-            target.byte(ref_code(*ty))?;
-            target.byte(0xD0)
-        }
-        Instr::RefIsNull => target.byte(0xD1),
-        Instr::RefFunc(x) => spell_index(target, 0xD2, *x),
-        Instr::MemoryInit { segment, memory } => {
+        Form::Branches(labels, other) => spell_branches(target, labels, other),
+        Form::CallIndirect(ty, table) => spell_call_indirect(target, ty, table),
+        Form::SelectTyped(types) => spell_typed(target, types),
+        Form::I32Const(value) => spell_i32_const(target, value),
+        Form::I64Const(value) => spell_i64_const(target, value),
+        Form::RefNull(ty) => spell_ref_null(target, ty),
+        Form::MemoryInit(segment, memory) => {
             *uses = true;
-            spell_prefixed_pair(target, 8, *segment, *memory)
+            spell_prefixed_pair(target, 8, segment, memory)
         }
-        Instr::DataDrop(x) => {
+        Form::DataDrop(segment) => {
             *uses = true;
-            spell_prefixed(target, 9, *x)
+            spell_prefixed(target, 9, segment)
         }
-        Instr::MemoryCopy { to, from } => spell_prefixed_pair(target, 10, *to, *from),
-        Instr::MemoryFill(x) => spell_prefixed(target, 11, *x),
-        Instr::TableInit { segment, table } => spell_prefixed_pair(target, 12, *segment, *table),
-        Instr::ElemDrop(x) => spell_prefixed(target, 13, *x),
-        Instr::TableCopy { to, from } => spell_prefixed_pair(target, 14, *to, *from),
-        Instr::TableGrow(x) => spell_prefixed(target, 15, *x),
-        Instr::TableSize(x) => spell_prefixed(target, 16, *x),
-        Instr::TableFill(x) => spell_prefixed(target, 17, *x),
+        Form::Bare(opcode) => target.byte(opcode),
+        Form::Index(opcode, x) => spell_index(target, opcode, x),
+        Form::Access(opcode, arg) => spell_access(target, opcode, arg),
+        Form::Prefixed(opcode, x) => spell_prefixed(target, opcode, x),
+        Form::PrefixedPair(opcode, x, y) => spell_prefixed_pair(target, opcode, x, y),
     }
 }
 
@@ -208,13 +242,15 @@ pub(crate) fn spell_instrs<T: Target>(
     Ok(())
 }
 
-/// Writes the `else` of an `if` and its instructions, if there are any.
+/// Writes the end of an `if` and, in front of it, the `else` and its instructions, if there are
+/// any.
 #[cycle(spell)]
 fn spell_else<T: Target>(target: &mut T, other: &[Instr], uses: &mut bool) -> Result<(), T::Refusal>
-    ensures text { OnOk result (target.new ≡ T.preceded target.old (else_text (map instr_text other.now))) }
+    ensures text { OnOk result (target.new ≡ T.preceded target.old (else_text (map instr_text other.now) ++ 0x0B ∷ [])) }
     ensures uses { OnOk result (uses.new ≡ (uses_data other.now || uses.old)) }
     ensures range { OnOk result (IsTrue (all_in_range other.now)) }
 {
+    target.byte(0x0B)?;
     if other.len() == 0 {
         return Ok(());
     }

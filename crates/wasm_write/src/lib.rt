@@ -10,6 +10,7 @@ ghost use Rattle.wasm_write_proof.specs.TreeLimits.{WithinLimits};
 
 mod buffer;
 mod code;
+mod forms;
 mod numbers;
 mod opcodes;
 mod plain;

@@ -1,9 +1,10 @@
 ghost use Rattle.std.specs.Prelude.{◌≡◌, ℕ, List, [], ◌∷◌, ◌+◌, ◌++◌, OnOk};
 ghost use Rattle.base_lists.specs.Every.{Every};
-ghost use Rattle.wasm_write_proof.specs.Ranges.{ConstInRange, ElemModeInRange, ElemInRange, DataModeInRange};
+ghost use Rattle.wasm_write_proof.specs.Ranges.{IsU32, ConstInRange, ElemModeInRange, ElemInRange, DataModeInRange};
 ghost use Rattle.wasm_bytes.specs.Writing.{u32_text, sized_text};
-ghost use Rattle.wasm_write_spec.specs.PlainValues.{joined, each_text, vector_text, is_func, func_of, is_funcref, all_funcs, by_index, index_items, const_items, active_by_index, active_by_const, mode_by_index, mode_by_const, elem_text, data_mode_text, data_text};
+ghost use Rattle.wasm_write_spec.specs.PlainValues.{joined, each_text, vector_text, const_text, is_func, func_of, is_funcref, all_funcs, by_index, index_items, const_items, active_by_index, active_by_const, mode_by_index, mode_by_const, elem_text, data_mode_text, data_text};
 
+use crate::code::spell_index;
 use crate::numbers::{spell_number, spell_u32};
 use crate::plain::{Plain, spell_sized, spell_vector};
 use crate::target::Target;
@@ -96,6 +97,29 @@ fn spell_const_items<T: Target>(target: &mut T, items: &[ConstExpr]) -> Result<(
     spell_vector(target, items)
 }
 
+/// Writes a flag and the kind of the items.
+fn spell_kind<T: Target>(target: &mut T, flag: u8, kind: u8) -> Result<(), T::Refusal>
+    ensures { OnOk result (target.new ≡ T.preceded target.old (flag ∷ kind ∷ [])) }
+{
+    target.byte(kind)?;
+    target.byte(flag)
+}
+
+/// Writes a flag, the index of a table or a memory, and an offset.
+fn spell_place<T: Target>(
+    target: &mut T,
+    flag: u8,
+    index: u32,
+    offset: &ConstExpr,
+) -> Result<(), T::Refusal>
+    ensures text { OnOk result (target.new ≡ T.preceded target.old ((flag ∷ u32_text index) ++ const_text offset.now)) }
+    ensures index { IsU32 index }
+    ensures offset { OnOk result (ConstInRange offset.now) }
+{
+    offset.spell(target)?;
+    spell_index(target, flag, index)
+}
+
 /// Writes a segment whose items are all `ref.func`, as function indices.
 fn spell_by_index<T: Target>(
     target: &mut T,
@@ -106,30 +130,19 @@ fn spell_by_index<T: Target>(
     ensures mode { OnOk result (ElemModeInRange mode) }
     ensures range { OnOk result (Every ConstInRange items.now) }
 {
+    spell_index_items(target, items)?;
     match mode {
         ElemMode::Active { table, offset } => {
             if table == 0 {
-                spell_index_items(target, items)?;
                 offset.spell(target)?;
                 target.byte(0x00)
             } else {
-                spell_index_items(target, items)?;
                 target.byte(0x00)?;
-                offset.spell(target)?;
-                spell_u32(target, table)?;
-                target.byte(0x02)
+                spell_place(target, 0x02, table, &offset)
             }
         }
-        ElemMode::Passive => {
-            spell_index_items(target, items)?;
-            target.byte(0x00)?;
-            target.byte(0x01)
-        }
-        ElemMode::Declarative => {
-            spell_index_items(target, items)?;
-            target.byte(0x00)?;
-            target.byte(0x03)
-        }
+        ElemMode::Passive => spell_kind(target, 0x01, 0x00),
+        ElemMode::Declarative => spell_kind(target, 0x03, 0x00),
     }
 }
 
@@ -144,30 +157,19 @@ fn spell_by_const<T: Target>(
     ensures mode { OnOk result (ElemModeInRange mode) }
     ensures range { OnOk result (Every ConstInRange items.now) }
 {
+    spell_const_items(target, items)?;
     match mode {
         ElemMode::Active { table, offset } => {
             if table == 0 && is_funcref(ty) {
-                spell_const_items(target, items)?;
                 offset.spell(target)?;
                 target.byte(0x04)
             } else {
-                spell_const_items(target, items)?;
                 target.byte(ref_code(ty))?;
-                offset.spell(target)?;
-                spell_u32(target, table)?;
-                target.byte(0x06)
+                spell_place(target, 0x06, table, &offset)
             }
         }
-        ElemMode::Passive => {
-            spell_const_items(target, items)?;
-            target.byte(ref_code(ty))?;
-            target.byte(0x05)
-        }
-        ElemMode::Declarative => {
-            spell_const_items(target, items)?;
-            target.byte(ref_code(ty))?;
-            target.byte(0x07)
-        }
+        ElemMode::Passive => spell_kind(target, 0x05, ref_code(ty)),
+        ElemMode::Declarative => spell_kind(target, 0x07, ref_code(ty)),
     }
 }
 
@@ -198,9 +200,7 @@ impl Plain for DataMode {
                     offset.spell(target)?;
                     target.byte(0x00)
                 } else {
-                    offset.spell(target)?;
-                    spell_u32(target, *memory)?;
-                    target.byte(0x02)
+                    spell_place(target, 0x02, *memory, offset)
                 }
             }
             DataMode::Passive => target.byte(0x01),

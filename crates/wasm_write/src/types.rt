@@ -5,7 +5,8 @@ ghost use Rattle.wasm_write_proof.specs.Ranges.{small_operand, IsU32, LimitsInRa
 ghost use Rattle.wasm_bytes.specs.Writing.{u32_text, sized_text};
 ghost use Rattle.wasm_write_spec.specs.PlainValues.{ref_code, val_code, ref_text, val_text, func_type_text, limits_text, table_text, global_type_text, block_type_text, const_text, import_desc_text, import_text, global_text, export_desc_text, export_text};
 
-use crate::numbers::{spell_s32, spell_s33, spell_s64, spell_u32};
+use crate::code::{spell_i32_const, spell_i64_const, spell_index, spell_ref_null};
+use crate::numbers::{spell_s33, spell_u32};
 use crate::plain::{Plain, spell_sized, spell_vector};
 use crate::target::Target;
 use wasm_bytes::Name;
@@ -88,14 +89,10 @@ impl Plain for Limits {
     #[tactic(auto, unfolding(wasm_write_spec::specs::PlainValues::limits_text))]
     fn spell<T: Target>(&self, target: &mut T) -> Result<(), T::Refusal> {
         match self.max {
-            None => {
-                spell_u32(target, self.min)?;
-                target.byte(0x00)
-            }
+            None => spell_index(target, 0x00, self.min),
             Some(max) => {
                 spell_u32(target, max)?;
-                spell_u32(target, self.min)?;
-                target.byte(0x01)
+                spell_index(target, 0x01, self.min)
             }
         }
     }
@@ -147,32 +144,13 @@ impl Plain for ConstExpr {
 
     #[tactic(auto, unfolding(wasm_write_spec::specs::PlainValues::const_text))]
     fn spell<T: Target>(&self, target: &mut T) -> Result<(), T::Refusal> {
+        target.byte(0x0B)?;
         match self {
-            ConstExpr::I32(value) => {
-                target.byte(0x0B)?;
-                spell_s32(target, *value)?;
-                target.byte(0x41)
-            }
-            ConstExpr::I64(value) => {
-                target.byte(0x0B)?;
-                spell_s64(target, *value)?;
-                target.byte(0x42)
-            }
-            ConstExpr::Null(ty) => {
-                target.byte(0x0B)?;
-                target.byte(ref_code(*ty))?;
-                target.byte(0xD0)
-            }
-            ConstExpr::Func(func) => {
-                target.byte(0x0B)?;
-                spell_u32(target, *func)?;
-                target.byte(0xD2)
-            }
-            ConstExpr::Global(global) => {
-                target.byte(0x0B)?;
-                spell_u32(target, *global)?;
-                target.byte(0x23)
-            }
+            ConstExpr::I32(value) => spell_i32_const(target, *value),
+            ConstExpr::I64(value) => spell_i64_const(target, *value),
+            ConstExpr::Null(ty) => spell_ref_null(target, *ty),
+            ConstExpr::Func(func) => spell_index(target, 0xD2, *func),
+            ConstExpr::Global(global) => spell_index(target, 0x23, *global),
         }
     }
 }
@@ -185,10 +163,7 @@ impl Plain for ImportDesc {
     #[tactic(auto, unfolding(wasm_write_spec::specs::PlainValues::import_desc_text))]
     fn spell<T: Target>(&self, target: &mut T) -> Result<(), T::Refusal> {
         match self {
-            ImportDesc::Func(ty) => {
-                spell_u32(target, *ty)?;
-                target.byte(0x00)
-            }
+            ImportDesc::Func(ty) => spell_index(target, 0x00, *ty),
             ImportDesc::Table(table) => {
                 table.spell(target)?;
                 target.byte(0x01)
@@ -238,22 +213,10 @@ impl Plain for ExportDesc {
     #[tactic(auto, unfolding(wasm_write_spec::specs::PlainValues::export_desc_text))]
     fn spell<T: Target>(&self, target: &mut T) -> Result<(), T::Refusal> {
         match self {
-            ExportDesc::Func(func) => {
-                spell_u32(target, *func)?;
-                target.byte(0x00)
-            }
-            ExportDesc::Table(table) => {
-                spell_u32(target, *table)?;
-                target.byte(0x01)
-            }
-            ExportDesc::Memory(memory) => {
-                spell_u32(target, *memory)?;
-                target.byte(0x02)
-            }
-            ExportDesc::Global(global) => {
-                spell_u32(target, *global)?;
-                target.byte(0x03)
-            }
+            ExportDesc::Func(func) => spell_index(target, 0x00, *func),
+            ExportDesc::Table(table) => spell_index(target, 0x01, *table),
+            ExportDesc::Memory(memory) => spell_index(target, 0x02, *memory),
+            ExportDesc::Global(global) => spell_index(target, 0x03, *global),
         }
     }
 }
