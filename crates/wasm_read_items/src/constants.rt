@@ -1,7 +1,7 @@
 ghost use Rattle.std.specs.Prelude.{◌≡◌, ◌<◌, length, OnOk};
 ghost use Rattle.wasm_read_spec.specs.Reading.{Gives, chosen_at, byte_at, const_from, const_at, global_def_at};
 
-use crate::types::read_tag;
+use crate::types::{read_byte, read_s32, read_s64, read_tag, read_u32};
 use crate::vectors::Spelled;
 use std::alloc::Global;
 use wasm_bytes::Cursor;
@@ -13,12 +13,12 @@ fn read_constant(alloc: Global, cursor: &mut Cursor<'_>) -> Result<ConstExpr, Fa
     ensures gives { Gives result cursor.new (chosen_at byte_at const_from cursor.old) }
     ensures shorter { OnOk result (length cursor.new < length cursor.old) }
 {
-    match cursor.byte()? {
-        0x41 => Ok(ConstExpr::I32(cursor.s32()?)),
-        0x42 => Ok(ConstExpr::I64(cursor.s64()?)),
+    match read_byte(cursor)? {
+        0x41 => Ok(ConstExpr::I32(read_s32(cursor)?)),
+        0x42 => Ok(ConstExpr::I64(read_s64(cursor)?)),
         0xD0 => Ok(ConstExpr::Null(RefType::read(alloc, cursor)?)),
-        0xD2 => Ok(ConstExpr::Func(cursor.u32()?)),
-        0x23 => Ok(ConstExpr::Global(cursor.u32()?)),
+        0xD2 => Ok(ConstExpr::Func(read_u32(cursor)?)),
+        0x23 => Ok(ConstExpr::Global(read_u32(cursor)?)),
         0x43 | 0x44 | 0xFD => Err(Fault::Unsupported),
         _ => Err(Fault::Malformed),
     }

@@ -7,6 +7,7 @@ ghost use Rattle.wasm_tree.specs.declared.which.Which.TheVariants.{Locals};
 
 use crate::body::read_body;
 use crate::pile::Pile;
+use crate::types::read_u32;
 use crate::vectors::Spelled;
 use std::alloc::Global;
 use wasm_bytes::{Cursor, Items};
@@ -21,7 +22,7 @@ fn read_group(alloc: Global, cursor: &mut Cursor<'_>, sum: u32) -> Result<LocalG
     ensures few { IfOk result (λ g. sum + g.count ≤ limit Locals) }
     ensures shorter { OnOk result (length cursor.new < length cursor.old) }
 {
-    let count = cursor.u32()?;
+    let count = read_u32(cursor)?;
     if count > MOST_LOCALS - sum {
         return Err(Fault::Limit {
             which: Which::Locals,
@@ -57,7 +58,7 @@ fn read_locals(alloc: Global, cursor: &mut Cursor<'_>) -> Result<Items<LocalGrou
     ensures gives { Gives result cursor.new (locals_at cursor.old) }
     ensures shorter { OnOk result (length cursor.new < length cursor.old) }
 {
-    let count = cursor.u32()?;
+    let count = read_u32(cursor)?;
     read_groups(alloc, cursor, count)
 }
 

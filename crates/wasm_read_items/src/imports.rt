@@ -1,6 +1,7 @@
 ghost use Rattle.std.specs.Prelude.{◌≡◌, ◌<◌, length, OnOk};
 ghost use Rattle.wasm_read_spec.specs.Reading.{Gives, name_at, import_desc_at, import_at, export_desc_at, export_at};
 
+use crate::types::{read_byte, read_u32};
 use crate::vectors::Spelled;
 use std::alloc::Global;
 use wasm_bytes::{Cursor, Name};
@@ -24,8 +25,8 @@ fn read_import_desc(alloc: Global, cursor: &mut Cursor<'_>) -> Result<ImportDesc
     ensures gives { Gives result cursor.new (import_desc_at cursor.old) }
     ensures shorter { OnOk result (length cursor.new < length cursor.old) }
 {
-    match cursor.byte()? {
-        0x00 => Ok(ImportDesc::Func(cursor.u32()?)),
+    match read_byte(cursor)? {
+        0x00 => Ok(ImportDesc::Func(read_u32(cursor)?)),
         0x01 => Ok(ImportDesc::Table(TableType::read(alloc, cursor)?)),
         0x02 => Ok(ImportDesc::Memory(Limits::read(alloc, cursor)?)),
         0x03 => Ok(ImportDesc::Global(GlobalType::read(alloc, cursor)?)),
@@ -55,11 +56,11 @@ fn read_export_desc(cursor: &mut Cursor<'_>) -> Result<ExportDesc, Fault>
     ensures gives { Gives result cursor.new (export_desc_at cursor.old) }
     ensures shorter { OnOk result (length cursor.new < length cursor.old) }
 {
-    match cursor.byte()? {
-        0x00 => Ok(ExportDesc::Func(cursor.u32()?)),
-        0x01 => Ok(ExportDesc::Table(cursor.u32()?)),
-        0x02 => Ok(ExportDesc::Memory(cursor.u32()?)),
-        0x03 => Ok(ExportDesc::Global(cursor.u32()?)),
+    match read_byte(cursor)? {
+        0x00 => Ok(ExportDesc::Func(read_u32(cursor)?)),
+        0x01 => Ok(ExportDesc::Table(read_u32(cursor)?)),
+        0x02 => Ok(ExportDesc::Memory(read_u32(cursor)?)),
+        0x03 => Ok(ExportDesc::Global(read_u32(cursor)?)),
         _ => Err(Fault::Malformed),
     }
 }

@@ -1,9 +1,11 @@
 ghost use Rattle.std.specs.Prelude.{◌≡◌, ◌<◌, ◌≤◌, length, OnOk};
 ghost use Rattle.wasm_bytes.specs.Reading.{lent};
 ghost use Rattle.wasm_read_spec.specs.declared.fault.Fault.TheVariants.{Malformed as Misspelled};
-ghost use Rattle.wasm_read_spec.specs.Reading.{Gives, GivesSlice, sized_at, u32_at, mapped_at, each_at, func_item_at, func_items_at, tagged_at, elem_from, elem_at, data_at};
+ghost use Rattle.wasm_read_spec.specs.Reading.{Gives, GivesSlice, sized_at, u32_at, mapped_at, each_at, func_item_at, func_items_at, tagged_at, pair_at, ref_at, const_at, const_items_at, elem_at, data_at};
+ghost use Rattle.wasm_read_spec.specs.Sections.{elem_of, data2};
+ghost use Rattle.wasm_tree.specs.declared.types.RefType.TheVariants.{Func};
 
-use crate::types::read_tag;
+use crate::types::{read_tag, read_u32};
 use crate::vectors::{Spelled, read_list};
 use std::alloc::Global;
 use wasm_bytes::{Cursor, Items};
@@ -16,7 +18,7 @@ pub fn read_sized<'a>(cursor: &mut Cursor<'a>) -> Result<&'a [u8], Fault>
     ensures gives { GivesSlice result cursor.new (sized_at cursor.old) }
     ensures shorter { OnOk result (length cursor.new < length cursor.old) }
 {
-    let count = cursor.u32()?;
+    let count = read_u32(cursor)?;
     match cursor.take(count as usize) {
         Ok(content) => Ok(content),
         Err(_) => Err(Fault::Malformed),
@@ -28,10 +30,7 @@ fn read_bytes(alloc: Global, cursor: &mut Cursor<'_>) -> Result<Items<u8>, Fault
     ensures gives { Gives result cursor.new (sized_at cursor.old) }
     ensures shorter { OnOk result (length cursor.new < length cursor.old) }
 {
-    match read_sized(cursor) {
-        Ok(content) => Ok(Items::from_slice(alloc, content)?),
-        Err(fault) => Err(fault),
-    }
+    Ok(Items::from_slice(alloc, read_sized(cursor)?)?)
 }
 
 /// Reads a function index as the item `ref.func`.
@@ -39,7 +38,7 @@ fn read_func_item(cursor: &mut Cursor<'_>) -> Result<ConstExpr, Fault>
     ensures gives { Gives result cursor.new (func_item_at cursor.old) }
     ensures shorter { OnOk result (length cursor.new < length cursor.old) }
 {
-    Ok(ConstExpr::Func(cursor.u32()?))
+    Ok(ConstExpr::Func(read_u32(cursor)?))
 }
 
 /// Reads `count` function indices.
@@ -65,93 +64,50 @@ fn read_funcs(alloc: Global, cursor: &mut Cursor<'_>) -> Result<Items<ConstExpr>
     ensures gives { Gives result cursor.new (func_items_at cursor.old) }
     ensures shorter { OnOk result (length cursor.new < length cursor.old) }
 {
-    let count = cursor.u32()?;
+    let count = read_u32(cursor)?;
     read_each_func(alloc, cursor, count)
 }
 
-/// Reads the element kind, which is 0, and a vector of function indices.
-fn read_kind_funcs(alloc: Global, cursor: &mut Cursor<'_>) -> Result<Items<ConstExpr>, Fault>
-    ensures gives { Gives result cursor.new (tagged_at 0x00 func_items_at cursor.old) }
+/// Reads the function indices of an element segment of this mode.
+fn read_funcs_of(alloc: Global, cursor: &mut Cursor<'_>, mode: ElemMode) -> Result<ElemSeg, Fault>
+    ensures gives { Gives result cursor.new (mapped_at (elem_of mode Func) func_items_at cursor.old) }
+    ensures shorter { OnOk result (length cursor.new < length cursor.old) }
+{
+    let items = read_funcs(alloc, cursor)?;
+    let ty = RefType::Func;
+    Ok(ElemSeg { mode, ty, items })
+}
+
+/// Reads the element kind, which is 0, and the function indices of an element segment of this mode.
+fn read_kind_of(alloc: Global, cursor: &mut Cursor<'_>, mode: ElemMode) -> Result<ElemSeg, Fault>
+    ensures gives { Gives result cursor.new (mapped_at (elem_of mode Func) (tagged_at 0x00 func_items_at) cursor.old) }
     ensures shorter { OnOk result (length cursor.new < length cursor.old) }
 {
     read_tag(cursor, 0x00)?;
-    read_funcs(alloc, cursor)
+    read_funcs_of(alloc, cursor, mode)
 }
 
-/// Reads the rest of an element segment of function indices, after its flags (WebAssembly Core 2.0,
-/// section 5.5.12).
-fn read_elem_funcs(alloc: Global, cursor: &mut Cursor<'_>, flags: u32) -> Result<ElemSeg, Fault>
-    requires most { flags ≤ 3 }
-    ensures gives { Gives result cursor.new (elem_from flags cursor.old) }
-    ensures shorter { OnOk result (length cursor.new ≤ length cursor.old) }
+/// Reads the constant expressions of an element segment of this mode and type.
+fn read_constants_of(
+    alloc: Global,
+    cursor: &mut Cursor<'_>,
+    mode: ElemMode,
+    ty: RefType,
+) -> Result<ElemSeg, Fault>
+    ensures gives { Gives result cursor.new (mapped_at (elem_of mode ty) const_items_at cursor.old) }
+    ensures shorter { OnOk result (length cursor.new < length cursor.old) }
 {
-    let ty = RefType::Func;
-    match flags {
-        0 => {
-            let offset = ConstExpr::read(alloc, cursor)?;
-            let items = read_funcs(alloc, cursor)?;
-            let mode = ElemMode::Active { table: 0, offset };
-            Ok(ElemSeg { mode, ty, items })
-        }
-        1 => {
-            let items = read_kind_funcs(alloc, cursor)?;
-            let mode = ElemMode::Passive;
-            Ok(ElemSeg { mode, ty, items })
-        }
-        2 => {
-            let table = cursor.u32()?;
-            let offset = ConstExpr::read(alloc, cursor)?;
-            let items = read_kind_funcs(alloc, cursor)?;
-            let mode = ElemMode::Active { table, offset };
-            Ok(ElemSeg { mode, ty, items })
-        }
-        3 => {
-            let items = read_kind_funcs(alloc, cursor)?;
-            let mode = ElemMode::Declarative;
-            Ok(ElemSeg { mode, ty, items })
-        }
-        _ => unreachable!(),
-    }
+    let items = read_list(alloc, cursor)?;
+    Ok(ElemSeg { mode, ty, items })
 }
 
-/// Reads the rest of an element segment of constant expressions, after its flags (WebAssembly Core
-/// 2.0, section 5.5.12).
-fn read_elem_constants(alloc: Global, cursor: &mut Cursor<'_>, flags: u32) -> Result<ElemSeg, Fault>
-    requires least { 4 ≤ flags }
-    requires most { flags ≤ 7 }
-    ensures gives { Gives result cursor.new (elem_from flags cursor.old) }
-    ensures shorter { OnOk result (length cursor.new ≤ length cursor.old) }
+/// Reads the type and the constant expressions of an element segment of this mode.
+fn read_typed_of(alloc: Global, cursor: &mut Cursor<'_>, mode: ElemMode) -> Result<ElemSeg, Fault>
+    ensures gives { Gives result cursor.new (mapped_at (λ p. elem_of mode p.0 p.1) (pair_at ref_at const_items_at) cursor.old) }
+    ensures shorter { OnOk result (length cursor.new < length cursor.old) }
 {
-    match flags {
-        4 => {
-            let offset = ConstExpr::read(alloc, cursor)?;
-            let items = read_list(alloc, cursor)?;
-            let mode = ElemMode::Active { table: 0, offset };
-            let ty = RefType::Func;
-            Ok(ElemSeg { mode, ty, items })
-        }
-        5 => {
-            let ty = RefType::read(alloc, cursor)?;
-            let items = read_list(alloc, cursor)?;
-            let mode = ElemMode::Passive;
-            Ok(ElemSeg { mode, ty, items })
-        }
-        6 => {
-            let table = cursor.u32()?;
-            let offset = ConstExpr::read(alloc, cursor)?;
-            let ty = RefType::read(alloc, cursor)?;
-            let items = read_list(alloc, cursor)?;
-            let mode = ElemMode::Active { table, offset };
-            Ok(ElemSeg { mode, ty, items })
-        }
-        7 => {
-            let ty = RefType::read(alloc, cursor)?;
-            let items = read_list(alloc, cursor)?;
-            let mode = ElemMode::Declarative;
-            Ok(ElemSeg { mode, ty, items })
-        }
-        _ => unreachable!(),
-    }
+    let ty = RefType::read(alloc, cursor)?;
+    read_constants_of(alloc, cursor, mode, ty)
 }
 
 impl Spelled for ElemSeg {
@@ -159,13 +115,46 @@ impl Spelled for ElemSeg {
 
     #[tactic(auto, unfolding(wasm_read_spec::specs::Reading::elem_at))]
     fn read(alloc: Global, cursor: &mut Cursor<'_>) -> Result<ElemSeg, Fault> {
-        let flags = cursor.u32()?;
+        // The flags decide between eight forms (WebAssembly Core 2.0, section 5.5.12).
+        let flags = read_u32(cursor)?;
         match flags {
-            0..=3 => read_elem_funcs(alloc, cursor, flags),
-            4..=7 => read_elem_constants(alloc, cursor, flags),
+            0 => {
+                let offset = ConstExpr::read(alloc, cursor)?;
+                read_funcs_of(alloc, cursor, ElemMode::Active { table: 0, offset })
+            }
+            1 => read_kind_of(alloc, cursor, ElemMode::Passive),
+            2 => {
+                let table = read_u32(cursor)?;
+                let offset = ConstExpr::read(alloc, cursor)?;
+                read_kind_of(alloc, cursor, ElemMode::Active { table, offset })
+            }
+            3 => read_kind_of(alloc, cursor, ElemMode::Declarative),
+            4 => {
+                let offset = ConstExpr::read(alloc, cursor)?;
+                let mode = ElemMode::Active { table: 0, offset };
+                read_constants_of(alloc, cursor, mode, RefType::Func)
+            }
+            5 => read_typed_of(alloc, cursor, ElemMode::Passive),
+            6 => {
+                let table = read_u32(cursor)?;
+                let offset = ConstExpr::read(alloc, cursor)?;
+                read_typed_of(alloc, cursor, ElemMode::Active { table, offset })
+            }
+            7 => read_typed_of(alloc, cursor, ElemMode::Declarative),
             _ => Err(Fault::Malformed),
         }
     }
+}
+
+/// Reads the offset and the bytes of an active data segment of this memory.
+fn read_active(alloc: Global, cursor: &mut Cursor<'_>, memory: u32) -> Result<DataSeg, Fault>
+    ensures gives { Gives result cursor.new (mapped_at (λ p. data2 (memory, p)) (pair_at const_at sized_at) cursor.old) }
+    ensures shorter { OnOk result (length cursor.new < length cursor.old) }
+{
+    let offset = ConstExpr::read(alloc, cursor)?;
+    let bytes = read_bytes(alloc, cursor)?;
+    let mode = DataMode::Active { memory, offset };
+    Ok(DataSeg { mode, bytes })
 }
 
 impl Spelled for DataSeg {
@@ -173,30 +162,15 @@ impl Spelled for DataSeg {
 
     #[tactic(auto, unfolding(wasm_read_spec::specs::Reading::data_at))]
     fn read(alloc: Global, cursor: &mut Cursor<'_>) -> Result<DataSeg, Fault> {
-        match cursor.u32()? {
-            0 => {
-                let offset = ConstExpr::read(alloc, cursor)?;
-                let bytes = read_bytes(alloc, cursor)?;
-                Ok(DataSeg {
-                    mode: DataMode::Active { memory: 0, offset },
-                    bytes,
-                })
-            }
-            1 => {
-                let bytes = read_bytes(alloc, cursor)?;
-                Ok(DataSeg {
-                    mode: DataMode::Passive,
-                    bytes,
-                })
-            }
+        match read_u32(cursor)? {
+            0 => read_active(alloc, cursor, 0),
+            1 => Ok(DataSeg {
+                mode: DataMode::Passive,
+                bytes: read_bytes(alloc, cursor)?,
+            }),
             2 => {
-                let memory = cursor.u32()?;
-                let offset = ConstExpr::read(alloc, cursor)?;
-                let bytes = read_bytes(alloc, cursor)?;
-                Ok(DataSeg {
-                    mode: DataMode::Active { memory, offset },
-                    bytes,
-                })
+                let memory = read_u32(cursor)?;
+                read_active(alloc, cursor, memory)
             }
             _ => Err(Fault::Malformed),
         }

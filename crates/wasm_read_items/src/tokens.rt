@@ -1,8 +1,9 @@
-ghost use Rattle.std.specs.Prelude.{◌≡◌, ◌<◌, ◌≤◌, Bool, length, OnOk};
-ghost use Rattle.wasm_read_spec.specs.Reading.{Gives};
+ghost use Rattle.std.specs.Prelude.{◌≡◌, ◌≢◌, ◌<◌, ◌≤◌, ℕ, Bool, List, length, OnOk};
+ghost use Rattle.wasm_tree_spec.specs.Prelude.{BrTable};
+ghost use Rattle.wasm_read_spec.specs.Reading.{Gives, u32_at, pair_at, list_at};
 ghost use Rattle.wasm_read_items.specs.Piled.{Tells};
 ghost use Rattle.wasm_read_spec.specs.Tokens.{rest_form, sub_form};
-ghost use Rattle.wasm_read_spec.specs.BodyReading.{arg_at, memory_at, simple_of, prefixed_at, token_of, token_at};
+ghost use Rattle.wasm_read_spec.specs.BodyReading.{arg_at, memory_at, plain_at, simple_of, prefixed_at, token_of, token_at};
 
 use crate::operations::{bin_of, load_of, store_of, un_of};
 use crate::pile::{Kind, Pile};
@@ -62,41 +63,58 @@ fn read_memory(cursor: &mut Cursor<'_>, many: bool) -> Result<u32, Fault>
     }
 }
 
-/// Reads the rest of a token that begins with `FC` and the number of a supported instruction.
+/// Reads the rest of a token that begins with `FC` and the number of an instruction whose first
+/// immediate is a memory.
+#[tactic(auto, unfolding(wasm_read_spec::specs::BodyReading::simple_of, wasm_read_spec::specs::Tokens::sub_form))]
+fn read_bulk_at(
+    cursor: &mut Cursor<'_>,
+    many: bool,
+    code: u32,
+    pile: &mut Pile,
+) -> Result<Kind, Fault>
+    requires least { 10 ≤ code }
+    requires most { code ≤ 11 }
+    ensures gives { Tells result cursor.new pile.old pile.new (simple_of many (sub_form code) cursor.old) }
+    ensures shorter { OnOk result (length cursor.new ≤ length cursor.old) }
+{
+    let to = read_memory(cursor, many)?;
+    if code == 11 {
+        return pile.plain(Instr::MemoryFill(to));
+    }
+    let from = read_memory(cursor, many)?;
+    pile.plain(Instr::MemoryCopy { to, from })
+}
+
+/// Reads the rest of a token that begins with `FC` and the number of an instruction whose first
+/// immediate is an index.
 #[tactic(auto, unfolding(wasm_read_spec::specs::BodyReading::simple_of, wasm_read_spec::specs::Tokens::sub_form))]
 fn read_bulk(cursor: &mut Cursor<'_>, many: bool, code: u32, pile: &mut Pile) -> Result<Kind, Fault>
     requires least { 8 ≤ code }
     requires most { code ≤ 17 }
+    requires copy { code ≢ 10 }
+    requires fill { code ≢ 11 }
     ensures gives { Tells result cursor.new pile.old pile.new (simple_of many (sub_form code) cursor.old) }
     ensures shorter { OnOk result (length cursor.new ≤ length cursor.old) }
 {
+    let index = read_u32(cursor)?;
     match code {
-        8 => {
-            let segment = read_u32(cursor)?;
-            let memory = read_memory(cursor, many)?;
-            pile.plain_with_data(Instr::MemoryInit { segment, memory })
-        }
-        9 => pile.plain_with_data(Instr::DataDrop(read_u32(cursor)?)),
-        10 => {
-            let to = read_memory(cursor, many)?;
-            let from = read_memory(cursor, many)?;
-            pile.plain(Instr::MemoryCopy { to, from })
-        }
-        11 => pile.plain(Instr::MemoryFill(read_memory(cursor, many)?)),
-        12 => {
-            let segment = read_u32(cursor)?;
-            let table = read_u32(cursor)?;
-            pile.plain(Instr::TableInit { segment, table })
-        }
-        13 => pile.plain(Instr::ElemDrop(read_u32(cursor)?)),
-        14 => {
-            let to = read_u32(cursor)?;
-            let from = read_u32(cursor)?;
-            pile.plain(Instr::TableCopy { to, from })
-        }
-        15 => pile.plain(Instr::TableGrow(read_u32(cursor)?)),
-        16 => pile.plain(Instr::TableSize(read_u32(cursor)?)),
-        17 => pile.plain(Instr::TableFill(read_u32(cursor)?)),
+        8 => pile.plain_with_data(Instr::MemoryInit {
+            segment: index,
+            memory: read_memory(cursor, many)?,
+        }),
+        9 => pile.plain_with_data(Instr::DataDrop(index)),
+        12 => pile.plain(Instr::TableInit {
+            segment: index,
+            table: read_u32(cursor)?,
+        }),
+        13 => pile.plain(Instr::ElemDrop(index)),
+        14 => pile.plain(Instr::TableCopy {
+            to: index,
+            from: read_u32(cursor)?,
+        }),
+        15 => pile.plain(Instr::TableGrow(index)),
+        16 => pile.plain(Instr::TableSize(index)),
+        17 => pile.plain(Instr::TableFill(index)),
         _ => unreachable!(),
     }
 }
@@ -111,38 +129,40 @@ fn read_prefixed(cursor: &mut Cursor<'_>, many: bool, pile: &mut Pile) -> Result
     let code = read_u32(cursor)?;
     match code {
         0..=7 => Err(Fault::Unsupported),
+        10..=11 => read_bulk_at(cursor, many, code, pile),
         8..=17 => read_bulk(cursor, many, code, pile),
         _ => Err(Fault::Malformed),
     }
 }
 
-/// Reads the rest of a branch, a return or a call (WebAssembly Core 2.0, section 5.4.1).
+/// Reads the rest of a branch by a table (WebAssembly Core 2.0, section 5.4.1).
+fn read_branch_table(alloc: Global, cursor: &mut Cursor<'_>, pile: &mut Pile) -> Result<Kind, Fault>
+    ensures gives { Tells result cursor.new pile.old pile.new (plain_at (λ (p : List ℕ × ℕ). BrTable p.0 p.1) (pair_at (list_at u32_at) u32_at) cursor.old) }
+    ensures shorter { OnOk result (length cursor.new ≤ length cursor.old) }
+{
+    let labels = read_list(alloc, cursor)?;
+    pile.plain(Instr::BrTable(labels, read_u32(cursor)?))
+}
+
+/// Reads the rest of a branch by an index or of a call (WebAssembly Core 2.0, section 5.4.1).
 #[tactic(auto, unfolding(wasm_read_spec::specs::BodyReading::simple_of, wasm_read_spec::specs::Tokens::rest_form))]
-fn read_branch(
-    alloc: Global,
-    cursor: &mut Cursor<'_>,
-    opcode: u8,
-    pile: &mut Pile,
-) -> Result<Kind, Fault>
+fn read_branch(cursor: &mut Cursor<'_>, opcode: u8, pile: &mut Pile) -> Result<Kind, Fault>
     requires least { 0x0C ≤ opcode }
     requires most { opcode ≤ 0x11 }
+    requires table { opcode ≢ 0x0E }
+    requires back { opcode ≢ 0x0F }
     ensures gives { (many : Bool) → Tells result cursor.new pile.old pile.new (token_of many (rest_form opcode) cursor.old) }
     ensures shorter { OnOk result (length cursor.new ≤ length cursor.old) }
 {
+    let index = read_u32(cursor)?;
     match opcode {
-        0x0C => pile.plain(Instr::Br(read_u32(cursor)?)),
-        0x0D => pile.plain(Instr::BrIf(read_u32(cursor)?)),
-        0x0E => {
-            let labels = read_list(alloc, cursor)?;
-            pile.plain(Instr::BrTable(labels, read_u32(cursor)?))
-        }
-        0x0F => pile.plain(Instr::Return),
-        0x10 => pile.plain(Instr::Call(read_u32(cursor)?)),
-        0x11 => {
-            let ty = read_u32(cursor)?;
-            let table = read_u32(cursor)?;
-            pile.plain(Instr::CallIndirect { ty, table })
-        }
+        0x0C => pile.plain(Instr::Br(index)),
+        0x0D => pile.plain(Instr::BrIf(index)),
+        0x10 => pile.plain(Instr::Call(index)),
+        0x11 => pile.plain(Instr::CallIndirect {
+            ty: index,
+            table: read_u32(cursor)?,
+        }),
         _ => unreachable!(),
     }
 }
@@ -255,7 +275,9 @@ fn read_control(
         0x04 => Ok(Kind::Open(Opener::If)),
         0x05 => Ok(Kind::Else),
         0x0B => Ok(Kind::End),
-        0x0C..=0x11 => read_branch(alloc, cursor, opcode, pile),
+        0x0E => read_branch_table(alloc, cursor, pile),
+        0x0F => pile.plain(Instr::Return),
+        0x0C..=0x11 => read_branch(cursor, opcode, pile),
         0x1A..=0x1C => read_parametric(alloc, cursor, opcode, pile),
         _ => Err(Fault::Malformed),
     }

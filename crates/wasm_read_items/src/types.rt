@@ -1,11 +1,21 @@
 ghost use Rattle.std.specs.Prelude.{◌≡◌, ◌<◌, length, OnOk};
-ghost use Rattle.wasm_read_spec.specs.Reading.{Gives, u32_at, s32_at, s64_at, tag_at, val_at, ref_at, block_type_at, func_type_at, limits_at, table_at, mut_at, global_at};
+ghost use Rattle.wasm_bytes.specs.Reading.{signed_at};
+ghost use Rattle.wasm_read_spec.specs.Reading.{Gives, or_malformed, chosen_at, index_of, byte_at, u32_at, s32_at, s64_at, tag_at, val_at, ref_at, block_type_at, func_type_at, limits_at, table_at, mut_at, global_at};
 
 use crate::vectors::{Spelled, read_vector};
 use std::alloc::Global;
 use wasm_bytes::Cursor;
 use wasm_read_spec::Fault;
 use wasm_tree::{BlockType, FuncType, GlobalType, Limits, RefType, TableType, ValType, Which};
+
+/// Reads a byte. The contracts of this function and of those for numbers say less than the
+/// cursor's, so that what calls them has few facts and is proved sooner.
+pub fn read_byte(cursor: &mut Cursor<'_>) -> Result<u8, Fault>
+    ensures gives { Gives result cursor.new (byte_at cursor.old) }
+    ensures shorter { OnOk result (length cursor.new < length cursor.old) }
+{
+    Ok(cursor.byte()?)
+}
 
 /// Reads a u32 (WebAssembly Core 2.0, section 5.2.2). Most are indices below 128, encoded in one
 /// byte.
@@ -41,6 +51,20 @@ pub fn read_s64(cursor: &mut Cursor<'_>) -> Result<i64, Fault>
     Ok(cursor.s64()?)
 }
 
+/// Reads the block type that is an index: an s33 of at least 0 (WebAssembly Core 2.0, section
+/// 5.4.1).
+fn read_index_type(cursor: &mut Cursor<'_>) -> Result<BlockType, Fault>
+    ensures gives { Gives result cursor.new (chosen_at (λ bs. or_malformed (signed_at 33 bs)) (λ n rest. index_of (n, rest)) cursor.old) }
+    ensures shorter { OnOk result (length cursor.new < length cursor.old) }
+{
+    let index = cursor.s33()?;
+    if index < 0 {
+        Err(Fault::Malformed)
+    } else {
+        Ok(BlockType::Index(index as u32))
+    }
+}
+
 impl Spelled for u32 {
     ghost reading = { u32_at };
 
@@ -55,7 +79,7 @@ pub fn read_tag(cursor: &mut Cursor<'_>, tag: u8) -> Result<(), Fault>
     ensures gives { Gives result cursor.new (tag_at tag cursor.old) }
     ensures shorter { OnOk result (length cursor.new < length cursor.old) }
 {
-    if cursor.byte()? == tag {
+    if read_byte(cursor)? == tag {
         Ok(())
     } else {
         Err(Fault::Malformed)
@@ -67,7 +91,7 @@ impl Spelled for ValType {
 
     #[tactic(auto, unfolding(wasm_read_spec::specs::Reading::val_at, wasm_read_spec::specs::Values::val_of_code))]
     fn read(_alloc: Global, cursor: &mut Cursor<'_>) -> Result<ValType, Fault> {
-        match cursor.byte()? {
+        match read_byte(cursor)? {
             0x7F => Ok(ValType::I32),
             0x7E => Ok(ValType::I64),
             0x70 => Ok(ValType::Ref(RefType::Func)),
@@ -83,7 +107,7 @@ impl Spelled for RefType {
 
     #[tactic(auto, unfolding(wasm_read_spec::specs::Reading::ref_at, wasm_read_spec::specs::Values::ref_of_code))]
     fn read(_alloc: Global, cursor: &mut Cursor<'_>) -> Result<RefType, Fault> {
-        match cursor.byte()? {
+        match read_byte(cursor)? {
             0x70 => Ok(RefType::Func),
             0x6F => Ok(RefType::Extern),
             _ => Err(Fault::Malformed),
@@ -106,14 +130,7 @@ pub fn read_block_type(alloc: Global, cursor: &mut Cursor<'_>) -> Result<BlockTy
         Some(0x7B..=0x7F) | Some(0x6F..=0x70) => Ok(BlockType::Value(ValType::read(
             alloc, cursor,
         )?)),
-        Some(_) => {
-            let index = cursor.s33()?;
-            if index < 0 {
-                Err(Fault::Malformed)
-            } else {
-                Ok(BlockType::Index(index as u32))
-            }
-        }
+        Some(_) => read_index_type(cursor),
     }
 }
 
@@ -134,18 +151,16 @@ impl Spelled for Limits {
 
     #[tactic(auto, unfolding(wasm_read_spec::specs::Reading::limits_at))]
     fn read(_alloc: Global, cursor: &mut Cursor<'_>) -> Result<Limits, Fault> {
-        match cursor.byte()? {
-            0x00 => {
-                let min = cursor.u32()?;
-                Ok(Limits { min, max: None })
-            }
-            0x01 => {
-                let min = cursor.u32()?;
-                let max = Some(cursor.u32()?);
-                Ok(Limits { min, max })
-            }
-            _ => Err(Fault::Malformed),
+        let flag = read_byte(cursor)?;
+        if flag > 0x01 {
+            return Err(Fault::Malformed);
         }
+        let min = read_u32(cursor)?;
+        if flag == 0x00 {
+            return Ok(Limits { min, max: None });
+        }
+        let max = Some(read_u32(cursor)?);
+        Ok(Limits { min, max })
     }
 }
 
@@ -166,7 +181,7 @@ fn read_mutable(cursor: &mut Cursor<'_>) -> Result<bool, Fault>
     ensures gives { Gives result cursor.new (mut_at cursor.old) }
     ensures shorter { OnOk result (length cursor.new < length cursor.old) }
 {
-    match cursor.byte()? {
+    match read_byte(cursor)? {
         0x00 => Ok(false),
         0x01 => Ok(true),
         _ => Err(Fault::Malformed),

@@ -3,6 +3,7 @@ ghost use Rattle.wasm_read_spec.specs.declared.fault.Fault.{Fault as AFault};
 ghost use Rattle.wasm_read_spec.specs.Reading.{Gives, GivesAll, each_at, list_at, vector_at, whole_at};
 ghost use Rattle.wasm_tree.specs.Limits.{limit};
 
+use crate::types::read_u32;
 use std::alloc::Global;
 use wasm_bytes::{Cursor, Items};
 use wasm_read_spec::Fault;
@@ -42,7 +43,7 @@ pub fn read_list<T: Spelled>(alloc: Global, cursor: &mut Cursor<'_>) -> Result<I
     ensures gives { Gives result cursor.new (list_at T.reading cursor.old) }
     ensures shorter { OnOk result (length cursor.new < length cursor.old) }
 {
-    let count = cursor.u32()?;
+    let count = read_u32(cursor)?;
     read_each(alloc, cursor, count)
 }
 
@@ -58,7 +59,7 @@ pub fn read_vector<T: Spelled>(
     ensures few { IfOk result (λ xs. length xs ≤ limit which) }
     ensures shorter { OnOk result (length cursor.new < length cursor.old) }
 {
-    let count = cursor.u32()?;
+    let count = read_u32(cursor)?;
     if count > which.limit() {
         return Err(Fault::Limit { which });
     }
