@@ -1,20 +1,21 @@
-ghost use Rattle.std.specs.Prelude.{◌<◌, ◌^◌, length, IfOk};
+ghost use Rattle.std.specs.Prelude.{◌≡◌, ◌<◌, ◌^◌, [], length, IfOk, OnOk};
 ghost use Rattle.wasm_tree.specs.Spaces.{funcs_of};
 
+use crate::shared::expect_alike;
 use index_remap::declare_refs;
 use std::alloc::Global;
 use std::test::Fail;
 use wasm_bytes::{Items, Name, NoMemory};
-use wasm_tree::{BlockType, ConstExpr, ElemMode, Export, ExportDesc, Func, Instr, Module, RefType};
+use wasm_tree::{
+    BlockType, ConstExpr, ElemMode, ElemSeg, Export, ExportDesc, Func, Instr, Module, RefType,
+};
 
-// `ref.func 1` in a block, and then `ref.func 0`.
-fn naming(alloc: Global) -> Result<Items<Instr>, NoMemory> {
+// Adds `ref.func 1` in a block, and then `ref.func 0`.
+fn add_both(alloc: Global, body: &mut Items<Instr>) -> Result<(), NoMemory> {
     let mut inner = Items::new(alloc);
     inner.keep(Instr::RefFunc(1))?;
-    let mut body = Items::new(alloc);
     body.keep(Instr::Block(BlockType::Empty, inner))?;
-    body.keep(Instr::RefFunc(0))?;
-    Ok(body)
+    body.keep(Instr::RefFunc(0))
 }
 
 fn func(alloc: Global, body: Items<Instr>) -> Func {
@@ -25,65 +26,100 @@ fn func(alloc: Global, body: Items<Instr>) -> Func {
     }
 }
 
-// Two functions, of which the first names both.
-fn two(alloc: Global) -> Result<Module, NoMemory>
-    ensures { IfOk result (λ m. length (funcs_of m) < 2 ^ 32) }
+// Adds two functions, of which the first names both.
+fn add_two(alloc: Global, funcs: &mut Items<Func>) -> Result<(), NoMemory>
+    requires { funcs.old ≡ [] }
+    ensures { OnOk result (length funcs.new ≡ 2) }
 {
-    let body = naming(alloc)?;
-    let mut funcs = Items::new(alloc);
+    let mut body = Items::new(alloc);
+    add_both(alloc, &mut body)?;
     funcs.keep(func(alloc, body))?;
-    funcs.keep(func(alloc, Items::new(alloc)))?;
-    let mut module = Module::empty(alloc);
-    module.funcs = funcs;
-    Ok(module)
+    funcs.keep(func(alloc, Items::new(alloc)))
 }
 
-// One function, exported, whose body names it.
-fn exported(alloc: Global) -> Result<Module, NoMemory>
-    ensures { IfOk result (λ m. length (funcs_of m) < 2 ^ 32) }
+// Adds a function whose body names it.
+fn add_one(alloc: Global, funcs: &mut Items<Func>) -> Result<(), NoMemory>
+    requires { funcs.old ≡ [] }
+    ensures { OnOk result (length funcs.new ≡ 1) }
 {
     let mut body = Items::new(alloc);
     body.keep(Instr::RefFunc(0))?;
-    let mut funcs = Items::new(alloc);
-    funcs.keep(func(alloc, body))?;
+    funcs.keep(func(alloc, body))
+}
+
+// Exports function 0.
+fn add_export(alloc: Global, exports: &mut Items<Export>) -> Result<(), NoMemory> {
     let name = Name::from_text(alloc, "f")?;
-    let mut exports = Items::new(alloc);
     exports.keep(Export {
         name,
         desc: ExportDesc::Func(0),
-    })?;
+    })
+}
+
+// Names the first thing in which the segment does not declare functions 0 and 1, or nothing.
+fn unlike_declaring(segment: &ElemSeg) -> &'static str {
+    if segment.mode != ElemMode::Declarative {
+        return "the mode";
+    }
+    if segment.ty != RefType::Func {
+        return "the type";
+    }
+    match segment.items.as_slice() {
+        [ConstExpr::Func(0), ConstExpr::Func(1)] => "",
+        _ => "the items",
+    }
+}
+
+// The same of the only segment that is appended for two functions that a body names.
+fn unlike_both(alloc: Global, module: &mut Module) -> Result<&'static str, NoMemory>
+    requires no_imports { «module».old.imports ≡ [] }
+    requires no_funcs { «module».old.funcs ≡ [] }
+{
+    add_two(alloc, &mut module.funcs)?;
+    declare_refs(alloc, module)?;
+    if module.elems.len() != 1 {
+        return Ok("how many segments there are");
+    }
+    match module.elems.get(0) {
+        Some(segment) => Ok(unlike_declaring(segment)),
+        None => Ok("the segment"),
+    }
+}
+
+fn unlike_both_declared(alloc: Global) -> Result<&'static str, NoMemory> {
     let mut module = Module::empty(alloc);
-    module.funcs = funcs;
-    module.exports = exports;
-    Ok(module)
+    let unlike = unlike_both(alloc, &mut module);
+    drop(module);
+    unlike
+}
+
+// The same of a module with an exported function that its body names: nothing is appended.
+fn unlike_exported(alloc: Global, module: &mut Module) -> Result<&'static str, NoMemory>
+    requires no_imports { «module».old.imports ≡ [] }
+    requires no_funcs { «module».old.funcs ≡ [] }
+{
+    add_one(alloc, &mut module.funcs)?;
+    add_export(alloc, &mut module.exports)?;
+    declare_refs(alloc, module)?;
+    if module.elems.len() != 0 {
+        return Ok("how many segments there are");
+    }
+    Ok("")
+}
+
+fn unlike_exported_declared(alloc: Global) -> Result<&'static str, NoMemory> {
+    let mut module = Module::empty(alloc);
+    let unlike = unlike_exported(alloc, &mut module);
+    drop(module);
+    unlike
 }
 
 #[test]
 fn one_segment_declares_both(rt: HostRuntime) -> Result<(), Fail> {
-    let Ok(mut module) = two(rt.alloc()) else {
-        return Err(Fail::new("no memory"));
-    };
-    let done = declare_refs(rt.alloc(), &mut module);
-    assert!(rt; done.is_ok());
-    assert_eq!(rt; module.elems.len(), 1);
-    if let Some(segment) = module.elems.get(0) {
-        assert_eq!(rt;
-            (segment.mode, segment.ty),
-            (ElemMode::Declarative, RefType::Func)
-        );
-        let items = segment.items.as_slice();
-        assert!(rt; matches!(items, [ConstExpr::Func(0), ConstExpr::Func(1)]));
-    }
-    Ok(())
+    expect_alike(unlike_both_declared(rt.alloc()))
 }
 
 #[test]
 fn an_exported_function_is_declared_already(rt: HostRuntime) -> Result<(), Fail> {
-    let Ok(mut module) = exported(rt.alloc()) else {
-        return Err(Fail::new("no memory"));
-    };
-    let done = declare_refs(rt.alloc(), &mut module);
-    assert!(rt; done.is_ok());
-    assert_eq!(rt; module.elems.len(), 0);
-    Ok(())
+    expect_alike(unlike_exported_declared(rt.alloc()))
 }

@@ -4,4 +4,6 @@
 #[cfg(test)]
 mod declaring_tests;
 #[cfg(test)]
+mod shared;
+#[cfg(test)]
 mod tests;

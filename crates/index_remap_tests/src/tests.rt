@@ -1,62 +1,59 @@
-ghost use Rattle.std.specs.Prelude.{◌<◌, length, IfOk, IsTrue};
+ghost use Rattle.std.specs.Prelude.{◌≡◌, ◌<◌, [], None, length, IfOk, OnOk, IsTrue};
 ghost use Rattle.std.specs.List.{list_all};
 ghost use Rattle.index_remap.specs.Renumbered.{fits_export, fits_func, fits_tree};
 ghost use Rattle.index_remap.specs.declared.remap.Remap.{Remap as Maps};
 
+use crate::shared::expect_alike;
 use index_remap::{Remap, renumber, renumber_in_place};
 use std::alloc::Global;
 use std::test::Fail;
 use wasm_bytes::{Items, Name, NoMemory};
 use wasm_tree::{Export, ExportDesc, Func, FuncType, Instr, Module, ValType};
 
-fn types(alloc: Global) -> Result<Items<FuncType>, NoMemory> {
+// Adds the type [] to [i32].
+fn add_type(alloc: Global, types: &mut Items<FuncType>) -> Result<(), NoMemory> {
     let results = Items::from_slice(alloc, &[ValType::I32])?;
-    let mut types = Items::new(alloc);
     types.keep(FuncType {
         params: Items::new(alloc),
         results,
-    })?;
-    Ok(types)
+    })
 }
 
-fn funcs(alloc: Global) -> Result<Items<Func>, NoMemory>
-    ensures { IfOk result (λ fs. (map : Maps) → 0 < length map.types → IsTrue (list_all (fits_func map) fs)) }
+// Adds a function of type 0, whose body is `i32.const 7`.
+fn add_func(alloc: Global, funcs: &mut Items<Func>) -> Result<(), NoMemory>
+    requires { funcs.old ≡ [] }
+    ensures { OnOk result ((map : Maps) → 0 < length map.types → IsTrue (list_all (fits_func map) funcs.new)) }
 {
     let mut body = Items::new(alloc);
     body.keep(Instr::I32Const(7))?;
-    let mut funcs = Items::new(alloc);
     funcs.keep(Func {
         ty: 0,
         locals: Items::new(alloc),
         body,
-    })?;
-    Ok(funcs)
+    })
 }
 
-fn exports(alloc: Global) -> Result<Items<Export>, NoMemory>
-    ensures { IfOk result (λ es. (map : Maps) → 0 < length map.funcs → IsTrue (list_all (fits_export map) es)) }
+// Exports function 0 as `f`.
+fn add_export(alloc: Global, exports: &mut Items<Export>) -> Result<(), NoMemory>
+    requires { exports.old ≡ [] }
+    ensures { OnOk result ((map : Maps) → 0 < length map.funcs → IsTrue (list_all (fits_export map) exports.new)) }
 {
     let name = Name::from_text(alloc, "f")?;
-    let mut exports = Items::new(alloc);
     exports.keep(Export {
         name,
         desc: ExportDesc::Func(0),
-    })?;
-    Ok(exports)
+    })
 }
 
-// A function of type [] to [i32], exported as `f`, whose body is `i32.const 7`.
-fn seven(alloc: Global) -> Result<Module, NoMemory>
-    ensures { IfOk result (λ m. (map : Maps) → 0 < length map.types → 0 < length map.funcs → IsTrue (fits_tree map m)) }
+// Puts a function of type [] to [i32], exported as `f`, whose body is `i32.const 7`, into the empty
+// module.
+fn add_seven(alloc: Global, module: &mut Module) -> Result<(), NoMemory>
+    requires { «module».old ≡ record { types = []; imports = []; funcs = []; tables = []; mems = []; globals = []; exports = []; start = None; elems = []; datas = [] } }
+    ensures { OnOk result ((map : Maps) → 0 < length map.types → 0 < length map.funcs → IsTrue (fits_tree map «module».new)) }
 {
-    let types = types(alloc)?;
-    let funcs = funcs(alloc)?;
-    let exports = exports(alloc)?;
-    let mut module = Module::empty(alloc);
-    module.types = types;
-    module.funcs = funcs;
-    module.exports = exports;
-    Ok(module)
+    add_type(alloc, &mut module.types)?;
+    add_func(alloc, &mut module.funcs)?;
+    add_export(alloc, &mut module.exports)
 }
 
 // Function 0 becomes 1, and type 0 stays.
@@ -135,35 +132,54 @@ fn unlike_moved(module: &Module) -> &'static str {
     ""
 }
 
-// The module with function 0 as 1, in a copy.
-fn copied(alloc: Global) -> Result<Module, NoMemory> {
-    let map = moved(alloc)?;
-    let module = seven(alloc)?;
-    renumber(alloc, &module, &map)
-}
-
-// The same of the module that is renumbered in a copy.
-fn unlike_copied(alloc: Global) -> Result<&'static str, NoMemory> {
-    let new = copied(alloc)?;
-    Ok(unlike_moved(&new))
+// The same of a copy of the module that is renumbered.
+fn unlike_copied(alloc: Global, module: &Module, map: &Remap) -> Result<&'static str, NoMemory>
+    requires entries { IsTrue (fits_tree map.now «module».now) }
+{
+    let new = renumber(alloc, module, map)?;
+    let unlike = unlike_moved(&new);
+    drop(new);
+    Ok(unlike)
 }
 
 // The same of the module that is renumbered in its place.
-fn unlike_in_place(alloc: Global) -> Result<&'static str, NoMemory> {
+fn unlike_in_place(module: &mut Module, map: &Remap) -> &'static str
+    requires entries { IsTrue (fits_tree map.now «module».old) }
+{
+    renumber_in_place(module, map);
+    unlike_moved(module)
+}
+
+fn unlike_seven_copied(alloc: Global) -> Result<&'static str, NoMemory> {
     let map = moved(alloc)?;
-    let mut module = seven(alloc)?;
-    renumber_in_place(&mut module, &map);
-    Ok(unlike_moved(&module))
+    let mut module = Module::empty(alloc);
+    let unlike = match add_seven(alloc, &mut module) {
+        Ok(()) => unlike_copied(alloc, &module, &map),
+        Err(failed) => Err(failed),
+    };
+    drop(module);
+    drop(map);
+    unlike
+}
+
+fn unlike_seven_in_place(alloc: Global) -> Result<&'static str, NoMemory> {
+    let map = moved(alloc)?;
+    let mut module = Module::empty(alloc);
+    let unlike = match add_seven(alloc, &mut module) {
+        Ok(()) => Ok(unlike_in_place(&mut module, &map)),
+        Err(failed) => Err(failed),
+    };
+    drop(module);
+    drop(map);
+    unlike
 }
 
 #[test]
 fn only_the_export_names_another_function(rt: HostRuntime) -> Result<(), Fail> {
-    assert_eq!(rt; unlike_copied(rt.alloc())?, "");
-    Ok(())
+    expect_alike(unlike_seven_copied(rt.alloc()))
 }
 
 #[test]
 fn in_place_it_becomes_what_the_copy_is(rt: HostRuntime) -> Result<(), Fail> {
-    assert_eq!(rt; unlike_in_place(rt.alloc())?, "");
-    Ok(())
+    expect_alike(unlike_seven_in_place(rt.alloc()))
 }
