@@ -1,7 +1,7 @@
 use std::alloc::Global;
 use std::test::Fail;
 use wasm_read::read;
-use wasm_valid::{Invalid, ItemKind, Rejected, validate};
+use wasm_valid::{Invalid, ItemKind, Rejected, Valid, validate};
 
 const HEADER: &[u8] = b"\x00\x61\x73\x6D\x01\x00\x00\x00";
 
@@ -471,16 +471,24 @@ const ITEMS: [(&[u8], Option<(ItemKind, u32)>); 29] = [
     ),
 ];
 
+// The first item that does not hold, if one does not.
+fn invalid_item(validated: &Result<Valid, Rejected>) -> Result<Option<Invalid>, Fail> {
+    match validated {
+        Ok(_) => Ok(None),
+        Err(Rejected::Invalid(_, invalid)) => Ok(Some(*invalid)),
+        Err(Rejected::NoMemory(_)) => Err(Fail::new("no memory")),
+    }
+}
+
 // The first item of a file that does not hold, if one does not.
 fn verdict(alloc: Global, bytes: &[u8]) -> Result<Option<Invalid>, Fail> {
     if bytes.len() >= 0x1_0000_0000 {
         return Err(Fail::new("too long"));
     }
-    match validate(alloc, read(alloc, bytes)?) {
-        Ok(_valid) => Ok(None),
-        Err(Rejected::Invalid(_same, invalid)) => Ok(Some(invalid)),
-        Err(Rejected::NoMemory(_same)) => Err(Fail::new("no memory")),
-    }
+    let validated = validate(alloc, read(alloc, bytes)?);
+    let item = invalid_item(&validated);
+    drop(validated);
+    item
 }
 
 // The file whose function 0 has this code.
