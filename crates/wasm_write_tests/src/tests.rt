@@ -21,7 +21,9 @@ fn is_written(alloc: Global, module: &Module, expected: &[u8]) -> Result<bool, N
 
 /// What is written of a module, which is then dropped.
 fn written(alloc: Global, module: Module) -> Result<Vec<u8>, NoMemory> {
-    write(alloc, &module)
+    let bytes = write(alloc, &module);
+    drop(module);
+    bytes
 }
 
 /// One function type, of nothing to nothing.
@@ -56,20 +58,22 @@ fn one_body(alloc: Global, body: Items<Instr>) -> Result<Module, NoMemory> {
 
 fn one(alloc: Global, instr: Instr) -> Result<Items<Instr>, NoMemory> {
     let mut body = Items::new(alloc);
-    body.keep(instr)?;
-    Ok(body)
+    let kept = body.keep(instr);
+    kept.map(|()| body)
 }
 
 fn two(alloc: Global, first: Instr, second: Instr) -> Result<Items<Instr>, NoMemory> {
-    let mut body = Items::new(alloc);
-    body.keep(first)?;
-    body.keep(second)?;
-    Ok(body)
+    let mut body = one(alloc, first)?;
+    let kept = body.keep(second);
+    kept.map(|()| body)
 }
 
 /// Whether the empty module comes out as the header alone.
 fn empty_is_header(alloc: Global) -> Result<bool, NoMemory> {
-    is_written(alloc, &Module::empty(alloc), b"\0asm\x01\0\0\0")
+    let empty = Module::empty(alloc);
+    let is_written = is_written(alloc, &empty, b"\0asm\x01\0\0\0");
+    drop(empty);
+    is_written
 }
 
 #[test]
@@ -86,11 +90,13 @@ fn with_block(alloc: Global) -> Result<Module, NoMemory> {
 
 fn block_is_written(alloc: Global) -> Result<bool, NoMemory> {
     let module = with_block(alloc)?;
-    is_written(
+    let is_written = is_written(
         alloc,
         &module,
         b"\0asm\x01\0\0\0\x01\x04\x01\x60\x00\x00\x03\x02\x01\x00\x0A\x0A\x01\x08\x00\x02\x00\x42\x7F\x1A\x0B\x0B",
-    )
+    );
+    drop(module);
+    is_written
 }
 
 #[test]
@@ -333,17 +339,19 @@ fn put_items(alloc: Global, module: &mut Module) -> Result<(), NoMemory> {
 
 fn with_items(alloc: Global) -> Result<Module, NoMemory> {
     let mut module = Module::empty(alloc);
-    put_items(alloc, &mut module)?;
-    Ok(module)
+    let put = put_items(alloc, &mut module);
+    put.map(|()| module)
 }
 
 fn items_are_written(alloc: Global) -> Result<bool, NoMemory> {
     let module = with_items(alloc)?;
-    is_written(
+    let is_written = is_written(
         alloc,
         &module,
         b"\0asm\x01\0\0\0\x01\x04\x01\x60\x00\x00\x02\x07\x01\x01\x61\x01\x66\x00\x00\x04\x04\x01\x6F\x00\x01\x05\x05\x01\x01\x02\xAC\x02\x06\x08\x01\x7F\x01\x41\x90\x88\x04\x0B\x07\x05\x01\x01\x67\x03\x00\x08\x01\x00",
-    )
+    );
+    drop(module);
+    is_written
 }
 
 #[test]
