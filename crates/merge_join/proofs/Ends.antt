@@ -4,7 +4,7 @@ use Rattle.std.proofs.Common.{eqb}
 use Rattle.wasm_tree_spec.specs.Prelude.{Space, index_of_export}
 use Rattle.std.specs.Option.{option_map, unwrap_or}
 use Rattle.wasm_meaning.specs.Linking as linking
-use Rattle.wasm_meaning.specs.Prelude.{Part, Site, Entity, linked_end, is_outside, same_site}
+use Rattle.wasm_meaning.specs.Prelude.{Part, Site, linked_end, is_outside, same_site}
 use Rattle.merge_spec.specs.declared.links.End.{End}
 use Rattle.merge_spec.specs.declared.links.End.TheVariants.{Defined, Outside}
 use Rattle.merge_spec.specs.Faults.{stays}

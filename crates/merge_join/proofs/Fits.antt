@@ -5,7 +5,7 @@ use Rattle.std.specs.Option.{option_map}
 use Rattle.wasm_tree.specs.declared.module.ImportDesc.TheVariants as im
 use Rattle.wasm_tree.specs.declared.module.ExportDesc.TheVariants as ex
 use Rattle.wasm_meaning.specs.Linking as linking
-use Rattle.wasm_meaning.specs.Prelude.{Part, Site, Entity, module_at, import_at, has_kind, sites, end_of, linked_end, gathered, same_pair, pair_of, is_outside}
+use Rattle.wasm_meaning.specs.Prelude.{Part, Site, module_at, import_at, sites, end_of, linked_end, gathered, same_pair, pair_of, is_outside}
 use Rattle.wasm_meaning.specs.Linking.{gathered_at, first_site, stays_as, same_memory}
 use Rattle.merge_spec.specs.declared.links.End.{End}
 use Rattle.merge_spec.specs.declared.faults.LinkFault.{LinkFault}

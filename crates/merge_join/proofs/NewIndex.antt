@@ -2,7 +2,7 @@
 use Rattle.base_lists.proofs.Common.{◌≡◌, ◌∙◌, sym, ap, refl, ℕ, zero, suc, ◌+◌, ◌≤◌, List, [], ◌∷◌, ◌++◌, length, map, take, arith, slice_get, Bool, true, false, cond, Option, Some, None, option_and_then, unwrap_or, numbers_append, map-append}
 use Rattle.wasm_tree_spec.specs.Prelude.{Space, Module}
 use Rattle.std.specs.Option.{option_map}
-use Rattle.wasm_meaning.specs.Prelude.{defined_before, numbers, Part, Site, places, module_at, imports_of, linked_end}
+use Rattle.wasm_meaning.specs.Prelude.{defined_before, numbers, Part, places, module_at, imports_of, linked_end}
 use Rattle.wasm_meaning.specs.Linking as linking
 use Rattle.merge_spec.specs.declared.links.End.{End}
 use Rattle.merge_spec.specs.Prelude.{end_entry, staying_of, place_of_end}

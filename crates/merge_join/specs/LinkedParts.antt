@@ -2,7 +2,7 @@
 use Rattle.std.specs.Prelude.{◌≡◌, ℕ, ◌+◌, ◌-◌, ◌<◌, List, ◌∷◌, [], length, Some, None, true, unwrap_or}
 use Rattle.wasm_tree_spec.specs.Prelude.{Space, Functions, Module, IsBounded}
 use Rattle.wasm_valid.specs.Prelude.{IsValid}
-use Rattle.wasm_meaning.specs.Prelude.{defined_before, defined_count, Site, module_at, imports_of, same_site, first_place, sites_in}
+use Rattle.wasm_meaning.specs.Prelude.{defined_before, defined_count, Site, module_at, imports_of, same_site, first_place}
 use Rattle.wasm_meaning.specs.Linking as linking
 use Rattle.index_remap.specs.declared.remap.Remap.{Remap}
 use Rattle.merge_spec.specs.declared.parts.Part.{Part}

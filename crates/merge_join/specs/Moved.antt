@@ -38,17 +38,31 @@ moved_data_mode m values data'.Passive = data'.Passive
 abbrev pub moved_data : Remap → List ConstExpr → DataSeg → DataSeg
 moved_data m values d = record d { mode = moved_data_mode m values d.mode }
 
--- the tree `t` with what `new` defines, rewritten, at the end of its lists
-abbrev pub with_moved : Remap → List ConstExpr → Module → Module → Module
-with_moved m values new t =
+-- the module with what it defines rewritten
+abbrev pub rewritten : Remap → List ConstExpr → Module → Module
+rewritten m values new =
+    record new {
+      funcs = map (new_func m) new.funcs;
+      globals = map (moved_global m values) new.globals;
+      elems = map (moved_elem m values) new.elems;
+      datas = map (moved_data m values) new.datas;
+    }
+
+-- the tree `t` with what `new` defines at the end of its lists
+abbrev pub with_defined : Module → Module → Module
+with_defined new t =
     record t {
-      funcs = t.funcs ++ map (new_func m) new.funcs;
+      funcs = t.funcs ++ new.funcs;
       tables = t.tables ++ new.tables;
       mems = t.mems ++ new.mems;
-      globals = t.globals ++ map (moved_global m values) new.globals;
-      elems = t.elems ++ map (moved_elem m values) new.elems;
-      datas = t.datas ++ map (moved_data m values) new.datas;
+      globals = t.globals ++ new.globals;
+      elems = t.elems ++ new.elems;
+      datas = t.datas ++ new.datas;
     }
+
+-- the tree `t` with what `new` defines, rewritten, at the end of its lists
+abbrev pub with_moved : Remap → List ConstExpr → Module → Module → Module
+with_moved m values new t = with_defined (rewritten m values new) t
 
 -- `values` has what replaces each imported global of the part that a constant expression may name
 abbrev pub AreValues : List Part → ℕ → List ConstExpr → Type 0

@@ -1,4 +1,4 @@
-ghost use Rattle.std.specs.Prelude.{◌≡◌, ◌⊎◌, ◌<◌, ◌≤◌, ◌^◌, ◌++◌, Ok, Err, length, IfOk, IfErr, OnOk};
+ghost use Rattle.std.specs.Prelude.{◌≡◌, [], ◌⊎◌, ◌<◌, ◌≤◌, ◌^◌, ◌++◌, Ok, Err, length, IfOk, IfErr, OnOk};
 ghost use Rattle.std.specs.List.{filter_map};
 ghost use Rattle.wasm_tree.specs.Spaces.{funcs_of};
 ghost use Rattle.index_remap.specs.References.{declared};
@@ -79,6 +79,28 @@ fn put_names(
     Ok(())
 }
 
+// Puts the start, the function that calls several starts, the imports and the exports of a frame
+// into an empty module. `count` is the number of functions without the one that calls the starts.
+fn put_named(
+    alloc: Global,
+    joining: &MappedParts<'_>,
+    names: &[Option<Name>],
+    types: &Types,
+    count: u32,
+    tree: &mut Module,
+) -> Result<(), NoMemory>
+    requires joined { HaveTheirMaps joining.now }
+    requires named { length names.now ≡ length (terms.all_exports (named_modules joining.now.parts.now)) }
+    requires types { types.now.list ≡ terms.merged_types (named_modules joining.now.parts.now) }
+    requires count { count ≡ funcs_before_calls (named_modules joining.now.parts.now) }
+    requires empty { tree.old.funcs ≡ [] }
+    ensures { OnOk result (IsFrame (named_modules joining.now.parts.now) names.now (record tree.new { types = types.now.list })) }
+{
+    put_starts(alloc, joining, types, count, tree)?;
+    put_names(alloc, joining, names, tree)?;
+    Ok(())
+}
+
 // Returns the frame of a plan. `count` is the number of functions without the one that calls
 // several starts.
 fn frame_of(
@@ -95,8 +117,7 @@ fn frame_of(
     ensures { IfOk result (IsFrame (named_modules joining.now.parts.now) names.now) }
 {
     let mut tree = Module::empty(alloc);
-    put_starts(alloc, joining, &types, count, &mut tree)?;
-    put_names(alloc, joining, names, &mut tree)?;
+    put_named(alloc, joining, names, &types, count, &mut tree)?;
     tree.types = types.into_list();
     Ok(tree)
 }
@@ -177,8 +198,16 @@ fn merged(
     ensures few { IfOk result (λ tree. length (funcs_of tree) < 2 ^ 32) }
 {
     let plan = plan_of(alloc, parts.as_slice(), links, names)?;
-    let mut tree = moved_parts(alloc, parts, plan.maps.as_slice(), plan.values.as_slice())?;
-    put_frame(plan.frame, &mut tree)?;
+    let Plan {
+        frame,
+        maps,
+        values,
+    } = plan;
+    let moved = moved_parts(alloc, parts, maps.as_slice(), values.as_slice());
+    drop(maps);
+    drop(values);
+    let mut tree = moved?;
+    put_frame(frame, &mut tree)?;
     Ok(tree)
 }
 

@@ -1,4 +1,4 @@
-use Rattle.base_lists.proofs.Common.{◌≡◌, ◌∙◌, sym, ap, subst, ℕ, ◌≤◌, List, Some, IsTrue, arith, slice_get, get_or, slice_get_within, get_or_from_slice_get, set_other, none_past}
+use Rattle.base_lists.proofs.Common.{◌≡◌, ◌∙◌, sym, ap, subst, refl, ℕ, ◌≤◌, List, Some, IsTrue, arith, slice_get, get_or, slice_get_within, get_or_from_slice_get, set_other, none_past}
 use Rattle.wasm_tree_spec.specs.Prelude.{ConstExpr, Module}
 use Rattle.wasm_meaning.specs.Linking as linking
 use Rattle.wasm_meaning.specs.Prelude.{module_at}
@@ -11,7 +11,7 @@ use Rattle.merge_join.specs.LinkedParts.{AreMaps}
 use Rattle.merge_join.proofs.ByPart.{each_at, each_within}
 use Rattle.merge_join.proofs.MovedParts.{module_of_part, moved_more, moved_all}
 use Rattle.merge_join.proofs.moving.moved_parts.Goals as goal
-use Rattle.merge_join.proofs.moving.moved_parts.Goals.{in-Some+in_ok-move_module, in_default}
+use Rattle.merge_join.proofs.moving.moved_parts.Goals.{in-Some+in_ok-move_part, in_default}
 
 -- the part that is taken out stood there from the first
 taken : (parts left : List Part) (at : ℕ) (x : Part) (m : Module) → ((n : ℕ) → at ≤ n → slice_get left n ≡ slice_get parts n) → Some x ≡ slice_get left at → m ≡ x.«module» → module_at (named_modules parts) at ≡ Some m
@@ -28,20 +28,20 @@ values_are ps all at m values lent are here is same =
 pub bounds-maps-at : goal.bounds-maps-at
 bounds-maps-at c =
     let ps = named_modules c.args.parts in
-    let at = taken c.args.parts c.loop-at.parts c.loop-at.at c.in-Some.part.now c.take_module-from.result c.loop-at.invariant.0 c.in-Some.ensures.value c.take_module-from.ensures in
-    each_within (map_of ps) ps c.args.maps.now c.loop-at.at c.take_module-from.result c.requires.maps at
+    let at = taken c.args.parts c.loop-at.parts c.loop-at.at c.in-Some.part.now c.in-Some.part.now.«module» c.loop-at.invariant.0 c.in-Some.ensures.value refl in
+    each_within (map_of ps) ps c.args.maps.now c.loop-at.at c.in-Some.part.now.«module» c.requires.maps at
 
 pub bounds-values-at : goal.bounds-values-at
 bounds-values-at c =
-    let at = taken c.args.parts c.loop-at.parts c.loop-at.at c.in-Some.part.now c.take_module-from.result c.loop-at.invariant.0 c.in-Some.ensures.value c.take_module-from.ensures in
-    let v = c.requires.values c.loop-at.at c.take_module-from.result at in
+    let at = taken c.args.parts c.loop-at.parts c.loop-at.at c.in-Some.part.now c.in-Some.part.now.«module» c.loop-at.invariant.0 c.in-Some.ensures.value refl in
+    let v = c.requires.values c.loop-at.at c.in-Some.part.now.«module» at in
     slice_get_within c.args.values.now c.loop-at.at v.0 v.1
 
-pub move_module-requires : goal.move_module-requires
-move_module-requires c =
+pub move_part-requires : goal.move_part-requires
+move_part-requires c =
     let ps = named_modules c.args.parts in
-    let m = c.take_module-from.result in
-    let at = taken c.args.parts c.loop-at.parts c.loop-at.at c.in-Some.part.now m c.loop-at.invariant.0 c.in-Some.ensures.value c.take_module-from.ensures in
+    let m = c.in-Some.part.now.«module» in
+    let at = taken c.args.parts c.loop-at.parts c.loop-at.at c.in-Some.part.now m c.loop-at.invariant.0 c.in-Some.ensures.value refl in
     let is = map_is ps c.args.maps.now c.loop-at.at m c.index-maps-at.result c.requires.maps at c.index-maps-at.is in
     record { fits = subst (λ (r : Remap). IsTrue (fits_tree r m)) (sym is) (c.maps_have_entries.ensures.entries ps c.loop-at.at m (c.requires.hold c.loop-at.at m at).0) }
 
@@ -50,14 +50,14 @@ loop-at-preserved c =
     let ps = named_modules c.args.parts in
     let i = c.loop-at.at in
     elim c.match-get_mut.branch [
-      | in-Some+in_ok-move_module w ↦
-          let m = w.take_module-from.result in
-          let at = taken c.args.parts c.loop-at.parts i w.in-Some.part.now m c.loop-at.invariant.0 w.in-Some.ensures.value w.take_module-from.ensures in (
+      | in-Some+in_ok-move_part w ↦
+          let m = w.in-Some.part.now.«module» in
+          let at = taken c.args.parts c.loop-at.parts i w.in-Some.part.now m c.loop-at.invariant.0 w.in-Some.ensures.value refl in (
             (λ n le. ap (λ xs. slice_get xs n) w.parts-is ∙ set_other c.loop-at.parts i n _ (omega (arith, le)) ∙ c.loop-at.invariant.0 n (omega (arith, le))),
             moved_more c.valid_where_items_hold.ensures ps i m w.index-maps-at.result w.as_slice.result.now c.loop-at.tree c.match-get_mut.tree at (c.requires.hold i m at).0
                 (map_is ps c.args.maps.now i m w.index-maps-at.result c.requires.maps at w.index-maps-at.is)
                 (values_are ps c.args.values.now i m w.index-values-at.result w.as_slice.result.now c.requires.values at w.index-values-at.is w.as_slice.ensures)
-                c.loop-at.invariant.1 (w.tree-is ∙ w.in_ok-move_module.ensures),
+                c.loop-at.invariant.1 (w.tree-is ∙ w.in_ok-move_part.ensures),
           )
       | in_default w ↦ absurd (omega (arith, c.loop-at-test.true, c.len-at-end.ensures, none_past c.args.parts i (w.in_default.ensures.value ∙ c.loop-at.invariant.0 i (omega arith))))
     ]

@@ -13,8 +13,8 @@ use Rattle.merge_join.proofs.tree.merged.Goals as goal
 planned : (parts lent : List Part) (names : List (Option Text)) (plan : Plan) → lent ≡ parts → IsPlan (named_modules lent) names plan → IsPlan (named_modules parts) names plan
 planned parts lent names plan is made = subst (λ (xs : List Part). IsPlan (named_modules xs) names plan) is made
 
-pub moved_parts-requires : goal.moved_parts-requires
-moved_parts-requires c =
+pub moved_parts-moved-requires : goal.moved_parts-moved-requires
+moved_parts-moved-requires c =
     let ps = named_modules c.args.parts in
     let plan = planned c.args.parts c.as_slice.result.now c.args.names.now c.in_ok-plan.plan c.as_slice.ensures c.in_ok-plan.ensures in
     record {
