@@ -105,7 +105,7 @@ def instructions(command, folder):
 PARTS = [
     ("reading sections", "wasm_read::sections::read_section", 0),
     ("typing bodies", "wasm_valid_bodies::check::is_well_typed", 0),
-    ("joining", "merge_join::tree::merged", 0),
+    ("joining", "merge_join::tree::joined_tree", 0),
     ("renumbering bodies, in joining", "index_remap::in_place::rewrite_all", 0),
     ("measuring bodies", "wasm_write::code::spell_instrs", 1),
     ("writing", "wasm_write::write", 0),
