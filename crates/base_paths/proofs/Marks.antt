@@ -1,6 +1,6 @@
 use Rattle.base_lists.proofs.Common.{◌≡◌, ◌⊎◌, inl, inr, ℕ, ◌+◌, ◌<◌, ◌≤◌, List, [], ◌∷◌, ◌++◌, Option, Some, None, length, set, slice_get, refl, sym, ◌∙◌, ap, subst, arith, slice_get_within, cases_eq, set_at, set_other, push_last, push_before}
 use Rattle.std.proofs.Common.{length-set}
-use Rattle.base_paths.specs.Paths.{Reaches, IsEnd, Marked, Keeps}
+use Rattle.base_paths.specs.Paths.{Reaches, IsEnd, Marked, StayMarked}
 use Rattle.base_paths.specs.Paths.Reaches.{stop, go}
 use Rattle.base_paths.proofs.Lists.{got_left}
 
@@ -30,7 +30,7 @@ pub record Walking (steps old marks answers : List (Option ℕ)) (start at : ℕ
   pub sizes : length marks ≡ length steps
   pub inside : at < length steps
   pub known : (n w : ℕ) → slice_get marks n ≡ Some (Some w) → IsAnswered steps answers n w ⊎ IsPassed steps marks answers at n w
-  pub keeps : Keeps old marks
+  pub keeps : StayMarked old marks
   pub begun : (at ≡ start) ⊎ IsMarked marks start
 
 -- a write at a place that had no mark keeps the marks
@@ -40,7 +40,7 @@ marked_more marks at w n v inside h = elim (cases_eq n at) [
   | inr ne ↦ (v, set_other marks at n (Some w) ne ∙ h)
 ]
 
-pub keeps_more : (old marks : List (Option ℕ)) (at w : ℕ) → at < length marks → Keeps old marks → Keeps old (set marks at (Some w))
+pub keeps_more : (old marks : List (Option ℕ)) (at w : ℕ) → at < length marks → StayMarked old marks → StayMarked old (set marks at (Some w))
 keeps_more old marks at w inside k n v h = let b : IsMarked marks n = k n v h in marked_more marks at w n b.0 inside b.1
 
 pub begun_more : (marks : List (Option ℕ)) (at w start : ℕ) → at < length marks → (at ≡ start) ⊎ IsMarked marks start → IsMarked (set marks at (Some w)) start
@@ -155,7 +155,7 @@ walk_round steps old marks answers start at v w h late = elim (w.known at v h) [
 ]
 
 -- one more place taken
-pub all_more : (old new : List (Option ℕ)) (i : ℕ) → ((n : ℕ) → n < i → IsMarked old n) → Keeps old new → IsMarked new i → (n : ℕ) → n < i + 1 → IsMarked new n
+pub all_more : (old new : List (Option ℕ)) (i : ℕ) → ((n : ℕ) → n < i → IsMarked old n) → StayMarked old new → IsMarked new i → (n : ℕ) → n < i + 1 → IsMarked new n
 all_more old new i all keeps here n h = elim (cases_eq n i) [
   | inl e ↦ subst (IsMarked new) (sym e) here
   | inr ne ↦ let b : IsMarked old n = all n (omega arith) in keeps n b.0 b.1

@@ -1,4 +1,4 @@
-ghost use Rattle.base_paths.specs.Paths.{AreEnds, AreThere, Keeps, Marked, the_end};
+ghost use Rattle.base_paths.specs.Paths.{AreEnds, AreThere, StayMarked, Marked, the_end};
 ghost use Rattle.std.specs.Prelude.{IfOk, None, Some, length, slice_get, ℕ, ◌++◌, ◌<◌, ◌^◌, ◌≡◌, ◌∷◌, []};
 
 use std::alloc::{AllocError, Global};
@@ -20,7 +20,7 @@ fn walk(
     ensures sizes { length marks.new.items ≡ length steps.now }
     ensures marked { Marked steps.now marks.new.items (answers.now.items ++ result ∷ []) }
     ensures taken { (w : ℕ) × (slice_get marks.new.items start ≡ Some (Some w)) }
-    ensures keeps { Keeps marks.old.items marks.new.items }
+    ensures keeps { StayMarked marks.old.items marks.new.items }
 {
     let number = answers.len() as u32;
     let mut at = start;
