@@ -13,7 +13,7 @@ use Rattle.index_remap_proof.specs.Indices.{Indices, with_entry, ConstNamesOnly,
 use Rattle.world_simulation.specs.Prelude.{one, addresses, FuncsAt, GlobalsCorrespond, ElemsCorrespond, Partners, DefinitionsCorrespond, Instantiated, values_in, is_declarative, EntriesName, SharesOwn, ElemsInOrder, DatasInOrder, WorldsCorrespond}
 use Rattle.world_simulation.specs.Definitions as partners
 use Rattle.world_simulation.proofs.Alone.{space_is, funcs_counted, tables_counted, memories_counted, globals_counted}
-use Rattle.world_simulation.proofs.Declared.{Keeps, keeps, last_segments}
+use Rattle.world_simulation.proofs.Declared.{IsWithDeclared, is_with_declared, last_segments}
 use Rattle.world_contents_proof.proofs.Grown.{stays_at, no_more, declared_alone, all_in_step}
 use Rattle.world_simulation.proofs.Instancing.{IsInst}
 use Rattle.world_contents_proof.proofs.OwnValues.{const_same}
@@ -131,9 +131,9 @@ module _ (k : Marks) (t : Module) (c : AreClosed k t) where
   abbrev fs : List ℕ
   fs = declared_refs plain
 
-  pub same : Keeps plain u fs
+  pub same : IsWithDeclared plain u fs
   unfolding swept
-  same = keeps plain fs
+  same = is_with_declared plain fs
 
   -- all of a list is kept where all is marked
   pub whole : {A : Type 0} (n d : ℕ) (xs : List A) → length xs ≡ d → kept (drop n (replicate (n + d) true)) xs ≡ xs

@@ -3,7 +3,7 @@ use Rattle.base_lists.proofs.Common.{◌≡◌, ◌∙◌, ap, ℕ, ◌+◌, ◌
 use Rattle.wasm_tree_spec.specs.Prelude.{any_uses_data, Space, Types, Functions, Tables, Memories, Globals, ElementSegments, DataSegments, Func, Module, imported_globals}
 use Rattle.wasm_meaning.specs.Prelude.{Text, Environment, own_count}
 use Rattle.index_remap.specs.Prelude.{declared_refs}
-use Rattle.world_simulation.proofs.Declared.{Keeps, keeps, last_segments}
+use Rattle.world_simulation.proofs.Declared.{IsWithDeclared, is_with_declared, last_segments}
 use Rattle.eval_spec.specs.Prelude.{State}
 use Rattle.eval_snapshot_spec.specs.Snapshot.{added_funcs, declared_snapshot, empty_func, is_kept, memory_segments, old_segments, segments_left, snapshot, snapshot_tree}
 use Rattle.eval_snapshot_proof.proofs.Trees.{globals_many, segments_many}
@@ -22,9 +22,9 @@ module _ (m : Module) (s : State) (name : Text) (names kept : List Text) where
   abbrev pub more : List Func
   more = added_funcs m (name ∷ names) kept
 
-  pub shape : Keeps plain taken refs
+  pub shape : IsWithDeclared plain taken refs
   unfolding declared_snapshot
-  shape = keeps plain refs
+  shape = is_with_declared plain refs
 
   pub funcs_many : length taken.funcs ≡ length m.funcs + length more
   funcs_many = ap length shape.funcs ∙ length-append m.funcs more

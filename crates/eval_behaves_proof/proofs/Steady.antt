@@ -96,18 +96,18 @@ steady_written s (what.a_data {a = a}) =
 
 module _ (writes : StepsWriteWhatTheyTouch) (s : Store) where
   -- in the store that a step leaves
-  abbrev Keeps : Next → Type 0
-  Keeps (Ran t fs) = Steady s t
-  Keeps (CallsOwn p u vs t fs) = Unit {0}
-  Keeps (WaitsGrowth g size count t fs) = Unit {0}
-  Keeps (CallsPlaceholder slot vs t fs) = Unit {0}
-  Keeps (EndsCall vs t fs) = Steady s t
+  abbrev LeavesSteady : Next → Type 0
+  LeavesSteady (Ran t fs) = Steady s t
+  LeavesSteady (CallsOwn p u vs t fs) = Unit {0}
+  LeavesSteady (WaitsGrowth g size count t fs) = Unit {0}
+  LeavesSteady (CallsPlaceholder slot vs t fs) = Unit {0}
+  LeavesSteady (EndsCall vs t fs) = Steady s t
 
-  keeps_levels : (vs : List Val) (f : Frame) (ls : List Level) (es : List Entry) → AllOf Keeps (give_levels s vs f ls es)
+  keeps_levels : (vs : List Val) (f : Frame) (ls : List Level) (es : List Entry) → AllOf LeavesSteady (give_levels s vs f ls es)
   keeps_levels vs f [] es = ill_typed
   keeps_levels vs f (l ∷ ls) es = just (steady_self s)
 
-  keeps_given : (vs : List Val) (es : List Entry) → AllOf Keeps (give s vs es)
+  keeps_given : (vs : List Val) (es : List Entry) → AllOf LeavesSteady (give s vs es)
   keeps_given vs [] = ill_typed
   keeps_given vs (Running f ∷ es) = keeps_levels vs f f.levels es
   keeps_given vs (Mark ∷ es) = just (steady_self s)
@@ -116,18 +116,18 @@ module _ (writes : StepsWriteWhatTheyTouch) (s : Store) where
   keeps_given vs (Ended ws ∷ es) = ill_typed
   keeps_given vs (Growing g ∷ es) = ill_typed
 
-  keeps_entered : (f : Func) (args : List Val) (es : List Entry) → Keeps (enter s f args es)
+  keeps_entered : (f : Func) (args : List Val) (es : List Entry) → LeavesSteady (enter s f args es)
   keeps_entered (Code t j ls c) args es = steady_self s
   keeps_entered (Own p t) args es = tt
   keeps_entered (Placeholder n t) args es = tt
 
-  keeps_performed : (f : Frame) (es : List Entry) (x : Act) → ActWrites s (touched s f) x → AllOf Keeps (perform s f es x)
+  keeps_performed : (f : Frame) (es : List Entry) (x : Act) → ActWrites s (touched s f) x → AllOf LeavesSteady (perform s f es x)
   keeps_performed f es (Goes c h) w = just (steady_written s w.writes)
   keeps_performed f es (Calls a vs h) w = with_found (type_at s a) _ (λ t _. with_is (pop_typed t.params vs) _ (λ p _. with_found (slice_get s.funcs a) _ (λ g is. just (keeps_entered g p.0 _))))
   keeps_performed f es (AsksGrow g size count h) w = just tt
   keeps_performed f es (Ends vs) w = with_is (pop_typed f.results vs) _ (λ p _. keeps_given p.0 es)
 
-  keeps_step : (es : List Entry) → AllOf Keeps (step s es)
+  keeps_step : (es : List Entry) → AllOf LeavesSteady (step s es)
   keeps_step [] = ill_typed
   keeps_step (Running f ∷ es) = with_is (act s f) _ (λ x is. keeps_performed f es x (writes s f x is))
   keeps_step (Mark ∷ es) = ill_typed
@@ -149,7 +149,7 @@ tested s None t h = h
 tested s (Some x) t h = tt
 
 module _ (writes : StepsWriteWhatTheyTouch) (m : Module) where
-  came : (s : Store) (q : State) (o : Outcome Next) → AllOf (Keeps writes s) o → Reaches s (came_to q o)
+  came : (s : Store) (q : State) (o : Outcome Next) → AllOf (LeavesSteady writes s) o → Reaches s (came_to q o)
   came s q (Gives (Ran t es)) (just h) = h
   came s q (Gives (EndsCall vs t es)) (just h) = h
   came s q (Gives (CallsOwn p u vs t es)) h = tt

@@ -3,7 +3,7 @@ use Rattle.base_lists.proofs.Common.{◌≡◌, ◌∙◌, ℕ, ◌+◌, List, �
 use Rattle.wasm_tree_spec.specs.Prelude.{Space, DataSegments, ElementSegments, Import, Module}
 use Rattle.wasm_meaning.specs.Prelude.{Text, Part, Site, has_kind, module_at, import_at, sites, Environment, owned_of, own_count, defined_before, address_of, outside_external_value, all_there, numbers, space}
 use Rattle.index_remap.specs.Prelude.{declared_refs}
-use Rattle.world_simulation.proofs.Declared.{Keeps, keeps}
+use Rattle.world_simulation.proofs.Declared.{IsWithDeclared, is_with_declared}
 use Rattle.merge_names.specs.declared.mode.Mode.{Mode}
 use Rattle.merge_names.specs.Names.{new_names}
 use Rattle.merge_spec.specs.Prelude.{link_fault, stays, merged_types, merged_import, merged_desc, imports_kind, export_names}
@@ -23,9 +23,9 @@ use Rattle.base_lists.proofs.Filtered.{at_places, of_chosen}
 abbrev pub names_of : List Part → Mode → List (Option Text)
 names_of parts mode = new_names mode (export_names parts)
 
-pub joined_keeps : (parts : List Part) (mode : Mode) → Keeps (merged parts (names_of parts mode)) (joined_module parts mode) (declared_refs (merged parts (names_of parts mode)))
+pub joined_keeps : (parts : List Part) (mode : Mode) → IsWithDeclared (merged parts (names_of parts mode)) (joined_module parts mode) (declared_refs (merged parts (names_of parts mode)))
 unfolding joined_module
-joined_keeps parts mode = keeps _ _
+joined_keeps parts mode = is_with_declared _ _
 
 pub joined_types : (parts : List Part) (mode : Mode) → (joined_module parts mode).types ≡ merged_types parts
 unfolding merged

@@ -24,7 +24,7 @@ use Rattle.world_contents_proof.specs.Leaves.{PrimaryModulesLeave}
 use Rattle.world_loader_proof.specs.Loaded.{LoadersBeginAsTheirPrimary, LoadersHaveTheirPrimarysInstance}
 use Rattle.world_loader_proof.specs.Stubbed.{stub, stubbed, LoadersAddAsStubbed, LoadersBeginAsStubbed}
 use Rattle.world_simulation.proofs.Alone.{funcs_counted, tables_counted, memories_counted, globals_counted}
-use Rattle.world_simulation.proofs.Declared.{Keeps, last_segments}
+use Rattle.world_simulation.proofs.Declared.{IsWithDeclared, last_segments}
 use Rattle.world_contents_proof.proofs.Grown.{stays_at, space_grows}
 use Rattle.world_simulation.proofs.Instancing.{IsInst}
 use Rattle.world_contents_proof.proofs.OwnValues.{const_same}
@@ -81,7 +81,7 @@ module _ (laws : Laws) (namespace : ℕ → List ℕ) (names : SplitNames) (m : 
   abbrev pub plain : Module
   plain = spaces.u namespace names.export_prefix m holds moved g.can_move
 
-  abbrev pub keeps : Keeps plain split.primary (declared_refs plain)
+  abbrev pub keeps : IsWithDeclared plain split.primary (declared_refs plain)
   keeps = same namespace names m moved owns g holds
 
   -- an entry for each index that is there

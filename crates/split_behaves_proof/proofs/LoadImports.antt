@@ -7,7 +7,7 @@ use Rattle.wasm_tree.specs.declared.module.ExportDesc.TheVariants as ex
 use Rattle.wasm_meaning.specs.Prelude.{Inst, Store, type_at, export_named, ExternalValue, FuncAt, address_in, is_match, all_match}
 use Rattle.index_remap.specs.declared.remap.Remap.{Remap}
 use Rattle.index_remap.specs.Prelude.{declared_refs, new_import, new_import_desc, renumbered_tree}
-use Rattle.world_simulation.proofs.Declared.{Keeps, keeps}
+use Rattle.world_simulation.proofs.Declared.{IsWithDeclared, is_with_declared}
 use Rattle.world_extension_proof.specs.Typed.{Offers, IsTyped}
 use Rattle.split_spec.specs.declared.names.SplitNames.{SplitNames}
 use Rattle.split_spec.specs.Prelude.{defined_at, slot_table, slot_table_type, entities, from_primary, imports_from_primary, is_from_primary, name_from_primary, slots_name, primary_map, primary_tree, primary_with, HasSlots, secondary_imports, secondary_map, secondary_tree}
@@ -58,7 +58,7 @@ module _ (namespace : ℕ → List ℕ) (names : SplitNames) (m : Module) (holds
   abbrev first_tree : Module
   first_tree = renumbered_tree first_map (primary_tree namespace names.export_prefix m moved)
 
-  abbrev kept : Keeps first_tree first (declared_refs first_tree)
+  abbrev kept : IsWithDeclared first_tree first (declared_refs first_tree)
   kept = primary_keeps namespace names.export_prefix m moved primary_holds
 
   first_tables : tables_of first ≡ tables_of m ++ slot_table_type (length moved) ∷ []
@@ -109,9 +109,9 @@ module _ (namespace : ℕ → List ℕ) (names : SplitNames) (m : Module) (holds
     abbrev pub second_tree : Module
     second_tree = renumbered_tree second_map (secondary_tree names m moved own before)
 
-    pub second_keeps : Keeps second_tree second (declared_refs second_tree)
+    pub second_keeps : IsWithDeclared second_tree second (declared_refs second_tree)
     unfolding secondary_with
-    second_keeps = keeps second_tree (declared_refs second_tree)
+    second_keeps = is_with_declared second_tree (declared_refs second_tree)
 
     abbrev pub supply : Import → Option ExternalValue
     supply x = export_named first.exports x.field >>= (address_in i)

@@ -17,7 +17,7 @@ use Rattle.index_remap.specs.Prelude.{declared_refs, declaring, new_const, new_f
 use Rattle.index_remap.specs.Renumbered as renumbered
 use Rattle.world_contents_proof.specs.Leaves.{Leaves, AddedModulesLeave, contents, over, all_over, elem_copies, data_copies, table_left, memory_left}
 use Rattle.world_simulation.proofs.Allocated.{with_elems}
-use Rattle.world_simulation.proofs.Declared.{Keeps, last_segments}
+use Rattle.world_simulation.proofs.Declared.{IsWithDeclared, last_segments}
 use Rattle.world_extension_proof.specs.Typed.{IsTyped}
 use Rattle.split_spec.specs.declared.names.SplitNames.{SplitNames}
 use Rattle.split_spec.specs.Prelude.{defined_at, in_slots, slot_segment, slot_table, slot_table_type, primary_map, primary_with, HasSlots, secondary_func, secondary_map, secondary_with}
@@ -92,7 +92,7 @@ module _ (namespace : ℕ → List ℕ) (names : SplitNames) (m : Module) (holds
   abbrev tree_of : Module
   tree_of = named.tree namespace names m holds moved can primary_holds own before slots i s typed
 
-  abbrev kept : Keeps tree_of second (declared_refs tree_of)
+  abbrev kept : IsWithDeclared tree_of second (declared_refs tree_of)
   kept = keeps namespace names m holds moved can primary_holds own before slots i s typed
 
   abbrev second_map : Remap

@@ -14,7 +14,7 @@ use Rattle.wasm_tree.specs.declared.module.ImportDesc.TheVariants as im
 use Rattle.wasm_meaning.specs.Prelude.{Inst, Store, export_named, ExternalValue, FuncAt, TableAt, MemoryAt, GlobalAt, address_in, address_of, addresses_of, next_inst}
 use Rattle.index_remap.specs.declared.remap.Remap.{Remap}
 use Rattle.index_remap.specs.Prelude.{new_func, new_import, declared_refs}
-use Rattle.world_simulation.proofs.Declared.{Keeps}
+use Rattle.world_simulation.proofs.Declared.{IsWithDeclared}
 use Rattle.world_extension_proof.specs.Typed.{IsTyped}
 use Rattle.split_plan.specs.Words.{is_defined}
 use Rattle.split_plan.specs.Plans.{body_uses_segment}
@@ -78,7 +78,7 @@ module _ (namespace : ℕ → List ℕ) (names : SplitNames) (m : Module) (holds
   abbrev pub tree : Module
   tree = second_tree namespace names m holds moved can primary_holds own before slots i s typed
 
-  abbrev pub keeps : Keeps tree loads (declared_refs tree)
+  abbrev pub keeps : IsWithDeclared tree loads (declared_refs tree)
   keeps = second_keeps namespace names m holds moved can primary_holds own before slots i s typed
 
   abbrev pub given : Import → Option ExternalValue

@@ -10,7 +10,7 @@ use Rattle.wasm_tree.specs.declared.module.ImportDesc.TheVariants as im
 use Rattle.wasm_meaning.specs.Prelude.{Pair, same_pair, same_text, pair_of, flat, LoaderWorld, placeholders_of, slot_of}
 use Rattle.index_remap.specs.Prelude.{declared_refs}
 use Rattle.world_loader_proof.specs.Stubbed.{ArePlaceholders, ImportsThemLast}
-use Rattle.world_simulation.proofs.Declared.{Keeps, keeps}
+use Rattle.world_simulation.proofs.Declared.{IsWithDeclared, is_with_declared}
 use Rattle.split_spec.specs.declared.names.SplitNames.{SplitNames}
 use Rattle.split_spec.specs.Prelude.{placeholder_imports, type_index}
 use Rattle.split_spec.specs.Primary.{primary_with}
@@ -96,9 +96,9 @@ module _ (namespace : ℕ → List ℕ) (names : SplitNames) (m : Module) (moved
   abbrev plain : Module
   plain = spaces.u namespace names.export_prefix m holds moved g.can_move
 
-  pub same : Keeps plain w.primary (declared_refs plain)
+  pub same : IsWithDeclared plain w.primary (declared_refs plain)
   unfolding primary_with
-  same = keeps plain (declared_refs plain)
+  same = is_with_declared plain (declared_refs plain)
 
   pub placeholders_are : placeholders_of w ≡ placeholders_for namespace m 0 moved
   placeholders_are = all_slots namespace m names moved 0 owns ∙ ap (placeholders_for namespace m 0) g.lists

@@ -12,8 +12,8 @@ abbrev pub last_segments : List ℕ → List ElemSeg
 last_segments [] = []
 last_segments (f ∷ fs) = declaring (f ∷ fs) ∷ []
 
--- the second is the first with this segment
-pub record Keeps (m n : Module) (fs : List ℕ) : Type 0 where
+-- the second is the first with the segment that declares these functions
+pub record IsWithDeclared (m n : Module) (fs : List ℕ) : Type 0 where
   pub types : n.types ≡ m.types
   pub imports : n.imports ≡ m.imports
   pub funcs : n.funcs ≡ m.funcs
@@ -26,9 +26,9 @@ pub record Keeps (m n : Module) (fs : List ℕ) : Type 0 where
   pub datas : n.datas ≡ m.datas
   pub func_space : funcs_of n ≡ funcs_of m
 
-pub keeps : (m : Module) (fs : List ℕ) → Keeps m (with_declared m fs) fs
-keeps m [] = assumption (sym (append-nil m.elems))
-keeps m (f ∷ fs) = assumption
+pub is_with_declared : (m : Module) (fs : List ℕ) → IsWithDeclared m (with_declared m fs) fs
+is_with_declared m [] = assumption (sym (append-nil m.elems))
+is_with_declared m (f ∷ fs) = assumption
 
 range_below : (a n k x : ℕ) → slice_get (range_with_len a n) k ≡ Some x → x < a + n
 range_below a zero k x h = cc
