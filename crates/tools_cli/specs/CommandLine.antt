@@ -1,7 +1,7 @@
 -- The task that the arguments of a command line ask for.
 use Rattle.std.specs.Prelude.{ℕ, Bool, true, false, if◌then◌else◌, List, [], ◌∷◌, ◌++◌, map, Option, Some, None, option_map, option_and_then, bytes_eq, codes}
 use Rattle.std.specs.List.{cons_option}
-use Rattle.tools_cli_words.specs.Words.{Arguments, output_option, said_together, only, only_value, value_if_any, value_or, listed_words}
+use Rattle.tools_cli_words.specs.Words.{Arguments, output_option, said_together, only_text, only_value, value_if_any, value_or, listed_words}
 use Rattle.tools_cli_words.specs.Vocabularies.{rename_flag, skip_flag, vocabulary_of}
 pub use Rattle.tools_cli_words.specs.Vocabularies.{merge_vocabulary, metadce_vocabulary, split_vocabulary, ctor_eval_vocabulary, sample_vocabulary}
 use Rattle.tools_cli_words.specs.declared.tool.Tool.{Tool}
@@ -110,7 +110,7 @@ make_metadce _ _ _ = None
 
 -- The task of `metadce`: one positional argument, the file, and both options are required.
 abbrev pub metadce_of_arguments : Arguments → Option Task
-metadce_of_arguments arguments = make_metadce (only arguments.plain) (only_value (codes "--graph-file") arguments) (only_value (output_option) arguments)
+metadce_of_arguments arguments = make_metadce (only_text arguments.plain) (only_value (codes "--graph-file") arguments) (only_value (output_option) arguments)
 
 -- ---- split ----
 
@@ -148,7 +148,7 @@ make_split _ _ _ _ = None
 -- The task of `split`: one positional argument, the file, both outputs and one or both lists are
 -- required.
 abbrev pub split_of_arguments : Arguments → Option Task
-split_of_arguments arguments = make_split (only arguments.plain) (outputs_said arguments) (words_said arguments) (names_said arguments)
+split_of_arguments arguments = make_split (only_text arguments.plain) (outputs_said arguments) (words_said arguments) (names_said arguments)
 
 -- ---- ctor-eval ----
 
@@ -169,7 +169,7 @@ make_ctor_eval _ _ _ _ = None
 -- are required; names to keep may be absent.
 abbrev pub ctor_eval_of_arguments : Arguments → Option Task
 ctor_eval_of_arguments arguments =
-    make_ctor_eval (only arguments.plain) (option_and_then words_apart (only_value (codes "--ctors") arguments)) (value_if_any (codes "--kept-exports") arguments) (only_value (output_option) arguments)
+    make_ctor_eval (only_text arguments.plain) (option_and_then words_apart (only_value (codes "--ctors") arguments)) (value_if_any (codes "--kept-exports") arguments) (only_value (output_option) arguments)
 
 -- ---- sample ----
 

@@ -2,7 +2,7 @@
 use Rattle.base_lists.proofs.Common.{nat_tests, ◌&&◌, ◌||◌, ◌==◌, is_none, is_some, option_to_list, list_any, ◌≡◌, ◌∙◌, refl, sym, ap, ap₂, ◌++◌, ℕ, suc, ◌+◌, ◌<◌, arith, add-one, map, drop, drop-cons, length, get_or, Bool, true, false, cond, List, [], ◌∷◌, append_assoc, append-nil, Option, Some, None, option_map, option_and_then, Bor, nat_list_eq_equiv}
 use Rattle.std.specs.Prelude.{unwrap_or, bytes_eq}
 use Rattle.std.specs.Option.{option_flatten}
-use Rattle.tools_cli_words.specs.Words.{Text, Vocabulary, Argument, Value, Flag, Plain, OptionValue, Arguments, behind, long_name, takes_value, next_argument, add_argument, said_from, arguments_of, values_of, only, at_most_one}
+use Rattle.tools_cli_words.specs.Words.{Text, Vocabulary, Argument, Value, Flag, Plain, OptionValue, Arguments, behind, long_name, takes_value, next_argument, add_argument, said_from, arguments_of, values_of, only_text, at_most_one}
 use Rattle.tools_cli_words.specs.Meaning.{join_arguments, names_of}
 
 -- ---- one word more ----
@@ -107,7 +107,7 @@ pub all_found : (found : Option (Bor Text)) (whole : Option (Option Text)) → f
 all_found None whole e = e
 all_found (Some x) whole e = e
 
-pub only_from : (r : Option (Option (Bor Text))) (values : List Text) → option_map (option_map (λ t. t.now)) r ≡ at_most_one values → option_map (λ t. t.now) (option_flatten r) ≡ only values
+pub only_from : (r : Option (Option (Bor Text))) (values : List Text) → option_map (option_map (λ t. t.now)) r ≡ at_most_one values → option_map (λ t. t.now) (option_flatten r) ≡ only_text values
 only_from None [] e = absurd (cc)
 only_from (Some None) [] e = refl
 only_from (Some (Some x)) [] e = absurd (cc)

@@ -166,13 +166,13 @@ values_of option [] = []
 values_of option (valued ∷ rest) = if bytes_eq valued.option option then valued.value ∷ values_of option rest else values_of option rest
 
 -- The text, if there is exactly one.
-abbrev pub only : List Text → Option Text
-only (text ∷ []) = Some text
-only _ = None
+abbrev pub only_text : List Text → Option Text
+only_text (text ∷ []) = Some text
+only_text _ = None
 
 -- The value of an option that is given exactly once.
 abbrev pub only_value : Text → Arguments → Option Text
-only_value option arguments = only (values_of option arguments.values)
+only_value option arguments = only_text (values_of option arguments.values)
 
 -- No text or the one text; `None` if there are more.
 abbrev pub at_most_one : List Text → Option (Option Text)

@@ -1,5 +1,5 @@
 ghost use Rattle.std.specs.Prelude.{◌≡◌, option_map, IfOk};
-ghost use Rattle.tools_cli_words.specs.Words.{only, only_value, value_if_any, value_or};
+ghost use Rattle.tools_cli_words.specs.Words.{only_text, only_value, value_if_any, value_or};
 ghost use Rattle.tools_cli_words.specs.Meaning.{arguments_value, names_of};
 
 use std::alloc::Global;
@@ -24,7 +24,7 @@ pub struct Arguments {
 impl Arguments {
     /// Returns the positional argument, if there is exactly one.
     pub fn only_plain(&self) -> Option<&str>
-        ensures { option_map (λ text. text.now) result ≡ only (arguments_value self.now).plain }
+        ensures { option_map (λ text. text.now) result ≡ only_text (arguments_value self.now).plain }
     {
         match self.plain.as_slice() {
             [text] => Some(text.as_str()),
