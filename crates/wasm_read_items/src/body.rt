@@ -31,13 +31,13 @@ fn read_sequence(
         match read_token(alloc, cursor, many, pile)? {
             Kind::End => {
                 return Ok(Sequence {
-                    items: pile.instrs.split_off(start)?,
+                    items: pile.split_off(alloc, start)?,
                     by_else: false,
                 });
             }
             Kind::Else => {
                 return Ok(Sequence {
-                    items: pile.instrs.split_off(start)?,
+                    items: pile.split_off(alloc, start)?,
                     by_else: true,
                 });
             }

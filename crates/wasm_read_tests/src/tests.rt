@@ -314,3 +314,36 @@ fn the_tree_has_what_the_sections_hold(rt: HostRuntime) -> Result<(), Fail> {
     assert_eq!(rt; tree_unlike(rt.alloc()), Ok(""));
     Ok(())
 }
+
+// A module of two functions of type [] to [], up to the instructions of the first, which are 4,096 bytes; and what comes after these: its end, and the second function, `nop`.
+const LONG: &[u8] =
+    b"\x00\x61\x73\x6D\x01\x00\x00\x00\x01\x04\x01\x60\x00\x00\x03\x03\x02\x00\x00\x0A\x89\x20\x02\x82\x20\x00";
+
+const SHORT: &[u8] = b"\x0B\x03\x00\x01\x0B";
+
+fn body_length(module: &Module, func: usize) -> Option<usize> {
+    Some(module.funcs.get(func)?.body.len())
+}
+
+// How many instructions the two functions have, of which the first has 4,096 `nop`.
+fn lengths(alloc: Global) -> Result<[Option<usize>; 2], Fail> {
+    let mut bytes = Out::new(alloc);
+    bytes.bytes(LONG)?;
+    for _ in 0..4_096 {
+        bytes.byte(0x01)?;
+    }
+    bytes.bytes(SHORT)?;
+    if bytes.len() >= 0x1_0000_0000 {
+        return Ok([None, None]);
+    }
+    match read(alloc, bytes.as_slice()) {
+        Ok(module) => Ok([body_length(&module, 0), body_length(&module, 1)]),
+        Err(_) => Ok([None, None]),
+    }
+}
+
+#[test]
+fn a_long_body_is_read_and_the_one_after_it(rt: HostRuntime) -> Result<(), Fail> {
+    assert_eq!(rt; lengths(rt.alloc())?, [Some(4_096), Some(1)]);
+    Ok(())
+}

@@ -91,7 +91,7 @@ read_sequence-returns-in-End-clause-uses t c =
     let items = c.tokens.invariant.0 in
     let token = rw c.in-End.is at c.in_ok-read_token.ensures.gives in
     let back : c.in_ok-split_off-in-End.field-0 ≡ items = c.in_ok-split_off-in-End.ensures.back ∙ rw (token.1, c.tokens.invariant.2, c.tokens.invariant.1) (drop-append_seam c.args.pile.now.instrs items) in
-    rw (token.1, back) c.tokens.invariant.5
+    c.in_ok-split_off-in-End.ensures.uses ∙ rw (token.1, back) c.tokens.invariant.5
 
 pub read_sequence-returns-in-Else-clause-reads : goal.read_sequence-returns-in-Else-clause-reads
 read_sequence-returns-in-Else-clause-reads t c = λ fuel enough.
@@ -111,7 +111,7 @@ read_sequence-returns-in-Else-clause-uses t c =
     let items = c.tokens.invariant.0 in
     let token = rw c.in-Else.is at c.in_ok-read_token.ensures.gives in
     let back : c.in_ok-split_off-in-Else.field-0 ≡ items = c.in_ok-split_off-in-Else.ensures.back ∙ rw (token.1, c.tokens.invariant.2, c.tokens.invariant.1) (drop-append_seam c.args.pile.now.instrs items) in
-    rw (token.1, back) c.tokens.invariant.5
+    c.in_ok-split_off-in-Else.ensures.uses ∙ rw (token.1, back) c.tokens.invariant.5
 
 pub read_sequence-tokens-preserved-in-Plain : goal.read_sequence-tokens-preserved-in-Plain
 read_sequence-tokens-preserved-in-Plain t c =
