@@ -1,4 +1,4 @@
-// The small runs of crates/wasm_meaning, and those of split modules of crates/split_behaves_proof, made in a real engine.
+// The small runs of crates/wasm_meaning, and those of split modules of crates/split_proof, made in a real engine.
 //
 // Reads the theorems of the files named below, builds the modules of each as bytes, makes the embedder's moves, and compares what is seen with the
 // events that the theorem states. Of a module under a loader it is the loader, too; split modules are loaded by the loader that users take (loader/).
@@ -19,7 +19,7 @@ const FOLDER = join(CRATES, "wasm_meaning/proofs");
 const NAMES = ["SmallRuns", "MoreRuns", "EmbedderRuns", "FurtherRuns", "LoaderRuns", "OrderAndIndexRuns", "LinkingAndSegmentRuns"];
 const FILES = process.argv.length > 2 ? process.argv.slice(2) : NAMES.map((name) => join(FOLDER, `${name}.antt`));
 // The runs of split modules, and the definitions that they use.
-const SPLIT = join(CRATES, "split_behaves_proof/proofs/SmallRuns.antt");
+const SPLIT = join(CRATES, "split_proof/proofs/SmallRuns.antt");
 const SPLIT_WORDS = join(CRATES, "split_spec/specs/Examples.antt");
 
 // ---- reading: terms of names, numbers, lists and their joins, pairs, records and applications ----

@@ -1,2 +1,11 @@
 pub mod Premises
 pub mod Calls
+pub mod Worlds
+pub mod Addresses
+pub mod Loads
+pub mod Laws
+pub mod LoadedCode
+pub mod MovedCalls
+pub mod Begins
+pub mod States
+pub mod Answered

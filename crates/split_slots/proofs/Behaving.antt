@@ -5,7 +5,7 @@ use Rattle.wasm_valid.specs.Prelude.{IsValid}
 use Rattle.split_spec.specs.declared.names.SplitNames.{SplitNames}
 use Rattle.split_spec.specs.declared.faults.SplitFault.{SplitFault}
 use Rattle.split_proof.specs.Premises.{CanMove}
-use Rattle.split_behaves_proof.specs.Laws.{CanBeSplit, PairsCanBeSplit}
+use Rattle.split_proof.specs.Laws.{CanBeSplit, PairsCanBeSplit}
 use Rattle.split_slots.specs.Surveyed.{MaySplit}
 use Rattle.split_slots.specs.declared.splitting.Pair.{Pair}
 

@@ -8,8 +8,8 @@ ghost use Rattle.wasm_valid.specs.Validity.{IsValid};
 ghost use Rattle.module_limits.specs.Counts as counts;
 ghost use Rattle.split_plan.specs.Plans.{IsPlan};
 ghost use Rattle.split_proof.specs.Premises.{CanMove};
-ghost use Rattle.split_behaves_proof.specs.Laws.{AlwaysLoads, ObservationallyEquivalent, most_params};
-ghost use Rattle.split_behaves_proof.specs.Worlds.{pair_in_place};
+ghost use Rattle.split_proof.specs.Laws.{AlwaysLoads, ObservationallyEquivalent, most_params};
+ghost use Rattle.split_proof.specs.Worlds.{pair_in_place};
 ghost use Rattle.split_spec.specs.declared.faults.SplitFault.{SplitFault as Fault};
 ghost use Rattle.split_spec.specs.declared.faults.SplitFault.TheVariants.{NoMemory as OutOfMemory, TooMany};
 ghost use Rattle.split_spec.specs.Faults.{split_fault};
@@ -22,9 +22,11 @@ use crate::exports::added_exports;
 use crate::finishing::finished;
 use crate::refusing::refuse;
 use crate::surveying::{Survey, surveyed};
-use split_behaves_proof::{pairs_can_be_split, secondary_modules_load, split_module_equivalent};
 use split_plan::Plan;
-use split_proof::{maps_of_a_split_fit, primary_modules_are_valid, secondary_modules_are_valid};
+use split_proof::{
+    maps_of_a_split_fit, pairs_can_be_split, primary_modules_are_valid,
+    secondary_modules_are_valid, secondary_modules_load, split_module_equivalent,
+};
 use split_spec::{SplitFault, SplitNames};
 use std::alloc::Global;
 use wasm_bytes::Items;

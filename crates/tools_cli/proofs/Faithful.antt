@@ -32,7 +32,7 @@ use Rattle.split_spec.specs.declared.names.SplitNames.{SplitNames}
 use Rattle.split_spec.specs.declared.faults.SplitFault.TheVariants.{NamespaceTaken, PrefixTaken, TooMany}
 use Rattle.split_spec.specs.Prelude.{namespace_taken, prefix_taken, moved_params, too_many, split_fault, primary, primary_with, secondary, secondary_with}
 use Rattle.split_proof.specs.Premises.{CanMove}
-use Rattle.split_behaves_proof.specs.Laws.{PairsCanBeSplit, SecondariesAlwaysLoad, SplitModuleEquivalent}
+use Rattle.split_proof.specs.Laws.{PairsCanBeSplit, SecondariesAlwaysLoad, SplitModuleEquivalent}
 use Rattle.wasm_tree_spec.specs.Prelude.{Module, IsBounded, Which, limit, Trampolines, memory_zero_funcs}
 use Rattle.wasm_valid.specs.Prelude.{IsValid, IsSingle}
 use Rattle.base_lists.specs.Every.{Every}

@@ -19,8 +19,8 @@ use Rattle.dce_sweep_spec.specs.Unswept.{unswept}
 use Rattle.dce_sweep.specs.Sweeps.{Sweeps}
 use Rattle.wasm_names.specs.declared.func_name.FuncName.{FuncName}
 use Rattle.split_spec.specs.Prelude.{split_fault, primary, secondary}
-use Rattle.split_behaves_proof.specs.Laws.{AlwaysLoads, most_params}
-use Rattle.split_behaves_proof.specs.Worlds.{pair_in_place}
+use Rattle.split_proof.specs.Laws.{AlwaysLoads, most_params}
+use Rattle.split_proof.specs.Worlds.{pair_in_place}
 use Rattle.eval_snapshot_spec.specs.Evaluated.{evaluated_count, evaluated_tree}
 use Rattle.eval_behaves_proof.specs.Worlds.{events_evaluated}
 use Rattle.tools_cli_eval.specs.Evaluations.{fault_of}

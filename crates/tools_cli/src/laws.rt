@@ -16,10 +16,11 @@ use merge_behaves_proof::merged_module_equivalent;
 use merge_encode_proof::merged_modules_are_in_range;
 use merge_spec::link_faults_name_parts;
 use merge_valid_proof::merged_modules_are_valid;
-use split_behaves_proof::{pairs_can_be_split, secondary_modules_load, split_module_equivalent};
-use split_encode_proof::split_modules_are_in_range;
 use split_plan::{plan_faults_have_causes, what_is_planned_is_a_plan};
-use split_proof::{primary_modules_are_valid, secondary_modules_are_valid};
+use split_proof::{
+    pairs_can_be_split, primary_modules_are_valid, secondary_modules_are_valid,
+    secondary_modules_load, split_module_equivalent, split_modules_are_in_range,
+};
 use tools_cli_eval::{
     evaluated_modules_are_snapshots, evaluated_modules_are_valid, evaluated_modules_behave,
 };

@@ -4,8 +4,8 @@ use Rattle.module_limits.specs.Counts.{over_limit}
 use Rattle.split_spec.specs.declared.faults.SplitFault.{SplitFault}
 use Rattle.split_spec.specs.declared.faults.SplitFault.TheVariants.{NoMemory, TooMany}
 use Rattle.split_slots.specs.declared.splitting.Pair.{Pair}
-use Rattle.split_behaves_proof.specs.Laws.{AlwaysLoads, ObservationallyEquivalent, most_params}
-use Rattle.split_behaves_proof.specs.Worlds.{pair_in_place}
+use Rattle.split_proof.specs.Laws.{AlwaysLoads, ObservationallyEquivalent, most_params}
+use Rattle.split_proof.specs.Worlds.{pair_in_place}
 use Rattle.split_slots.proofs.Behaving.{can_be_split, of_pair}
 use Rattle.split_slots.proofs.FinishedModules.{can_finish_primary, can_finish_secondary, made_primary, made_secondary}
 use Rattle.split_slots.proofs.FirstFaults.{built_last}

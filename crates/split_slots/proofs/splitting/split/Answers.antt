@@ -1,7 +1,7 @@
 use Rattle.base_lists.proofs.Common.{◌≡◌, refl, sym, ap, ap₂, subst, ◌∙◌, ◌⊎◌, inl, inr, ⊎_elim, ℕ, List, Option, None, Some, Result, Ok, Err, IfErr, IfOk, IsOk}
 use Rattle.wasm_tree_spec.specs.Prelude.{Module}
-use Rattle.split_behaves_proof.specs.Laws.{AlwaysLoads, ObservationallyEquivalent, most_params}
-use Rattle.split_behaves_proof.specs.Worlds.{pair_in_place}
+use Rattle.split_proof.specs.Laws.{AlwaysLoads, ObservationallyEquivalent, most_params}
+use Rattle.split_proof.specs.Worlds.{pair_in_place}
 use Rattle.split_slots.specs.declared.splitting.Pair.{Pair}
 use Rattle.split_spec.specs.declared.faults.SplitFault.{SplitFault}
 use Rattle.split_spec.specs.declared.faults.SplitFault.TheVariants.{NoMemory}

@@ -1,5 +1,0 @@
-use Rattle.split_behaves_proof.proofs.MovedCalls
-use Rattle.split_behaves_proof.proofs.steps_call_moved_functions_together.Goals as goal
-
-pub returns : goal.returns
-returns c = record { together = MovedCalls.steps_call_moved_functions_together }

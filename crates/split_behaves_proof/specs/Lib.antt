@@ -1,9 +1,0 @@
-pub mod Worlds
-pub mod Addresses
-pub mod Loads
-pub mod Laws
-pub mod LoadedCode
-pub mod MovedCalls
-pub mod Begins
-pub mod States
-pub mod Answered
