@@ -3,14 +3,14 @@ use Rattle.base_lists.proofs.Common.{◌≡◌, ℕ, ◌≤◌, List, [], ◌∷
 use Rattle.wasm_tree_spec.specs.Prelude.{ConstExpr, ElemMode, ElemSeg, DataMode, DataSeg, Module}
 use Rattle.wasm_tree.specs.declared.module.ElemMode.TheVariants as elem
 use Rattle.wasm_tree.specs.declared.module.DataMode.TheVariants as data'
-use Rattle.wasm_meaning.specs.Prelude.{Gives, Traps, IllTyped, overwrite, RefVal, Val, Inst, Table, Memory, Store, Entry, Ran, CallsOwn, WaitsGrowth, CallsPlaceholder, EndsCall, SetTable, SetMemory, DropElem, DropData, changed, Filled, PlacedSegment, joined_stores, segments_in, or_trapped, copy_slots, run_elem_with, copy_bytes, run_data_with, and_then, one_by_one, Added, added, own_segments, Run, Event, Transition, Steps, Makes, made, transition, run_after, LoaderWorld, LoaderRun, secondary_of, store_loaded, loader_made, StepsWriteWhatTheyTouch}
+use Rattle.wasm_meaning.specs.Prelude.{Gives, Traps, IllTyped, overwrite, RefVal, Val, Inst, Table, Memory, Store, Entry, Ran, CallsOwn, WaitsGrowth, CallsPlaceholder, EndsCall, SetTable, SetMemory, DropElem, DropData, changed, Filled, PlacedSegment, joined_stores, value_of, placed_elems, placed_datas, segments_in, or_trapped, copy_slots, run_elem_with, copy_bytes, run_data_with, and_then, one_by_one, Added, added, Run, Event, Transition, Steps, Makes, made, transition, run_after, LoaderWorld, LoaderRun, secondary_of, store_loaded, loader_made, StepsWriteWhatTheyTouch}
 use Rattle.wasm_meaning.specs.Loader.{loader_with, secondary_added, call_answered, secondary_called, placeholder_called}
 use Rattle.index_remap.specs.Prelude.{IsBegun}
 use Rattle.world_simulation.specs.Prelude.{offset_in}
 use Rattle.world_contents_proof.proofs.Added.{added_is}
 use Rattle.world_simulation.proofs.Copied.{then_holds}
 use Rattle.wasm_meaning.proofs.Outcomes.{stopped}
-use Rattle.world_extension_proof.specs.Extends.{TableExtends, MemoryExtends, GlobalExtends, EachExtends, Extends, StaysIn, Kept, AddedModulesExtend, LoaderKept, LoadersExtend}
+use Rattle.world_extension_proof.specs.Extends.{TableExtends, MemoryExtends, GlobalExtends, EachExtends, Extends, StaysIn, Kept, OwnSegmentsExtend, SegmentsExtend, AddedModulesExtend, LoaderKept, LoadersExtend}
 use Rattle.world_extension_proof.proofs.Extends
 use Rattle.world_extension_proof.proofs.Extends.{stays, table_stays, memory_stays, global_stays, each_then, table, memory, elem_drops, data_drops, changed_extends}
 use Rattle.world_extension_proof.proofs.TickExtends.{after_kept, answer_leaves, tick_extends, stepping_begun, call_extends}
@@ -71,28 +71,36 @@ module _ (value : ConstExpr → Option Val) where
       then_holds (Fills s) s (slice_get s.datas x.address) _ (stays s) (λ e _. memory_filled s x.address a m at (overwrite m.bytes q e.bytes)))))
   data_run s x data'.Passive = stays s
 
-  then_fills : (s : Store) (f : Filled) (g : Store → Filled) → Fills s f → ((t : Store) → Fills t (g t)) → Fills s (and_then f g)
-  then_fills s f g h next = by f.trapped
-    where
-      by : (b : Bool) → Fills s (cond b f (g f.store))
-      by true = h
-      by false = Extends.and_then s f.store (g f.store).store h (next f.store)
+then_fills : (s : Store) (f : Filled) (g : Store → Filled) → Fills s f → ((t : Store) → Fills t (g t)) → Fills s (and_then f g)
+then_fills s f g h next = by f.trapped
+  where
+    by : (b : Bool) → Fills s (cond b f (g f.store))
+    by true = h
+    by false = Extends.and_then s f.store (g f.store).store h (next f.store)
 
-  turn_fills : {A : Type 0} (run : Store → PlacedSegment A → Filled) → ((s : Store) (x : PlacedSegment A) → Fills s (run s x)) → (xs : List (PlacedSegment A)) (s : Store) → Fills s (one_by_one run s xs)
-  turn_fills run h [] s = stays s
-  turn_fills run h (x ∷ xs) s = then_fills s (run s x) (λ s. one_by_one run s xs) (h s x) (λ t. turn_fills run h xs t)
+turn_fills : {A : Type 0} (run : Store → PlacedSegment A → Filled) → ((s : Store) (x : PlacedSegment A) → Fills s (run s x)) → (xs : List (PlacedSegment A)) (s : Store) → Fills s (one_by_one run s xs)
+turn_fills run h [] s = stays s
+turn_fills run h (x ∷ xs) s = then_fills s (run s x) (λ s. one_by_one run s xs) (h s x) (λ t. turn_fills run h xs t)
 
-  pub segments_fill : (m : Module) (i : Inst) (s : Store) → Fills s (own_segments value m i s)
-  segments_fill m i s =
-      then_fills s (one_by_one (λ s task. run_elem_with value s task task.segment.mode) s (segments_in 0 i i.elems m.elems)) (λ s. one_by_one (λ s task. run_data_with value s task task.segment.mode) s (segments_in 0 i i.datas m.datas))
-      (turn_fills (λ s task. run_elem_with value s task task.segment.mode) (λ s x. elem_run s x x.segment.mode) (segments_in 0 i i.elems m.elems) s)
-      (λ s. turn_fills (λ s task. run_data_with value s task task.segment.mode) (λ s x. data_run s x x.segment.mode) (segments_in 0 i i.datas m.datas) s)
+-- segments of several parts
+all_fill : (value : ℕ → ConstExpr → Option Val) (es : List (PlacedSegment ElemSeg)) (ds : List (PlacedSegment DataSeg)) (s : Store) →
+    Fills s (and_then (one_by_one (λ s task. run_elem_with (value task.part) s task task.segment.mode) s es) (λ s. one_by_one (λ s task. run_data_with (value task.part) s task task.segment.mode) s ds))
+all_fill value es ds s =
+    then_fills s (one_by_one (λ s task. run_elem_with (value task.part) s task task.segment.mode) s es) (λ s. one_by_one (λ s task. run_data_with (value task.part) s task task.segment.mode) s ds)
+    (turn_fills (λ s task. run_elem_with (value task.part) s task task.segment.mode) (λ s x. elem_run (value x.part) s x x.segment.mode) es s)
+    (λ s. turn_fills (λ s task. run_data_with (value task.part) s task task.segment.mode) (λ s x. data_run (value x.part) s x x.segment.mode) ds s)
+
+pub own_segments_fill : OwnSegmentsExtend
+own_segments_fill value m i s = all_fill (λ _. value) (segments_in 0 i i.elems m.elems) (segments_in 0 i i.datas m.datas) s
+
+pub segments_fill : SegmentsExtend
+segments_fill env parts insts s = all_fill (value_of env parts insts) (placed_elems 0 parts insts) (placed_datas 0 parts insts) s
 
 pub added_extends : AddedModulesExtend
 added_extends s m things a h =
     let x = added_is s m things a h in
     let start = joined_stores s x.0 in
-    subst (λ (a : Added). StaysIn s a.filled.store) x.2 (still_in s start _ (joined_stays s x.0) (stays_in start _ (segments_fill _ m _ start)))
+    subst (λ (a : Added). StaysIn s a.filled.store) x.2 (still_in s start _ (joined_stays s x.0) (stays_in start _ (own_segments_fill _ m _ start)))
 
 -- ---- a step under a loader ----
 

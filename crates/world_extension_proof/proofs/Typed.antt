@@ -1,8 +1,8 @@
 -- Each index of a module that is added names what the module says, and so it does in each store that extends that one.
-use Rattle.base_lists.proofs.Common.{◌≡◌, ◌∙◌, refl, sym, ap, subst, ℕ, zero, suc, ◌+◌, ◌≤◌, List, [], ◌∷◌, ◌++◌, map, length, Option, Some, None, Bool, true, false, ◌&&◌, ⊎_elim, arith, slice_get, true≢false, nat_le, cons_option, leb-true, le-leb, and_parts, and_from, same_Some, cond_is, numbers_at, and_then_is, all_there_at, unwrap_or_false_is, append_at_left, append_from, append_right, map_at, map_from, slice_get_within, length-map, copies_length}
+use Rattle.base_lists.proofs.Common.{◌≡◌, ◌∙◌, refl, sym, ap, subst, ℕ, zero, suc, ◌+◌, List, [], ◌∷◌, ◌++◌, map, length, Option, Some, None, Bool, true, false, ◌&&◌, ⊎_elim, arith, slice_get, true≢false, nat_le, cons_option, le-leb, and_parts, and_from, same_Some, cond_is, numbers_at, and_then_is, all_there_at, unwrap_or_false_is, append_at_left, append_from, append_right, map_at, map_from, slice_get_within, length-map, copies_length}
 use Rattle.std.proofs.Common.{filter_map}
 use Rattle.base_lists.specs.Options.{◌>>=◌}
-use Rattle.wasm_tree_spec.specs.Prelude.{same_func_type, same_ref, same_type, Functions, Tables, Memories, Globals, RefType, ValType, FuncType, Limits, TableType, GlobalType, Import, ImportDesc, Module, func_of, table_of, memory_of, global_of, imported_funcs, imported_tables, imported_memories, imported_globals}
+use Rattle.wasm_tree_spec.specs.Prelude.{same_func_type, same_ref, same_type, Functions, Tables, Memories, Globals, FuncType, Limits, TableType, GlobalType, Import, ImportDesc, Module, func_of, table_of, memory_of, global_of, imported_funcs, imported_tables, imported_memories, imported_globals}
 use Rattle.wasm_tree.specs.declared.module.ImportDesc.TheVariants as im
 use Rattle.wasm_meaning.specs.Prelude.{Inst, Func, Table, Memory, Global, Store, null_of, type_of_func, ExternalValue, FuncAt, TableAt, MemoryAt, GlobalAt, address_of, numbers, new_func, global_with, const_value, import_type, joined_stores, same_bool, meets_most, meets, is_match, Added, addresses_of, next_inst, all_match, added_as}
 use Rattle.index_remap.proofs.SlotCalls.{func_type_self}
@@ -11,15 +11,9 @@ use Rattle.world_contents_proof.proofs.Added.{added_is}
 use Rattle.world_simulation.proofs.Allocated.{AddsWith, adds_with}
 use Rattle.world_extension_proof.specs.Extends.{StaysIn}
 use Rattle.world_extension_proof.specs.Typed.{Offers, IsTyped, AddedModulesAreTyped, InstancesStayTyped}
-use Rattle.world_extension_proof.proofs.LoadExtends.{stays_in, joined_stays, segments_fill}
+use Rattle.world_extension_proof.proofs.LoadExtends.{stays_in, joined_stays, own_segments_fill}
 
 -- ---- what matches goes on to match ----
-
-pub meets_more : (n m : ℕ) (most : Option ℕ) (l : Limits) → n ≤ m → meets n most l ≡ true → meets m most l ≡ true
-meets_more n m most l le h =
-    let p = and_parts (nat_le l.min n) (meets_most most l.max) h in
-    let low = leb-true l.min n p.0 in
-    and_from (nat_le l.min m) (meets_most most l.max) (le-leb l.min m (omega (arith, low, le))) p.1
 
 -- whether what was found is of the type
 abbrev same_func : Option FuncType → Option Func → Option Bool
@@ -48,7 +42,7 @@ module _ (s t : Store) (stays : StaysIn s t) (m : Module) where
       go (Some u) e h =
           let y = stays.tables a u e in
           let c = and_parts (same_ref ty.ty u.ty) (meets (length u.slots) u.most ty.limits) (same_Some _ _ h) in
-          let size : meets (length y.0.slots) y.0.most ty.limits ≡ true = meets_more (length u.slots) (length y.0.slots) y.0.most ty.limits y.2.size (ap (λ q. meets (length u.slots) q ty.limits) y.2.most ∙ c.1) in
+          let size : meets (length y.0.slots) y.0.most ty.limits ≡ true = grind (arith, y.2.size, y.2.most, c.1) in
           ap (same_table ty) y.1 ∙ ap Some (and_from (same_ref ty.ty y.0.ty) (meets (length y.0.slots) y.0.most ty.limits) (ap (same_ref ty.ty) y.2.type ∙ c.0) size)
   match_stays (im.Memory l) (MemoryAt a) h = go (slice_get s.mems a) refl h
     where
@@ -56,7 +50,8 @@ module _ (s t : Store) (stays : StaysIn s t) (m : Module) where
       go None e h = cc
       go (Some u) e h =
           let y = stays.mems a u e in
-          ap (same_memory l) y.1 ∙ ap Some (meets_more u.pages y.0.pages y.0.most l y.2.size (ap (λ q. meets u.pages q l) y.2.most ∙ same_Some _ _ h))
+          let size : meets y.0.pages y.0.most l ≡ true = grind (arith, y.2.size, y.2.most, h) in
+          ap (same_memory l) y.1 ∙ ap Some size
   match_stays (im.Global ty) (GlobalAt a) h = go (slice_get s.globals a) refl h
     where
       go : (o : Option Global) → slice_get s.globals a ≡ o → same_global ty o ≡ Some true → same_global ty (slice_get t.globals a) ≡ Some true
@@ -212,4 +207,4 @@ added_typed s m things a h =
     let x = added_is s m things a h in
     let start = joined_stores s x.0 in
     subst (λ (a : Added). IsTyped m a.inst a.filled.store) x.2
-    (stays_typed m i start _ (stays_in start _ (segments_fill (const_value s.globals i) m i start)) (allocated_typed s m things matched x.0 (adds_with (const_value s.globals i) m i x.0 x.1)))
+    (stays_typed m i start _ (stays_in start _ (own_segments_fill (const_value s.globals i) m i start)) (allocated_typed s m things matched x.0 (adds_with (const_value s.globals i) m i x.0 x.1)))

@@ -1,8 +1,8 @@
 -- What a run does to its store: once it is instantiated, each step only extends the store
 -- (WebAssembly Core 2.0, section 4.2.3).
 use Rattle.std.specs.Prelude.{◌≡◌, ℕ, ◌≤◌, false, List, length, Option, Some, slice_get}
-use Rattle.wasm_tree_spec.specs.Prelude.{Module}
-use Rattle.wasm_meaning.specs.Prelude.{Gives, Val, Func, Table, Memory, Global, Store, Entry, CallsPlaceholder, ExternalValue, Added, added, Run, Event, Out, Steps, transition, tick, LoaderWorld, LoaderRun, tick_loader}
+use Rattle.wasm_tree_spec.specs.Prelude.{ConstExpr, Module}
+use Rattle.wasm_meaning.specs.Prelude.{Gives, Val, Inst, Func, Table, Memory, Global, Store, Entry, CallsPlaceholder, Part, Environment, ExternalValue, segments, Added, added, own_segments, Run, Event, Out, Steps, transition, tick, LoaderWorld, LoaderRun, tick_loader}
 use Rattle.index_remap.specs.Prelude.{IsBegun}
 
 -- ---- stores ----
@@ -38,6 +38,14 @@ pub record Extends (s t : Store) : Type 0 where
   pub elem_count : length t.elems ≡ length s.elems
   pub data_count : length t.datas ≡ length s.datas
 
+-- Each store extends itself.
+abbrev pub StoresExtendThemselves : Type 0
+StoresExtendThemselves = (s : Store) → Extends s s
+
+-- A store extends what the store that it extends does.
+abbrev pub ExtensionIsTransitive : Type 0
+ExtensionIsTransitive = (s t u : Store) → Extends s t → Extends t u → Extends s u
+
 -- the same for the functions, tables, memories and globals of the first store; the second may have
 -- more behind them
 pub record StaysIn (s t : Store) : Type 0 where
@@ -63,6 +71,17 @@ StepsExtend = (r : Run) → IsBegun r.phase → Kept r (tick r)
 abbrev pub CallsExtend : Type 0
 CallsExtend =
     (r q : Run) (slot : ℕ) (vs : List Val) (s : Store) (es : List Entry) → IsBegun r.phase → transition r ≡ Steps q (Gives (CallsPlaceholder slot vs s es)) → Extends r.store s
+
+-- ---- active segments ----
+
+-- The active segments of a module that are copied, until one traps, only extend the store, whatever
+-- their offsets denote (section 4.5.4).
+abbrev pub OwnSegmentsExtend : Type 0
+OwnSegmentsExtend = (value : ConstExpr → Option Val) (m : Module) (i : Inst) (s : Store) → Extends s (own_segments value m i s).store
+
+-- So do those of all parts of a world that is instantiated at once.
+abbrev pub SegmentsExtend : Type 0
+SegmentsExtend = (env : Environment) (parts : List Part) (insts : List Inst) (s : Store) → Extends s (segments env parts insts s).store
 
 -- ---- a module that is added ----
 

@@ -1,23 +1,44 @@
-//! Laws: a run, also under a loader, only extends its store, and the indices of an instance keep
-//! naming what its module says.
+//! Laws: store extension is a preorder; a run, also under a loader, only extends its store, and the
+//! indices of an instance keep naming what its module says.
 #![tactic(auto)]
 
-ghost use Rattle.world_extension_proof.specs.Extends.{AddedModulesExtend, CallsExtend, LoadersExtend, StepsExtend};
+ghost use Rattle.world_extension_proof.specs.Extends.{
+  AddedModulesExtend,
+  CallsExtend,
+  ExtensionIsTransitive,
+  LoadersExtend,
+  OwnSegmentsExtend,
+  SegmentsExtend,
+  StepsExtend,
+  StoresExtendThemselves,
+};
 ghost use Rattle.world_extension_proof.specs.Over.{RunsThatAreOverStaySo};
 ghost use Rattle.world_extension_proof.specs.Typed.{AddedModulesAreTyped, InstancesStayTyped};
 
 use wasm_meaning::steps_write_only_touched_places;
 
+/// Store extension (compare WebAssembly Core 2.0, appendix, Soundness) is a preorder: each store
+/// extends itself (`reflexive`), and a store that extends an extension of another one extends that
+/// one (`transitive`).
+pub fn store_extension_is_a_preorder()
+    ensures reflexive { StoresExtendThemselves }
+    ensures transitive { ExtensionIsTransitive }
+{}
+
 /// Once a run is instantiated, each step extends its store and leaves it instantiated (WebAssembly
 /// Core 2.0, section 4.2.3): functions stay as they are, tables, memories and globals keep their
 /// types and maxima and do not shrink, immutable globals keep their values, and nothing is added or
-/// taken away (`step`). The same holds up to the call of a placeholder (`call`). When a module is
-/// added to a store, the functions, tables, memories and globals that were there are kept in the
-/// same way, whether or not a segment traps (`added`), and so they are in each step under a loader
-/// whose run is instantiated, also in a step that loads a module (`loader`).
+/// taken away (`step`). The same holds up to the call of a placeholder (`call`), and when active
+/// segments are copied (section 4.5.4), those of one module (`own_segments`) or those of all parts
+/// of a world at once (`segments`). When a module is added to a store, the functions, tables,
+/// memories and globals that were there are kept in the same way, whether or not a segment traps
+/// (`added`), and so they are in each step under a loader whose run is instantiated, also in a step
+/// that loads a module (`loader`).
 pub fn stores_are_extended()
     ensures step { StepsExtend }
     ensures call { CallsExtend }
+    ensures own_segments { OwnSegmentsExtend }
+    ensures segments { SegmentsExtend }
     ensures added { AddedModulesExtend }
     ensures loader { LoadersExtend }
 {

@@ -7,8 +7,8 @@ use Rattle.wasm_valid.specs.Prelude.{IsValid, start_count, ValidWhereItemsHold}
 use Rattle.wasm_meaning.specs.Prelude.{Text, Inst, Store, sites, Environment, ExternalValue, all_of, World, Begun, own_store, insts_from, stores_from, seen_as, all_there, is_matched, segments, begun, instantiate, StartDependsOnlyOnItsFrames}
 use Rattle.index_remap.specs.Prelude.{CodeIsRelatedToItself, RelatedTicksAgree, OthersStay}
 use Rattle.world_simulation.specs.Prelude.{OwnEntitiesCorrespond}
-use Rattle.world_extension_proof.specs.Extends.{StepsExtend}
 use Rattle.world_sequential_proof.specs.Laws.{SequentialInstantiationIsEquivalent}
+use Rattle.world_sequential_proof.proofs.ExtensionLaws.{ExtensionLaws}
 use Rattle.world_sequential_proof.proofs.Making.{nothing_to_nothing}
 use Rattle.world_sequential_proof.proofs.Given.{IsGiven}
 use Rattle.world_sequential_proof.proofs.Started.{func_there}
@@ -45,7 +45,7 @@ instantiated env w b h =
       | inr c ↦ let none = c.1 in cc
     ]
 
-module _ (items : ValidWhereItemsHold) (below : StartDependsOnlyOnItsFrames) (extend : StepsExtend) (itself : CodeIsRelatedToItself) (ticks : RelatedTicksAgree) (others : OthersStay) (own : OwnEntitiesCorrespond) where
+module _ (items : ValidWhereItemsHold) (below : StartDependsOnlyOnItsFrames) (extend : ExtensionLaws) (itself : CodeIsRelatedToItself) (ticks : RelatedTicksAgree) (others : OthersStay) (own : OwnEntitiesCorrespond) where
   -- the start of a valid module
   start_type : (m : Module) (x : ℕ) → IsValid m → m.start ≡ Some x → type_of_func m x ≡ Some nothing_to_nothing
   start_type m x valid e =

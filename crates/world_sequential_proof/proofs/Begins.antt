@@ -4,32 +4,31 @@ use Rattle.wasm_tree_spec.specs.Prelude.{Module}
 use Rattle.wasm_meaning.specs.Prelude.{Text, Inst, Func, Own, Store, Opening, Part, module_at, Environment, Offer, ExternalValue, flat, owned_of, World, own_store, const_value, joined_stores, all_there, starts_of, seen_as, segments, Pending, Move, Run, StartDependsOnlyOnItsFrames, SequentialRun, view_over, own_segments, goes_on, tick_sequential, HasNoActive}
 use Rattle.index_remap.specs.Prelude.{BothRel, ListRel, CodeIsRelatedToItself, RelatedTicksAgree, OthersStay}
 use Rattle.world_simulation.specs.Prelude.{OwnCorrespond}
-use Rattle.world_extension_proof.specs.Extends.{TableExtends, MemoryExtends, GlobalExtends, EachExtends, Extends, StepsExtend}
-use Rattle.world_extension_proof.proofs.Extends.{table_stays, memory_stays, global_stays}
-use Rattle.world_extension_proof.proofs.Extends as extends
+use Rattle.world_extension_proof.specs.Extends.{TableExtends, MemoryExtends, GlobalExtends, EachExtends, Extends, StoresExtendThemselves}
 use Rattle.world_sequential_proof.proofs.Joined.{made_upto, module_is}
 use Rattle.world_sequential_proof.proofs.Reached.{is_reached, reaching, shares_own}
 use Rattle.world_sequential_proof.proofs.OnePart.{Sized, Holds}
 use Rattle.world_sequential_proof.proofs.Closed.{table_more, global_more, elem_more, self_by, Closed, Sound, own_func, func_self}
 use Rattle.world_sequential_proof.proofs.Beside.{both_list, Beside, stores_related, sound_joined}
-use Rattle.world_sequential_proof.proofs.Filling.{self_at, own_fill}
+use Rattle.world_sequential_proof.proofs.Filling.{self_at, own_closed}
+use Rattle.world_sequential_proof.proofs.ExtensionLaws.{ExtensionLaws}
 use Rattle.world_sequential_proof.proofs.Given.{IsGiven, IsTurn, starts_from, filled_in, turned}
 use Rattle.world_sequential_proof.proofs.Waiting.{within, still_reached, more_values, adds_within}
 
 -- ---- joined stores ----
 
-each_joined : {A : Type 0} (P : A → A → Type 0) (xs ys zs : List A) → ((x : A) → P x x) → length ys ≡ length xs → EachExtends P xs ys → EachExtends P (xs ++ zs) (ys ++ zs)
+each_joined : {A : Type 0} (P : A → A → Type 0) (xs ys zs : List A) → EachExtends P zs zs → length ys ≡ length xs → EachExtends P xs ys → EachExtends P (xs ++ zs) (ys ++ zs)
 each_joined P xs ys zs same size h a x e = elim (append_from xs zs a x e) [
   | inl e ↦ let r = h a x e in (r.0, append_at_left ys zs a r.0 r.1, r.2)
-  | inr l ↦ (x, rw (l.1, ← size, append_right) l.2, same x)
+  | inr l ↦ let r = same l.0 x l.2 in (r.0, rw (l.1, ← size, append_right) r.1, r.2)
 ]
 
-joined_extends : (s t u : Store) → Extends s t → Extends (joined_stores s u) (joined_stores t u)
-joined_extends s t u h = record {
+joined_extends : StoresExtendThemselves → (s t u : Store) → Extends s t → Extends (joined_stores s u) (joined_stores t u)
+joined_extends reflexive s t u h = record {
   funcs = rw h.funcs;
-  tables = each_joined TableExtends s.tables t.tables u.tables table_stays h.table_count h.tables;
-  mems = each_joined MemoryExtends s.mems t.mems u.mems memory_stays h.memory_count h.mems;
-  globals = each_joined GlobalExtends s.globals t.globals u.globals global_stays h.global_count h.globals;
+  tables = each_joined TableExtends s.tables t.tables u.tables (reflexive u).tables h.table_count h.tables;
+  mems = each_joined MemoryExtends s.mems t.mems u.mems (reflexive u).mems h.memory_count h.mems;
+  globals = each_joined GlobalExtends s.globals t.globals u.globals (reflexive u).globals h.global_count h.globals;
   table_count = simp (length-append, h.table_count);
   memory_count = simp (length-append, h.memory_count);
   global_count = simp (length-append, h.global_count);
@@ -106,7 +105,7 @@ module _ (env : Environment) (w : World) (insts : List Inst) (allocated : Store)
   pub own_related : (k : ℕ) → OwnCorrespond (reaching env w.parts k) env
   own_related k = g.own (is_reached env w.parts k) env (shares_own env w.parts k)
 
-module _ (env : Environment) (w : World) (insts : List Inst) (allocated : Store) (g : IsGiven env w insts allocated) (itself : CodeIsRelatedToItself) (below : StartDependsOnlyOnItsFrames) (extend : StepsExtend) (ticks : RelatedTicksAgree) (others : OthersStay) (view : List (Text × ExternalValue)) (view_is : all_there (seen_as insts) w.view ≡ Some view) (IsFilled : ℕ → Store → Type 0) where
+module _ (env : Environment) (w : World) (insts : List Inst) (allocated : Store) (g : IsGiven env w insts allocated) (itself : CodeIsRelatedToItself) (below : StartDependsOnlyOnItsFrames) (extend : ExtensionLaws) (ticks : RelatedTicksAgree) (others : OthersStay) (view : List (Text × ExternalValue)) (view_is : all_there (seen_as insts) w.view ≡ Some view) (IsFilled : ℕ → Store → Type 0) where
   abbrev after : Store
   after = (segments env w.parts insts allocated).store
 
@@ -153,19 +152,19 @@ module _ (env : Environment) (w : World) (insts : List Inst) (allocated : Store)
         let m = still_reached env w insts allocated g itself k part i at_part at_inst in
         let adds = adds_within env w insts allocated g itself k part i at_part at_inst t holds (λ n x at_x. more_values env w insts allocated g itself k part i at_part at_inst (self_at t.globals n x h.of_first.closed.globals at_x).value) in
         let sound = sound_joined itself env w.parts insts allocated g.laid k part.«module» is_part (within env w insts allocated g itself k part i at_part at_inst) t.funcs h.of_first.sound adds.1 in
-        let f = own_fill (reaching env w.parts (suc k)) (const_value t.globals i) part.«module» i (joined_stores t (g.laid.adds k)) in
+        let f = extend.own_segments (const_value t.globals i) part.«module» i (joined_stores t (g.laid.adds k)) in
         record {
           next_store = (filled_in env w insts allocated g k part i at_part at_inst t).store;
           is = turned env w insts allocated g k part i at_part at_inst q h.turn (ap (λ r. r.entries) h.second_run) (ap (λ r. r.owned) h.second_run) (laws.filled_sized k t low h.filled) holds a.0;
           filled = a.1;
           of_first = record {
-            extends = extends.and_then (g.laid.first (suc k)) (joined_stores t (g.laid.adds k)) _ (rw (g.laid.first_next k part.«module» is_part) (joined_extends (g.laid.first k) t (g.laid.adds k) h.of_first.extends)) f.extends;
-            closed = f.closed (record {
+            extends = extend.transitive (g.laid.first (suc k)) (joined_stores t (g.laid.adds k)) _ (rw (g.laid.first_next k part.«module» is_part) (joined_extends extend.reflexive (g.laid.first k) t (g.laid.adds k) h.of_first.extends)) f;
+            closed = own_closed (reaching env w.parts (suc k)) (const_value t.globals i) part.«module» i (joined_stores t (g.laid.adds k)) (record {
               funcs = self_by (t.funcs ++ (g.laid.adds k).funcs) (λ n f e. func_self itself env w.parts (suc k) f (sound n f e));
               tables = append_rel (each_rel (table_more (reaching env w.parts k) (reaching env w.parts (suc k)) m) h.of_first.closed.tables) adds.0.tables;
               globals = append_rel (each_rel (global_more (reaching env w.parts k) (reaching env w.parts (suc k)) m) h.of_first.closed.globals) adds.0.globals;
               elems = append_rel (each_rel (elem_more (reaching env w.parts k) (reaching env w.parts (suc k)) m) h.of_first.closed.elems) adds.0.elems;
             });
-            sound = λ n x e. sound n x (rw f.extends.funcs at e);
+            sound = λ n x e. sound n x (rw f.funcs at e);
           };
         }

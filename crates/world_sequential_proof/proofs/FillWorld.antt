@@ -3,7 +3,7 @@ use Rattle.base_lists.proofs.Common.{◌≡◌, ◌∙◌, refl, sym, ap, ℕ, z
 use Rattle.wasm_tree_spec.specs.Prelude.{Module}
 use Rattle.wasm_meaning.specs.Prelude.{Text, Inst, Store, module_at, Environment, ExternalValue, World, own_store, stores_from, joined_stores, all_there, seen_as, segments, StartDependsOnlyOnItsFrames}
 use Rattle.index_remap.specs.Prelude.{CodeIsRelatedToItself, RelatedTicksAgree, OthersStay}
-use Rattle.world_extension_proof.specs.Extends.{StepsExtend}
+use Rattle.world_sequential_proof.proofs.ExtensionLaws.{ExtensionLaws}
 use Rattle.world_sequential_proof.proofs.Given.{IsGiven}
 use Rattle.world_sequential_proof.proofs.Begins.{FillLaws}
 use Rattle.world_sequential_proof.proofs.FillStores.{rest_from, rest_last, rest_next, inst_there}
@@ -24,7 +24,7 @@ module _ (env : Environment) (w : World) (insts : List Inst) (allocated : Store)
       let added = g.laid.part_adds k x.0 x.1 x.2 x.3 in
       rw (rest_next env w.parts insts k x.0 x.1 (g.laid.adds k) x.2 x.3 added, rest_same n (suc k) (omega arith)) (sym (g.laid.rest_next k x.0 x.2))
 
-  pub fill_laws : (itself : CodeIsRelatedToItself) (below : StartDependsOnlyOnItsFrames) (extend : StepsExtend) (ticks : RelatedTicksAgree) (others : OthersStay) (view : List (Text × ExternalValue)) (view_is : all_there (seen_as insts) w.view ≡ Some view) → FillLaws env w insts allocated g itself below extend ticks others view view_is (FilledUpto env w.parts insts allocated)
+  pub fill_laws : (itself : CodeIsRelatedToItself) (below : StartDependsOnlyOnItsFrames) (extend : ExtensionLaws) (ticks : RelatedTicksAgree) (others : OthersStay) (view : List (Text × ExternalValue)) (view_is : all_there (seen_as insts) w.view ≡ Some view) → FillLaws env w insts allocated g itself below extend ticks others view view_is (FilledUpto env w.parts insts allocated)
   fill_laws itself below extend ticks others view view_is = record {
     filled_none = FillSegments.filled_none env w.parts insts allocated stores_are g.size;
     filled_next = λ k m i t is_part is_inst h.

@@ -5,6 +5,7 @@ mod EarlierParts
 mod OnePart
 mod Closed
 mod Beside
+mod ExtensionLaws
 mod Making
 mod Filling
 mod Given

@@ -5,11 +5,11 @@ use Rattle.wasm_meaning.specs.Prelude.{Text, Func, Code, Own, Store, Entry, Runn
 use Rattle.wasm_meaning.specs.StartFrames.{goes_on}
 use Rattle.index_remap.specs.Prelude.{Pairing, nil, cons, opening, pending, RunRel, OutRel, KeepsOthers, HasNoPartner, EntryByEntry, RelatedTicksAgree, OthersStay}
 use Rattle.index_remap.specs.Related as to
-use Rattle.world_extension_proof.specs.Extends.{Extends, Kept, StepsExtend}
-use Rattle.world_extension_proof.proofs.Extends.{and_then}
+use Rattle.world_extension_proof.specs.Extends.{Extends, Kept}
 use Rattle.world_sequential_proof.proofs.Reached.{count_upto, is_reached, reaching, reached_at, reached_is, one_to_one}
 use Rattle.world_sequential_proof.proofs.Closed.{Sound, own_func, code}
 use Rattle.world_sequential_proof.proofs.Beside.{Beside}
+use Rattle.world_sequential_proof.proofs.ExtensionLaws.{ExtensionLaws}
 
 -- ---- the opening of a start ----
 
@@ -47,7 +47,7 @@ some_above _ (a_frame e) = omega arith
 some_above _ a_call = omega arith
 some_above _ (over {es = es} e g) = let l = some_above es g in omega arith
 
-module _ (below : StartDependsOnlyOnItsFrames) (extend : StepsExtend) (ticks : RelatedTicksAgree) (others : OthersStay) (env : Environment) (parts : List Part) (allocated : Store) (p : ℕ) where
+module _ (below : StartDependsOnlyOnItsFrames) (extend : ExtensionLaws) (ticks : RelatedTicksAgree) (others : OthersStay) (env : Environment) (parts : List Part) (allocated : Store) (p : ℕ) where
   abbrev R : Pairing
   R = reaching env parts p
 
@@ -91,7 +91,7 @@ module _ (below : StartDependsOnlyOnItsFrames) (extend : StepsExtend) (ticks : R
   abreast_on {r = r} {r' = r'} h related kr ku k = record {
     related = related;
     beside = beside_on h.beside related.store ku.store kr.store k;
-    extends = and_then allocated r.store r'.store h.extends kr.store;
+    extends = extend.transitive allocated r.store r'.store h.extends kr.store;
     first_owned = kr.owned ∙ h.first_owned;
     second_owned = ku.owned ∙ h.second_owned;
   }
@@ -119,7 +119,7 @@ module _ (below : StartDependsOnlyOnItsFrames) (extend : StepsExtend) (ticks : R
         both_step (tick r) (tick (over_one r es)) (subst (λ r'. AgreeOnFrames cs ds (Pending view) (Pending []) r.store.funcs (tick r') (tick (over_one r es))) (run_is r (es ++ cs) (Pending view) a b) first)
         (tick u) (tick (over_one u fs)) (subst (λ u'. AgreeOnFrames ds ds (Pending v) (Pending []) u.store.funcs (tick u') (tick (over_one u fs))) (run_is u (fs ++ ds) (Pending v) c d) second)
         (ticks (is_reached env parts p) (one_to_one env parts p) (over_one u fs) (over_one r es) h.related) (others (is_reached env parts p) (one_to_one env parts p) (over_one u fs) (over_one r es) h.related tt).0
-        (extend r (rw b tt)) (extend u (rw d tt))
+        (extend.step r (rw b tt)) (extend.step u (rw d tt))
 
   -- both open a start
   module _ (a : ℕ) (xs : List ℕ) (f : Func) (ty : type_of_func f ≡ nothing_to_nothing) (r u : Run) (h : Abreast [] [] r u) (there : slice_get u.store.funcs a ≡ Some f) (low : a < base env parts Functions p) (view v : List (Text × ExternalValue)) where

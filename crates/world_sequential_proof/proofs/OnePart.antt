@@ -1,5 +1,5 @@
 -- When a part's turn comes its imports are there and match, and its instance is the one that it has at once.
-use Rattle.base_lists.proofs.Common.{◌≡◌, refl, ℕ, suc, ◌+◌, ◌<◌, List, [], ◌∷◌, length, Option, Some, true, slice_get, and_parts, and_then_is, same_Some, add-zero, zero-add, unwrap_or_false_is, list_all_each, add_next}
+use Rattle.base_lists.proofs.Common.{◌≡◌, refl, ℕ, suc, ◌+◌, ◌<◌, List, [], ◌∷◌, length, Option, Some, true, arith, slice_get, and_parts, and_then_is, same_Some, add-zero, zero-add, unwrap_or_false_is, list_all_each, add_next}
 use Rattle.wasm_tree_spec.specs.Prelude.{Space, Functions, Tables, Memories, Globals, DataSegments, ElementSegments, Import, ImportDesc, Module, same_ref}
 use Rattle.wasm_tree.specs.declared.module.ImportDesc.TheVariants as im
 use Rattle.wasm_meaning.specs.Prelude.{address_of, meets, Inst, Table, Memory, Global, Store, Part, Site, module_at, import_at, sites, Environment, ExternalValue, FuncAt, TableAt, MemoryAt, GlobalAt, owned_of, all_of, base, imported_external_value, all_there, insts_from, is_match, is_matched, defined_before, next_inst, all_match, external_value_for, JoinsEarlier}
@@ -8,7 +8,6 @@ use Rattle.world_extension_proof.specs.Extends.{TableExtends, MemoryExtends, Glo
 use Rattle.world_sequential_proof.proofs.ExternalValues.{space_is, each_from, gathered}
 use Rattle.world_sequential_proof.proofs.Joined.{made_upto, thing_same, inst_of_part}
 use Rattle.world_sequential_proof.proofs.EarlierParts.{thing_low}
-use Rattle.world_extension_proof.proofs.Typed.{meets_more}
 
 -- as many as the environment and the first parts have
 pub record Sized (env : Environment) (parts : List Part) (p : ℕ) (t : Store) : Type 0 where
@@ -35,11 +34,13 @@ module _ (env : Environment) (parts : List Part) (p : ℕ) (s t : Store) (holds 
       let u = and_then_is (slice_get s.tables a) _ true h in
       let y = holds.tables a u.0 (low Tables a refl) u.1 in
       let c = and_parts (same_ref ty.ty u.0.ty) (meets (length u.0.slots) u.0.most ty.limits) (same_Some _ _ u.2) in
-      rw (y.1, y.2.type, y.2.most, c.0, meets_more (length u.0.slots) (length y.0.slots) u.0.most ty.limits y.2.size c.1)
+      let more : meets (length y.0.slots) u.0.most ty.limits ≡ true = grind (arith, y.2.size, c.1) in
+      rw (y.1, y.2.type, y.2.most, c.0, more)
   match_stays (im.Memory l) (MemoryAt a) low h =
       let u = and_then_is (slice_get s.mems a) _ true h in
       let y = holds.mems a u.0 (low Memories a refl) u.1 in
-      rw (y.1, y.2.most, meets_more u.0.pages y.0.pages u.0.most l y.2.size (same_Some _ _ u.2))
+      let more : meets y.0.pages u.0.most l ≡ true = grind (arith, y.2.size, u.2) in
+      rw (y.1, y.2.most, more)
   match_stays (im.Global ty) (GlobalAt a) low h =
       let u = and_then_is (slice_get s.globals a) _ true h in
       let y = holds.globals a u.0 (low Globals a refl) u.1 in

@@ -6,11 +6,11 @@ use Rattle.wasm_meaning.specs.Sequential.{with_run, turn_at}
 use Rattle.index_remap.specs.Prelude.{nil, opened, RunRel, CodeIsRelatedToItself, EntryByEntry, RelatedTicksAgree, OthersStay}
 use Rattle.std.proofs.Math.Seq.{drop-length}
 use Rattle.base_simulation.proofs.LedRuns.{Leads, both, second}
-use Rattle.world_extension_proof.specs.Extends.{StepsExtend}
 use Rattle.world_sequential_proof.proofs.ExternalValues.{space_in}
 use Rattle.world_sequential_proof.proofs.Joined.{made_upto, module_is}
 use Rattle.world_sequential_proof.proofs.Reached.{is_reached, reaching, one_to_one, defined_more}
 use Rattle.world_sequential_proof.proofs.EarlierParts.{inst_low}
+use Rattle.world_sequential_proof.proofs.ExtensionLaws.{ExtensionLaws}
 use Rattle.world_sequential_proof.proofs.Making.{nothing_to_nothing, opening_bottom, Abreast, Stepped, on, done, stopped, step, open_both}
 use Rattle.world_sequential_proof.proofs.Given.{IsGiven, IsTurn, made_all, starts_from, starts_next, turned, turn_stays, next_turn}
 use Rattle.world_sequential_proof.proofs.Waiting.{holds_of, abreast_next, within}
@@ -33,7 +33,7 @@ not_opening _ cs (over {e = _} n g) h = cc
 turn_last : (q : SequentialRun) → q.rest ≡ [] → tick_sequential q ≡ with_run q (tick q.run)
 turn_last q e = rw e
 
-module _ (env : Environment) (w : World) (insts : List Inst) (allocated : Store) (g : IsGiven env w insts allocated) (itself : CodeIsRelatedToItself) (below : StartDependsOnlyOnItsFrames) (extend : StepsExtend) (ticks : RelatedTicksAgree) (others : OthersStay) (view : List (Text × ExternalValue)) (view_is : all_there (seen_as insts) w.view ≡ Some view) where
+module _ (env : Environment) (w : World) (insts : List Inst) (allocated : Store) (g : IsGiven env w insts allocated) (itself : CodeIsRelatedToItself) (below : StartDependsOnlyOnItsFrames) (extend : ExtensionLaws) (ticks : RelatedTicksAgree) (others : OthersStay) (view : List (Text × ExternalValue)) (view_is : all_there (seen_as insts) w.view ≡ Some view) where
   abbrev Same : ℕ → Run → Run → Type 0
   Same k u r = RunRel (reaching env w.parts k) (EntryByEntry (reaching env w.parts k)) (EntryByEntry (reaching env w.parts k)) u r
 

@@ -3,13 +3,14 @@ use Rattle.base_lists.proofs.Common.{◌≡◌, ◌∙◌, refl, sym, ap, subst,
 use Rattle.wasm_tree_spec.specs.Prelude.{Space, Functions, Tables, Memories, Globals, DataSegments, ElementSegments}
 use Rattle.wasm_meaning.specs.Prelude.{RefVal, FuncRef, Val, Ref, Inst, Func, Global, Store, Part, module_at, Environment, ExternalValue, World, joined_stores, defined_before, Run, StartDependsOnlyOnItsFrames, SequentialRun, goes_on}
 use Rattle.index_remap.specs.Prelude.{BothRel, none, some, RefRel, func, extern, ValRel, number, reference, nil, cons, opening, ExternalValueRel, a_func, a_table, a_memory, a_global, KeyRel, pending, CodeIsRelatedToItself, RelatedTicksAgree, OthersStay}
-use Rattle.world_extension_proof.specs.Extends.{Extends, StepsExtend}
+use Rattle.world_extension_proof.specs.Extends.{Extends}
 use Rattle.world_sequential_proof.proofs.Joined.{module_is, inst_of_part}
 use Rattle.world_sequential_proof.proofs.Reached.{is_reached, reaching, reached_at, reached_is}
 use Rattle.world_sequential_proof.proofs.EarlierParts.{inst_low}
 use Rattle.world_sequential_proof.proofs.OnePart.{Holds}
 use Rattle.world_sequential_proof.proofs.Closed.{val_more, Closed, Sound, Reaches, added_closed, added_sound}
 use Rattle.world_sequential_proof.proofs.Beside.{Beside, beside_next, more}
+use Rattle.world_sequential_proof.proofs.ExtensionLaws.{ExtensionLaws}
 use Rattle.world_sequential_proof.proofs.Making.{Abreast}
 use Rattle.world_sequential_proof.proofs.Given.{IsGiven}
 use Rattle.wasm_meaning.proofs.Counts.{defined_next}
@@ -83,7 +84,7 @@ module _ (env : Environment) (w : World) (insts : List Inst) (allocated : Store)
       thing_more (a_memory h) = a_memory (still_reached Memories _ _ h)
       thing_more (a_global h) = a_global (still_reached Globals _ _ h)
 
-  module _ (below : StartDependsOnlyOnItsFrames) (extend : StepsExtend) (ticks : RelatedTicksAgree) (others : OthersStay) where
+  module _ (below : StartDependsOnlyOnItsFrames) (extend : ExtensionLaws) (ticks : RelatedTicksAgree) (others : OthersStay) where
     -- the two runs are abreast again, with the part
     pub abreast_next : (r : Run) (q : SequentialRun) → Abreast below extend ticks others env w.parts allocated k [] [] r q.run → Abreast below extend ticks others env w.parts allocated (suc k) [] [] r (goes_on q part (drop (suc k) w.parts) i (joined_stores q.run.store (g.laid.adds k))).run
     abreast_next r q h =

@@ -6,12 +6,9 @@ use Rattle.wasm_meaning.specs.Sequential.{before_parts}
 use Rattle.base_simulation.proofs.Prefixes.{in_more_steps}
 use Rattle.index_remap.specs.Prelude.{nil, cons, opening, pending, CodeIsRelatedToItself, RelatedTicksAgree, OthersStay}
 use Rattle.base_simulation.proofs.LedRuns.{Leads, both, second, led_traces_are_equal}
-use Rattle.world_extension_proof.specs.Extends.{StepsExtend}
-use Rattle.world_extension_proof.proofs.Extends.{stays}
 use Rattle.world_sequential_proof.proofs.Joined.{module_is}
-use Rattle.world_sequential_proof.proofs.Reached.{reaching}
 use Rattle.world_sequential_proof.proofs.Closed.{self_by, func_self}
-use Rattle.world_sequential_proof.proofs.Filling.{all_fill}
+use Rattle.world_sequential_proof.proofs.ExtensionLaws.{ExtensionLaws}
 use Rattle.world_sequential_proof.proofs.Given.{IsGiven, IsTurn, starts_from, starts_next, next_turn}
 use Rattle.world_sequential_proof.proofs.Waiting.{within}
 use Rattle.world_sequential_proof.proofs.Stages.{Waits, Stage, added_stage}
@@ -23,7 +20,7 @@ no_view : (vs : List (Text × Entity)) → unwrap_or (all_there (seen_as []) vs)
 no_view [] = refl
 no_view (v ∷ vs) = refl
 
-module _ (env : Environment) (w : World) (insts : List Inst) (allocated : Store) (g : IsGiven env w insts allocated) (itself : CodeIsRelatedToItself) (below : StartDependsOnlyOnItsFrames) (extend : StepsExtend) (ticks : RelatedTicksAgree) (others : OthersStay) (view : List (Text × ExternalValue)) (view_is : all_there (seen_as insts) w.view ≡ Some view) (IsFilled : ℕ → Store → Type 0) (laws : FillLaws env w insts allocated g itself below extend ticks others view view_is IsFilled) (fine : (segments env w.parts insts allocated).trapped ≡ false) (moves : List Move) where
+module _ (env : Environment) (w : World) (insts : List Inst) (allocated : Store) (g : IsGiven env w insts allocated) (itself : CodeIsRelatedToItself) (below : StartDependsOnlyOnItsFrames) (extend : ExtensionLaws) (ticks : RelatedTicksAgree) (others : OthersStay) (view : List (Text × ExternalValue)) (view_is : all_there (seen_as insts) w.view ≡ Some view) (IsFilled : ℕ → Store → Type 0) (laws : FillLaws env w insts allocated g itself below extend ticks others view view_is IsFilled) (fine : (segments env w.parts insts allocated).trapped ≡ false) (moves : List Move) where
   abbrev after : Store
   after = (segments env w.parts insts allocated).store
 
@@ -79,7 +76,7 @@ module _ (env : Environment) (w : World) (insts : List Inst) (allocated : Store)
               moves = refl;
             };
             beside = beside;
-            extends = (all_fill (reaching env w.parts (suc k)) env w.parts insts allocated).extends;
+            extends = extend.segments env w.parts insts allocated;
             first_owned = refl;
             second_owned = refl;
           });
@@ -130,7 +127,7 @@ module _ (env : Environment) (w : World) (insts : List Inst) (allocated : Store)
       record {
         filled = laws.filled_none;
         of_first = record {
-          extends = rw g.laid.first_none (stays (own_store env));
+          extends = rw g.laid.first_none (extend.reflexive (own_store env));
           closed = record { funcs = self_by (own_store env).funcs (λ n f e. func_self itself env w.parts 0 f (sound n f e)); tables = own.tables; globals = own.globals; elems = nil };
           sound = sound;
         };

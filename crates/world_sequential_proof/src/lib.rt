@@ -7,7 +7,7 @@ ghost use Rattle.world_sequential_proof.specs.Laws.{SequentialInstantiationIsEqu
 use index_remap::{related_runs_have_equal_traces, steps_agree};
 use wasm_meaning::start_depends_only_on_its_frames;
 use wasm_valid::valid_where_items_hold;
-use world_extension_proof::stores_are_extended;
+use world_extension_proof::{store_extension_is_a_preorder, stores_are_extended};
 use world_simulation::own_entities_correspond;
 
 /// For a world of at least one part, all valid, sequential instantiation, in which each part has
@@ -20,6 +20,7 @@ pub fn sequential_instantiation_equivalent()
 {
     valid_where_items_hold();
     start_depends_only_on_its_frames();
+    store_extension_is_a_preorder();
     stores_are_extended();
     steps_agree();
     related_runs_have_equal_traces();

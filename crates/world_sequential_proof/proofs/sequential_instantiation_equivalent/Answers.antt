@@ -1,7 +1,17 @@
+use Rattle.world_sequential_proof.proofs.ExtensionLaws.{ExtensionLaws}
 use Rattle.world_sequential_proof.proofs.Assembled.{turns_not_seen}
 use Rattle.world_sequential_proof.proofs.sequential_instantiation_equivalent.Goals as goal
 
+extension : (c : goal.After-own_entities_correspond) → ExtensionLaws
+extension c = record {
+  reflexive = c.store_extension_is_a_preorder.ensures.reflexive;
+  transitive = c.store_extension_is_a_preorder.ensures.transitive;
+  step = c.stores_are_extended.ensures.step;
+  own_segments = c.stores_are_extended.ensures.own_segments;
+  segments = c.stores_are_extended.ensures.segments;
+}
+
 pub returns : goal.returns
 returns c = record {
-  equivalent = turns_not_seen c.valid_where_items_hold.ensures c.start_depends_only_on_its_frames.ensures.own_frames c.stores_are_extended.ensures.step c.steps_agree.ensures.reflexive c.related_runs_have_equal_traces.ensures.steps c.related_runs_have_equal_traces.ensures.unrelated c.own_entities_correspond.ensures.own;
+  equivalent = turns_not_seen c.valid_where_items_hold.ensures c.start_depends_only_on_its_frames.ensures.own_frames (extension c) c.steps_agree.ensures.reflexive c.related_runs_have_equal_traces.ensures.steps c.related_runs_have_equal_traces.ensures.unrelated c.own_entities_correspond.ensures.own;
 }

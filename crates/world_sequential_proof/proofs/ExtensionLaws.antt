@@ -1,0 +1,9 @@
+-- What is taken from the laws of store extension.
+use Rattle.world_extension_proof.specs.Extends.{StoresExtendThemselves, ExtensionIsTransitive, StepsExtend, OwnSegmentsExtend, SegmentsExtend}
+
+pub record ExtensionLaws : Type 0 where
+  pub reflexive : StoresExtendThemselves
+  pub transitive : ExtensionIsTransitive
+  pub step : StepsExtend
+  pub own_segments : OwnSegmentsExtend
+  pub segments : SegmentsExtend
