@@ -9,7 +9,7 @@ use Rattle.wasm_valid.specs.Prelude.{elem_types, ImportHolds, ItemsHold}
 use Rattle.wasm_meaning.specs.Prelude.{has_kind, imports_of}
 use Rattle.index_remap.specs.declared.remap.Remap.{Remap}
 use Rattle.index_remap.specs.Prelude.{new_import_desc, new_import, new_func, new_global, new_elem}
-use Rattle.world_simulation.proofs.Alone.{func_kind, global_kind, tables_counted, memories_counted}
+use Rattle.world_simulation.proofs.Alone.{tables_counted, memories_counted}
 use Rattle.base_kept.specs.Kept.{kept}
 use Rattle.dce_sweep_spec.specs.Marks.{Marks, stays}
 use Rattle.dce_sweep_spec.specs.Swept.{defined_funcs, defined_globals, kept_elem, sweep_map, renumbered_kept}
@@ -36,13 +36,13 @@ module _ (k : Marks) (m : Module) (c : AreClosed k m) where
   funcs_imported =
       let many = length-append (imported_funcs m.imports) (map (λ f. f.ty) m.funcs) in
       let all = c.funcs_many in
-      kept_chosen (has_kind Functions) (λ i. func_of i.desc) (λ i. func_kind i.desc) k.imports k.funcs m.imports 0 c.imports_many (omega (arith, many, all)) (λ i n e. c.imported Functions i n (e ∙ ap Some (same_place n)))
+      kept_chosen (has_kind Functions) (λ i. func_of i.desc) (grind arith) k.imports k.funcs m.imports 0 c.imports_many (omega (arith, many, all)) (λ i n e. c.imported Functions i n (e ∙ ap Some (same_place n)))
 
   pub globals_imported : imported_globals (kept k.imports m.imports) ≡ kept k.globals (imported_globals m.imports)
   globals_imported =
       let many = length-append (imported_globals m.imports) (map (λ g. g.ty) m.globals) in
       let all = c.globals_many in
-      kept_chosen (has_kind Globals) (λ i. global_of i.desc) (λ i. global_kind i.desc) k.imports k.globals m.imports 0 c.imports_many (omega (arith, many, all)) (λ i n e. c.imported Globals i n (e ∙ ap Some (same_place n)))
+      kept_chosen (has_kind Globals) (λ i. global_of i.desc) (grind arith) k.imports k.globals m.imports 0 c.imports_many (omega (arith, many, all)) (λ i n e. c.imported Globals i n (e ∙ ap Some (same_place n)))
 
   -- all tables and memories are kept
   all_imported : {B : Type 0} (space : Space) (f : Import → Option B) → ((i : Import) → is_some (f i) ≡ has_kind space i) → ((i : ℕ) → stays k space i ≡ true) → length (imports_of space m) ≡ length (filter_map f m.imports) → filter_map f (kept k.imports m.imports) ≡ filter_map f m.imports

@@ -1,7 +1,7 @@
 -- The functions that the parts start, and what the merged module starts in place of these.
 use Rattle.base_lists.proofs.Common.{◌≡◌, ◌∙◌, sym, refl, ℕ, suc, ◌<◌, List, [], ◌∷◌, length, Option, Some, None, true, arith, slice_get, map, ltb-true, append_right, place_of, append_at_left, length-append, option_map_is, append_rel}
 use Rattle.wasm_tree_spec.specs.Prelude.{Functions, Module, Call, func_of, imported_funcs, type_of_func}
-use Rattle.wasm_meaning.specs.Prelude.{Inst, Code, Store, Part, has_kind, sites, Environment, all_of, defined_before, start_in, starts_of, insts_from, own_store, stores_from, is_matched, Filled, run_elem, run_data, one_by_one, segments, type_at}
+use Rattle.wasm_meaning.specs.Prelude.{Inst, Code, Store, Part, has_kind, sites, Environment, all_of, defined_before, start_in, starts_of, insts_from, own_store, stores_from, is_matched, Filled, run_elem, run_data, one_by_one, segments, type_at, FuncAt}
 use Rattle.index_remap.specs.Prelude.{fits_start, ListRel, nil, cons}
 use Rattle.merge_names.specs.declared.mode.Mode.{Mode}
 use Rattle.merge_spec.specs.Prelude.{link_fault, FuncOf, map_of, start_of, by_part_from, nullary, start_calls, place_of_type, joined_module}
@@ -22,7 +22,6 @@ use Rattle.merge_valid_proof.specs.Joinable.{CanBeJoined}
 use Rattle.merge_valid_proof.specs.Started.{StartsTakeNothing}
 use Rattle.merge_behaves_proof.proofs.MatchTypes.{site_fits}
 use Rattle.merge_behaves_proof.proofs.Matching.{func_typed}
-use Rattle.world_simulation.proofs.Alone.{func_kind, func_thing}
 use Rattle.world_simulation.proofs.Stored.{func_placed}
 
 -- ---- what is started: the same one, or none, or the one function that calls several ----
@@ -135,10 +134,11 @@ module _ (laws : SpaceLaws) (nothing : StartsTakeNothing) (env : Environment) (p
       -- a function that an index names has the type of that index
       h f a e (elim (entry_at env M Functions 0 whole _ (is_space env M Functions 0 whole _ inst.funcs) f a e) [
         | imports k at address ↦
-            let r = place_of (has_kind Functions) (λ i. func_of i.desc) whole.imports (λ i. func_kind i.desc) 0 f k at in
-            let fits = site_fits env M z (site k) r.1 (FuncOf nullary) (grind (arith, r.2, r.3)) (grind (arith, r.2, r.3, func_kind r.1.desc, append_at_left (imported_funcs whole.imports))) laws.sites matched in
+            let r = place_of (has_kind Functions) (λ i. func_of i.desc) whole.imports (grind arith) 0 f k at in
+            let fits = site_fits env M z (site k) r.1 (FuncOf nullary) (grind (arith, r.2, r.3)) (grind (arith, r.2, r.3, append_at_left (imported_funcs whole.imports))) laws.sites matched in
             -- what fits is of the type that is asked for
-            let u = option_map_is FuncOf (type_at z a) fits.type (rw (func_thing fits.thing a (rw fits.is at address)) at fits.typed) in
+            let thing : fits.thing ≡ FuncAt a = grind (arith, rw fits.is at address) in
+            let u = option_map_is FuncOf (type_at z a) fits.type (rw thing at fits.typed) in
             rw (func_type_is nullary u.0 (rw (← u.2) at fits.fits.same)) u.1
         | defines k at low is ↦ grind (arith, func_typed env w z there 0 whole j refl refl inst.types f nullary)
       ]))

@@ -18,7 +18,6 @@ use Rattle.merge_valid_proof.specs.Joinable.{EachPart}
 use Rattle.merge_join.specs.declared.mapped_parts.MappedParts.{MappedParts}
 use Rattle.merge_join.specs.LinkedParts.{HaveTheirMaps, site}
 use Rattle.merge_join.specs.Reads.{AreReads, HasType}
-use Rattle.world_simulation.proofs.Alone.{global_desc, global_kind}
 
 -- ---- an imported global ----
 
@@ -33,7 +32,7 @@ record Found (is : List Import) (from x : ℕ) (g : GlobalType) : Type 0 where
 
 found : (is : List Import) (from x : ℕ) (g : GlobalType) → slice_get (imported_globals is) x ≡ Some g → Found is from x g
 found [] from x g h = absurd (let k = h in cc)
-found (i ∷ is) from x g h = by (λ x h. found is (suc from) x g h) (global_of i.desc) (has_kind Globals i) refl refl (global_kind i.desc) x h
+found (i ∷ is) from x g h = by (λ x h. found is (suc from) x g h) (global_of i.desc) (has_kind Globals i) refl refl (grind arith) x h
   where
     rest : List ℕ
     rest = places (has_kind Globals) is (suc from)
@@ -62,7 +61,7 @@ found (i ∷ is) from x g h = by (λ x h. found is (suc from) x g h) (global_of 
           import = i;
           at = ap (λ b. slice_get (cond b (from ∷ rest) rest) 0) k ∙ ap Some z;
           there = refl;
-          desc = global_desc i.desc g (e ∙ h);
+          desc = grind (arith, e ∙ h);
           index = refl;
         }
     by more (Some c) true e k t (suc x) h = let f = more x h in on x (suc x) true k f refl (ap suc f.index)

@@ -10,16 +10,13 @@ use Rattle.world_sequential_proof.proofs.EarlierParts.{same_thing}
 use Rattle.world_sequential_proof.proofs.FillOwned.{kind_of_key, own_at}
 use Rattle.world_sequential_proof.proofs.FillPaths.{LowInside, Low, inside, outside, ends_low}
 use Rattle.merge_valid_proof.specs.Ended.{is_external}
-use Rattle.merge_valid_proof.proofs.Entities.{import_external}
 use Rattle.base_lists.specs.Places.{places}
 use Rattle.world_simulation.proofs.Instancing.{IsInst, is_space, entry_at, imports, defines}
-use Rattle.merge_valid_proof.proofs.Linked.{import_site}
-use Rattle.merge_valid_proof.proofs.Same.{kind_is}
 use Rattle.wasm_meaning.proofs.Counts.{defined_next}
 
 -- what an import adds to are index spaces of entities
 pub imported_external : (k : Space) (is : List Import) (x n : ℕ) → slice_get (places (has_kind k) is 0) x ≡ Some n → is_external k ≡ true
-imported_external k is x n h = let r = place_back (has_kind k) is 0 x n h in rw (kind_is k _ r.4) (import_external r.1.desc)
+imported_external k is x n h = let r = place_back (has_kind k) is 0 x n h in let kind : k ≡ space_of_import r.1.desc = grind (arith, r.4) in rw kind (grind arith)
 
 -- ---- kinds ----
 
@@ -72,7 +69,7 @@ module _ (env : Environment) (parts : List Part) where
         go (Outside t) ends thing (outside step) =
             let m = and_then_is (module_at parts t.part) _ x thing in
             let i = and_then_is (import_at parts t) _ x m.2 in
-            let site = import_site parts t i.0 i.1 in
+            let site = and_then_is (module_at parts t.part) (λ m. slice_get m.imports t.import) i.0 i.1 in
             let key = and_then_is (own_key m.0 i.0) _ x i.2 in
             let own = own_at env key.0 x key.2 in
             let both = same_thing k (kind_of_key key.0) own.address a (ap (option_and_then (address_of k)) (sym own.is) ∙ has) in

@@ -8,7 +8,7 @@ use Rattle.wasm_valid.specs.declared.kinds.ItemKind.TheVariants as kind
 use Rattle.wasm_valid.specs.Prelude.{const_type, IsValid, InSpace, ElemModeHolds, DataModeHolds, ValidWhereItemsHold}
 use Rattle.wasm_meaning.specs.Prelude.{Part, has_kind, imports_of, module_at, defined_count}
 use Rattle.wasm_meaning.proofs.Exports.{exported_there}
-use Rattle.world_simulation.proofs.Alone.{global_desc, global_kind, funcs_counted, tables_counted, memories_counted, globals_counted}
+use Rattle.world_simulation.proofs.Alone.{funcs_counted, tables_counted, memories_counted, globals_counted}
 use Rattle.world_sequential_proof.proofs.Joined.{ExportsThere}
 use Rattle.world_sequential_proof.proofs.FillValues.{Constant}
 use Rattle.world_sequential_proof.proofs.FillAdded.{Constants}
@@ -26,10 +26,10 @@ record Imported (m : Module) (x : ℕ) (type : GlobalType) : Type 0 where
 imported : (m : Module) (x : ℕ) (type : GlobalType) → slice_get (globals_of m) x ≡ Some type → x < length (imported_globals m.imports) → Imported m x type
 imported m x type h l =
     let n = slice_get_there (imports_of Globals m) x (rw (globals_counted m.imports 0) l) in
-    let i = place_of (has_kind Globals) (λ i. global_of i.desc) m.imports (λ i. global_kind i.desc) 0 x n.0 n.1 in
+    let i = place_of (has_kind Globals) (λ i. global_of i.desc) m.imports (grind arith) 0 x n.0 n.1 in
     let is = append_left (imported_globals m.imports) (map (λ g. g.ty) m.globals) x l in
     let at : n.0 ≡ i.0 = omega (arith, i.2) in
-    record { at = i.0; import = i.1; is_place = n.1 ∙ ap Some at; is_import = i.3; is_global = global_desc i.1.desc type (sym i.5 ∙ sym is ∙ h) }
+    record { at = i.0; import = i.1; is_place = n.1 ∙ ap Some at; is_import = i.3; is_global = grind (arith, sym i.5 ∙ sym is ∙ h) }
 
 -- ---- constant expressions ----
 

@@ -1,8 +1,9 @@
 -- The start of a valid part is a function that takes nothing and gives nothing.
-use Rattle.base_lists.proofs.Common.{◌≡◌, ◌∙◌, sym, ap, ap₂, ℕ, suc, ◌+◌, ◌≤◌, List, map, length, Option, Some, true, inl, inr, arith, slice_get, option_and_then, slice_get_within, same_Some, map_from, append_from, slice_get_there, append_at_left, append_right, place_of, places_many, and_then_is, all_there_at, all_there_length, numbers_at, option_map_is}
-use Rattle.wasm_tree_spec.specs.Prelude.{Functions, FuncType, Module, func_of, imported_funcs, funcs_of, type_of_func}
+use Rattle.base_lists.proofs.Common.{◌≡◌, ◌∙◌, sym, ap, ap₂, ℕ, suc, ◌+◌, ◌≤◌, List, map, length, Option, Some, true, inl, inr, arith, slice_get, option_and_then, slice_get_within, same_Some, map_from, append_from, slice_get_there, append_at_left, append_right, place_of, places_many, and_then_is, all_there_at, all_there_length, numbers_at, option_map_is, is_some}
+use Rattle.wasm_tree_spec.specs.Prelude.{Functions, FuncType, Module, func_of, imported_funcs, funcs_of, type_of_func, Import}
 use Rattle.wasm_tree.specs.declared.module.Func as tree
-use Rattle.wasm_meaning.specs.Prelude.{Inst, Func, Store, same_func_type, type_at, Part, has_kind, imports_of, module_at, sites, Environment, ExternalValue, all_of, base, address_of, import_type, imported_external_value, numbers, insts_from, new_func, value_of, is_matched, JoinsEarlier}
+use Rattle.wasm_tree.specs.declared.module.ImportDesc.TheVariants as im
+use Rattle.wasm_meaning.specs.Prelude.{Inst, Func, Store, same_func_type, type_at, Part, has_kind, imports_of, module_at, sites, Environment, ExternalValue, all_of, base, address_of, import_type, imported_external_value, numbers, insts_from, new_func, value_of, is_matched, JoinsEarlier, FuncAt}
 use Rattle.wasm_meaning.specs.Control as control
 use Rattle.index_remap.specs.Prelude.{CodeIsRelatedToItself}
 use Rattle.world_sequential_proof.proofs.ExternalValues.{space_is}
@@ -11,7 +12,10 @@ use Rattle.world_sequential_proof.proofs.OnePart.{SitesThere, matches}
 use Rattle.world_sequential_proof.proofs.Beside.{Laid, at_allocated_funcs}
 use Rattle.world_simulation.proofs.Instancing.{IsInst}
 use Rattle.world_simulation.proofs.Allocated.{adds_with}
-use Rattle.world_simulation.proofs.Alone.{func_kind, func_desc, func_thing}
+
+-- an import is of a function where its description is
+imports_of_functions : (i : Import) → is_some (func_of i.desc) ≡ has_kind Functions i
+imports_of_functions i = grind arith
 
 -- a function with its type
 pub record HasFunc (i : Inst) (allocated : Store) (x : ℕ) (t : FuncType) : Type 0 where
@@ -32,14 +36,17 @@ module _ (same_types : (s t : FuncType) → same_func_type s t ≡ true → s �
     from_import : (ty : ℕ) → slice_get (imported_funcs m.imports) x ≡ Some ty → slice_get m.types ty ≡ Some t → HasFunc i allocated x t
     from_import ty e type =
         let s = space_is env parts Functions p m i.funcs is_inst.funcs in
-        let many = places_many (has_kind Functions) (λ i. func_of i.desc) m.imports (λ i. func_kind i.desc) 0 in
+        let many = places_many (has_kind Functions) (λ i. func_of i.desc) m.imports imports_of_functions 0 in
         let low = slice_get_within (imported_funcs m.imports) x ty e in
         let n = slice_get_there (imports_of Functions m) x (omega arith) in
-        let at_import = place_of (has_kind Functions) (λ i. func_of i.desc) m.imports (λ i. func_kind i.desc) 0 x n.0 n.1 in
+        let at_import = place_of (has_kind Functions) (λ i. func_of i.desc) m.imports imports_of_functions 0 x n.0 n.1 in
         let number : n.0 ≡ at_import.0 = omega (arith, at_import.2) in
         let a = all_there_at (λ n. option_and_then (address_of Functions) (imported n)) (imports_of Functions m) s.0 s.1 x n.0 n.1 in
         let y = and_then_is (imported n.0) (address_of Functions) a.0 a.1 in
-        let match = rw (func_desc at_import.1.desc ty (sym at_import.5 ∙ e), func_thing y.0 a.0 y.2) at (matches env parts allocated listed matched p n.0 m at_import.1 y.0 is_part (ap (slice_get m.imports) number ∙ at_import.3) y.1) in
+        let match =
+        let desc : at_import.1.desc ≡ im.Func ty = grind (arith, sym at_import.5 ∙ e) in
+        let thing : y.0 ≡ FuncAt a.0 = grind (arith, y.2) in
+        rw (desc, thing) at (matches env parts allocated listed matched p n.0 m at_import.1 y.0 is_part (ap (slice_get m.imports) number ∙ at_import.3) y.1) in
         let u = and_then_is (import_type m ty) _ true match in
         let v = and_then_is (type_at allocated a.0) _ true u.2 in
         let f = option_map_is control.type_of_func (slice_get allocated.funcs a.0) v.0 v.1 in
@@ -54,7 +61,7 @@ module _ (same_types : (s t : FuncType) → same_func_type s t ≡ true → s �
     from_own : (k ty : ℕ) → x ≡ length (imported_funcs m.imports) + k → slice_get (map (λ (f : tree.Func). f.ty) m.funcs) k ≡ Some ty → slice_get m.types ty ≡ Some t → HasFunc i allocated x t
     from_own k ty e h type =
         let s = space_is env parts Functions p m i.funcs is_inst.funcs in
-        let many = places_many (has_kind Functions) (λ i. func_of i.desc) m.imports (λ i. func_kind i.desc) 0 in
+        let many = places_many (has_kind Functions) (λ i. func_of i.desc) m.imports imports_of_functions 0 in
         let l = all_there_length (λ n. option_and_then (address_of Functions) (imported n)) (imports_of Functions m) s.0 s.1 in
         let back = map_from (λ (f : tree.Func). f.ty) m.funcs k ty h in
         let low = slice_get_within m.funcs k back.0 back.1 in
