@@ -6,6 +6,7 @@ use Rattle.base_lists.specs.Options.{◌>>=◌}
 use Rattle.std.specs.List.{take-map}
 use Rattle.base_kept.specs.Kept.{kept as keeping, kept_before, is_marked}
 use Rattle.base_kept.proofs.Laws.{kept_from, kept_map, kept_take, kept_contained}
+use Rattle.base_kept.proofs.Marks.{named_within}
 use Rattle.wasm_tree_spec.specs.Prelude.{FuncType, Limits, RefType, ValType, Ref, ConstExpr, DataMode, DataSeg, ElemMode, Export, ExportDesc, Func, GlobalDef, ImportDesc, Module, any_uses_data, uses_data, AnyInside, PassesInside, PassesLayerByLayer, funcs_of, globals_of, memories_of, imported_funcs, imported_globals, imported_memories}
 use Rattle.wasm_tree.specs.declared.types.RefType.TheVariants.{Func as func_ref}
 use Rattle.wasm_tree.specs.declared.module.ConstExpr.TheVariants as const
@@ -19,7 +20,6 @@ use Rattle.wasm_valid.specs.declared.kinds.ItemKind.TheVariants as kind
 use Rattle.wasm_valid.specs.Prelude.{const_type, refs_of, DataModeHolds, ElemModeHolds, HoldsAt, ImportHolds, InSpace, body_context, count_of, ItemsHold}
 use Rattle.wasm_meaning.specs.Prelude.{Text}
 use Rattle.index_remap_proof.specs.ButForReferences.{HoldsButForReferences, any_named}
-use Rattle.index_remap_proof.proofs.Lists.{named_within}
 use Rattle.eval_spec.specs.Prelude.{State, takes_and_gives_nothing, value_of_global, memory_bytes, is_dropped}
 use Rattle.eval_snapshot_spec.specs.Contents.{contents, stretches, stretch_segment}
 use Rattle.eval_snapshot_spec.specs.Snapshot.{added_funcs, empty_func, empty_type, export_left, global_left, globals_left, is_among_names, is_kept, is_passive, emptied, memory_segments, old_segments, segment_left, segments_left, snapshot_tree}

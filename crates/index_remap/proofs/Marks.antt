@@ -1,11 +1,11 @@
 -- Marks at the functions that bodies name, and the list of those that are to be declared.
-use Rattle.base_lists.proofs.Common.{◌≡◌, ℕ, zero, suc, ◌+◌, ◌<◌, Bool, true, false, ◌&&◌, not, cond, List, [], ◌∷◌, ◌++◌, map, length, drop, get_or, refl, sym, ap, ap₂, ◌∙◌, arith, zero-add, add-zero, append-nil, rules, replicate, map-append, filter, flat_map, range_with_len}
+use Rattle.base_lists.proofs.Common.{◌≡◌, ℕ, zero, suc, ◌+◌, ◌<◌, Bool, true, false, ◌&&◌, not, cond, List, [], ◌∷◌, ◌++◌, map, length, drop, get_or, refl, sym, ap, ap₂, ◌∙◌, arith, zero-add, add-zero, append-nil, rules, map-append, filter, flat_map, range_with_len}
 use Rattle.base_lists.specs.Members.{is_among}
+use Rattle.base_kept.specs.Marks.{named_from, marked_all}
+use Rattle.base_kept.proofs.Marks.{segment_step, marked_append, marks_length}
 use Rattle.wasm_tree_spec.specs.Prelude.{BlockType, Instr, the_lemmas, ConstExpr, Func}
 use Rattle.wasm_tree.specs.declared.instr.Instr.{If}
 use Rattle.wasm_tree.specs.declared.module.ConstExpr.TheVariants as const
-use Rattle.wasm_valid.specs.Prelude.{named_from, marked_all}
-use Rattle.wasm_valid.proofs.Marked.{segment_step, marked_append, all_marks, no_marks}
 use Rattle.index_remap.specs.Prelude.{refs, refs_all, body_refs, marked_only}
 
 joined : {X : Type 0} (f : X → List ℕ) (xs : List X) → flat_map (λ ys. ys) (map f xs) ≡ flat_map f xs
@@ -31,12 +31,6 @@ if_marks i ty body other is os old one new e f g a b =
 pub func_step : (xs : List Func) (i : ℕ) (x : Func) (marks new : List Bool) → i < length xs → x ≡ get_or xs i x → new ≡ marked_all marks (refs_all x.body) →
     marked_all new (body_refs (drop (i + 1) xs)) ≡ marked_all marks (body_refs (drop i xs))
 func_step = segment_step (λ f. refs_all f.body)
-
-pub marks_of : (n : ℕ) (rs : List ℕ) → marked_all (replicate n false) rs ≡ named_from rs 0 n
-marks_of n rs = ap (λ z. marked_all z rs) (sym (no_marks 0 n)) ∙ all_marks [] rs n
-
-pub more_marks : (n : ℕ) (rs qs : List ℕ) → marked_all (named_from rs 0 n) qs ≡ named_from (rs ++ qs) 0 n
-more_marks n rs qs = all_marks rs qs n
 
 -- ---- the functions that are to be declared ----
 
@@ -90,10 +84,6 @@ item_kept p i items new e h f = f ∙ ap₂ (λ xs b. xs ++ cond b (const.Func i
 
 pub item_left : (p : ℕ → Bool) (i : ℕ) (items new : List ConstExpr) → items ≡ map const.Func (filter p (range_with_len 0 i)) → p i ≡ false → new ≡ items → new ≡ map const.Func (filter p (range_with_len 0 (i + 1)))
 item_left p i items new e h f = f ∙ e ∙ sym (append-nil (map const.Func (filter p (range_with_len 0 i)))) ∙ ap (λ b. map const.Func (filter p (range_with_len 0 i)) ++ cond b (const.Func i ∷ []) []) (sym h) ∙ sym (items_more p i)
-
-pub marks_length : (rs : List ℕ) (a n : ℕ) → length (named_from rs a n) ≡ n
-marks_length rs a zero = refl
-marks_length rs a (suc n) = ap suc (marks_length rs (suc a) n)
 
 -- the items are those of the functions that are to be declared
 pub items_are : (n m : ℕ) (rs qs : List ℕ) (inside outside : List Bool) (items : List ConstExpr) → inside ≡ named_from rs 0 n → outside ≡ named_from qs 0 n → n ≡ m →

@@ -2,9 +2,10 @@
 
 ghost use Rattle.std.specs.Prelude.{◌≡◌, ◌<◌, ◌^◌, length, map, replicate, false, IfOk, OnOk, OnErr};
 ghost use Rattle.std.specs.List.{filter, range_with_len};
+ghost use Rattle.base_kept.specs.Marks.{marked_all, named_from};
 ghost use Rattle.wasm_tree.specs.declared.module.ConstExpr.TheVariants as const;
 ghost use Rattle.wasm_tree.specs.Spaces.{funcs_of};
-ghost use Rattle.wasm_valid.specs.Named.{marked_at, marked_all, named_from};
+ghost use Rattle.wasm_valid.specs.Named.{marked_at};
 ghost use Rattle.index_remap.specs.References.{refs, refs_all, body_refs, offset_func, offset_refs, outside_refs, marked_only, declared, declared_refs};
 
 use std::alloc::{AllocError, Global};

@@ -4,6 +4,7 @@ use Rattle.base_lists.proofs.Bools.{and_not}
 use Rattle.base_lists.specs.Members.{is_among}
 use Rattle.base_lists.proofs.Members.{among_either, joined_among, chosen_among}
 use Rattle.std.proofs.Common.{length-append, eq-eqb}
+use Rattle.base_kept.proofs.Marks.{among_is_marked, marked_is_among, named_within}
 use Rattle.wasm_tree_spec.specs.Prelude.{RefType, I32, Ref, ImportDesc, ExportDesc, ElemMode, ElemSeg, DataMode, ConstExpr, Func, Module, IsBounded, funcs_of}
 use Rattle.wasm_tree.specs.declared.types.RefType.TheVariants.{Func as func_ref}
 use Rattle.wasm_tree.specs.declared.module.ImportDesc.TheVariants as im
@@ -18,7 +19,6 @@ use Rattle.wasm_valid.specs.Prelude.{const_type, const_func, elem_refs, global_r
 use Rattle.index_remap.specs.Prelude.{refs_all, body_refs, offset_refs, outside_refs, declared_refs, declaring, with_declared, declared, Keeps}
 use Rattle.index_remap.specs.References.{offset_func}
 use Rattle.index_remap_proof.specs.ButForReferences.{any_named, HoldsButForReferences, IsValidButForReferences}
-use Rattle.index_remap_proof.proofs.Lists.{marked, is_marked, named_within}
 use Rattle.base_lists.proofs.Places.{push_from, replicate_within}
 use Rattle.index_remap_proof.proofs.NamedFuncs.{typed_named, typed_wider}
 
@@ -235,11 +235,11 @@ module _ (t : Module) where
 
   with_valid : ValidWhereItemsHold → IsValidButForReferences t → (rs : List ℕ) → declared_refs t ≡ rs → IsValid (with_declared t rs)
   with_valid law weak [] e =
-      let names : NamesHold t = λ x lt h. marked (refs_of t) space x lt (names_hold (weak kind.Elem) [] e x lt h) in
+      let names : NamesHold t = λ x lt h. among_is_marked (refs_of t) space x lt (names_hold (weak kind.Elem) [] e x lt h) in
       (law t).1 (λ k i lt. same_holds names k i (weak k i lt))
   with_valid law weak (r ∷ rs) e =
       let u = with_segment (declaring (r ∷ rs)) in
-      let names : NamesHold u = λ x lt h. marked (refs_of u) space x lt (names_hold (weak kind.Elem) (r ∷ rs) e x lt h) in
+      let names : NamesHold u = λ x lt h. among_is_marked (refs_of u) space x lt (names_hold (weak kind.Elem) (r ∷ rs) e x lt h) in
       let within : (j x : ℕ) → slice_get (r ∷ rs) j ≡ Some x → x < space = λ j x g. let lt = passed_within is_missing 0 space j x (ap (λ zs. slice_get zs j) e ∙ g) in omega arith in
       (law u).1 (more_holds (r ∷ rs) within names weak)
 
@@ -283,7 +283,7 @@ body_in_named t holds x h = here (joined_among (λ f. refs_all f.body) t.funcs x
         there (g, ft, at, ty, w) =
             let same : g ≡ f = cc in
             let named = typed_named (body_context t g ft) g.body [] ft.results w x (subst (λ (z : Func). is_among (refs_all z.body) x ≡ true) (sym same) k) in
-            among_left (refs_of t) (offset_refs t.elems) x (is_marked (refs_of t) (length (funcs_of t)) x named)
+            among_left (refs_of t) (offset_refs t.elems) x (marked_is_among (refs_of t) (length (funcs_of t)) x named)
 
 pub declared_stays : ValidWhereItemsHold → (t : Module) → IsValid t → declared t ≡ t
 declared_stays law t valid =

@@ -1,5 +1,6 @@
 -- A valid tree names only indices of its spaces.
 use Rattle.base_lists.proofs.Common.{◌≡◌, ℕ, zero, suc, ◌<◌, ◌≤◌, true, IsTrue, List, [], length, Option, Some, None, refl, sym, ap, subst, arith, slice_get, option_and_then, ltb-true, lt-ltb, length-map, slice_get_within, and_then_is, list_all_from, and_from, only_true}
+use Rattle.base_kept.proofs.Marks.{marks_length}
 use Rattle.wasm_tree_spec.specs.Prelude.{ValType, RefType, FuncType, Import, ImportDesc, Export, ExportDesc, ElemMode, ElemSeg, DataMode, DataSeg, GlobalDef, ConstExpr, Func, Module, funcs_of, tables_of, memories_of, globals_of, type_of_func, PassesLayerByLayer}
 use Rattle.wasm_tree.specs.declared.module.ImportDesc.TheVariants as im
 use Rattle.wasm_tree.specs.declared.module.ExportDesc.TheVariants as ex
@@ -15,7 +16,6 @@ use Rattle.index_remap_proof.specs.Along.{CoversContext}
 use Rattle.index_remap_proof.specs.Trees.{Covers}
 use Rattle.index_remap_proof.proofs.Lists.{has_at}
 use Rattle.index_remap_proof.proofs.Entries.{body_fits}
-use Rattle.index_remap.proofs.Marks.{marks_length}
 
 func_there : (t : Module) (x : ℕ) (ft : FuncType) → type_of_func t x ≡ Some ft → x < length (funcs_of t)
 func_there t x ft h = here (slice_get (funcs_of t) x) refl h

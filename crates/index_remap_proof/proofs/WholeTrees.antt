@@ -2,6 +2,7 @@
 use Rattle.base_lists.proofs.Common.{◌≡◌, ℕ, zero, suc, ◌<◌, Bool, true, ◌&&◌, List, [], ◌∷◌, ◌++◌, length, map, take, Option, Some, None, refl, sym, ap, ap₂, ◌∙◌, subst, arith, slice_get, slice_index, Contains, option_map, flat_map, filter_map, cons_option, ltb-true, length-map, map-append, slice_get_there, map_at, map_from, list_all_each, list_all, and_then_is, left_true, right_true, only_true}
 use Rattle.base_lists.specs.Members.{is_among}
 use Rattle.base_lists.proofs.Members.{among_map}
+use Rattle.base_kept.proofs.Marks.{among_is_marked, marked_is_among, named_within}
 use Rattle.wasm_tree_spec.specs.Prelude.{ValType, Func, ImportDesc, Export, ExportDesc, ElemMode, ElemSeg, DataMode, ConstExpr, Module, funcs_of, globals_of, PassesLayerByLayer}
 use Rattle.wasm_tree.specs.declared.module.ImportDesc.TheVariants as im
 use Rattle.wasm_tree.specs.declared.module.ExportDesc.TheVariants as ex
@@ -17,7 +18,6 @@ use Rattle.index_remap.specs.Renumbered.{fits_data_mode}
 use Rattle.index_remap_proof.specs.Indices.{Indices, with_entry, ConstNamesOnly, ImportNamesOnly, ExportNamesOnly, ElemModeNamesOnly, DataModeNamesOnly, FuncNamesOnly, TreeNamesOnly}
 use Rattle.index_remap_proof.specs.Trees.{TreesAgree, RefsAgree, ImportsAgree, ReadsImport, ConstComesFrom, ElemModeComesFrom, DataModeComesFrom, ItemsComeFrom, ItemComesFrom, EachItemComesFrom, active, passive, declarative}
 use Rattle.index_remap_proof.specs.ButForReferences.{IsValidButForReferences}
-use Rattle.index_remap_proof.proofs.Lists.{marked, is_marked, named_within}
 use Rattle.index_remap_proof.proofs.Items.{BodiesAreKept, const_kept, items_kept, items_weakly}
 
 -- ---- what other indices leave ----
@@ -163,8 +163,8 @@ module _ (m : Remap) (kept : Indices) (t : Module) (k : TreesAgree m kept t (ren
   refs_agree : RefsAgree m kept t u
   refs_agree i is_kept h =
       let within = named_within (refs_of t) 0 (length (funcs_of t)) i true h in
-      let named = among_map (slice_index m.funcs) (refs_of t) i (is_marked (refs_of t) (length (funcs_of t)) i h) in
-      marked (refs_of u) (length (funcs_of u)) (slice_index m.funcs i) (k.func_space i is_kept within) (ap (λ z. is_among z (slice_index m.funcs i)) (refs_new m t) ∙ named)
+      let named = among_map (slice_index m.funcs) (refs_of t) i (marked_is_among (refs_of t) (length (funcs_of t)) i h) in
+      among_is_marked (refs_of u) (length (funcs_of u)) (slice_index m.funcs i) (k.func_space i is_kept within) (ap (λ z. is_among z (slice_index m.funcs i)) (refs_new m t) ∙ named)
 
   reads : (e : ConstExpr) (ty : ValType) → ConstNamesOnly kept e → const_type t e ≡ Some ty → ReadsImport m u e
   reads (const.I32 v) ty h e = tt

@@ -1,6 +1,7 @@
 -- The items of a valid module, whose other numbers are in range, are in range.
-use Rattle.base_lists.proofs.Common.{◌≡◌, ℕ, zero, suc, ◌<◌, ◌^◌, Bool, true, false, nat_lt, List, length, Option, Some, None, refl, sym, ap, ◌∙◌, subst, arith, slice_get, option_and_then, IsUtf8, nat_tests, slice_get_within, same_Some, length-map, and_from, IsTrue, list_all_from}
+use Rattle.base_lists.proofs.Common.{◌≡◌, ℕ, ◌<◌, ◌^◌, Bool, true, false, nat_lt, List, length, Option, Some, None, refl, sym, ap, ◌∙◌, subst, arith, slice_get, option_and_then, IsUtf8, nat_tests, slice_get_within, same_Some, length-map, and_from, IsTrue, list_all_from}
 use Rattle.base_lists.proofs.Every.{every_placed}
+use Rattle.base_kept.proofs.Marks.{marks_length}
 use Rattle.wasm_tree_spec.specs.Prelude.{FuncType, TableType, ValType, ImportDesc, Import, ExportDesc, Export, ConstExpr, GlobalDef, ElemMode, ElemSeg, DataMode, DataSeg, Func, Module, funcs_of, tables_of, globals_of, IsBounded, PassesLayerByLayer, all_operands_pass, Ref, Operand, is_memory_zero, memory_zero_all, memory_zero_funcs}
 use Rattle.wasm_tree.specs.declared.module.ImportDesc.TheVariants as import
 use Rattle.wasm_tree.specs.declared.module.ExportDesc.TheVariants as export
@@ -10,7 +11,7 @@ use Rattle.wasm_tree.specs.declared.module.DataMode.TheVariants as segment
 use Rattle.wasm_valid_bodies.specs.Typing.{only}
 use Rattle.wasm_valid.specs.declared.kinds.ItemKind.{ItemKind}
 use Rattle.wasm_valid.specs.declared.kinds.ItemKind.TheVariants as kind
-use Rattle.wasm_valid.specs.Prelude.{const_type, table_types, elem_types, refs_of, named_from, named_of, ImportHolds, InSpace, ElemModeHolds, DataModeHolds, IsSingle, HoldsAt, start_count, count_of, body_context, ItemsHold}
+use Rattle.wasm_valid.specs.Prelude.{const_type, table_types, elem_types, refs_of, named_of, ImportHolds, InSpace, ElemModeHolds, DataModeHolds, IsSingle, HoldsAt, start_count, count_of, body_context, ItemsHold}
 use Rattle.wasm_tree.proofs.OperandLaws.{passes_more}
 use Rattle.wasm_write_proof.specs.Ranges.{IsU32, small_operand, spelled_operand, all_numbers_in, MaxInRange, ConstInRange, ImportDescInRange, ImportInRange, ExportDescInRange, ExportInRange, ElemModeInRange, ElemInRange, DataModeInRange, FuncInRange, InRange}
 use Rattle.merge_encode_proof.specs.Numbers.{ConstNumberInRange, ImportLimitsInRange, ImportNumbersInRange, FuncNumbersInRange, ElemOffsetInRange, ElemNumbersInRange, DataOffsetInRange, NumbersInRange}
@@ -129,10 +130,6 @@ module _
         from_held : HoldsAt m kind.Start 0 → x < 2 ^ 32
         from_held (y, t, f, typed, params, results) = subst (λ z. z < 2 ^ 32) (same_Some y x (sym f ∙ e)) (func_type_there y (slice_get (funcs_of m) y) t refl typed)
 
-    length_named : (refs : List ℕ) (first n : ℕ) → length (named_from refs first n) ≡ n
-    length_named refs first zero = refl
-    length_named refs first (suc n) = ap suc (length_named refs (suc first) n)
-
     small_context : (f : Func) (t : FuncType) → IsSmall (body_context m f t)
     small_context f t = record {
       types = few.types;
@@ -142,7 +139,7 @@ module _
       globals = few.globals;
       elems = let same : length (elem_types m.elems) ≡ length m.elems = length-map m.elems (λ (s : ElemSeg). s.ty) in omega (arith, few.elems);
       datas = few.datas;
-      named = let same : length (named_of m) ≡ length (funcs_of m) = length_named (refs_of m) 0 (length (funcs_of m)) in omega (arith, few.funcs);
+      named = let same : length (named_of m) ≡ length (funcs_of m) = marks_length (refs_of m) 0 (length (funcs_of m)) in omega (arith, few.funcs);
     }
 
     -- the type that a function names, and what its body names

@@ -3,6 +3,7 @@ use Rattle.base_lists.proofs.Common.{◌≡◌, subst, refl, ℕ, List, [], ◌�
 use Rattle.base_lists.proofs.Bools.{left_false, right_false}
 use Rattle.base_lists.specs.Members.{is_among}
 use Rattle.base_lists.specs.Every.{Every}
+use Rattle.base_kept.proofs.Marks.{named_within}
 use Rattle.wasm_tree_spec.specs.Prelude.{Operand, Space, Types, Functions, Tables, Memories, Globals, ElementSegments, DataSegments, FuncType, Instr, Call, Func, Module, ListLayers, any_operand_passes, operands, AnyInside, PassesInside, PassesLayerByLayer, funcs_of}
 use Rattle.wasm_valid_bodies.specs.Typing.{Context, WellTyped}
 use Rattle.wasm_valid.specs.Prelude.{refs_of, table_types, body_context}
@@ -13,7 +14,6 @@ use Rattle.index_remap.proofs.NotOpaque.{all_follow}
 use Rattle.index_remap_proof.specs.ButForReferences.{any_named}
 use Rattle.index_remap_proof.specs.Indices.{Indices}
 use Rattle.index_remap_proof.specs.Trees.{TreesAgree}
-use Rattle.index_remap_proof.proofs.Lists.{named_within}
 use Rattle.split_spec.specs.Prelude.{with_calls}
 use Rattle.split_proof.specs.Calls.{CallsAreReplaced, renumbered_codes}
 use Rattle.split_proof.proofs.Operands.{Met, all_wanted}

@@ -5,6 +5,7 @@ use Rattle.std.proofs.Common.{filter_map}
 use Rattle.base_lists.proofs.Places.{push_from}
 use Rattle.base_kept.specs.Kept.{kept}
 use Rattle.base_kept.proofs.Laws.{kept_from}
+use Rattle.base_kept.proofs.Marks.{marked_is_among}
 use Rattle.wasm_tree_spec.specs.Prelude.{Operand, Space, Types, Functions, Tables, Memories, Globals, ElementSegments, DataSegments, RefType, ValType, I32, Ref, FuncType, TableType, Call, ConstExpr, DataMode, DataSeg, ElemMode, ElemSeg, Func, GlobalDef, ImportDesc, Module, imported_funcs, imported_globals, funcs_of, globals_of, type_of_func}
 use Rattle.wasm_tree.specs.declared.types.RefType.TheVariants.{Func as func_ref}
 use Rattle.wasm_tree.specs.declared.module.ConstExpr.TheVariants as const
@@ -19,7 +20,6 @@ use Rattle.index_remap.specs.declared.remap.Remap.{Remap}
 use Rattle.index_remap.specs.Prelude.{OperandAgrees, body_refs, new_const, new_data, new_data_mode, new_elem, new_elem_mode, new_func, new_global, new_start, renumbered_all, gets, slot_call}
 use Rattle.index_remap_proof.specs.ButForReferences.{HoldsButForReferences, any_named}
 use Rattle.index_remap_proof.specs.Trees.{TreesAgree}
-use Rattle.index_remap_proof.proofs.Lists.{is_marked}
 use Rattle.split_spec.specs.Prelude.{call_by_slot, call_through_slot, in_slots, params_of, place_among, slot_segment, slot_table, slot_table_type, trampoline_body, type_index, is_needed, is_left, left_marks, primary_func, primary_funcs}
 use Rattle.split_spec.specs.Needed.{named_other_than_by_calls}
 use Rattle.split_proof.specs.Premises.{CanMove}
@@ -51,7 +51,7 @@ module _ (laws : BodyLaws) (namespace : ℕ → List ℕ) (prefix : List ℕ) (m
   refs_left f h = needed_left f (among_left (refs_of m) (cons_option m.start [] ++ body_refs m.funcs) f h)
 
   named_left : (f : ℕ) → slice_get (named_of m) f ≡ Some true → is_left m moved f ≡ true
-  named_left f h = refs_left f (is_marked (refs_of m) (length (funcs_of m)) f h)
+  named_left f h = refs_left f (marked_is_among (refs_of m) (length (funcs_of m)) f h)
 
   pub start_left : (f : ℕ) → m.start ≡ Some f → is_left m moved f ≡ true
   start_left f e =

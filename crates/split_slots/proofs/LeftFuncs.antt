@@ -2,9 +2,10 @@
 use Rattle.base_lists.proofs.Common.{◌≡◌, ℕ, zero, suc, ◌+◌, ◌<◌, arith, Bool, false, ◌||◌, not, List, [], ◌∷◌, ◌++◌, map, length, is_some, unwrap_or, Option, refl, ap, ap₂, ◌∙◌, slice_get, cons_option, length-numbers, length-map}
 use Rattle.base_lists.specs.Every.{Every}
 use Rattle.base_lists.specs.Places.{numbers}
+use Rattle.base_kept.specs.Marks.{named_from}
 use Rattle.wasm_tree_spec.specs.Prelude.{Module, funcs_of}
 use Rattle.wasm_valid.specs.declared.kinds.ItemKind.TheVariants as kind
-use Rattle.wasm_valid.specs.Prelude.{named_from, refs_of, HoldsAt}
+use Rattle.wasm_valid.specs.Prelude.{refs_of, HoldsAt}
 use Rattle.split_spec.specs.Prelude.{is_left, left_marks, place_among}
 use Rattle.split_slots.specs.Looking.{slot_at}
 use Rattle.split_slots.proofs.NamedOutside.{marks_tell}

@@ -4,15 +4,15 @@ use Rattle.base_lists.specs.Members.{is_among}
 use Rattle.base_lists.proofs.Members.{joined_among}
 use Rattle.std.proofs.Common.{filter}
 use Rattle.base_lists.specs.Every.{Every}
+use Rattle.base_kept.specs.Marks.{named_from}
+use Rattle.base_kept.proofs.Marks.{all_marks, marked_is_among, named_get}
 use Rattle.wasm_tree_spec.specs.Prelude.{Func, Module, funcs_of, imported_funcs}
 use Rattle.wasm_valid.specs.declared.kinds.ItemKind.TheVariants as kind
-use Rattle.wasm_valid.specs.Prelude.{named_from, named_of, refs_of, HoldsAt, body_context}
+use Rattle.wasm_valid.specs.Prelude.{named_of, refs_of, HoldsAt, body_context}
 use Rattle.wasm_valid.specs.Named.{marked_at}
 use Rattle.index_remap.specs.Prelude.{body_refs, refs_all}
-use Rattle.index_remap.proofs.Marks.{more_marks}
 use Rattle.split_plan.specs.Words.{is_defined}
 use Rattle.split_plan.specs.Plans.{body_uses_segment}
-use Rattle.index_remap_proof.proofs.Lists.{is_marked, named_get}
 use Rattle.index_remap_proof.proofs.NamedFuncs.{typed_named}
 use Rattle.split_spec.specs.Prelude.{is_needed}
 use Rattle.split_spec.specs.Needed.{needed}
@@ -20,7 +20,7 @@ use Rattle.split_spec.specs.Needed.{needed}
 -- the marks of what is named outside the bodies, with the start
 pub with_start : (m : Module) (start : Option ℕ) → marked_at (named_of m) start ≡ named_from (refs_of m ++ cons_option start []) 0 (length (funcs_of m))
 with_start m None = ap (λ rs. named_from rs 0 (length (funcs_of m))) (sym (append-nil (refs_of m)))
-with_start m (Some func) = more_marks (length (funcs_of m)) (refs_of m) (func ∷ [])
+with_start m (Some func) = all_marks (refs_of m) (func ∷ []) (length (funcs_of m))
 
 module _ (m : Module) (holds : (i : ℕ) → i < length m.funcs → HoldsAt m kind.Body i) where
   body_named : (x : ℕ) → is_among (body_refs m.funcs) x ≡ true → is_among (refs_of m) x ≡ true
@@ -32,7 +32,7 @@ module _ (m : Module) (holds : (i : ℕ) → i < length m.funcs → HoldsAt m ki
           there : HoldsAt m kind.Body i → is_among (refs_of m) x ≡ true
           there (g, ft, at, ty, w) =
               let same : g ≡ f = cc in
-              is_marked (refs_of m) (length (funcs_of m)) x (typed_named (body_context m g ft) g.body [] ft.results w x (subst (λ (z : Func). is_among (refs_all z.body) x ≡ true) (sym same) k))
+              marked_is_among (refs_of m) (length (funcs_of m)) x (typed_named (body_context m g ft) g.body [] ft.results w x (subst (λ (z : Func). is_among (refs_all z.body) x ≡ true) (sym same) k))
 
   known_twice : (a s b : Bool) → (b ≡ true → a ≡ true) → (a || (s || b)) ≡ (a || s)
   known_twice true s b h = refl

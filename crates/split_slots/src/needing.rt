@@ -3,8 +3,9 @@
 ghost use Rattle.std.specs.Prelude.{◌≡◌, ◌++◌, [], false, filter, length, slice_get, unwrap_or, IfOk};
 ghost use Rattle.std.specs.List.{cons_option};
 ghost use Rattle.std.specs.List.Sorted.{IsStrictlyIncreasing};
+ghost use Rattle.base_kept.specs.Marks.{named_from};
 ghost use Rattle.wasm_tree.specs.Spaces.{funcs_of};
-ghost use Rattle.wasm_valid.specs.Named.{marked_at, named_from, refs_of};
+ghost use Rattle.wasm_valid.specs.Named.{marked_at, refs_of};
 ghost use Rattle.split_plan.specs.Plans.{IsPlan};
 ghost use Rattle.split_spec.specs.Needed.{needed as needed_among};
 

@@ -1,7 +1,8 @@
 -- The functions that `ref.func` may name in a body: those that the module names outside its bodies
 -- and its start (WebAssembly Core 2.0, section 3.4.10, the refs of the context).
-use Rattle.std.specs.Prelude.{ℕ, zero, suc, Bool, true, slice_set, List, [], ◌∷◌, ◌++◌, length, nat_eq, Option, Some, None}
-use Rattle.std.specs.List.{filter_map, flat_map, list_any}
+use Rattle.std.specs.Prelude.{ℕ, Bool, true, slice_set, List, ◌++◌, length, Option, Some, None}
+use Rattle.std.specs.List.{filter_map, flat_map}
+use Rattle.base_kept.specs.Marks.{named_from}
 use Rattle.wasm_tree_spec.specs.Prelude.{ConstExpr, ExportDesc, ElemSeg, GlobalDef, Export, Module, funcs_of}
 use Rattle.wasm_tree.specs.declared.module.ConstExpr.TheVariants as expr
 use Rattle.wasm_tree.specs.declared.module.ExportDesc.TheVariants as exported
@@ -27,11 +28,6 @@ export_refs = filter_map (λ e. export_func e.desc)
 abbrev pub refs_of : Module → List ℕ
 refs_of m = elem_refs m.elems ++ (global_refs m.globals ++ export_refs m.exports)
 
--- For each of `n` functions from `first` on, whether it is in `refs`.
-abbrev pub named_from : List ℕ → ℕ → ℕ → List Bool
-named_from refs first zero = []
-named_from refs first (suc n) = list_any (nat_eq first) refs ∷ named_from refs (suc first) n
-
 -- For each function of the module, whether `ref.func` may name it in a body.
 abbrev pub named_of : Module → List Bool
 named_of m = named_from (refs_of m) 0 (length (funcs_of m))
@@ -40,8 +36,3 @@ named_of m = named_from (refs_of m) 0 (length (funcs_of m))
 abbrev pub marked_at : List Bool → Option ℕ → List Bool
 marked_at marks None = marks
 marked_at marks (Some r) = slice_set marks r true
-
--- The marks with those at these positions set.
-abbrev pub marked_all : List Bool → List ℕ → List Bool
-marked_all marks [] = marks
-marked_all marks (r ∷ rs) = marked_all (slice_set marks r true) rs

@@ -2,8 +2,9 @@
 
 ghost use Rattle.std.specs.Prelude.{◌≡◌, length, slice_set, replicate, true, false, IfOk};
 ghost use Rattle.std.specs.List.{filter_map};
+ghost use Rattle.base_kept.specs.Marks.{marked_all};
 ghost use Rattle.wasm_tree.specs.Spaces.{funcs_of};
-ghost use Rattle.wasm_valid.specs.Named.{const_func, export_func, elem_refs, global_refs, export_refs, marked_at, marked_all, named_of};
+ghost use Rattle.wasm_valid.specs.Named.{const_func, export_func, elem_refs, global_refs, export_refs, marked_at, named_of};
 
 use std::alloc::{AllocError, Global};
 use wasm_tree::{ConstExpr, ElemSeg, Export, ExportDesc, GlobalDef, Module};

@@ -1,5 +1,5 @@
 use Rattle.std.proofs.Common.{◌≡◌, drop}
-use Rattle.wasm_valid.specs.Named.{marked_all}
+use Rattle.base_kept.specs.Marks.{marked_all}
 use Rattle.index_remap.specs.References.{refs_all}
 use Rattle.index_remap.proofs.declaring.+refs.Given as goal
 

@@ -1,7 +1,8 @@
 use Rattle.std.proofs.Common.{ap, ◌∙◌}
-use Rattle.wasm_valid.specs.Named.{marked_all}
+use Rattle.base_kept.specs.Marks.{marked_all}
+use Rattle.base_kept.proofs.Marks.{marks_of}
 use Rattle.index_remap.specs.References.{refs_all, body_refs}
-use Rattle.index_remap.proofs.Marks.{func_step, marks_of}
+use Rattle.index_remap.proofs.Marks.{func_step}
 use Rattle.index_remap.proofs.declaring.named_inside.Goals as goal
 
 pub loop-func-init : goal.loop-func-init

@@ -1,5 +1,5 @@
 use Rattle.std.proofs.Common.{◌≡◌, drop}
-use Rattle.wasm_valid.specs.Named.{marked_all, named_from}
+use Rattle.base_kept.specs.Marks.{marked_all, named_from}
 use Rattle.index_remap.specs.References.{body_refs}
 use Rattle.index_remap.proofs.declaring.named_inside.Given as goal
 

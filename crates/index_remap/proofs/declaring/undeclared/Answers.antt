@@ -1,7 +1,8 @@
 use Rattle.base_lists.proofs.Common.{length, ap, sym, ◌∙◌, arith, IfOk-weaker}
-use Rattle.wasm_valid.specs.Prelude.{named_from}
+use Rattle.base_kept.specs.Marks.{named_from}
+use Rattle.base_kept.proofs.Marks.{marks_length}
 use Rattle.index_remap.specs.Prelude.{body_refs, outside_refs}
-use Rattle.index_remap.proofs.Marks.{marks_length, items_are}
+use Rattle.index_remap.proofs.Marks.{items_are}
 use Rattle.index_remap.proofs.declaring.undeclared.Goals as goal
 
 pub items_of-requires-clause-same : goal.items_of-requires-clause-same

@@ -1,10 +1,11 @@
 use Rattle.base_lists.proofs.Common.{ℕ, List, Bool, ◌++◌, [], false, length, slice_get, unwrap_or, ap, ap₂, ◌∙◌, subst, sym, cons_option, IsStrictlyIncreasing}
 use Rattle.std.proofs.Common.{filter}
 use Rattle.std.proofs.lemmas.List.Kept.{IsStrictlyIncreasing-filter}
+use Rattle.base_kept.specs.Marks.{named_from}
 use Rattle.split_spec.specs.Prelude.{is_needed}
 use Rattle.wasm_tree_spec.specs.Prelude.{funcs_of}
 use Rattle.wasm_valid.specs.declared.kinds.ItemKind.TheVariants as kind
-use Rattle.wasm_valid.specs.Prelude.{named_from, refs_of, IsValid}
+use Rattle.wasm_valid.specs.Prelude.{refs_of, IsValid}
 use Rattle.split_slots.proofs.NamedOutside.{all_needed, all_there}
 use Rattle.split_slots.proofs.needing.needed.Goals as goal
 

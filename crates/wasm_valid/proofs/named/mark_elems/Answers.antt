@@ -1,6 +1,7 @@
 use Rattle.base_lists.proofs.Common.{ap, ◌∙◌, filter_map}
-use Rattle.wasm_valid.specs.Prelude.{const_func, marked_all}
-use Rattle.wasm_valid.proofs.Marked.{segment_step}
+use Rattle.base_kept.specs.Marks.{marked_all}
+use Rattle.base_kept.proofs.Marks.{segment_step}
+use Rattle.wasm_valid.specs.Prelude.{const_func}
 use Rattle.wasm_valid.proofs.named.mark_elems.Goals as goal
 
 pub loop-segment-preserved : goal.loop-segment-preserved

@@ -1,5 +1,6 @@
 use Rattle.std.proofs.Common.{◌≡◌, drop}
-use Rattle.wasm_valid.specs.Named.{export_refs, marked_all}
+use Rattle.base_kept.specs.Marks.{marked_all}
+use Rattle.wasm_valid.specs.Named.{export_refs}
 use Rattle.wasm_valid.proofs.named.mark_exports.Given as goal
 
 abbrev pub invariant-loop-export : goal.invariant-loop-export

@@ -1,5 +1,6 @@
 use Rattle.std.proofs.Common.{◌≡◌, drop}
-use Rattle.wasm_valid.specs.Named.{global_refs, marked_all}
+use Rattle.base_kept.specs.Marks.{marked_all}
+use Rattle.wasm_valid.specs.Named.{global_refs}
 use Rattle.wasm_valid.proofs.named.mark_globals.Given as goal
 
 abbrev pub invariant-loop-global : goal.invariant-loop-global

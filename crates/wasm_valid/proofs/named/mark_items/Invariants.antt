@@ -1,5 +1,6 @@
 use Rattle.base_lists.proofs.Common.{◌≡◌, drop, filter_map}
-use Rattle.wasm_valid.specs.Prelude.{const_func, marked_all}
+use Rattle.base_kept.specs.Marks.{marked_all}
+use Rattle.wasm_valid.specs.Prelude.{const_func}
 use Rattle.wasm_valid.proofs.named.mark_items.Given as goal
 
 abbrev pub invariant-loop-item : goal.invariant-loop-item

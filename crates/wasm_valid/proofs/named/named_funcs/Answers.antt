@@ -1,5 +1,6 @@
 use Rattle.std.proofs.Common.{ap, ◌∙◌}
-use Rattle.wasm_valid.specs.Named.{elem_refs, global_refs, export_refs, marked_all, named_from, refs_of}
+use Rattle.base_kept.specs.Marks.{marked_all, named_from}
+use Rattle.wasm_valid.specs.Named.{elem_refs, global_refs, export_refs, refs_of}
 use Rattle.wasm_valid.proofs.Marked.{named_is}
 use Rattle.wasm_valid.proofs.named.named_funcs.Goals as goal
 
