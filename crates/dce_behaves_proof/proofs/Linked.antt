@@ -3,7 +3,7 @@ use Rattle.base_lists.proofs.Common.{◌≡◌, ◌∙◌, ap, ap₂, sym, subst
 use Rattle.wasm_tree_spec.specs.Prelude.{Functions, ConstExpr, ElemSeg, GlobalDef, Import, ImportDesc, Module, imported_funcs, funcs_of}
 use Rattle.wasm_tree.specs.declared.module.Func as tree
 use Rattle.wasm_tree.specs.declared.module.ImportDesc.TheVariants as im
-use Rattle.wasm_meaning.specs.Prelude.{Inst, Func, Global, Elem, Store, RefVal, Environment, ExternalValue, all_of, sites, own_store, joined_stores, part_store, stores_from, insts_from, is_match, is_matched, all_there, seen_as, links, alone, Begun}
+use Rattle.wasm_meaning.specs.Prelude.{Text, Inst, Func, Global, Elem, Store, RefVal, Environment, ExternalValue, all_of, sites, own_store, joined_stores, part_store, stores_from, insts_from, is_match, is_matched, all_there, seen_as, links, alone, Begun}
 use Rattle.wasm_meaning.specs.Linking as linking
 use Rattle.wasm_meaning.specs.World as world
 use Rattle.index_remap.specs.declared.remap.Remap.{Remap}
@@ -15,7 +15,7 @@ use Rattle.world_simulation.proofs.Allocated.{Adds, adds, part_there}
 use Rattle.world_simulation.proofs.Declared.{last_segments, last_elems}
 use Rattle.world_simulation.proofs.Instancing.{IsInst, is_space}
 use Rattle.world_simulation.proofs.Renamed.{funcs_correspond}
-use Rattle.world_simulation.proofs.Single.{thing_rel, match_same, made_there}
+use Rattle.world_simulation.proofs.Single.{thing_rel, match_same}
 use Rattle.world_simulation.proofs.Stored.{func_rel, global_rel, ref_rel, stores_rel}
 use Rattle.base_kept.specs.Kept.{kept}
 use Rattle.base_kept.proofs.Laws.{kept_from}
@@ -25,6 +25,12 @@ use Rattle.dce_sweep_spec.specs.Swept.{defined_funcs, defined_globals, kept_elem
 use Rattle.dce_sweep_spec.specs.Unswept.{unswept}
 use Rattle.dce_sweep_proof.proofs.ComesFrom.{item_there}
 use Rattle.dce_behaves_proof.proofs.Swept.{kept_indices, same, moved_elem, elems_mapped, R, own, names, consts, definitions, view}
+
+-- a module alone is linked if its instance, its store and its view are there and its imports match
+module _ (env : Environment) (t : Module) (is : List Inst) where
+  pub made_there : (s : Store) (view : List (Text × ExternalValue)) → insts_from env (one t) 0 (one t) ≡ Some is → stores_from env (one t) is (own_store env) 0 (one t) is ≡ Some s → all_there (seen_as is) (alone t).view ≡ Some view →
+      all_of (is_matched env (one t) s) (sites (one t)) ≡ true → links env (alone t) ≡ true
+  made_there s view e f g h = rw (e, f, g, h)
 
 module _ (k : Marks) (t : Module) (c : AreClosed k t) (env : Environment) (imports : (swept k t).imports ≡ kept k.imports t.imports) (i j : Inst) (a : IsInst env (one t) 0 t i) (b : IsInst env (one (swept k t)) 0 (swept k t) j) (named : TreeNamesOnly (kept_indices k t) (kept_tree k t)) (code : RenumberedCodeIsRelated) where
   abbrev r : Remap

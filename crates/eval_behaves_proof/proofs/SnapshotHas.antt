@@ -1,12 +1,17 @@
 -- What the snapshot of a module has, and how many addresses of each space it shares with the module in an environment.
-use Rattle.base_lists.proofs.Common.{◌≡◌, ◌∙◌, ap, ℕ, ◌+◌, ◌≤◌, List, [], ◌∷◌, length, Bool, true, false, cond, arith, list_any, length-append}
-use Rattle.wasm_tree_spec.specs.Prelude.{any_uses_data, Space, Types, Functions, Tables, Memories, Globals, ElementSegments, DataSegments, Func, Module, imported_globals}
+use Rattle.base_lists.proofs.Common.{◌≡◌, ◌∙◌, ap, refl, ℕ, suc, ◌+◌, ◌≤◌, List, [], ◌∷◌, length, Bool, true, false, cond, arith, list_any, length-append}
+use Rattle.wasm_tree_spec.specs.Prelude.{any_uses_data, Space, Types, Functions, Tables, Memories, Globals, ElementSegments, DataSegments, Func, GlobalDef, Module, imported_globals}
 use Rattle.wasm_meaning.specs.Prelude.{Text, Environment, own_count}
 use Rattle.index_remap.specs.Prelude.{declared_refs}
 use Rattle.world_simulation.proofs.Declared.{IsWithDeclared, is_with_declared, last_segments}
 use Rattle.eval_spec.specs.Prelude.{State}
-use Rattle.eval_snapshot_spec.specs.Snapshot.{added_funcs, declared_snapshot, empty_func, is_kept, memory_segments, old_segments, segments_left, snapshot, snapshot_tree}
-use Rattle.eval_snapshot_proof.proofs.Trees.{globals_many, segments_many}
+use Rattle.eval_snapshot_spec.specs.Snapshot.{added_funcs, declared_snapshot, empty_func, globals_left, is_kept, memory_segments, old_segments, segments_left, snapshot, snapshot_tree}
+use Rattle.eval_snapshot_proof.proofs.Trees.{segments_many}
+
+module _ (m : Module) (s : State) where
+  globals_many : (n : ℕ) (gs : List GlobalDef) → length (globals_left m s n gs) ≡ length gs
+  globals_many n [] = refl
+  globals_many n (g ∷ gs) = ap suc (globals_many (suc n) gs)
 
 module _ (m : Module) (s : State) (name : Text) (names kept : List Text) where
   -- before its references are declared

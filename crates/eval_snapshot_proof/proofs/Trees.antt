@@ -54,10 +54,6 @@ module _ (m : Module) (s : State) where
       let r = global_from (suc n) gs i h e in
       (r.0, r.1, r.2 ∙ ap (λ k. global_left m s k r.0) (let z : suc n + i ≡ n + suc i = omega arith in z))
 
-  pub globals_many : (n : ℕ) (gs : List GlobalDef) → length (globals_left m s n gs) ≡ length gs
-  globals_many n [] = refl
-  globals_many n (g ∷ gs) = ap suc (globals_many (suc n) gs)
-
 -- ---- data segments ----
 
 left_passive : (b undropped : Bool) (d : DataSeg) → is_passive d.mode ≡ b → is_passive (cond (b && undropped) d emptied).mode ≡ true

@@ -1,8 +1,8 @@
 -- What the parts define and what it becomes in the merged module correspond: each definition stands in the merged module at its number among all of its space.
 use Rattle.wasm_tree_spec.specs.Prelude.{Functions, Tables, Memories, Globals, ElementSegments, DataSegments, Space, Module, GlobalDef, ElemSeg}
 use Rattle.merge_valid_proof.proofs.ByPart.{by_part_flat, defined_is, by_part_at, by_part_back}
-use Rattle.base_lists.proofs.Common.{◌≡◌, refl, ℕ, ◌+◌, List, ◌++◌, map, length, [], append-nil, ◌∷◌, Option, Some, inl, inr, arith, zero-add, slice_get, all_there_at, is_some_there, slice_get_there, map_at, map_from, append_at_left, append_from, list_all_each, length-map, right_there, left_there, map-id}
-use Rattle.wasm_meaning.specs.Prelude.{Inst, Part, module_at, new_func, defined_count, base, defined_before, insts_from, own_store, stores_from, Environment}
+use Rattle.base_lists.proofs.Common.{◌≡◌, refl, ℕ, suc, ◌+◌, List, ◌++◌, map, length, [], append-nil, ◌∷◌, Option, Some, inl, inr, arith, add-zero, add_next, zero-add, slice_get, all_there_at, is_some_there, slice_get_there, map_at, map_from, append_at_left, append_from, list_all_each, length-map, right_there, left_there, map-id}
+use Rattle.wasm_meaning.specs.Prelude.{Inst, Store, Part, module_at, new_func, defined_count, base, defined_before, insts_from, own_store, joined_stores, part_store, stores_from, Environment}
 use Rattle.index_remap.specs.Prelude.{declared_refs, fits_func, new_func as renumbered_func, Pairing, OptRel}
 use Rattle.merge_names.specs.declared.mode.Mode.{Mode}
 use Rattle.merge_spec.specs.Prelude.{joined_module, map_of, by_part_from, starts, start_calls, merged_global, merged_elem, merged_data}
@@ -13,7 +13,7 @@ use Rattle.world_simulation.proofs.Declared.{last_segments, last_elems}
 use Rattle.world_simulation.specs.Prelude.{one, Instantiated, DefinedAt, values_in, FuncsAt, GlobalsCorrespond, Partners, DefinitionsCorrespond}
 use Rattle.base_lists.proofs.Related.{both_or_none, placed_rel}
 use Rattle.world_simulation.proofs.Stored.{global_placed, elem_placed, global_rel, ElemsAlike, elem_rel, alike_correspond}
-use Rattle.world_simulation.proofs.Allocated.{stores_there, part_there}
+use Rattle.world_simulation.proofs.Allocated.{part_there}
 use Rattle.merge_valid_proof.specs.Joinable.{CanBeJoined}
 use Rattle.wasm_valid.specs.Prelude.{IsValid}
 use Rattle.merge_behaves_proof.specs.Shared.{sharing}
@@ -21,7 +21,21 @@ use Rattle.merge_behaves_proof.proofs.ValueShared.{is_same}
 use Rattle.merge_behaves_proof.proofs.Values.{is_inst, func_count, const_rel}
 use Rattle.merge_behaves_proof.proofs.Named.{funcs_correspond}
 use Rattle.world_simulation.specs.Definitions as partners
-use Rattle.world_simulation.proofs.Defined as stand
+use Rattle.merge_behaves_proof.proofs.OwnOrDefined as stand
+
+-- ---- the store of all parts ----
+
+module _ (env : Environment) (all : List Part) (insts : List Inst) where
+  -- each part adds something to the store
+  abbrev pub EachAdds : ℕ → List Part → List Inst → Type 0
+  EachAdds p rest is = (q : ℕ) (m : Module) (i : Inst) → module_at rest q ≡ Some m → slice_get is q ≡ Some i → (t : Store) × (part_store env all insts (p + q) m i ≡ Some t)
+
+  pub stores_there : (s : Store) (p : ℕ) (rest : List Part) (is : List Inst) → EachAdds p rest is → (z : Store) × (stores_from env all insts s p rest is ≡ Some z)
+  stores_there s p (part ∷ rest) (i ∷ is) h =
+      let t = rw add-zero at (h 0 part.«module» i refl refl) in
+      let r = stores_there (joined_stores s t.0) (suc p) rest is (λ q. rw (← add_next p q) (h (suc q))) in
+      (r.0, rw (t.1, r.1))
+  stores_there s p _ _ h = (s, refl)
 
 -- ---- the lists of the merged module, by part; then a function that calls starts, and a segment that declares references ----
 

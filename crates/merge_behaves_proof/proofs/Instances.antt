@@ -1,7 +1,7 @@
 -- The instances of the parts, and the instance of the merged module: all there or none, and each index of a part and its new one name one address.
 use Rattle.base_lists.proofs.Common.{◌≡◌, ◌∙◌, ap, sym, refl, ℕ, ◌+◌, ◌<◌, ◌≤◌, List, [], ◌∷◌, ◌++◌, map, length, Option, Some, None, arith, option_and_then, slice_get, true, slice_index, length-append, same_Some, place_there, length-numbers, numbers_at, map_numbers_index, is_some_there, and_then_is, all_there_at, all_there_length, all_there_from, slice_get_there, append_right, slice_index_is, suc, zero-add, add-zero, append_at_left, length-map, add_next}
 use Rattle.base_lists.proofs.Options.{AllThere}
-use Rattle.wasm_tree_spec.specs.Prelude.{Space, Functions, Tables, Memories, Globals, ElementSegments, DataSegments, Module}
+use Rattle.wasm_tree_spec.specs.Prelude.{Space, Types, Functions, Tables, Memories, Globals, ElementSegments, DataSegments, Module}
 use Rattle.wasm_meaning.specs.Prelude.{Inst, Part, has_kind, module_at, imports_of, Environment, own_count, defined_count, all_there, numbers, space, inst_of, insts_from, defined_before}
 use Rattle.index_remap.specs.Prelude.{OptRel, entries}
 use Rattle.merge_names.specs.declared.mode.Mode.{Mode}
@@ -11,7 +11,7 @@ use Rattle.merge_valid_proof.specs.Joinable.{CanBeJoined}
 use Rattle.merge_valid_proof.specs.Ended.{added_count, is_external}
 use Rattle.world_simulation.specs.Prelude.{one}
 use Rattle.world_simulation.proofs.Alone.{funcs_counted, tables_counted, memories_counted, globals_counted}
-use Rattle.world_simulation.proofs.Instancing.{addresses_in, import_address, is_space, entry_at, IsInst, insts_are, inst_in, insts_in}
+use Rattle.world_simulation.proofs.Instancing.{import_address, is_space, entry_at, IsInst, insts_are, inst_in}
 use Rattle.base_lists.proofs.Related.{both_or_none}
 use Rattle.world_simulation.proofs.Single.{one_inst}
 use Rattle.merge_behaves_proof.specs.Shared.{shared_count}
@@ -19,6 +19,29 @@ use Rattle.merge_behaves_proof.specs.Instances.{SpaceAgrees, PartAgrees, Instanc
 use Rattle.merge_behaves_proof.proofs.SpaceLaws.{SpaceLaws}
 use Rattle.merge_behaves_proof.proofs.Counterparts.{defined_low, total, site_address, site_low, Stands, own, stays, import_stands, entry_stands}
 use Rattle.merge_behaves_proof.proofs.MergedAlone.{joined_keeps, joined_types, staying_kind, names_of, merged_space, elems_many, datas_many}
+
+-- ---- an instance, and all instances ----
+
+-- the addresses that an instance has for a space
+abbrev pub addresses_in : Space → Inst → List ℕ
+addresses_in Types i = []
+addresses_in Functions i = i.funcs
+addresses_in Tables i = i.tables
+addresses_in Memories i = i.mems
+addresses_in Globals i = i.globals
+addresses_in ElementSegments i = i.elems
+addresses_in DataSegments i = i.datas
+
+module _ (env : Environment) (all : List Part) where
+  insts_there : (p : ℕ) (parts : List Part) → ((q : ℕ) (m : Module) → module_at parts q ≡ Some m → (i : Inst) × (inst_of env all (p + q) m ≡ Some i)) → (is : List Inst) × (insts_from env all p parts ≡ Some is)
+  insts_there p [] h = ([], refl)
+  insts_there p (part ∷ parts) h =
+      let first = rw add-zero at (h 0 part.«module» refl) in
+      let r = insts_there (suc p) parts (λ q. rw (← add_next p q) (h (suc q))) in
+      is_some_there _ (rw (first.1, r.1))
+
+  insts_in : ((p : ℕ) (m : Module) → module_at all p ≡ Some m → (i : Inst) × (inst_of env all p m ≡ Some i)) → (is : List Inst) × (insts_from env all 0 all ≡ Some is)
+  insts_in h = insts_there 0 all (simp zero-add h)
 
 -- ---- the entries of a part's map ----
 

@@ -6,6 +6,7 @@ pub mod ValueShared
 pub mod ValueGiven
 pub mod Values
 pub mod Named
+pub mod OwnOrDefined
 pub mod Definitions
 pub mod Starts
 pub mod Segments

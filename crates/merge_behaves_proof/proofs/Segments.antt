@@ -7,7 +7,6 @@ use Rattle.wasm_meaning.proofs.Counts.{defined_none, defined_next}
 use Rattle.merge_spec.specs.Prelude.{by_part_from, merged_const, joined_module}
 use Rattle.merge_spec.specs.Merged.{map_of}
 use Rattle.world_simulation.specs.Prelude.{InOrder, both, ends, only_second, offset_in, ElemsInOrder, DatasInOrder, one, Instantiated, values_in}
-use Rattle.world_simulation.proofs.Instancing.{addresses_in}
 use Rattle.world_simulation.proofs.Ordered.{tasks_by, elems_by, datas_by}
 use Rattle.merge_behaves_proof.specs.Instances.{SpaceAgrees, PartAgrees, InstancesAgree}
 use Rattle.merge_behaves_proof.specs.Shared.{sharing}
@@ -16,7 +15,7 @@ use Rattle.index_remap.specs.Prelude.{Pairing}
 use Rattle.merge_names.specs.declared.mode.Mode.{Mode}
 use Rattle.merge_valid_proof.specs.Joinable.{CanBeJoined}
 use Rattle.world_simulation.proofs.Renamed.{offset_same}
-use Rattle.merge_behaves_proof.proofs.Instances.{along}
+use Rattle.merge_behaves_proof.proofs.Instances.{addresses_in, along}
 use Rattle.merge_behaves_proof.proofs.Definitions.{Joins, all_join}
 use Rattle.merge_behaves_proof.proofs.ValueGiven.{Laws, elem_holds, data_holds}
 use Rattle.merge_behaves_proof.proofs.ValueShared.{shares, names_one}

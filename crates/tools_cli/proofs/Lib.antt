@@ -1,3 +1,4 @@
+pub mod Changes
 pub mod Pieces
 pub mod Gathering
 pub mod Performing

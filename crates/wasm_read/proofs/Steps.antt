@@ -1,18 +1,28 @@
 -- Steps of the loops over frames and functions.
 use Rattle.base_lists.proofs.Common.{◌≡◌, ℕ, zero, suc, ◌+◌, ◌<◌, ◌≤◌, List, [], ◌∷◌, length, drop, set, get_or, slice_get, slice_index, Bool, Result, Ok, Some, refl, sym, ap, ◌∙◌, subst, arith, add-one, drop_all}
 use Rattle.wasm_bytes.specs.declared.framing.Frame.{Frame as Place}
-use Rattle.wasm_bytes.specs.Prelude.{framed, framed_all}
+use Rattle.wasm_bytes.specs.Prelude.{◌>>=◌, framed, framed_all}
 use Rattle.wasm_tree_spec.specs.Prelude.{Func}
 use Rattle.wasm_read_spec.specs.declared.fault.ReadFault.{ReadFault}
+use Rattle.wasm_read_spec.specs.declared.fault.ReadFault.TheVariants.{NoMemory, NotModule, Malformed, MalformedBody, Unsupported, Limit}
 use Rattle.wasm_read_spec.specs.declared.parts.Parts.{Parts}
 use Rattle.wasm_read_spec.specs.Prelude.{section_at, typed}
 use Rattle.wasm_read_spec.specs.Contents.{Fails, contents_at}
-use Rattle.wasm_read_spec.proofs.Loops.{fails_in_through}
 
 pub drop_some : {A : Type 0} (xs : List A) (i : ℕ) (d : A) → i < length xs → drop i xs ≡ get_or xs i d ∷ drop (i + 1) xs
 drop_some [] i d lt = absurd (omega arith)
 drop_some (y ∷ ys) zero d lt = refl
 drop_some (y ∷ ys) (suc i) d lt = let j : suc i + 1 ≡ suc (i + 1) = omega arith in rw j (drop_some ys i d (omega arith))
+
+-- ---- faults
+
+fails_in_through : {A B : Type 0} (e : ReadFault) (r : Result A ReadFault) (f : A → Result B ReadFault) → Fails e r → Fails e (r >>= f)
+fails_in_through NoMemory r f h = tt
+fails_in_through NotModule r f h = rw h
+fails_in_through (Malformed s) r f h = rw h
+fails_in_through (MalformedBody s) r f h = rw h
+fails_in_through (Unsupported s g) r f h = rw h
+fails_in_through (Limit w) r f h = rw h
 
 -- ---- frames
 

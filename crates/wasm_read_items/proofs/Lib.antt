@@ -1,2 +1,3 @@
 mod Piles
 mod Forms
+mod BlockSteps

@@ -1,5 +1,5 @@
 -- Steps of the loops that read so many items.
-use Rattle.base_lists.proofs.Common.{◌≡◌, ℕ, suc, ◌+◌, ◌-◌, ◌<◌, Bool, List, [], ◌∷◌, ◌++◌, Result, Ok, Err, refl, sym, ap, ◌∙◌, arith, append_assoc}
+use Rattle.base_lists.proofs.Common.{◌≡◌, ℕ, suc, ◌+◌, ◌-◌, ◌<◌, List, [], ◌∷◌, ◌++◌, Result, Ok, Err, refl, sym, ap, ◌∙◌, arith, append_assoc}
 use Rattle.wasm_bytes.specs.Prelude.{◌>>=◌}
 use Rattle.wasm_read_spec.specs.declared.fault.Fault.{Fault}
 use Rattle.wasm_read_spec.specs.declared.fault.Fault.TheVariants as fault
@@ -26,14 +26,6 @@ fails_through fault.NoMemory r f h = tt
 fails_through fault.Malformed r f h = rw h
 fails_through fault.Unsupported r f h = rw h
 fails_through (fault.Limit w) r f h = rw h
-
-pub fails_in_through : {A B : Type 0} (e : ReadFault) (r : Result A ReadFault) (f : A → Result B ReadFault) → FailsIn e r → FailsIn e (r >>= f)
-fails_in_through NoMemory r f h = tt
-fails_in_through NotModule r f h = rw h
-fails_in_through (Malformed s) r f h = rw h
-fails_in_through (MalformedBody s) r f h = rw h
-fails_in_through (Unsupported s g) r f h = rw h
-fails_in_through (Limit w) r f h = rw h
 
 module _ {A E : Type 0} (item : ℕ → List ℕ → Result (A × List ℕ) E) (next : ℕ → A → ℕ) (whole : Result (List A × List ℕ) E) where
   -- one more item was read

@@ -5,7 +5,7 @@ use Rattle.wasm_meaning.specs.Prelude.{Inst, Store, ExternalValue, Filled, Place
 use Rattle.index_remap.specs.Prelude.{Pairing, BothRel, both, StoreRel, turned, HasNoPartner}
 use Rattle.world_contents_proof.specs.Added.{WritesAlone}
 use Rattle.world_simulation.proofs.Copied.{Kept, nothing_kept}
-use Rattle.world_simulation.proofs.Ordered.{in_first, in_second, first_apart, second_apart, kept_rel}
+use Rattle.world_simulation.proofs.Ordered.{in_first, in_second, kept_rel}
 
 -- ---- what is added comes behind ----
 
@@ -84,6 +84,13 @@ module _ (related alone : Space → ℕ → Type 0) (never : (k : Space) (a : �
       then_kept (joined_stores s t.0) (one_by_one run_elem (joined_stores s t.0) (segments_in 0 i i.elems m.elems)) (λ s. one_by_one run_data s (segments_in 0 i i.datas m.datas))
       (turn_kept run_elem i i.elems m.elems (λ n b x b_is x_is s. grind (arith, set_other, number_past)) (joined_stores s t.0)) (turn_kept run_data i i.datas m.datas (λ n b x b_is x_is s. grind (arith, set_other, number_past))) in
       (t.0, subst (λ (a : Added). WritesAlone alone m a.inst → Kept related (joined_stores s t.0) a.filled.store) t.2 kept writes)
+
+module _ (R : Pairing) where
+  first_apart : (k : Space) (a : ℕ) → HasNoPartner (turned R) k a → in_first R k a → ⊥
+  first_apart k a alone r = alone r.0 r.1
+
+  second_apart : (k : Space) (b : ℕ) → HasNoPartner R k b → in_second R k b → ⊥
+  second_apart k b alone r = alone r.0 r.1
 
 module _ (R : Pairing) (s z : Store) (m : Module) (things : List ExternalValue) (a : Added) (like : StoreRel R s z) where
   pub added_second : added z m things ≡ Some a → WritesAlone (HasNoPartner R) m a.inst → StoreRel R s a.filled.store

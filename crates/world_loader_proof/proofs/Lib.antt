@@ -1,3 +1,4 @@
+pub mod OwnEntities
 pub mod Loaded
 mod LoadedRows
 pub mod LoaderSteps

@@ -12,7 +12,8 @@ use Rattle.world_simulation.specs.Alone as alone
 use Rattle.world_loader_proof.specs.Loaded.{LoadersHaveTheirPrimarysInstance, primary_world, LoadersBeginAsTheirPrimary}
 use Rattle.world_simulation.proofs.Alone.{key_is, thing_is, space_is}
 use Rattle.world_contents_proof.proofs.Added.{joined_right}
-use Rattle.world_contents_proof.proofs.OwnValues.{R, shares, own_like, const_same}
+use Rattle.world_contents_proof.proofs.OwnValues.{const_same}
+use Rattle.world_loader_proof.proofs.OwnEntities.{R, shares, own_like}
 use Rattle.world_simulation.proofs.Single.{all_matched}
 use Rattle.world_simulation.proofs.Instancing.{inst_is}
 

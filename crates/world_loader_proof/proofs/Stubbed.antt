@@ -11,7 +11,7 @@ use Rattle.world_loader_proof.specs.Stubbed.{ArePlaceholders, ImportsThemLast, s
 use Rattle.world_simulation.proofs.Alone.{key_is}
 use Rattle.world_contents_proof.proofs.Added.{joined_right}
 use Rattle.world_simulation.proofs.Single.{thing_rel, match_same}
-use Rattle.world_contents_proof.proofs.OwnValues.{R, shares, own_like}
+use Rattle.world_loader_proof.proofs.OwnEntities.{R, shares, own_like}
 use Rattle.world_contents_proof.proofs.FuncsAside.{segments_with, segments_funcs}
 use Rattle.std.proofs.Common.{add-suc}
 use lib.Seq.{drop-append_seam, drop-append-add}

@@ -1,5 +1,5 @@
 -- What a part adds to the store stands there at the addresses of the part.
-use Rattle.base_lists.proofs.Common.{◌≡◌, ℕ, zero, suc, ◌+◌, false, List, ◌∷◌, ◌++◌, map, length, Option, Some, refl, arith, add-zero, slice_get, same_Some, length-append, length-map, append_at_left, append_right, and_then_is, is_some_there, all_there_length, all_there_from, add_next}
+use Rattle.base_lists.proofs.Common.{◌≡◌, ℕ, zero, suc, ◌+◌, false, List, ◌∷◌, ◌++◌, map, length, Option, Some, arith, add-zero, slice_get, same_Some, length-append, length-map, append_at_left, append_right, and_then_is, is_some_there, all_there_length, all_there_from, add_next}
 use native.Mathlib.Nat.{add_assoc}
 use Rattle.wasm_tree_spec.specs.Prelude.{Space, Functions, Tables, Memories, Globals, ElementSegments, DataSegments, ConstExpr, DataSeg, GlobalDef, ElemSeg, Module}
 use Rattle.wasm_tree.specs.declared.module.Func as tree
@@ -94,18 +94,7 @@ module _ (env : Environment) (all : List Part) (insts : List Inst) where
         rw (add_next, ← add_assoc) (simp (allocates.joins, length-append, allocates.many _ _ _ _ (adds p part.«module» j t.0 t.1)) at (stands (suc p) rest is _ z t.2 q m i e f))
     stands p _ _ s z h q m i e f = cc
 
-  -- ---- all of it ----
-
-  -- each part adds something to the store
-  abbrev pub EachAdds : ℕ → List Part → List Inst → Type 0
-  EachAdds p rest is = (q : ℕ) (m : Module) (i : Inst) → module_at rest q ≡ Some m → slice_get is q ≡ Some i → (t : Store) × (part_store env all insts (p + q) m i ≡ Some t)
-
-  pub stores_there : (s : Store) (p : ℕ) (rest : List Part) (is : List Inst) → EachAdds p rest is → (z : Store) × (stores_from env all insts s p rest is ≡ Some z)
-  stores_there s p (part ∷ rest) (i ∷ is) h =
-      let t = rw add-zero at (h 0 part.«module» i refl refl) in
-      let r = stores_there (joined_stores s t.0) (suc p) rest is (λ q. rw (← add_next p q) (h (suc q))) in
-      (r.0, rw (t.1, r.1))
-  stores_there s p _ _ h = (s, refl)
+  -- ---- where a part adds something ----
 
   -- it does where what it defines is there
   pub part_there : (p : ℕ) (m : Module) (i : Inst) → ((n : ℕ) (f : tree.Func) → slice_get m.funcs n ≡ Some f → (x : Func) × (new_func i f ≡ Some x)) →

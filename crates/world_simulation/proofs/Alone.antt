@@ -29,9 +29,6 @@ space_is env t k = simp (thing_is env t, add-zero)
 pub func_kind : (d : ImportDesc) → is_some (func_of d) ≡ same_space Functions (space_of_import d)
 func_kind d = grind arith
 
-pub func_desc : (d : ImportDesc) (ty : ℕ) → func_of d ≡ Some ty → d ≡ im.Func ty
-func_desc d ty h = grind arith
-
 pub global_desc : (d : ImportDesc) (g : GlobalType) → global_of d ≡ Some g → d ≡ im.Global g
 global_desc d g h = grind arith
 

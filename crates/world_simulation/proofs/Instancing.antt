@@ -1,19 +1,9 @@
 -- What an instance holds, and the instances of several parts one after the other.
-use Rattle.base_lists.proofs.Common.{◌≡◌, ap, refl, ℕ, zero, suc, ◌+◌, ◌<◌, List, [], ◌∷◌, ◌++◌, length, Option, Some, arith, add-zero, zero-add, inl, inr, option_and_then, slice_get, length-append, same_Some, length-numbers, and_then_is, is_some_there, all_there_length, append_from, all_there_back, number_is, add_next}
-use Rattle.wasm_tree_spec.specs.Prelude.{Space, Types, Functions, Tables, Memories, Globals, DataSegments, ElementSegments, Module}
+use Rattle.base_lists.proofs.Common.{◌≡◌, ap, ℕ, zero, suc, ◌+◌, ◌<◌, List, [], ◌∷◌, ◌++◌, length, Option, Some, arith, add-zero, inl, inr, option_and_then, slice_get, length-append, same_Some, length-numbers, and_then_is, is_some_there, all_there_length, append_from, all_there_back, number_is, add_next}
+use Rattle.wasm_tree_spec.specs.Prelude.{Space, Functions, Tables, Memories, Globals, DataSegments, ElementSegments, Module}
 use Rattle.wasm_meaning.specs.Prelude.{Inst, Part, module_at, imports_of, Environment, space, numbers, inst_of, insts_from, defined_before, defined_count, base, address_of, all_there, imported_external_value}
 
 -- ---- an index space ----
-
--- the addresses that an instance has for a space
-abbrev pub addresses_in : Space → Inst → List ℕ
-addresses_in Types i = []
-addresses_in Functions i = i.funcs
-addresses_in Tables i = i.tables
-addresses_in Memories i = i.mems
-addresses_in Globals i = i.globals
-addresses_in ElementSegments i = i.elems
-addresses_in DataSegments i = i.datas
 
 module _ (env : Environment) (parts : List Part) (k : Space) (p : ℕ) where
   -- the address of an import of a part
@@ -81,17 +71,7 @@ module _ (env : Environment) (all : List Part) where
         each = elim [ zero ↦ search (arith, add-zero) | suc q ↦ rw add_next (later.each q) ];
       })
 
-  pub insts_there : (p : ℕ) (parts : List Part) → ((q : ℕ) (m : Module) → module_at parts q ≡ Some m → (i : Inst) × (inst_of env all (p + q) m ≡ Some i)) → (is : List Inst) × (insts_from env all p parts ≡ Some is)
-  insts_there p [] h = ([], refl)
-  insts_there p (part ∷ parts) h =
-      let first = rw add-zero at (h 0 part.«module» refl) in
-      let r = insts_there (suc p) parts (λ q. rw (← add_next p q) (h (suc q))) in
-      is_some_there _ (rw (first.1, r.1))
-
   -- ---- those of a world ----
 
   pub inst_in : (is : List Inst) → insts_from env all 0 all ≡ Some is → (p : ℕ) (m : Module) → module_at all p ≡ Some m → (i : Inst) × (slice_get is p ≡ Some i) × IsInst env all p m i
   inst_in is h p m at = search (arith, (insts_are 0 all is h).each, inst_is)
-
-  pub insts_in : ((p : ℕ) (m : Module) → module_at all p ≡ Some m → (i : Inst) × (inst_of env all p m ≡ Some i)) → (is : List Inst) × (insts_from env all 0 all ≡ Some is)
-  insts_in h = insts_there 0 all (simp zero-add h)

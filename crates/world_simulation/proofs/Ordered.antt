@@ -76,12 +76,6 @@ module _ (R : Pairing) where
   pub kept_rel : {s t z y : Store} → StoreRel R s z → Kept in_first s t → Kept in_second z y → StoreRel R t y
   kept_rel like f g = grind (arith, both)
 
-  pub first_apart : (k : Space) (a : ℕ) → HasNoPartner (turned R) k a → in_first k a → ⊥
-  first_apart k a alone r = alone r.0 r.1
-
-  pub second_apart : (k : Space) (b : ℕ) → HasNoPartner R k b → in_second k b → ⊥
-  second_apart k b alone r = alone r.0 r.1
-
 -- ---- the segments of one world ----
 
 module _ (Q : Filled → Type 0) (value : ConstExpr → Option Val) (s : Store) (still : (trapped : Bool) → Q (record { store = s; trapped = trapped })) where

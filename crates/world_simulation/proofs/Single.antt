@@ -1,8 +1,8 @@
--- Worlds of one module each: their instances, what their imports denote, whether these match, and that they are linked.
-use Rattle.base_lists.proofs.Common.{◌≡◌, arith, ℕ, zero, suc, List, [], ◌∷◌, ◌++◌, length, Option, Some, true, false, refl, sym, ap, ◌∙◌, slice_get, unwrap_or, and_then_is, all_there_length, fun_ext, length_rel, same_there, there, then_rel, then_same_is, then_eq, opt_self, self_rel, all_rel}
+-- Worlds of one module each: their instances, what their imports denote, and whether these match.
+use Rattle.base_lists.proofs.Common.{◌≡◌, arith, ℕ, zero, suc, List, [], ◌∷◌, ◌++◌, length, Option, Some, false, refl, sym, ap, ◌∙◌, slice_get, unwrap_or, and_then_is, all_there_length, fun_ext, length_rel, same_there, there, then_rel, then_same_is, then_eq, opt_self, self_rel, all_rel}
 use Rattle.wasm_tree_spec.specs.Prelude.{Space, FuncType, Import, ImportDesc, Module}
 use Rattle.wasm_tree.specs.declared.module.ImportDesc.TheVariants as im
-use Rattle.wasm_meaning.specs.Prelude.{Inst, Store, Site, Text, has_kind, places, sites, imports_of, Environment, ExternalValue, all_of, numbers, own_count, defined_count, space, sites_in, is_match, is_matched, insts_from, stores_from, own_store, all_there, links, alone, seen_as}
+use Rattle.wasm_meaning.specs.Prelude.{Inst, Store, Site, has_kind, places, sites, imports_of, Environment, ExternalValue, all_of, numbers, own_count, defined_count, space, sites_in, is_match, is_matched, insts_from}
 use Rattle.index_remap.specs.Prelude.{Pairing, OptRel, ListRel, StoreRel, ExternalValueRel, a_func, a_table, a_memory, a_global}
 use Rattle.world_simulation.specs.Prelude.{one, external_value_in, addresses, SharesOwn}
 use Rattle.world_simulation.proofs.Alone.{space_is, thing_is, on_some}
@@ -57,7 +57,3 @@ module _ (env : Environment) (t : Module) (is : List Inst) where
   -- the one instance of a module alone
   pub one_inst : insts_from env (one t) 0 (one t) ≡ Some is → (i : Inst) × (is ≡ i ∷ []) × IsInst env (one t) 0 t i
   one_inst h = search (arith, inst_is)
-
-  pub made_there : (s : Store) (view : List (Text × ExternalValue)) → insts_from env (one t) 0 (one t) ≡ Some is → stores_from env (one t) is (own_store env) 0 (one t) is ≡ Some s → all_there (seen_as is) (alone t).view ≡ Some view →
-      all_of (is_matched env (one t) s) (sites (one t)) ≡ true → links env (alone t) ≡ true
-  made_there s view e f g h = rw (e, f, g, h)

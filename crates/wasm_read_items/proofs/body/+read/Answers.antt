@@ -5,7 +5,8 @@ use Rattle.wasm_tree_spec.specs.Prelude.{uses_data_in}
 use Rattle.wasm_read_spec.specs.Prelude.{sequence_at, behind}
 use Rattle.wasm_read_spec.proofs.Loops.{fails_through}
 use Rattle.base_lists.proofs.Each.{any_more}
-use Rattle.wasm_read_spec.proofs.Blocks.{behind_none, behind_behind, behind_fails, block_none, block_some, seq_err, seq_end, seq_else, seq_plain, seq_open, seq_open_err}
+use Rattle.wasm_read_spec.proofs.Blocks.{behind_none, behind_behind, seq_end, seq_else, seq_plain, seq_open}
+use Rattle.wasm_read_items.proofs.BlockSteps.{behind_fails, block_none, block_some, seq_err, seq_open_err}
 use Rattle.wasm_read_items.proofs.Piles.{told_plain, told_open, told_open_fails, uses_in_block, uses_in_loop, uses_in_if, uses_in_if_alone}
 use Rattle.wasm_read_items.proofs.body.+read.Goals as goal
 
