@@ -5,11 +5,12 @@ use Rattle.wasm_bytes.specs.Frames.{Frame}
 use Rattle.wasm_tree_spec.specs.Prelude.{Module}
 use Rattle.wasm_read_spec.specs.Prelude.{Spells}
 use Rattle.wasm_read_spec.specs.Cut.{EndsWithAFrame}
+use Rattle.wasm_read_spec.specs.Unambiguous.{IsPrefixFree}
 use Rattle.wasm_read_spec.proofs.Exact.{sized_exact}
-use Rattle.wasm_read_spec.proofs.EntryLaws.{Clear, clear_of}
+use Rattle.wasm_read_spec.proofs.EntryLaws.{prefix_free_of}
 
-sized_clear : Clear Sized
-sized_clear = clear_of sized_exact
+sized_prefix_free : IsPrefixFree Sized
+sized_prefix_free = prefix_free_of sized_exact
 
 head_same : (a b : ℕ) (xs ys : List ℕ) → ◌≡◌ {A = List ℕ} (a ∷ xs) (b ∷ ys) → (a ≡ b) × (xs ≡ ys)
 head_same a b xs ys h = (cc, cc)
@@ -21,7 +22,7 @@ frame_same last one other rest more s t e f g =
     let b = g.1 in
     let whole : s.0 ∷ (a.0 ++ rest) ≡ t.0 ∷ (b.0 ++ more) = sym (ap (λ z. z ++ rest) a.2) ∙ e ∙ ap (λ z. z ++ more) b.2 in
     let h = head_same s.0 t.0 (a.0 ++ rest) (b.0 ++ more) whole in
-    let c = sized_clear a.0 b.0 rest more s.1 t.1 h.1 a.1 b.1 in
+    let c = sized_prefix_free a.0 b.0 rest more s.1 t.1 h.1 a.1 b.1 in
     (ap (λ id. (id, s.1)) h.0 ∙ ap (λ content. (t.0, content)) c.0, c.1)
 
 frames_first : (ts ss : List Section) (last : ℕ) (text rest bytes : List ℕ) → bytes ≡ text ++ rest → Frames last text ts → Frames last bytes ss → (us : List Section) × (ss ≡ ts ++ us)

@@ -11,31 +11,29 @@ use Rattle.base_lists.specs.Every.{Every}
 use Rattle.wasm_read_spec.specs.Prelude.{Any, Few, SpellsGroup, SpellsCode, SpellsEntry, SmallCode, u32_at, sized_at, locals_at, each_from, body_at, code_of, in_place, next_func}
 use Rattle.wasm_read_spec.specs.BodyReading.{code_at}
 use Rattle.wasm_read_spec.specs.Contents.{entry_at, codes_at}
+use Rattle.wasm_read_spec.specs.Unambiguous.{IsPrefixFree}
 use Rattle.wasm_read_spec.proofs.Exact.{Exact, took_then, split, u32_exact, sized_exact, both_exact, mapped_exact, one_value, Along, each_sound, each_complete}
 use Rattle.wasm_read_spec.proofs.ItemLaws.{val_exact, locals_exact}
-use Rattle.wasm_read_spec.proofs.NestLaws.{body_found, body_read, body_clear}
+use Rattle.wasm_read_spec.proofs.NestLaws.{body_found, body_read, body_prefix_free}
 
--- ---- clear relations: no spelling goes on as another, and each is of one value
+-- ---- prefix-free encodings
 
-abbrev pub Clear : {A : Type 0} → (List ℕ → A → Type 0) → Type 0
-Clear {A} P = (one other rest more : List ℕ) (x y : A) → one ++ rest ≡ other ++ more → P one x → P other y → (x ≡ y) × (rest ≡ more)
+pub prefix_free_of : {A E : Type 0} {P : List ℕ → A → Type 0} {r : List ℕ → Result (A × List ℕ) E} → Exact P Any r → IsPrefixFree P
+prefix_free_of {A} {E} {P} {r} exact = λ one other rest more x y e p q. one_value P Any r exact one other rest more x y e p tt q tt
 
-pub clear_of : {A E : Type 0} {P : List ℕ → A → Type 0} {r : List ℕ → Result (A × List ℕ) E} → Exact P Any r → Clear P
-clear_of {A} {E} {P} {r} exact = λ one other rest more x y e p q. one_value P Any r exact one other rest more x y e p tt q tt
-
-each_clear : {A : Type 0} (P : List ℕ → A → Type 0) → Clear P → (xs ys : List A) (one other rest more : List ℕ) → length xs ≡ length ys → one ++ rest ≡ other ++ more → Each P one xs → Each P other ys → (xs ≡ ys) × (rest ≡ more)
-each_clear P clear [] [] one other rest more n e h k = (refl, sym (ap (λ z. z ++ rest) h) ∙ e ∙ ap (λ z. z ++ more) k)
-each_clear P clear [] (y ∷ ys) one other rest more n e h k = absurd (omega arith)
-each_clear P clear (x ∷ xs) [] one other rest more n e h k = absurd (omega arith)
-each_clear P clear (x ∷ xs) (y ∷ ys) one other rest more n e h k =
-    let first = clear h.0 k.0 (h.1 ++ rest) (k.1 ++ more) x y (sym (split _ _ one rest h) ∙ e ∙ split _ _ other more k) h.2 k.2 in
-    let later = each_clear P clear xs ys h.1 k.1 rest more (omega arith) first.1 h.3 k.3 in
+each_prefix_free : {A : Type 0} (P : List ℕ → A → Type 0) → IsPrefixFree P → (xs ys : List A) (one other rest more : List ℕ) → length xs ≡ length ys → one ++ rest ≡ other ++ more → Each P one xs → Each P other ys → (xs ≡ ys) × (rest ≡ more)
+each_prefix_free P free [] [] one other rest more n e h k = (refl, sym (ap (λ z. z ++ rest) h) ∙ e ∙ ap (λ z. z ++ more) k)
+each_prefix_free P free [] (y ∷ ys) one other rest more n e h k = absurd (omega arith)
+each_prefix_free P free (x ∷ xs) [] one other rest more n e h k = absurd (omega arith)
+each_prefix_free P free (x ∷ xs) (y ∷ ys) one other rest more n e h k =
+    let first = free h.0 k.0 (h.1 ++ rest) (k.1 ++ more) x y (sym (split _ _ one rest h) ∙ e ∙ split _ _ other more k) h.2 k.2 in
+    let later = each_prefix_free P free xs ys h.1 k.1 rest more (omega arith) first.1 h.3 k.3 in
     (ap (λ z. z ∷ xs) first.0 ∙ ap (λ zs. y ∷ zs) later.0, later.1)
 
-pub vector_clear : {A : Type 0} {P : List ℕ → A → Type 0} → Clear P → Clear (Vector P)
-vector_clear {A} {P} clear = λ one other rest more xs ys e h k.
-    let count = clear_of u32_exact h.0 k.0 (h.1 ++ rest) (k.1 ++ more) (length xs) (length ys) (sym (split _ _ one rest h) ∙ e ∙ split _ _ other more k) h.2 k.2 in
-    each_clear P clear xs ys h.1 k.1 rest more count.0 count.1 h.3 k.3
+pub vector_prefix_free : {A : Type 0} {P : List ℕ → A → Type 0} → IsPrefixFree P → IsPrefixFree (Vector P)
+vector_prefix_free {A} {P} free = λ one other rest more xs ys e h k.
+    let count = prefix_free_of u32_exact h.0 k.0 (h.1 ++ rest) (k.1 ++ more) (length xs) (length ys) (sym (split _ _ one rest h) ∙ e ∙ split _ _ other more k) h.2 k.2 in
+    each_prefix_free P free xs ys h.1 k.1 rest more count.0 count.1 h.3 k.3
 
 -- ---- what is inside an entry
 
@@ -56,22 +54,22 @@ module _ (many : Bool) where
       let h = s.0 in
       rw (h.4, locals_exact.complete h.0 h.1 f.locals h.2 k.0, body_read many h.1 f.body h.3 k.1) (ap (λ t. Ok (record f { ty = t })) (sym s.1))
 
-  group_clear : Clear SpellsGroup
-  group_clear = clear_of (mapped_exact {A = ℕ × _} {B = LocalGroup} (λ p. record { count = p.0; ty = p.1 }) (λ g. (g.count, g.ty)) (λ x. refl) (λ y. refl) (both_exact u32_exact val_exact))
+  group_prefix_free : IsPrefixFree SpellsGroup
+  group_prefix_free = prefix_free_of (mapped_exact {A = ℕ × _} {B = LocalGroup} (λ p. record { count = p.0; ty = p.1 }) (λ g. (g.count, g.ty)) (λ x. refl) (λ y. refl) (both_exact u32_exact val_exact))
 
   code_one : (bytes : List ℕ) (f g : Func) → SpellsCode many bytes f → SpellsCode many bytes g → f ≡ g
   code_one bytes f g s t =
       let h = s.0 in
       let k = t.0 in
-      let locals = vector_clear group_clear h.0 k.0 h.1 k.1 f.locals g.locals (sym h.4 ∙ k.4) h.2 k.2 in
-      let body = body_clear many h.1 k.1 [] [] f.body g.body (ap (λ z. z ++ []) locals.1) h.3 k.3 in
+      let locals = vector_prefix_free group_prefix_free h.0 k.0 h.1 k.1 f.locals g.locals (sym h.4 ∙ k.4) h.2 k.2 in
+      let body = body_prefix_free many h.1 k.1 [] [] f.body g.body (ap (λ z. z ++ []) locals.1) h.3 k.3 in
       ap (λ ls. record f { locals = ls }) locals.0 ∙ ap (λ is. record f { locals = g.locals; body = is }) body.0 ∙ ap (λ ty. record g { ty = ty }) (s.1 ∙ sym t.1)
 
   -- ---- an entry
 
-  pub entry_clear : Clear (SpellsEntry many)
-  entry_clear one other rest more f g e h k =
-      let c = clear_of sized_exact one other rest more h.0 k.0 e h.1 k.1 in
+  pub entry_prefix_free : IsPrefixFree (SpellsEntry many)
+  entry_prefix_free one other rest more f g e h k =
+      let c = prefix_free_of sized_exact one other rest more h.0 k.0 e h.1 k.1 in
       (code_one k.0 f g (subst (λ z. SpellsCode many z f) c.0 h.2) k.2, c.1)
 
   pub in_ok : {B : Type 0} (n : ℕ) (f : Option ℕ) (q : Result B Fault) (x : B) → in_place n f q ≡ Ok x → q ≡ Ok x

@@ -60,8 +60,8 @@ module _ (many : Bool) where
   body_read bytes is h k = body_complete many bytes is (h.0, to_in h.1 (limit Nesting) k, h.2)
 
   -- no spelling of a body goes on as that of another
-  pub body_clear : (one other rest more : List ℕ) (is js : List Instr) → one ++ rest ≡ other ++ more → SpellsBody many one is → SpellsBody many other js → (is ≡ js) × (rest ≡ more)
-  body_clear one other rest more is js e h k =
+  pub body_prefix_free : (one other rest more : List ℕ) (is js : List Instr) → one ++ rest ≡ other ++ more → SpellsBody many one is → SpellsBody many other js → (is ≡ js) × (rest ≡ more)
+  body_prefix_free one other rest more is js e h k =
       let d = depth is + depth js in
       let a = body_reads many d one rest is (h.0, to_in h.1 d (omega arith), h.2) in
       let b = body_reads many d other more js (k.0, to_in k.1 d (omega arith), k.2) in
@@ -69,7 +69,7 @@ module _ (many : Bool) where
       (ap (λ (s : Sequence). s.items) p.0, p.1)
 
 pub body_ends : (many : Bool) (text more : List ℕ) (is js : List Instr) → SpellsBody many text is → SpellsBody many (text ++ more) js → (more ≡ []) × (is ≡ js)
-body_ends many text more is js h k = let c = body_clear many text (text ++ more) more [] is js (sym (append-nil (text ++ more))) h k in (c.1, c.0)
+body_ends many text more is js h k = let c = body_prefix_free many text (text ++ more) more [] is js (sym (append-nil (text ++ more))) h k in (c.1, c.0)
 
 -- ---- memory 0
 

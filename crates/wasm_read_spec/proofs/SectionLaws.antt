@@ -12,9 +12,10 @@ use Rattle.wasm_read_spec.specs.Prelude.{Never, Made, When, Any, Few, Limited, W
 use Rattle.wasm_read_spec.specs.Files.{section_form, small_form}
 use Rattle.wasm_read_spec.specs.Reading.{whole_at}
 use Rattle.wasm_read_spec.specs.Contents.{section_at}
+use Rattle.wasm_read_spec.specs.Unambiguous.{IsPrefixFree, ItemsArePrefixFree}
 use Rattle.wasm_read_spec.proofs.Exact.{Exact, u32_exact, name_exact, both_exact, mapped_exact, tagged_exact, list_exact, vector_exact}
 use Rattle.wasm_read_spec.proofs.ItemLaws.{val_exact, func_type_exact, import_exact, table_exact, limits_exact, global_def_exact, export_exact, elem_exact, data_exact}
-use Rattle.wasm_read_spec.proofs.EntryLaws.{Clear, clear_of, vector_clear, entry_clear, in_ok, codes_sound, codes_complete}
+use Rattle.wasm_read_spec.proofs.EntryLaws.{prefix_free_of, vector_prefix_free, entry_prefix_free, in_ok, codes_sound, codes_complete}
 
 -- ---- all of the bytes
 
@@ -42,8 +43,8 @@ module _ {A : Type 0} (P : List ℕ → A → Type 0) (S : A → Type 0) (r : Re
   whole_complete bs x h k =
       let e : r bs ≡ Ok (x, []) = subst (λ z. r z ≡ Ok (x, [])) (append-nil bs) (exact.complete bs [] x h k) in rw e
 
-pub one_whole : {A : Type 0} (P : List ℕ → A → Type 0) → Clear P → (c : List ℕ) (x y : A) → P c x → P c y → x ≡ y
-one_whole P clear c x y h k = (clear c c [] [] x y refl h k).0
+pub one_whole : {A : Type 0} (P : List ℕ → A → Type 0) → IsPrefixFree P → (c : List ℕ) (x y : A) → P c x → P c y → x ≡ y
+one_whole P free c x y h k = (free c c [] [] x y refl h k).0
 
 -- ---- sections
 
@@ -70,22 +71,22 @@ put_ok n make r q e =
     let w = bind_ok (in_place n None r) _ _ e in
     (w.0, in_ok false n None r w.0 w.1, let k = w.2 in let same : make w.0 ≡ q = cc in sym same)
 
-right_put : {A : Type 0} {P : List ℕ → A → Type 0} {S : A → Type 0} {r : Reader A} (n : ℕ) (make : A → Parts) → Exact P S r → Clear P → Right (Made make P) (Limited P S) (λ c. put_at n make (whole_at r c))
-right_put {A} {P} {S} {r} n make exact clear = record {
+right_put : {A : Type 0} {P : List ℕ → A → Type 0} {S : A → Type 0} {r : Reader A} (n : ℕ) (make : A → Parts) → Exact P S r → IsPrefixFree P → Right (Made make P) (Limited P S) (λ c. put_at n make (whole_at r c))
+right_put {A} {P} {S} {r} n make exact free = record {
   sound = λ c q small e.
       let p = put_ok n make (whole_at r c) q e in
       let w = whole_sound P S r exact c p.0 small p.1 in
-      ((p.0, w.0, p.2), λ x h. subst S (one_whole P clear c p.0 x w.0 h) w.1);
+      ((p.0, w.0, p.2), λ x h. subst S (one_whole P free c p.0 x w.0 h) w.1);
   complete = λ c q h k. rw (whole_complete P S r exact c h.0 h.1 (k h.0 h.1), h.2);
-  one = λ c q t h k. h.2 ∙ ap make (one_whole P clear c h.0 k.0 h.1 k.1) ∙ sym k.2;
+  one = λ c q t h k. h.2 ∙ ap make (one_whole P free c h.0 k.0 h.1 k.1) ∙ sym k.2;
 }
 
 -- a section without a limit
-right_free : {A : Type 0} {P : List ℕ → A → Type 0} {r : Reader A} (n : ℕ) (make : A → Parts) → Exact P Any r → Clear P → Right (Made make P) Any (λ c. put_at n make (whole_at r c))
-right_free {A} {P} {r} n make exact clear = record {
-  sound = λ c q small e. let w = (right_put n make exact clear).sound c q small e in (w.0, tt);
-  complete = λ c q h k. (right_put n make exact clear).complete c q h (λ x y. tt);
-  one = λ c q t h k. (right_put n make exact clear).one c q t h k;
+right_free : {A : Type 0} {P : List ℕ → A → Type 0} {r : Reader A} (n : ℕ) (make : A → Parts) → Exact P Any r → IsPrefixFree P → Right (Made make P) Any (λ c. put_at n make (whole_at r c))
+right_free {A} {P} {r} n make exact free = record {
+  sound = λ c q small e. let w = (right_put n make exact free).sound c q small e in (w.0, tt);
+  complete = λ c q h k. (right_put n make exact free).complete c q h (λ x y. tt);
+  one = λ c q t h k. (right_put n make exact free).one c q t h k;
 }
 
 custom_sound : (n : ℕ) (p : Parts) (c : List ℕ) (q : Parts) → IsBytes c → put_at n (λ u. p) (custom_at c) ≡ Ok q → SpellsCustom p c q
@@ -108,29 +109,44 @@ right_codes many n func p = record {
       let w = bind_ok (codes_at many n func c) _ _ e in
       let s = codes_sound many n func c w.0 small w.1 in
       let same : with_codes p w.0 ≡ q = (let k = w.2 in cc) in
-      ((w.0, s.0, sym same), λ x h. subst (Few (limit Functions) SmallCode) (one_whole _ (vector_clear (entry_clear many)) c w.0 x s.0 h) s.1);
+      ((w.0, s.0, sym same), λ x h. subst (Few (limit Functions) SmallCode) (one_whole _ (vector_prefix_free (entry_prefix_free many)) c w.0 x s.0 h) s.1);
   complete = λ c q h k. rw (codes_complete many n func c h.0 h.1 (k h.0 h.1), h.2);
-  one = λ c q t h k. h.2 ∙ ap (with_codes p) (one_whole _ (vector_clear (entry_clear many)) c h.0 k.0 h.1 k.1) ∙ sym k.2;
+  one = λ c q t h k. h.2 ∙ ap (with_codes p) (one_whole _ (vector_prefix_free (entry_prefix_free many)) c h.0 k.0 h.1 k.1) ∙ sym k.2;
 }
 
 -- function types without their limits
-pub type_clear : Clear SpellsFuncType
-type_clear = clear_of (tagged_exact 0x60 (mapped_exact func_type_of (λ (t : FuncType). (t.params, t.results)) (λ x. refl) (λ y. refl) (both_exact (list_exact val_exact) (list_exact val_exact))))
+type_prefix_free : IsPrefixFree SpellsFuncType
+type_prefix_free = prefix_free_of (tagged_exact 0x60 (mapped_exact func_type_of (λ (t : FuncType). (t.params, t.results)) (λ x. refl) (λ y. refl) (both_exact (list_exact val_exact) (list_exact val_exact))))
+
+-- what a section lists is read as it is spelled, so that no spelling goes on as another
+pub items_prefix_free : ItemsArePrefixFree
+items_prefix_free = record {
+  types = type_prefix_free;
+  imports = prefix_free_of import_exact;
+  func_types = prefix_free_of u32_exact;
+  tables = prefix_free_of table_exact;
+  mems = prefix_free_of limits_exact;
+  globals = prefix_free_of global_def_exact;
+  exports = prefix_free_of export_exact;
+  elems = prefix_free_of elem_exact;
+  codes = entry_prefix_free;
+  datas = prefix_free_of data_exact;
+}
 
 pub section_right : (many : Bool) (n : ℕ) (p : Parts) (id : ℕ) → Right (section_form many p id) (small_form many id) (λ c. section_at many n p (id, c))
 unfolding section_form small_form section_at
 section_right many n p id =
     right_when (id == 0) (right_custom n p)
-    (right_when (id == 1) (right_put n (with_types p) (vector_exact Types func_type_exact) (vector_clear type_clear))
-    (right_when (id == 2) (right_put n (with_imports p) (vector_exact Imports import_exact) (vector_clear (clear_of import_exact)))
-    (right_when (id == 3) (right_put n (with_func_types p) (vector_exact Functions u32_exact) (vector_clear (clear_of u32_exact)))
-    (right_when (id == 4) (right_put n (with_tables p) (vector_exact Tables table_exact) (vector_clear (clear_of table_exact)))
-    (right_when (id == 5) (right_put n (with_mems p) (vector_exact Memories limits_exact) (vector_clear (clear_of limits_exact)))
-    (right_when (id == 6) (right_put n (with_globals p) (vector_exact Globals global_def_exact) (vector_clear (clear_of global_def_exact)))
-    (right_when (id == 7) (right_put n (with_exports p) (vector_exact Exports export_exact) (vector_clear (clear_of export_exact)))
-    (right_when (id == 8) (right_free n (with_start p) u32_exact (clear_of u32_exact))
-    (right_when (id == 9) (right_put n (with_elems p) (vector_exact ElementSegments elem_exact) (vector_clear (clear_of elem_exact)))
+    (right_when (id == 1) (right_put n (with_types p) (vector_exact Types func_type_exact) (vector_prefix_free items_prefix_free.types))
+    (right_when (id == 2) (right_put n (with_imports p) (vector_exact Imports import_exact) (vector_prefix_free items_prefix_free.imports))
+    (right_when (id == 3) (right_put n (with_func_types p) (vector_exact Functions u32_exact) (vector_prefix_free items_prefix_free.func_types))
+    (right_when (id == 4) (right_put n (with_tables p) (vector_exact Tables table_exact) (vector_prefix_free items_prefix_free.tables))
+    (right_when (id == 5) (right_put n (with_mems p) (vector_exact Memories limits_exact) (vector_prefix_free items_prefix_free.mems))
+    (right_when (id == 6) (right_put n (with_globals p) (vector_exact Globals global_def_exact) (vector_prefix_free items_prefix_free.globals))
+    (right_when (id == 7) (right_put n (with_exports p) (vector_exact Exports export_exact) (vector_prefix_free items_prefix_free.exports))
+    (right_when (id == 8) (right_free n (with_start p) u32_exact (prefix_free_of u32_exact))
+    (right_when (id == 9) (right_put n (with_elems p) (vector_exact ElementSegments elem_exact) (vector_prefix_free items_prefix_free.elems))
     (right_when (id == 10) (right_codes many n (length (imported_funcs p.imports)) p)
-    (right_when (id == 11) (right_put n (with_datas p) (vector_exact DataSegments data_exact) (vector_clear (clear_of data_exact)))
-    (right_when (id == 12) (right_free n (with_count p) u32_exact (clear_of u32_exact))
+    (right_when (id == 11) (right_put n (with_datas p) (vector_exact DataSegments data_exact) (vector_prefix_free items_prefix_free.datas))
+    (right_when (id == 12) (right_free n (with_count p) u32_exact (prefix_free_of u32_exact))
     (right_never n)))))))))))))

@@ -11,4 +11,5 @@ pub mod Contents
 pub mod Stops
 pub mod Causes
 pub mod Cut
+pub mod Unambiguous
 pub mod Prelude

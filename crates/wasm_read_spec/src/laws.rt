@@ -15,6 +15,7 @@ ghost use Rattle.wasm_read_spec.specs.Contents.{read_fault};
 ghost use Rattle.wasm_read_spec.specs.Stops.{Stop as SomeStop};
 ghost use Rattle.wasm_read_spec.specs.Causes.{StopsAt, Cause};
 ghost use Rattle.wasm_read_spec.specs.Cut.{CutFiles};
+ghost use Rattle.wasm_read_spec.specs.Unambiguous.{ItemsArePrefixFree, FramesAreUnique};
 
 use wasm_tree::operands_pass_layer_by_layer;
 
@@ -28,6 +29,14 @@ pub fn decoding_is_unique()
 /// because the header alone encodes the empty module.)
 pub fn body_encodings_are_prefix_free()
     ensures { (many : Bool) (text more : List ℕ) (is js : List Tree) → SpellsBody many text is → SpellsBody many (text ++ more) js → (more ≡ []) × (is ≡ js) }
+{}
+
+/// No encoding of an item of a section is a proper prefix of another, and the same bytes encode at
+/// most one item (`items`: each field is about one section). The bytes of a file have at most one
+/// list of section frames (`frames`).
+pub fn section_encodings_are_unambiguous()
+    ensures items { ItemsArePrefixFree }
+    ensures frames { FramesAreUnique }
 {}
 
 /// A file has no fault exactly if it encodes a tree and is within the limits.

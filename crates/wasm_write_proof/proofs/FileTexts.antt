@@ -10,15 +10,14 @@ use Rattle.base_lists.specs.Every.{Every}
 use Rattle.wasm_read_spec.specs.Prelude.{SmallFuncType, SpellsFuncType, SpellsTable, SpellsLimits, SpellsImport, SpellsGlobalDef, SpellsExport, SpellsElem, SpellsData, SpellsEntry, SmallCode, Any, Few, Limited, SectionIsSmall, Within, nothing, with_types, with_imports, with_func_types, with_tables, with_mems, with_globals, with_exports, with_elems, with_codes, with_datas, Contents, typed, tree_of, Spells}
 use Rattle.wasm_tree.specs.declared.which.Which.TheVariants.{Types, Functions, Tables, Memories, Globals, ElementSegments, DataSegments}
 use Rattle.wasm_read_spec.specs.Files.{small_form, section_form, Counted, Rules}
+use Rattle.wasm_read_spec.specs.Unambiguous.{IsPrefixFree, ItemsArePrefixFree, FramesAreUnique}
 use Rattle.wasm_write_spec.specs.PlainValues.{each_text, vector_text, func_type_text, import_text, table_text, limits_text, global_text, export_text, elem_text, data_text}
 use Rattle.wasm_write_spec.specs.PlainCode.{entry_text}
 use Rattle.wasm_write_spec.specs.Plain.{section_text, list_section, start_section, count_section, plain}
 use Rattle.wasm_write_proof.specs.Ranges.{IsU32, MaxInRange, LimitsInRange, ConstInRange, ImportInRange, ExportInRange, ElemInRange, DataModeInRange, FuncInRange, InRange}
-use Rattle.wasm_read_spec.proofs.Exact.{u32_exact, every_any}
-use Rattle.wasm_read_spec.proofs.ItemLaws.{import_exact, table_exact, limits_exact, global_def_exact, export_exact, elem_exact, data_exact}
-use Rattle.wasm_read_spec.proofs.EntryLaws.{Clear, clear_of, vector_clear, entry_clear}
-use Rattle.wasm_read_spec.proofs.SectionLaws.{one_whole, type_clear}
-use Rattle.wasm_read_spec.proofs.FileLaws.{one_framing}
+use Rattle.wasm_read_spec.proofs.Exact.{every_any}
+use Rattle.wasm_read_spec.proofs.EntryLaws.{vector_prefix_free}
+use Rattle.wasm_read_spec.proofs.SectionLaws.{one_whole}
 use Rattle.wasm_write_proof.specs.SmallSizes.{SmallSizes}
 use Rattle.wasm_write_proof.specs.TreeLimits.{WithinLimits}
 use Rattle.wasm_write_proof.proofs.Parts.{u32_some, u32_spells, sized_spells, vector_mapped, every_short}
@@ -170,13 +169,9 @@ parted a b h = (omega (arith, h, length-append a b), omega (arith, h, length-app
 
 -- ---- each section
 
-types_form : (m : Module) → InRange m → length (vector_text func_type_text m.types) < 2 ^ 32 → section_form false nothing 1 (vector_text func_type_text m.types) (p1 m)
-unfolding section_form
-types_form m r few = (map (λ (x : FuncType). x) m.types, items (λ (t : FuncType). Unit {0}) SpellsFuncType func_type_text m.types func_type_some (λ t u few. func_type_spells t few) (every_of (λ (t : FuncType). Unit {0}) m.types (λ t. tt)) few, refl)
-
 -- what a content spells is one list, so that it is within a limit where this one is
-small_items : {A : Type 0} (spells : List ℕ → A → Type 0) (S : List A → Type 0) (c : List ℕ) (xs : List A) → Clear spells → Vector spells c xs → S xs → Limited (Vector spells) S c
-small_items spells S c xs clear v s = λ ys h. subst S (one_whole (Vector spells) (vector_clear clear) c xs ys v h) s
+small_items : {A : Type 0} (spells : List ℕ → A → Type 0) (S : List A → Type 0) (c : List ℕ) (xs : List A) → IsPrefixFree spells → Vector spells c xs → S xs → Limited (Vector spells) S c
+small_items spells S c xs free v s = λ ys h. subst S (one_whole (Vector spells) (vector_prefix_free free) c xs ys v h) s
 
 few_any : {A : Type 0} (most : ℕ) (xs : List A) → length xs ≤ most → Few most Any (map (λ (x : A). x) xs)
 few_any {A} most xs le = subst (Few {A = A} most Any) (sym (map_id xs)) (le, every_any xs)
@@ -185,121 +180,127 @@ every_untyped : (fs : List Func) → Every SmallCode fs → Every SmallCode (map
 every_untyped [] h = tt
 every_untyped (f ∷ fs) h = (h.0, every_untyped fs h.1)
 
-types_small : (m : Module) → InRange m → length (vector_text func_type_text m.types) < 2 ^ 32 → WithinLimits m → small_form false 1 (vector_text func_type_text m.types)
-unfolding small_form
-types_small m r few w = small_items SpellsFuncType (Few (limit Types) SmallFuncType) (vector_text func_type_text m.types) (map (λ (x : FuncType). x) m.types) type_clear (items (λ (t : FuncType). Unit {0}) SpellsFuncType func_type_text m.types func_type_some (λ t u few. func_type_spells t few) (every_of (λ (t : FuncType). Unit {0}) m.types (λ t. tt)) few) (subst (Few (limit Types) SmallFuncType) (sym (map_id m.types)) w.types)
+-- that no encoding of an item goes on as another is a law of wasm_read_spec
+module _ (free : ItemsArePrefixFree) where
+  types_form : (m : Module) → InRange m → length (vector_text func_type_text m.types) < 2 ^ 32 → section_form false nothing 1 (vector_text func_type_text m.types) (p1 m)
+  unfolding section_form
+  types_form m r few = (map (λ (x : FuncType). x) m.types, items (λ (t : FuncType). Unit {0}) SpellsFuncType func_type_text m.types func_type_some (λ t u few. func_type_spells t few) (every_of (λ (t : FuncType). Unit {0}) m.types (λ t. tt)) few, refl)
 
-types_more : (m : Module) (q : Parts) (bytes : List ℕ) → InRange m → length (vector_text func_type_text m.types) < 2 ^ 32 → Rest (WithinLimits m) 1 (p1 m) bytes q → Rest (WithinLimits m) 0 nothing (list_section 1 func_type_text m.types ++ bytes) q
-types_more m q bytes r few rest =
-    list_more (WithinLimits m) 0 1 1 nothing q (with_types nothing) (λ (x : FuncType). x) func_type_text m.types bytes (λ last l. lt-ltb last 1 (omega arith)) (λ last. omega arith) refl (omega arith) (types_form m r) (types_small m r) few rest
+  types_small : (m : Module) → InRange m → length (vector_text func_type_text m.types) < 2 ^ 32 → WithinLimits m → small_form false 1 (vector_text func_type_text m.types)
+  unfolding small_form
+  types_small m r few w = small_items SpellsFuncType (Few (limit Types) SmallFuncType) (vector_text func_type_text m.types) (map (λ (x : FuncType). x) m.types) free.types (items (λ (t : FuncType). Unit {0}) SpellsFuncType func_type_text m.types func_type_some (λ t u few. func_type_spells t few) (every_of (λ (t : FuncType). Unit {0}) m.types (λ t. tt)) few) (subst (Few (limit Types) SmallFuncType) (sym (map_id m.types)) w.types)
 
-imports_form : (m : Module) → InRange m → length (vector_text import_text m.imports) < 2 ^ 32 → section_form false (p1 m) 2 (vector_text import_text m.imports) (p2 m)
-unfolding section_form
-imports_form m r few = (map (λ (x : Import). x) m.imports, items ImportInRange SpellsImport import_text m.imports import_some import_spells r.imports few, refl)
+  types_more : (m : Module) (q : Parts) (bytes : List ℕ) → InRange m → length (vector_text func_type_text m.types) < 2 ^ 32 → Rest (WithinLimits m) 1 (p1 m) bytes q → Rest (WithinLimits m) 0 nothing (list_section 1 func_type_text m.types ++ bytes) q
+  types_more m q bytes r few rest =
+      list_more (WithinLimits m) 0 1 1 nothing q (with_types nothing) (λ (x : FuncType). x) func_type_text m.types bytes (λ last l. lt-ltb last 1 (omega arith)) (λ last. omega arith) refl (omega arith) (types_form m r) (types_small m r) few rest
 
-imports_small : (m : Module) → InRange m → length (vector_text import_text m.imports) < 2 ^ 32 → WithinLimits m → small_form false 2 (vector_text import_text m.imports)
-unfolding small_form
-imports_small m r few w = small_items SpellsImport (Few (limit Imports) Any) (vector_text import_text m.imports) (map (λ (x : Import). x) m.imports) (clear_of import_exact) (items ImportInRange SpellsImport import_text m.imports import_some import_spells r.imports few) (few_any (limit Imports) m.imports w.imports)
+  imports_form : (m : Module) → InRange m → length (vector_text import_text m.imports) < 2 ^ 32 → section_form false (p1 m) 2 (vector_text import_text m.imports) (p2 m)
+  unfolding section_form
+  imports_form m r few = (map (λ (x : Import). x) m.imports, items ImportInRange SpellsImport import_text m.imports import_some import_spells r.imports few, refl)
 
-imports_more : (m : Module) (q : Parts) (bytes : List ℕ) → InRange m → length (vector_text import_text m.imports) < 2 ^ 32 → Rest (WithinLimits m) 2 (p2 m) bytes q → Rest (WithinLimits m) 1 (p1 m) (list_section 2 import_text m.imports ++ bytes) q
-imports_more m q bytes r few rest =
-    list_more (WithinLimits m) 1 2 2 (p1 m) q (with_imports (p1 m)) (λ (x : Import). x) import_text m.imports bytes (λ last l. lt-ltb last 2 (omega arith)) (λ last. omega arith) refl (omega arith) (imports_form m r) (imports_small m r) few rest
+  imports_small : (m : Module) → InRange m → length (vector_text import_text m.imports) < 2 ^ 32 → WithinLimits m → small_form false 2 (vector_text import_text m.imports)
+  unfolding small_form
+  imports_small m r few w = small_items SpellsImport (Few (limit Imports) Any) (vector_text import_text m.imports) (map (λ (x : Import). x) m.imports) free.imports (items ImportInRange SpellsImport import_text m.imports import_some import_spells r.imports few) (few_any (limit Imports) m.imports w.imports)
 
-func_section_form : (m : Module) → InRange m → length (vector_text (λ (f : Func). u32_text f.ty) m.funcs) < 2 ^ 32 → section_form false (p2 m) 3 (vector_text (λ (f : Func). u32_text f.ty) m.funcs) (p3 m)
-unfolding section_form
-func_section_form m r few = (map (λ (f : Func). f.ty) m.funcs, func_types m.funcs r.funcs few, refl)
+  imports_more : (m : Module) (q : Parts) (bytes : List ℕ) → InRange m → length (vector_text import_text m.imports) < 2 ^ 32 → Rest (WithinLimits m) 2 (p2 m) bytes q → Rest (WithinLimits m) 1 (p1 m) (list_section 2 import_text m.imports ++ bytes) q
+  imports_more m q bytes r few rest =
+      list_more (WithinLimits m) 1 2 2 (p1 m) q (with_imports (p1 m)) (λ (x : Import). x) import_text m.imports bytes (λ last l. lt-ltb last 2 (omega arith)) (λ last. omega arith) refl (omega arith) (imports_form m r) (imports_small m r) few rest
 
-func_section_small : (m : Module) → InRange m → length (vector_text (λ (f : Func). u32_text f.ty) m.funcs) < 2 ^ 32 → WithinLimits m → small_form false 3 (vector_text (λ (f : Func). u32_text f.ty) m.funcs)
-unfolding small_form
-func_section_small m r few w = small_items U32 (Few (limit Functions) Any) (vector_text (λ (f : Func). u32_text f.ty) m.funcs) (map (λ (f : Func). f.ty) m.funcs) (clear_of u32_exact) (func_types m.funcs r.funcs few) ((rw (length-map m.funcs (λ (f : Func). f.ty)) w.funcs.0, every_any (map (λ (f : Func). f.ty) m.funcs)))
+  func_section_form : (m : Module) → InRange m → length (vector_text (λ (f : Func). u32_text f.ty) m.funcs) < 2 ^ 32 → section_form false (p2 m) 3 (vector_text (λ (f : Func). u32_text f.ty) m.funcs) (p3 m)
+  unfolding section_form
+  func_section_form m r few = (map (λ (f : Func). f.ty) m.funcs, func_types m.funcs r.funcs few, refl)
 
-func_section_more : (m : Module) (q : Parts) (bytes : List ℕ) → InRange m → length (vector_text (λ (f : Func). u32_text f.ty) m.funcs) < 2 ^ 32 → Rest (WithinLimits m) 3 (p3 m) bytes q → Rest (WithinLimits m) 2 (p2 m) (list_section 3 (λ (f : Func). u32_text f.ty) m.funcs ++ bytes) q
-func_section_more m q bytes r few rest =
-    list_more (WithinLimits m) 2 3 3 (p2 m) q (with_func_types (p2 m)) (λ (f : Func). f.ty) (λ (f : Func). u32_text f.ty) m.funcs bytes (λ last l. lt-ltb last 3 (omega arith)) (λ last. omega arith) refl (omega arith) (func_section_form m r) (func_section_small m r) few rest
+  func_section_small : (m : Module) → InRange m → length (vector_text (λ (f : Func). u32_text f.ty) m.funcs) < 2 ^ 32 → WithinLimits m → small_form false 3 (vector_text (λ (f : Func). u32_text f.ty) m.funcs)
+  unfolding small_form
+  func_section_small m r few w = small_items U32 (Few (limit Functions) Any) (vector_text (λ (f : Func). u32_text f.ty) m.funcs) (map (λ (f : Func). f.ty) m.funcs) free.func_types (func_types m.funcs r.funcs few) ((rw (length-map m.funcs (λ (f : Func). f.ty)) w.funcs.0, every_any (map (λ (f : Func). f.ty) m.funcs)))
 
-tables_form : (m : Module) → InRange m → length (vector_text table_text m.tables) < 2 ^ 32 → section_form false (p3 m) 4 (vector_text table_text m.tables) (p4 m)
-unfolding section_form
-tables_form m r few = (map (λ (x : TableType). x) m.tables, items (λ (t : TableType). LimitsInRange t.limits) SpellsTable table_text m.tables table_some (λ t h few. table_spells t h) r.tables few, refl)
+  func_section_more : (m : Module) (q : Parts) (bytes : List ℕ) → InRange m → length (vector_text (λ (f : Func). u32_text f.ty) m.funcs) < 2 ^ 32 → Rest (WithinLimits m) 3 (p3 m) bytes q → Rest (WithinLimits m) 2 (p2 m) (list_section 3 (λ (f : Func). u32_text f.ty) m.funcs ++ bytes) q
+  func_section_more m q bytes r few rest =
+      list_more (WithinLimits m) 2 3 3 (p2 m) q (with_func_types (p2 m)) (λ (f : Func). f.ty) (λ (f : Func). u32_text f.ty) m.funcs bytes (λ last l. lt-ltb last 3 (omega arith)) (λ last. omega arith) refl (omega arith) (func_section_form m r) (func_section_small m r) few rest
 
-tables_small : (m : Module) → InRange m → length (vector_text table_text m.tables) < 2 ^ 32 → WithinLimits m → small_form false 4 (vector_text table_text m.tables)
-unfolding small_form
-tables_small m r few w = small_items SpellsTable (Few (limit Tables) Any) (vector_text table_text m.tables) (map (λ (x : TableType). x) m.tables) (clear_of table_exact) (items (λ (t : TableType). LimitsInRange t.limits) SpellsTable table_text m.tables table_some (λ t h few. table_spells t h) r.tables few) (few_any (limit Tables) m.tables w.tables)
+  tables_form : (m : Module) → InRange m → length (vector_text table_text m.tables) < 2 ^ 32 → section_form false (p3 m) 4 (vector_text table_text m.tables) (p4 m)
+  unfolding section_form
+  tables_form m r few = (map (λ (x : TableType). x) m.tables, items (λ (t : TableType). LimitsInRange t.limits) SpellsTable table_text m.tables table_some (λ t h few. table_spells t h) r.tables few, refl)
 
-tables_more : (m : Module) (q : Parts) (bytes : List ℕ) → InRange m → length (vector_text table_text m.tables) < 2 ^ 32 → Rest (WithinLimits m) 4 (p4 m) bytes q → Rest (WithinLimits m) 3 (p3 m) (list_section 4 table_text m.tables ++ bytes) q
-tables_more m q bytes r few rest =
-    list_more (WithinLimits m) 3 4 4 (p3 m) q (with_tables (p3 m)) (λ (x : TableType). x) table_text m.tables bytes (λ last l. lt-ltb last 4 (omega arith)) (λ last. omega arith) refl (omega arith) (tables_form m r) (tables_small m r) few rest
+  tables_small : (m : Module) → InRange m → length (vector_text table_text m.tables) < 2 ^ 32 → WithinLimits m → small_form false 4 (vector_text table_text m.tables)
+  unfolding small_form
+  tables_small m r few w = small_items SpellsTable (Few (limit Tables) Any) (vector_text table_text m.tables) (map (λ (x : TableType). x) m.tables) free.tables (items (λ (t : TableType). LimitsInRange t.limits) SpellsTable table_text m.tables table_some (λ t h few. table_spells t h) r.tables few) (few_any (limit Tables) m.tables w.tables)
 
-mems_form : (m : Module) → InRange m → length (vector_text limits_text m.mems) < 2 ^ 32 → section_form false (p4 m) 5 (vector_text limits_text m.mems) (p5 m)
-unfolding section_form
-mems_form m r few = (map (λ (x : Limits). x) m.mems, items LimitsInRange SpellsLimits limits_text m.mems limits_some (λ l h few. limits_spells l h) r.mems few, refl)
+  tables_more : (m : Module) (q : Parts) (bytes : List ℕ) → InRange m → length (vector_text table_text m.tables) < 2 ^ 32 → Rest (WithinLimits m) 4 (p4 m) bytes q → Rest (WithinLimits m) 3 (p3 m) (list_section 4 table_text m.tables ++ bytes) q
+  tables_more m q bytes r few rest =
+      list_more (WithinLimits m) 3 4 4 (p3 m) q (with_tables (p3 m)) (λ (x : TableType). x) table_text m.tables bytes (λ last l. lt-ltb last 4 (omega arith)) (λ last. omega arith) refl (omega arith) (tables_form m r) (tables_small m r) few rest
 
-mems_small : (m : Module) → InRange m → length (vector_text limits_text m.mems) < 2 ^ 32 → WithinLimits m → small_form false 5 (vector_text limits_text m.mems)
-unfolding small_form
-mems_small m r few w = small_items SpellsLimits (Few (limit Memories) Any) (vector_text limits_text m.mems) (map (λ (x : Limits). x) m.mems) (clear_of limits_exact) (items LimitsInRange SpellsLimits limits_text m.mems limits_some (λ l h few. limits_spells l h) r.mems few) (few_any (limit Memories) m.mems w.mems)
+  mems_form : (m : Module) → InRange m → length (vector_text limits_text m.mems) < 2 ^ 32 → section_form false (p4 m) 5 (vector_text limits_text m.mems) (p5 m)
+  unfolding section_form
+  mems_form m r few = (map (λ (x : Limits). x) m.mems, items LimitsInRange SpellsLimits limits_text m.mems limits_some (λ l h few. limits_spells l h) r.mems few, refl)
 
-mems_more : (m : Module) (q : Parts) (bytes : List ℕ) → InRange m → length (vector_text limits_text m.mems) < 2 ^ 32 → Rest (WithinLimits m) 5 (p5 m) bytes q → Rest (WithinLimits m) 4 (p4 m) (list_section 5 limits_text m.mems ++ bytes) q
-mems_more m q bytes r few rest =
-    list_more (WithinLimits m) 4 5 5 (p4 m) q (with_mems (p4 m)) (λ (x : Limits). x) limits_text m.mems bytes (λ last l. lt-ltb last 5 (omega arith)) (λ last. omega arith) refl (omega arith) (mems_form m r) (mems_small m r) few rest
+  mems_small : (m : Module) → InRange m → length (vector_text limits_text m.mems) < 2 ^ 32 → WithinLimits m → small_form false 5 (vector_text limits_text m.mems)
+  unfolding small_form
+  mems_small m r few w = small_items SpellsLimits (Few (limit Memories) Any) (vector_text limits_text m.mems) (map (λ (x : Limits). x) m.mems) free.mems (items LimitsInRange SpellsLimits limits_text m.mems limits_some (λ l h few. limits_spells l h) r.mems few) (few_any (limit Memories) m.mems w.mems)
 
-globals_form : (m : Module) → InRange m → length (vector_text global_text m.globals) < 2 ^ 32 → section_form false (p5 m) 6 (vector_text global_text m.globals) (p6 m)
-unfolding section_form
-globals_form m r few = (map (λ (x : GlobalDef). x) m.globals, items (λ (g : GlobalDef). ConstInRange g.init) SpellsGlobalDef global_text m.globals global_some (λ g h few. global_spells g h) r.globals few, refl)
+  mems_more : (m : Module) (q : Parts) (bytes : List ℕ) → InRange m → length (vector_text limits_text m.mems) < 2 ^ 32 → Rest (WithinLimits m) 5 (p5 m) bytes q → Rest (WithinLimits m) 4 (p4 m) (list_section 5 limits_text m.mems ++ bytes) q
+  mems_more m q bytes r few rest =
+      list_more (WithinLimits m) 4 5 5 (p4 m) q (with_mems (p4 m)) (λ (x : Limits). x) limits_text m.mems bytes (λ last l. lt-ltb last 5 (omega arith)) (λ last. omega arith) refl (omega arith) (mems_form m r) (mems_small m r) few rest
 
-globals_small : (m : Module) → InRange m → length (vector_text global_text m.globals) < 2 ^ 32 → WithinLimits m → small_form false 6 (vector_text global_text m.globals)
-unfolding small_form
-globals_small m r few w = small_items SpellsGlobalDef (Few (limit Globals) Any) (vector_text global_text m.globals) (map (λ (x : GlobalDef). x) m.globals) (clear_of global_def_exact) (items (λ (g : GlobalDef). ConstInRange g.init) SpellsGlobalDef global_text m.globals global_some (λ g h few. global_spells g h) r.globals few) (few_any (limit Globals) m.globals w.globals)
+  globals_form : (m : Module) → InRange m → length (vector_text global_text m.globals) < 2 ^ 32 → section_form false (p5 m) 6 (vector_text global_text m.globals) (p6 m)
+  unfolding section_form
+  globals_form m r few = (map (λ (x : GlobalDef). x) m.globals, items (λ (g : GlobalDef). ConstInRange g.init) SpellsGlobalDef global_text m.globals global_some (λ g h few. global_spells g h) r.globals few, refl)
 
-globals_more : (m : Module) (q : Parts) (bytes : List ℕ) → InRange m → length (vector_text global_text m.globals) < 2 ^ 32 → Rest (WithinLimits m) 6 (p6 m) bytes q → Rest (WithinLimits m) 5 (p5 m) (list_section 6 global_text m.globals ++ bytes) q
-globals_more m q bytes r few rest =
-    list_more (WithinLimits m) 5 6 6 (p5 m) q (with_globals (p5 m)) (λ (x : GlobalDef). x) global_text m.globals bytes (λ last l. lt-ltb last 6 (omega arith)) (λ last. omega arith) refl (omega arith) (globals_form m r) (globals_small m r) few rest
+  globals_small : (m : Module) → InRange m → length (vector_text global_text m.globals) < 2 ^ 32 → WithinLimits m → small_form false 6 (vector_text global_text m.globals)
+  unfolding small_form
+  globals_small m r few w = small_items SpellsGlobalDef (Few (limit Globals) Any) (vector_text global_text m.globals) (map (λ (x : GlobalDef). x) m.globals) free.globals (items (λ (g : GlobalDef). ConstInRange g.init) SpellsGlobalDef global_text m.globals global_some (λ g h few. global_spells g h) r.globals few) (few_any (limit Globals) m.globals w.globals)
 
-exports_form : (m : Module) → InRange m → length (vector_text export_text m.exports) < 2 ^ 32 → section_form false (p6 m) 7 (vector_text export_text m.exports) (p7 m)
-unfolding section_form
-exports_form m r few = (map (λ (x : Export). x) m.exports, items ExportInRange SpellsExport export_text m.exports export_some export_spells r.exports few, refl)
+  globals_more : (m : Module) (q : Parts) (bytes : List ℕ) → InRange m → length (vector_text global_text m.globals) < 2 ^ 32 → Rest (WithinLimits m) 6 (p6 m) bytes q → Rest (WithinLimits m) 5 (p5 m) (list_section 6 global_text m.globals ++ bytes) q
+  globals_more m q bytes r few rest =
+      list_more (WithinLimits m) 5 6 6 (p5 m) q (with_globals (p5 m)) (λ (x : GlobalDef). x) global_text m.globals bytes (λ last l. lt-ltb last 6 (omega arith)) (λ last. omega arith) refl (omega arith) (globals_form m r) (globals_small m r) few rest
 
-exports_small : (m : Module) → InRange m → length (vector_text export_text m.exports) < 2 ^ 32 → WithinLimits m → small_form false 7 (vector_text export_text m.exports)
-unfolding small_form
-exports_small m r few w = small_items SpellsExport (Few (limit Exports) Any) (vector_text export_text m.exports) (map (λ (x : Export). x) m.exports) (clear_of export_exact) (items ExportInRange SpellsExport export_text m.exports export_some export_spells r.exports few) (few_any (limit Exports) m.exports w.exports)
+  exports_form : (m : Module) → InRange m → length (vector_text export_text m.exports) < 2 ^ 32 → section_form false (p6 m) 7 (vector_text export_text m.exports) (p7 m)
+  unfolding section_form
+  exports_form m r few = (map (λ (x : Export). x) m.exports, items ExportInRange SpellsExport export_text m.exports export_some export_spells r.exports few, refl)
 
-exports_more : (m : Module) (q : Parts) (bytes : List ℕ) → InRange m → length (vector_text export_text m.exports) < 2 ^ 32 → Rest (WithinLimits m) 7 (p7 m) bytes q → Rest (WithinLimits m) 6 (p6 m) (list_section 7 export_text m.exports ++ bytes) q
-exports_more m q bytes r few rest =
-    list_more (WithinLimits m) 6 7 7 (p6 m) q (with_exports (p6 m)) (λ (x : Export). x) export_text m.exports bytes (λ last l. lt-ltb last 7 (omega arith)) (λ last. omega arith) refl (omega arith) (exports_form m r) (exports_small m r) few rest
+  exports_small : (m : Module) → InRange m → length (vector_text export_text m.exports) < 2 ^ 32 → WithinLimits m → small_form false 7 (vector_text export_text m.exports)
+  unfolding small_form
+  exports_small m r few w = small_items SpellsExport (Few (limit Exports) Any) (vector_text export_text m.exports) (map (λ (x : Export). x) m.exports) free.exports (items ExportInRange SpellsExport export_text m.exports export_some export_spells r.exports few) (few_any (limit Exports) m.exports w.exports)
 
-elems_form : (m : Module) → InRange m → length (vector_text elem_text m.elems) < 2 ^ 32 → section_form false (p8 m) 9 (vector_text elem_text m.elems) (p9 m)
-unfolding section_form
-elems_form m r few = (map (λ (x : ElemSeg). x) m.elems, items ElemInRange SpellsElem elem_text m.elems elem_some elem_spells r.elems few, refl)
+  exports_more : (m : Module) (q : Parts) (bytes : List ℕ) → InRange m → length (vector_text export_text m.exports) < 2 ^ 32 → Rest (WithinLimits m) 7 (p7 m) bytes q → Rest (WithinLimits m) 6 (p6 m) (list_section 7 export_text m.exports ++ bytes) q
+  exports_more m q bytes r few rest =
+      list_more (WithinLimits m) 6 7 7 (p6 m) q (with_exports (p6 m)) (λ (x : Export). x) export_text m.exports bytes (λ last l. lt-ltb last 7 (omega arith)) (λ last. omega arith) refl (omega arith) (exports_form m r) (exports_small m r) few rest
 
-elems_small : (m : Module) → InRange m → length (vector_text elem_text m.elems) < 2 ^ 32 → WithinLimits m → small_form false 9 (vector_text elem_text m.elems)
-unfolding small_form
-elems_small m r few w = small_items SpellsElem (Few (limit ElementSegments) Any) (vector_text elem_text m.elems) (map (λ (x : ElemSeg). x) m.elems) (clear_of elem_exact) (items ElemInRange SpellsElem elem_text m.elems elem_some elem_spells r.elems few) (few_any (limit ElementSegments) m.elems w.elems)
+  elems_form : (m : Module) → InRange m → length (vector_text elem_text m.elems) < 2 ^ 32 → section_form false (p8 m) 9 (vector_text elem_text m.elems) (p9 m)
+  unfolding section_form
+  elems_form m r few = (map (λ (x : ElemSeg). x) m.elems, items ElemInRange SpellsElem elem_text m.elems elem_some elem_spells r.elems few, refl)
 
-elems_more : (m : Module) (q : Parts) (bytes : List ℕ) → InRange m → length (vector_text elem_text m.elems) < 2 ^ 32 → Rest (WithinLimits m) 9 (p9 m) bytes q → Rest (WithinLimits m) 8 (p8 m) (list_section 9 elem_text m.elems ++ bytes) q
-elems_more m q bytes r few rest =
-    list_more (WithinLimits m) 8 9 9 (p8 m) q (with_elems (p8 m)) (λ (x : ElemSeg). x) elem_text m.elems bytes (λ last l. lt-ltb last 9 (omega arith)) (λ last. omega arith) refl (omega arith) (elems_form m r) (elems_small m r) few rest
+  elems_small : (m : Module) → InRange m → length (vector_text elem_text m.elems) < 2 ^ 32 → WithinLimits m → small_form false 9 (vector_text elem_text m.elems)
+  unfolding small_form
+  elems_small m r few w = small_items SpellsElem (Few (limit ElementSegments) Any) (vector_text elem_text m.elems) (map (λ (x : ElemSeg). x) m.elems) free.elems (items ElemInRange SpellsElem elem_text m.elems elem_some elem_spells r.elems few) (few_any (limit ElementSegments) m.elems w.elems)
 
-codes_form : (m : Module) → Every Spellable m.funcs → length (vector_text entry_text m.funcs) < 2 ^ 32 → section_form false (p10 m) 10 (vector_text entry_text m.funcs) (p11 m)
-unfolding section_form
-codes_form m fs few = (map untyped m.funcs, entries m.funcs fs few, refl)
+  elems_more : (m : Module) (q : Parts) (bytes : List ℕ) → InRange m → length (vector_text elem_text m.elems) < 2 ^ 32 → Rest (WithinLimits m) 9 (p9 m) bytes q → Rest (WithinLimits m) 8 (p8 m) (list_section 9 elem_text m.elems ++ bytes) q
+  elems_more m q bytes r few rest =
+      list_more (WithinLimits m) 8 9 9 (p8 m) q (with_elems (p8 m)) (λ (x : ElemSeg). x) elem_text m.elems bytes (λ last l. lt-ltb last 9 (omega arith)) (λ last. omega arith) refl (omega arith) (elems_form m r) (elems_small m r) few rest
 
-codes_small : (m : Module) → Every Spellable m.funcs → length (vector_text entry_text m.funcs) < 2 ^ 32 → WithinLimits m → small_form false 10 (vector_text entry_text m.funcs)
-unfolding small_form
-codes_small m fs few w = small_items (SpellsEntry false) (Few (limit Functions) SmallCode) (vector_text entry_text m.funcs) (map untyped m.funcs) (entry_clear false) (entries m.funcs fs few) ((rw (length-map m.funcs untyped) w.funcs.0, every_untyped m.funcs w.funcs.1))
+  codes_form : (m : Module) → Every Spellable m.funcs → length (vector_text entry_text m.funcs) < 2 ^ 32 → section_form false (p10 m) 10 (vector_text entry_text m.funcs) (p11 m)
+  unfolding section_form
+  codes_form m fs few = (map untyped m.funcs, entries m.funcs fs few, refl)
 
-codes_more : (m : Module) (q : Parts) (bytes : List ℕ) → Every Spellable m.funcs → length (vector_text entry_text m.funcs) < 2 ^ 32 → Rest (WithinLimits m) 11 (p11 m) bytes q → Rest (WithinLimits m) 10 (p10 m) (list_section 10 entry_text m.funcs ++ bytes) q
-codes_more m q bytes fs few rest =
-    list_more (WithinLimits m) 10 11 10 (p10 m) q (with_codes (p10 m)) untyped entry_text m.funcs bytes (λ last l. lt-ltb last 11 (omega arith)) (λ last. omega arith) refl (omega arith) (codes_form m fs) (codes_small m fs) few rest
+  codes_small : (m : Module) → Every Spellable m.funcs → length (vector_text entry_text m.funcs) < 2 ^ 32 → WithinLimits m → small_form false 10 (vector_text entry_text m.funcs)
+  unfolding small_form
+  codes_small m fs few w = small_items (SpellsEntry false) (Few (limit Functions) SmallCode) (vector_text entry_text m.funcs) (map untyped m.funcs) (free.codes false) (entries m.funcs fs few) ((rw (length-map m.funcs untyped) w.funcs.0, every_untyped m.funcs w.funcs.1))
 
-datas_form : (m : Module) → InRange m → length (vector_text data_text m.datas) < 2 ^ 32 → section_form false (p11 m) 11 (vector_text data_text m.datas) (p12 m)
-unfolding section_form
-datas_form m r few = (map (λ (x : DataSeg). x) m.datas, items (λ (s : DataSeg). DataModeInRange s.mode) SpellsData data_text m.datas data_some data_spells r.datas few, refl)
+  codes_more : (m : Module) (q : Parts) (bytes : List ℕ) → Every Spellable m.funcs → length (vector_text entry_text m.funcs) < 2 ^ 32 → Rest (WithinLimits m) 11 (p11 m) bytes q → Rest (WithinLimits m) 10 (p10 m) (list_section 10 entry_text m.funcs ++ bytes) q
+  codes_more m q bytes fs few rest =
+      list_more (WithinLimits m) 10 11 10 (p10 m) q (with_codes (p10 m)) untyped entry_text m.funcs bytes (λ last l. lt-ltb last 11 (omega arith)) (λ last. omega arith) refl (omega arith) (codes_form m fs) (codes_small m fs) few rest
 
-datas_small : (m : Module) → InRange m → length (vector_text data_text m.datas) < 2 ^ 32 → WithinLimits m → small_form false 11 (vector_text data_text m.datas)
-unfolding small_form
-datas_small m r few w = small_items SpellsData (Few (limit DataSegments) Any) (vector_text data_text m.datas) (map (λ (x : DataSeg). x) m.datas) (clear_of data_exact) (items (λ (s : DataSeg). DataModeInRange s.mode) SpellsData data_text m.datas data_some data_spells r.datas few) (few_any (limit DataSegments) m.datas w.datas)
+  datas_form : (m : Module) → InRange m → length (vector_text data_text m.datas) < 2 ^ 32 → section_form false (p11 m) 11 (vector_text data_text m.datas) (p12 m)
+  unfolding section_form
+  datas_form m r few = (map (λ (x : DataSeg). x) m.datas, items (λ (s : DataSeg). DataModeInRange s.mode) SpellsData data_text m.datas data_some data_spells r.datas few, refl)
 
-datas_more : (m : Module) (q : Parts) (bytes : List ℕ) → InRange m → length (vector_text data_text m.datas) < 2 ^ 32 → Rest (WithinLimits m) 12 (p12 m) bytes q → Rest (WithinLimits m) 11 (p11 m) (list_section 11 data_text m.datas ++ bytes) q
-datas_more m q bytes r few rest =
-    list_more (WithinLimits m) 11 12 11 (p11 m) q (with_datas (p11 m)) (λ (x : DataSeg). x) data_text m.datas bytes (λ last l. lt-ltb last 12 (omega arith)) (λ last. omega arith) refl (omega arith) (datas_form m r) (datas_small m r) few rest
+  datas_small : (m : Module) → InRange m → length (vector_text data_text m.datas) < 2 ^ 32 → WithinLimits m → small_form false 11 (vector_text data_text m.datas)
+  unfolding small_form
+  datas_small m r few w = small_items SpellsData (Few (limit DataSegments) Any) (vector_text data_text m.datas) (map (λ (x : DataSeg). x) m.datas) free.datas (items (λ (s : DataSeg). DataModeInRange s.mode) SpellsData data_text m.datas data_some data_spells r.datas few) (few_any (limit DataSegments) m.datas w.datas)
+
+  datas_more : (m : Module) (q : Parts) (bytes : List ℕ) → InRange m → length (vector_text data_text m.datas) < 2 ^ 32 → Rest (WithinLimits m) 12 (p12 m) bytes q → Rest (WithinLimits m) 11 (p11 m) (list_section 11 data_text m.datas ++ bytes) q
+  datas_more m q bytes r few rest =
+      list_more (WithinLimits m) 11 12 11 (p11 m) q (with_datas (p11 m)) (λ (x : DataSeg). x) data_text m.datas bytes (λ last l. lt-ltb last 12 (omega arith)) (λ last. omega arith) refl (omega arith) (datas_form m r) (datas_small m r) few rest
 
 -- ---- the sections together
 
@@ -359,21 +360,21 @@ plain_regrouped : (m : Module) → plain m ≡ header ++ t1 m
 unfolding plain
 plain_regrouped m = regroup header (list_section 1 func_type_text m.types) (list_section 2 import_text m.imports) (list_section 3 (λ (f : Func). u32_text f.ty) m.funcs) (list_section 4 table_text m.tables) (list_section 5 limits_text m.mems) (list_section 6 global_text m.globals) (list_section 7 export_text m.exports) (start_section m.start) (list_section 9 elem_text m.elems) (count_section m) (list_section 10 entry_text m.funcs) (list_section 11 data_text m.datas)
 
-all_sections : (m : Module) → InRange m → memory_zero_funcs m.funcs ≡ true → SmallSizes m → Rest (WithinLimits m) 0 nothing (t1 m) (p12 m)
-all_sections m r one s =
+all_sections : ItemsArePrefixFree → (m : Module) → InRange m → memory_zero_funcs m.funcs ≡ true → SmallSizes m → Rest (WithinLimits m) 0 nothing (t1 m) (p12 m)
+all_sections free m r one s =
     let W = WithinLimits m in
-    let r12 = datas_more m (p12 m) [] r s.datas.size (done W 12 (p12 m)) in
-    let r11 = codes_more m (p12 m) (t12 m) (all_spellable m.funcs r.funcs one) s.codes.size r12 in
+    let r12 = datas_more free m (p12 m) [] r s.datas.size (done W 12 (p12 m)) in
+    let r11 = codes_more free m (p12 m) (t12 m) (all_spellable m.funcs r.funcs one) s.codes.size r12 in
     let r10 = count_more W (p9 m) (p12 m) (any_uses_data m.funcs) (length m.datas) (t11 m) refl s.datas.items r11 in
-    let r9 = elems_more m (p12 m) (t10 m) r s.elems.size r10 in
+    let r9 = elems_more free m (p12 m) (t10 m) r s.elems.size r10 in
     let r8 = start_more W (p7 m) (p12 m) m.start (t9 m) refl r.start r9 in
-    let r7 = exports_more m (p12 m) (t8 m) r s.exports.size r8 in
-    let r6 = globals_more m (p12 m) (t7 m) r s.globals.size r7 in
-    let r5 = mems_more m (p12 m) (t6 m) r s.mems.size r6 in
-    let r4 = tables_more m (p12 m) (t5 m) r s.tables.size r5 in
-    let r3 = func_section_more m (p12 m) (t4 m) r s.func_types.size r4 in
-    let r2 = imports_more m (p12 m) (t3 m) r s.imports.size r3 in
-    types_more m (p12 m) (t2 m) r s.types.size r2
+    let r7 = exports_more free m (p12 m) (t8 m) r s.exports.size r8 in
+    let r6 = globals_more free m (p12 m) (t7 m) r s.globals.size r7 in
+    let r5 = mems_more free m (p12 m) (t6 m) r s.mems.size r6 in
+    let r4 = tables_more free m (p12 m) (t5 m) r s.tables.size r5 in
+    let r3 = func_section_more free m (p12 m) (t4 m) r s.func_types.size r4 in
+    let r2 = imports_more free m (p12 m) (t3 m) r s.imports.size r3 in
+    types_more free m (p12 m) (t2 m) r s.types.size r2
 
 -- how long the sections are where the whole is short
 pub record SectionLengths (m : Module) : Type 0 where
@@ -433,13 +434,13 @@ tree_again : (m : Module) → m ≡ tree_of (p12 m)
 tree_again m = module_of _ _ _ _ _ _ _ _ _ _ _ _ _ _ m.start _ _ _ _
     (sym (map_id m.types)) (sym (map_id m.imports)) (sym (typed_again m.funcs)) (sym (map_id m.tables)) (sym (map_id m.mems)) (sym (map_id m.globals)) (sym (map_id m.exports)) (sym (map_id m.elems)) (sym (map_id m.datas))
 
-pub plain_spelled : (m : Module) → InRange m → IsTrue (memory_zero_funcs m.funcs) → SmallSizes m → Spells (plain m) m false
-plain_spelled m r one s =
-    let a = all_sections m r one s 0 (omega arith) in
+pub plain_spelled : ItemsArePrefixFree → (m : Module) → InRange m → IsTrue (memory_zero_funcs m.funcs) → SmallSizes m → Spells (plain m) m false
+plain_spelled free m r one s =
+    let a = all_sections free m r one s 0 (omega arith) in
     (a.0, p12 m, (header, t1 m, refl, a.1, plain_regrouped m), a.2, rules m, tree_again m)
 
 -- and within the limits, where the tree is
-pub plain_within : (m : Module) → InRange m → IsTrue (memory_zero_funcs m.funcs) → SmallSizes m → WithinLimits m → Within (plain m) false
-plain_within m r one s w =
-    let a = all_sections m r one s 0 (omega arith) in
-    λ ss framed. subst (Every (SectionIsSmall false)) (one_framing (plain m) a.0 ss (header, t1 m, refl, a.1, plain_regrouped m) framed) (a.3 w)
+pub plain_within : ItemsArePrefixFree → FramesAreUnique → (m : Module) → InRange m → IsTrue (memory_zero_funcs m.funcs) → SmallSizes m → WithinLimits m → Within (plain m) false
+plain_within free unique m r one s w =
+    let a = all_sections free m r one s 0 (omega arith) in
+    λ ss framed. subst (Every (SectionIsSmall false)) (unique (plain m) a.0 ss (header, t1 m, refl, a.1, plain_regrouped m) framed) (a.3 w)

@@ -11,6 +11,8 @@ ghost use Rattle.wasm_write_proof.specs.Ranges.{InRange, NumbersStay, small_oper
 ghost use Rattle.wasm_write_proof.specs.SmallSizes.{SmallSizes};
 ghost use Rattle.wasm_write_proof.specs.TreeLimits.{WithinLimits};
 
+use wasm_read_spec::section_encodings_are_unambiguous;
+
 /// The canonical encoding of a tree encodes the tree if each number is in the range of its type,
 /// each name is UTF-8, its bodies name no memory except memory 0, and its vectors and the encoded
 /// sizes are below 2^32 (`spells`). If also its counts, its nesting and its locals are within the
@@ -19,7 +21,9 @@ ghost use Rattle.wasm_write_proof.specs.TreeLimits.{WithinLimits};
 pub fn canonical_encoding_encodes()
     ensures spells { (m : Tree) → InRange m → IsTrue (memory_zero_funcs m.funcs) → SmallSizes m → Spells (plain m) m false }
     ensures within { (m : Tree) → InRange m → IsTrue (memory_zero_funcs m.funcs) → SmallSizes m → WithinLimits m → Within (plain m) false }
-{}
+{
+    section_encodings_are_unambiguous();
+}
 
 /// In a tree that bytes encode, each number is in the range of its type, and each name is UTF-8.
 /// (That its bodies name no memory except memory 0 is a law of wasm_read_spec.)
