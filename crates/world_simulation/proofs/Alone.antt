@@ -1,8 +1,7 @@
 -- A module alone: its imports all stay, so what they denote and what is read through them is a matter of its types and imports.
-use Rattle.base_lists.proofs.Common.{◌≡◌, arith, ℕ, List, ◌++◌, length, Option, Some, is_some, add-zero, option_and_then, slice_get, places_many}
-use Rattle.wasm_tree_spec.specs.Prelude.{Space, GlobalType, Functions, Tables, Memories, Globals, same_space, Import, ImportDesc, ConstExpr, Module, func_of, global_of, imported_funcs, imported_tables, imported_memories, imported_globals, space_of_import}
-use Rattle.wasm_tree.specs.declared.module.ImportDesc.TheVariants as im
-use Rattle.wasm_meaning.specs.Prelude.{Pair, Outside, places, has_kind, end_of, read_of, Environment, ExternalValue, FuncAt, own_key_of, imported_external_value, address_of, numbers, own_count, defined_count, space}
+use Rattle.base_lists.proofs.Common.{◌≡◌, arith, ℕ, List, ◌++◌, length, Option, Some, add-zero, option_and_then, slice_get, places_many}
+use Rattle.wasm_tree_spec.specs.Prelude.{Space, Functions, Tables, Memories, Globals, Import, ImportDesc, ConstExpr, Module, imported_funcs, imported_tables, imported_memories, imported_globals}
+use Rattle.wasm_meaning.specs.Prelude.{Pair, Outside, places, has_kind, end_of, read_of, Environment, own_key_of, imported_external_value, numbers, own_count, defined_count, space}
 use Rattle.world_simulation.specs.Prelude.{one, site, key_in, external_value_in, addresses, read_in}
 
 -- ---- what an import denotes ----
@@ -25,18 +24,6 @@ pub space_is : (env : Environment) (t : Module) (k : Space) → space env (one t
 space_is env t k = simp (thing_is env t, add-zero)
 
 -- ---- how many are imported ----
-
-pub func_kind : (d : ImportDesc) → is_some (func_of d) ≡ same_space Functions (space_of_import d)
-func_kind d = grind arith
-
-pub global_desc : (d : ImportDesc) (g : GlobalType) → global_of d ≡ Some g → d ≡ im.Global g
-global_desc d g h = grind arith
-
-pub func_thing : (x : ExternalValue) (a : ℕ) → address_of Functions x ≡ Some a → x ≡ FuncAt a
-func_thing x a h = grind arith
-
-pub global_kind : (d : ImportDesc) → is_some (global_of d) ≡ same_space Globals (space_of_import d)
-global_kind d = grind arith
 
 module _ (is : List Import) (n : ℕ) where
   pub funcs_counted : length (places (has_kind Functions) is n) ≡ length (imported_funcs is)
