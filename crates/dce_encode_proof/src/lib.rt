@@ -11,9 +11,8 @@ ghost use Rattle.wasm_write_proof.specs.Ranges.{InRange};
 ghost use Rattle.dce_sweep_spec.specs.Marks.{Marks};
 ghost use Rattle.dce_sweep_spec.specs.Swept.{swept};
 
-use wasm_tree::operands_pass_layer_by_layer;
-use wasm_valid::valid_where_items_hold;
-use wasm_write_proof::{encoded_operands_are_in_range, renumbering_keeps_numbers_in_range};
+use merge_encode_proof::{numbers_stay_in_range, valid_modules_are_in_range};
+use wasm_valid::valid_code_names_memory_zero;
 
 /// Let what any marks leave of a module be valid and bounded, with at most one memory. Then its
 /// numbers are in range and its names in UTF-8 if those of the module are (`range`), because what
@@ -23,8 +22,7 @@ pub fn swept_modules_are_in_range()
     ensures range { (k : Marks) (m : Module) → InRange m → IsValid (swept k m) → IsSingle (swept k m) → IsBounded (swept k m) → InRange (swept k m) }
     ensures memory { (k : Marks) (m : Module) → IsValid (swept k m) → IsSingle (swept k m) → IsBounded (swept k m) → IsTrue (memory_zero_funcs (swept k m).funcs) }
 {
-    valid_where_items_hold();
-    operands_pass_layer_by_layer();
-    renumbering_keeps_numbers_in_range();
-    encoded_operands_are_in_range();
+    valid_modules_are_in_range();
+    numbers_stay_in_range();
+    valid_code_names_memory_zero();
 }

@@ -1,24 +1,18 @@
 -- A snapshot has the numbers of its module and those of the state.
-use Rattle.base_lists.proofs.Common.{◌≡◌, ℕ, suc, ◌+◌, ◌-◌, ◌^◌, ◌<◌, ◌≤◌, arith, sym, subst, refl, List, [], ◌∷◌, length, Bool, true, false, not, ◌&&◌, cond, Option, Some, None, slice_get, unwrap_or, inl, inr, IsUtf8, list_any, cons_option, cases_lt, lt-ltb, le-ltb, ints, slice_get_within, right_true, place_back}
-use Rattle.base_lists.proofs.Every.{every_of, every_with, every_placed, every_map, every_append}
+use Rattle.base_lists.proofs.Common.{◌≡◌, ℕ, suc, ◌+◌, ◌-◌, ◌^◌, ◌<◌, ◌≤◌, arith, sym, subst, refl, List, [], ◌∷◌, length, Bool, true, false, not, ◌&&◌, cond, Option, Some, None, slice_get, unwrap_or, inl, inr, IsUtf8, list_any, cons_option, cases_lt, lt-ltb, le-ltb, ints, slice_get_within, place_back}
+use Rattle.base_lists.proofs.Every.{every_of, every_placed, every_map, every_append}
 use Rattle.std.proofs.Common.{filter_map}
 use Rattle.std.specs.Option.{IfSome}
 use Rattle.base_lists.specs.Every.{Every}
 use Rattle.base_lists.specs.Options.{◌>>=◌}
 use Rattle.wasm_bytes.specs.Prelude.{IsWithin}
-use Rattle.wasm_tree_spec.specs.Prelude.{ConstExpr, DataMode, DataSeg, ElemMode, Export, GlobalDef, ImportDesc, Module, any_uses_data, all_operands_pass, funcs_of, imported_globals, imported_memories, IsBounded}
-use Rattle.wasm_tree.specs.declared.module.DataMode.TheVariants as segment
-use Rattle.wasm_tree.specs.declared.module.ElemMode.TheVariants as elem
+use Rattle.wasm_tree_spec.specs.Prelude.{ConstExpr, DataSeg, Export, GlobalDef, Module, any_uses_data, funcs_of, imported_globals, imported_memories, IsBounded}
 use Rattle.wasm_tree.specs.declared.module.ExportDesc.TheVariants as ex
-use Rattle.wasm_tree.specs.declared.module.ImportDesc.TheVariants as im
 use Rattle.wasm_num.specs.Operations.{W32, W64, signed}
 use Rattle.wasm_valid.specs.Prelude.{IsSingle, IsValid}
-use Rattle.wasm_write_proof.specs.Ranges.{small_operand, all_numbers_in, ConstInRange, DataModeInRange, ElemInRange, ElemModeInRange, ExportInRange, FuncInRange, ImportDescInRange, ImportInRange, InRange}
+use Rattle.wasm_write_proof.specs.Ranges.{InRange}
 use Rattle.wasm_meaning.specs.Prelude.{Text, RefVal, FuncRef, ExternRef, Val, Num, Ref, Memory, Global}
-use Rattle.index_remap.specs.Prelude.{declared_refs}
-use Rattle.merge_encode_proof.specs.Numbers.{ConstNumberInRange, DataOffsetInRange, ElemNumbersInRange, ElemOffsetInRange, FuncNumbersInRange, ImportLimitsInRange, ImportNumbersInRange, NumbersInRange}
-use Rattle.merge_encode_proof.proofs.Consts.{number_of}
-use Rattle.merge_encode_proof.proofs.Modules.{declared_numbers}
+use Rattle.merge_encode_proof.specs.Numbers.{ConstNumberInRange, DataOffsetInRange, FuncNumbersInRange, NumbersInRange, OwnNumbersAreInRange, DeclaredNumbersAreInRange}
 use Rattle.eval_spec.specs.declared.limits.TheConstants.{MOST_TURNS}
 use Rattle.eval_spec.specs.Prelude.{State, constant, is_dropped, is_unknown_global, memory_bytes, value_of_global}
 use Rattle.eval_spec.specs.Told.{constant_ref, defined_memory}
@@ -116,7 +110,7 @@ each_indexed : {A : Type 0} (P : A → Type 0) (f : ℕ → A → A) → ((n : �
 each_indexed P f h n [] e = tt
 each_indexed P f h n (x ∷ xs) e = (h n x e.0, each_indexed P f h (suc n) xs e.1)
 
-module _ (m : Module) (s : State) (evaluated kept : List Text) (h : InRange m) (told : (n : ℕ) → IfSome (value_of_global m s n) ConstNumberInRange) (few : length (memory_bytes m s) ≤ 2 ^ 32) where
+module _ (m : Module) (s : State) (evaluated kept : List Text) (numbers : NumbersInRange m) (told : (n : ℕ) → IfSome (value_of_global m s n) ConstNumberInRange) (few : length (memory_bytes m s) ≤ 2 ^ 32) where
   left_in : (n : ℕ) (g : GlobalDef) → GlobalIn g → GlobalIn (global_left m s n g)
   left_in n g k = by (value_of_global m s n) (told n)
     where
@@ -153,63 +147,37 @@ module _ (m : Module) (s : State) (evaluated kept : List Text) (h : InRange m) (
       by true false = tt
       by false b = k
 
-  exports_in : (empty : ℕ) (es : List Export) → Every ExportInRange es → Every Named (filter_map (export_left evaluated kept empty) es)
+  exports_in : (empty : ℕ) (es : List Export) → Every Named es → Every Named (filter_map (export_left evaluated kept empty) es)
   exports_in empty [] k = tt
-  exports_in empty (e ∷ es) k = by (export_left evaluated kept empty e) (export_in empty e k.0.0) (exports_in empty es k.1)
+  exports_in empty (e ∷ es) k = by (export_left evaluated kept empty e) (export_in empty e k.0) (exports_in empty es k.1)
     where
       by : (o : Option Export) → IfSome o Named → Every Named (filter_map (export_left evaluated kept empty) es) → Every Named (cons_option o (filter_map (export_left evaluated kept empty) es))
       by None i rest = rest
       by (Some x) i rest = (i, rest)
 
-  -- what the module has of them
-  limits_of : (d : ImportDesc) → ImportDescInRange d → ImportLimitsInRange d
-  limits_of (im.Func ty) k = tt
-  limits_of (im.Table t) k = k
-  limits_of (im.Memory l) k = k
-  limits_of (im.Global g) k = tt
-
-  place_of : (o : ElemMode) → ElemModeInRange o → ElemOffsetInRange o
-  place_of (elem.Active table offset) k = number_of offset k.1
-  place_of elem.Passive k = tt
-  place_of elem.Declarative k = tt
-
-  data_of : (o : DataMode) → DataModeInRange o → DataOffsetInRange o
-  data_of (segment.Active memory offset) k = number_of offset k.1
-  data_of segment.Passive k = tt
-
-  own_funcs : Every FuncNumbersInRange m.funcs
-  own_funcs = every_with FuncInRange FuncNumbersInRange m.funcs (λ f k. (k.1.0, right_true (all_operands_pass small_operand f.body) (all_numbers_in f.body) k.1.1)) h.funcs
-
-  own_elems : Every ElemNumbersInRange m.elems
-  own_elems = every_with ElemInRange ElemNumbersInRange m.elems (λ x k. (place_of x.mode k.0, every_with ConstInRange ConstNumberInRange x.items number_of k.1)) h.elems
-
-  own_datas : Every DataIn m.datas
-  own_datas = every_with (λ (d : DataSeg). DataModeInRange d.mode) DataIn m.datas (λ d. data_of d.mode) h.datas
-
   tree_numbers : NumbersInRange (snapshot_tree m s evaluated kept)
   tree_numbers = record {
-    imports = every_with ImportInRange ImportNumbersInRange m.imports (λ i k. (k.0, k.1, limits_of i.desc k.2)) h.imports;
-    funcs = every_append FuncNumbersInRange m.funcs (added_funcs m evaluated kept) own_funcs added_in;
-    tables = h.tables;
-    mems = h.mems;
-    globals = each_indexed GlobalIn (global_left m s) left_in (length (imported_globals m.imports)) m.globals
-        (every_with (λ (g : GlobalDef). ConstInRange g.init) GlobalIn m.globals (λ g. number_of g.init) h.globals);
-    exports = exports_in (length (funcs_of m)) m.exports h.exports;
-    elems = own_elems;
-    datas = every_append DataIn (old_segments m s) (memory_segments m s) (old_in own_datas) (contents_in (length (imported_memories m.imports)) (memory_bytes m s) few);
+    imports = numbers.imports;
+    funcs = every_append FuncNumbersInRange m.funcs (added_funcs m evaluated kept) numbers.funcs added_in;
+    tables = numbers.tables;
+    mems = numbers.mems;
+    globals = each_indexed GlobalIn (global_left m s) left_in (length (imported_globals m.imports)) m.globals numbers.globals;
+    exports = exports_in (length (funcs_of m)) m.exports numbers.exports;
+    elems = numbers.elems;
+    datas = every_append DataIn (old_segments m s) (memory_segments m s) (old_in numbers.datas) (contents_in (length (imported_memories m.imports)) (memory_bytes m s) few);
   }
 
-pub snapshot_numbers : EvaluatedGlobalsAreInRange → EvaluatedMemoriesAreInRange → (m : Module) (s : State) (evaluated kept : List Text) →
+pub snapshot_numbers : OwnNumbersAreInRange → DeclaredNumbersAreInRange → EvaluatedGlobalsAreInRange → EvaluatedMemoriesAreInRange → (m : Module) (s : State) (evaluated kept : List Text) →
     IsValid m → InRange m → BeginsInRange m → IsAfter m evaluated s → NumbersInRange (declared_snapshot m s evaluated kept)
 unfolding declared_snapshot
-snapshot_numbers globals memories m s evaluated kept v h begins after =
+snapshot_numbers own declared globals memories m s evaluated kept v h begins after =
     let t = snapshot_tree m s evaluated kept in
     let funcs = funcs_named m evaluated in
     let told : (n : ℕ) → IfSome (value_of_global m s n) ConstNumberInRange =
     λ n. subst (λ o. IfSome o ConstNumberInRange) (sym (after.told.globals n)) (told_in m after.end (globals m v begins MOST_TURNS funcs after.end after.quiet) n) in
     let held : length (memory_bytes m after.end) ≤ 2 ^ 32 = memory_few m after.end (memories m v begins MOST_TURNS funcs after.end after.quiet) in
     let few : length (memory_bytes m s) ≤ 2 ^ 32 = subst (λ bytes. length bytes ≤ 2 ^ 32) (sym after.told.bytes) held in
-    declared_numbers t (declared_refs t) (tree_numbers m s evaluated kept h told few)
+    declared t (tree_numbers m s evaluated kept (own m h) told few)
 
 -- ---- where no constructor is evaluated, and where some are ----
 

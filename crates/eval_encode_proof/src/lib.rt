@@ -17,9 +17,8 @@ ghost use Rattle.eval_snapshot_spec.specs.After.{IsAfter};
 ghost use Rattle.eval_snapshot_spec.specs.Snapshot.{snapshot};
 
 use eval_numbers_proof::evaluated_numbers_are_in_range;
-use wasm_tree::operands_pass_layer_by_layer;
-use wasm_valid::valid_where_items_hold;
-use wasm_write_proof::encoded_operands_are_in_range;
+use merge_encode_proof::{numbers_stay_in_range, valid_modules_are_in_range};
+use wasm_valid::valid_code_names_memory_zero;
 
 /// States that the snapshot of a valid module after evaluated constructors has its numbers in range
 /// and its names in UTF-8, if the module has, its data segments hold bytes, its tables have fewer
@@ -34,9 +33,9 @@ pub fn snapshots_are_in_range()
         → IsValid (snapshot m s evaluated kept) → IsSingle (snapshot m s evaluated kept) → IsBounded (snapshot m s evaluated kept) → IsTrue (memory_zero_funcs (snapshot m s evaluated kept).funcs) }
 {
     evaluated_numbers_are_in_range();
-    operands_pass_layer_by_layer();
-    valid_where_items_hold();
-    encoded_operands_are_in_range();
+    valid_modules_are_in_range();
+    numbers_stay_in_range();
+    valid_code_names_memory_zero();
 }
 
 /// States that a tree that bytes encode has bytes in its data segments and fewer than 2^32 slots in

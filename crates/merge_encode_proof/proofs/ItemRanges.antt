@@ -1,15 +1,14 @@
 -- The items of a valid module, whose other numbers are in range, are in range.
-use Rattle.base_lists.proofs.Common.{◌≡◌, ℕ, ◌<◌, ◌^◌, Bool, true, false, nat_lt, List, length, Option, Some, None, refl, sym, ap, ◌∙◌, subst, arith, slice_get, option_and_then, IsUtf8, nat_tests, slice_get_within, same_Some, length-map, and_from, IsTrue, list_all_from}
+use Rattle.base_lists.proofs.Common.{◌≡◌, ℕ, ◌<◌, ◌^◌, Bool, true, false, nat_lt, List, length, Option, Some, None, refl, sym, ap, ◌∙◌, subst, arith, slice_get, option_and_then, IsUtf8, nat_tests, slice_get_within, same_Some, length-map, and_from}
 use Rattle.base_lists.proofs.Every.{every_placed}
 use Rattle.base_kept.proofs.Marks.{marks_length}
-use Rattle.wasm_tree_spec.specs.Prelude.{FuncType, TableType, ValType, ImportDesc, Import, ExportDesc, Export, ConstExpr, GlobalDef, ElemMode, ElemSeg, DataMode, DataSeg, Func, Module, funcs_of, tables_of, globals_of, IsBounded, PassesLayerByLayer, all_operands_pass, Ref, Operand, is_memory_zero, memory_zero_all, memory_zero_funcs}
+use Rattle.wasm_tree_spec.specs.Prelude.{FuncType, TableType, ValType, ImportDesc, Import, ExportDesc, Export, ConstExpr, GlobalDef, ElemMode, ElemSeg, DataMode, DataSeg, Func, Module, funcs_of, tables_of, globals_of, IsBounded, PassesLayerByLayer, all_operands_pass, Ref, Operand}
 use Rattle.wasm_tree.specs.declared.module.ImportDesc.TheVariants as import
 use Rattle.wasm_tree.specs.declared.module.ExportDesc.TheVariants as export
 use Rattle.wasm_tree.specs.declared.module.ConstExpr.TheVariants as const
 use Rattle.wasm_tree.specs.declared.module.ElemMode.TheVariants as elem
 use Rattle.wasm_tree.specs.declared.module.DataMode.TheVariants as segment
 use Rattle.wasm_valid_bodies.specs.Typing.{only}
-use Rattle.wasm_valid.specs.declared.kinds.ItemKind.{ItemKind}
 use Rattle.wasm_valid.specs.declared.kinds.ItemKind.TheVariants as kind
 use Rattle.wasm_valid.specs.Prelude.{const_type, table_types, elem_types, refs_of, named_of, ImportHolds, InSpace, ElemModeHolds, DataModeHolds, IsSingle, HoldsAt, start_count, count_of, body_context, ItemsHold}
 use Rattle.wasm_tree.proofs.OperandLaws.{passes_more}
@@ -20,7 +19,6 @@ use Rattle.merge_encode_proof.proofs.BodyRanges.{IsSmall, body_small}
 module _
     (layers : PassesLayerByLayer)
     (small_spelled : (o : Operand) → spelled_operand o ≡ true → small_operand o ≡ true)
-    (zero_spelled : (o : Operand) → spelled_operand o ≡ true → is_memory_zero o ≡ true)
     (m : Module)
     (holds : ItemsHold m)
     (single : IsSingle m)
@@ -157,9 +155,6 @@ module _
     func_in i x e n =
         let k = func_names i x e in (k.0, (n.0, and_from (all_operands_pass small_operand x.body) (all_numbers_in x.body) (passes_more spelled_operand small_operand small_spelled x.body k.1) n.1))
 
-    memory_in : (i : ℕ) (x : Func) → slice_get m.funcs i ≡ Some x → memory_zero_all x.body ≡ true
-    memory_in i x e = passes_more spelled_operand is_memory_zero zero_spelled x.body (func_names i x e).1
-
     pub tree_in : NumbersInRange m → InRange m
     tree_in n = record {
       imports = every_placed ImportNumbersInRange ImportInRange m.imports n.imports import_in;
@@ -172,6 +167,3 @@ module _
       elems = every_placed ElemNumbersInRange ElemInRange m.elems n.elems elem_in;
       datas = every_placed (λ (s : DataSeg). DataOffsetInRange s.mode) (λ (s : DataSeg). DataModeInRange s.mode) m.datas n.datas data_in;
     }
-
-    pub memory_zero : IsTrue (memory_zero_funcs m.funcs)
-    memory_zero = list_all_from (λ (f : Func). memory_zero_all f.body) m.funcs memory_in

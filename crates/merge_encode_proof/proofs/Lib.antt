@@ -1,9 +1,10 @@
-pub mod BodyRanges
-pub mod ItemRanges
-pub mod Bodies
-pub mod Lists
-pub mod Limits
-pub mod Consts
-pub mod Names
-pub mod Modules
+mod BodyRanges
+mod ItemRanges
+mod Calls
+mod Lists
+mod Limits
+mod Consts
+mod Names
+mod Trees
+mod Modules
 mod Rows

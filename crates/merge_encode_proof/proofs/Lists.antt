@@ -1,5 +1,5 @@
 -- What is so of each part is so of what is looked up in the parts.
-use Rattle.base_lists.proofs.Common.{◌≡◌, ℕ, suc, List, [], ◌∷◌, ◌++◌, Option, Some, subst, slice_get, flat_map, and_then_is, every_at}
+use Rattle.base_lists.proofs.Common.{◌≡◌, ℕ, suc, List, [], ◌∷◌, Option, Some, subst, slice_get, flat_map, and_then_is, every_at}
 use Rattle.base_lists.proofs.Every.{every_append}
 use Rattle.wasm_tree_spec.specs.Prelude.{Module}
 use Rattle.base_lists.specs.Every.{Every}

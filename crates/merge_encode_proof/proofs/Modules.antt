@@ -15,11 +15,12 @@ use Rattle.merge_spec.specs.Merged.{merged_import, defined_funcs, all_exports, m
 use Rattle.merge_spec.specs.Joined.{joined_module}
 use Rattle.wasm_write_proof.specs.Ranges.{LimitsInRange, ConstInRange, ExportInRange, ElemInRange, DataModeInRange, FuncInRange, InRange, NumbersStay}
 use Rattle.merge_encode_proof.specs.Numbers.{ConstNumberInRange, ImportLimitsInRange, ImportNumbersInRange, FuncNumbersInRange, ElemNumbersInRange, DataOffsetInRange, NumbersInRange}
-use Rattle.merge_encode_proof.proofs.Bodies.{body_keeps, calls_in}
+use Rattle.merge_encode_proof.proofs.Calls.{calls_in}
 use Rattle.merge_encode_proof.proofs.Lists.{every_by_part, every_flat}
 use Rattle.merge_encode_proof.proofs.Limits.{PartsInRange, import_in, met_limits_in}
 use Rattle.merge_encode_proof.proofs.Consts.{global_in, elem_in, data_in}
 use Rattle.merge_encode_proof.proofs.Names.{new_names_in, named_in}
+use Rattle.merge_encode_proof.proofs.Trees.{func_of_range, func_stays}
 
 module _ (stay : NumbersStay) (parts : List Part) (h : PartsInRange parts) where
   -- ---- imports
@@ -46,7 +47,7 @@ module _ (stay : NumbersStay) (parts : List Part) (h : PartsInRange parts) where
   -- ---- functions
 
   func_numbers : (r : Remap) (f : Func) → FuncInRange f → FuncNumbersInRange (new_func r f)
-  func_numbers r f k = (k.1.0, body_keeps stay r f.body k.1.1)
+  func_numbers r f k = func_stays stay r f (func_of_range f k)
 
   defined_numbers : Every FuncNumbersInRange (defined_funcs parts)
   unfolding defined_funcs

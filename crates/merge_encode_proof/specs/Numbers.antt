@@ -1,7 +1,9 @@
 -- What validity does not bound: the numbers of a tree that are no indices of its index spaces, and its names.
 use Rattle.std.proofs.Common.{IsTrue, IsUtf8}
 use Rattle.wasm_tree_spec.specs.Prelude.{TableType, ImportDesc, Import, Export, ConstExpr, GlobalDef, ElemMode, ElemSeg, DataMode, DataSeg, LocalGroup, Func, Module}
-use Rattle.wasm_write_proof.specs.Ranges.{all_numbers_in, IsU32, LimitsInRange}
+use Rattle.index_remap.specs.declared.remap.Remap.{Remap}
+use Rattle.index_remap.specs.Prelude.{declared, renumbered_tree}
+use Rattle.wasm_write_proof.specs.Ranges.{all_numbers_in, IsU32, LimitsInRange, InRange}
 use Rattle.wasm_bytes.specs.Prelude.{IsWithin}
 use Rattle.wasm_tree.specs.declared.module.ImportDesc.TheVariants as import
 use Rattle.wasm_tree.specs.declared.module.ConstExpr.TheVariants as const
@@ -49,3 +51,17 @@ pub record NumbersInRange (m : Module) : Type 0 where
   pub exports : Every (λ (e : Export). IsUtf8 e.name) m.exports
   pub elems : Every ElemNumbersInRange m.elems
   pub datas : Every (λ (s : DataSeg). DataOffsetInRange s.mode) m.datas
+
+-- ---- what stays in range ----
+
+-- A module in range has these numbers and names in range.
+abbrev pub OwnNumbersAreInRange : Type 0
+OwnNumbersAreInRange = (m : Module) → InRange m → NumbersInRange m
+
+-- They stay in range when all indices are replaced.
+abbrev pub RenumberedNumbersAreInRange : Type 0
+RenumberedNumbersAreInRange = (r : Remap) (m : Module) → NumbersInRange m → NumbersInRange (renumbered_tree r m)
+
+-- They stay in range when the functions are declared that `ref.func` names and nothing else declares.
+abbrev pub DeclaredNumbersAreInRange : Type 0
+DeclaredNumbersAreInRange = (m : Module) → NumbersInRange m → NumbersInRange (declared m)

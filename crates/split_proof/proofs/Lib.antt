@@ -22,7 +22,6 @@ mod Rows
 pub mod ImportCounts
 pub mod CallsInRange
 pub mod NamesInRange
-pub mod TreesInRange
 pub mod SharedInRange
 pub mod PrimaryInRange
 pub mod SecondaryInRange

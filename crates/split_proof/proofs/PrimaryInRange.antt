@@ -8,17 +8,15 @@ use Rattle.wasm_tree_spec.specs.Prelude.{Space, Functions, Tables, Memories, Glo
 use Rattle.wasm_tree.specs.declared.module.ExportDesc.TheVariants as ex
 use Rattle.module_limits.specs.Counts.{CountsAreWithinWhereNoneIsOver, over_limit}
 use Rattle.index_remap.specs.Prelude.{declared, declared_refs, new_import, renumbered_tree}
-use Rattle.wasm_write_proof.specs.Ranges.{InRange, LimitsInRange, NumbersStay}
+use Rattle.wasm_write_proof.specs.Ranges.{InRange, LimitsInRange}
 use Rattle.merge_encode_proof.specs.Numbers.{ElemNumbersInRange, FuncNumbersInRange, ImportNumbersInRange, NumbersInRange}
-use Rattle.merge_encode_proof.proofs.Modules.{declared_numbers}
 use Rattle.split_spec.specs.Prelude.{call_through_slot, in_slots, params_of, place_among, slot_segment, slot_table, slot_table_type, exports_for_secondary, from_primary, name_from_primary, added_exports, left_marks, placeholder_imports, primary_func, primary_funcs, primary_map, primary_tree}
 use Rattle.split_spec.specs.Primary.{primary_with}
 use Rattle.split_proof.proofs.ImportCounts.{placeholders_many, same_imports}
 use Rattle.split_proof.proofs.SharedFuncs.{shared_within}
 use Rattle.split_proof.proofs.CallsInRange.{calls_numbers, slot_below, through_slot_numbers, trampoline_numbers}
 use Rattle.split_proof.proofs.NamesInRange.{decimal_in, name_in, slots_name_in}
-use Rattle.split_proof.proofs.SharedInRange.{entities_few, slot_limits_in, slots_from}
-use Rattle.split_proof.proofs.TreesInRange.{numbers_of_range, renumbered_numbers}
+use Rattle.split_proof.proofs.SharedInRange.{NumberLaws, entities_few, slot_limits_in, slots_from}
 
 -- ---- parameters ----
 
@@ -110,13 +108,13 @@ module _ (namespace : ℕ → List ℕ) (prefix : List ℕ) (m : Module) (moved 
           datas = numbers.datas;
         }
 
-pub primary_numbers : NumbersStay → (namespace : ℕ → List ℕ) (prefix : List ℕ) (m : Module) (moved : List ℕ) → ((slot : ℕ) → IsUtf8 (namespace slot)) → IsUtf8 prefix →
+pub primary_numbers : NumberLaws → (namespace : ℕ → List ℕ) (prefix : List ℕ) (m : Module) (moved : List ℕ) → ((slot : ℕ) → IsUtf8 (namespace slot)) → IsUtf8 prefix →
     InRange m → IsBounded m → length moved ≤ 2 ^ 31 → NumbersInRange (primary_with namespace prefix m moved)
 unfolding primary_with
-primary_numbers stay namespace prefix m moved namespaces utf8 h few most =
+primary_numbers laws namespace prefix m moved namespaces utf8 h few most =
     let t = primary_tree namespace prefix m moved in
-    let new = renumbered_tree (primary_map m moved) t in
-    declared_numbers new (declared_refs new) (renumbered_numbers stay (primary_map m moved) t (tree_numbers namespace prefix m moved namespaces utf8 (numbers_of_range m h) few most))
+    let numbers = tree_numbers namespace prefix m moved namespaces utf8 (laws.own m h) few most in
+    laws.declared (renumbered_tree (primary_map m moved) t) (laws.renumbered (primary_map m moved) t numbers)
 
 -- ---- how many move ----
 

@@ -1,22 +1,25 @@
 -- A secondary module has numbers of the module, and those that it adds are small.
-use Rattle.base_lists.proofs.Common.{◌≡◌, ℕ, ◌+◌, ◌-◌, ◌≤◌, ◌<◌, ◌^◌, List, length, Option, Some, None, true, slice_get, subst, arith, IsUtf8, option_map, slice_get_within, every_at, option_map_is}
-use Rattle.base_lists.proofs.Every.{every_of, every_map, every_some, every_append}
+use Rattle.base_lists.proofs.Common.{◌≡◌, ℕ, ◌+◌, ◌-◌, ◌≤◌, ◌<◌, ◌^◌, List, length, Option, Some, None, true, slice_get, subst, arith, IsUtf8, option_map, slice_get_within, every_at, option_map_is, chosen_from}
+use Rattle.base_lists.proofs.Every.{every_of, every_from, every_map, every_some, every_append}
+use Rattle.std.proofs.Common.{filter_map}
 use Rattle.base_lists.specs.Every.{Every}
 use Rattle.wasm_tree_spec.specs.Prelude.{Space, Types, Functions, Tables, Memories, Globals, ElementSegments, DataSegments, Limits, TableType, Import, ImportDesc, Func, Module, IsBounded, funcs_of, globals_of, imported_funcs, imported_memories, imported_tables, memories_of, memory_of, table_of, tables_of}
 use Rattle.wasm_tree.specs.declared.module.ImportDesc.TheVariants as im
-use Rattle.index_remap.specs.Prelude.{declared_refs, renumbered_tree}
-use Rattle.wasm_write_proof.specs.Ranges.{all_numbers_in, InRange, LimitsInRange, NumbersStay}
+use Rattle.index_remap.specs.Prelude.{renumbered_tree}
+use Rattle.wasm_write_proof.specs.Ranges.{all_numbers_in, InRange, LimitsInRange}
 use Rattle.merge_encode_proof.specs.Numbers.{FuncNumbersInRange, ImportLimitsInRange, ImportNumbersInRange, NumbersInRange}
-use Rattle.merge_encode_proof.proofs.Modules.{declared_numbers}
 use Rattle.split_spec.specs.declared.names.SplitNames.{SplitNames}
 use Rattle.split_spec.specs.Prelude.{defined_at, in_slots, place_among, slot_table, slot_table_type, entities, from_primary, imports_from_primary, name_from_primary, slots_name, secondary_call, secondary_call_by_place, secondary_func, secondary_imports, secondary_map, secondary_tree}
 use Rattle.split_spec.specs.Secondary.{secondary_with}
 use Rattle.split_proof.proofs.CallsInRange.{call_numbers, calls_numbers, through_slot_numbers}
 use Rattle.split_proof.proofs.NamesInRange.{name_in, slots_name_in}
-use Rattle.split_proof.proofs.SharedInRange.{entities_few, slot_limits_in, slots_from}
-use Rattle.split_proof.proofs.TreesInRange.{every_chosen, numbers_of_range, renumbered_numbers}
+use Rattle.split_proof.proofs.SharedInRange.{NumberLaws, entities_few, slot_limits_in, slots_from}
 
 -- ---- what the module has in each index space ----
+
+-- what is chosen of such elements
+every_chosen : {A B : Type 0} (P : A → Type 0) (Q : B → Type 0) (f : A → Option B) → ((x : A) (y : B) → P x → f x ≡ Some y → Q y) → (xs : List A) → Every P xs → Every Q (filter_map f xs)
+every_chosen P Q f keep xs h = every_from Q (filter_map f xs) (λ n y at. let c = chosen_from f xs n y at in keep c.0 y (every_at P xs c.1.0 c.0 h c.1.1) c.2)
 
 table_limits : (d : ImportDesc) (t : TableType) → ImportLimitsInRange d → table_of d ≡ Some t → LimitsInRange t.limits
 table_limits (im.Func ty) t h e = absurd (let k = e in cc)
@@ -112,11 +115,10 @@ module _ (names : SplitNames) (m : Module) (moved own : List ℕ) (before : ℕ)
       datas = tt;
     }
 
-pub secondary_numbers : NumbersStay → (names : SplitNames) (m : Module) (moved own : List ℕ) (before : ℕ) → IsUtf8 names.import_namespace → IsUtf8 names.export_prefix →
+pub secondary_numbers : NumberLaws → (names : SplitNames) (m : Module) (moved own : List ℕ) (before : ℕ) → IsUtf8 names.import_namespace → IsUtf8 names.export_prefix →
     InRange m → IsBounded m → length moved ≤ 2 ^ 31 → before < 2 ^ 31 → NumbersInRange (secondary_with names m moved own before)
 unfolding secondary_with
-secondary_numbers stay names m moved own before namespace_in prefix_in h few most first =
+secondary_numbers laws names m moved own before namespace_in prefix_in h few most first =
     let t = secondary_tree names m moved own before in
-    let new = renumbered_tree (secondary_map m moved own) t in
-    let numbers = tree_numbers names m moved own before namespace_in prefix_in (numbers_of_range m h) few most first in
-    declared_numbers new (declared_refs new) (renumbered_numbers stay (secondary_map m moved own) t numbers)
+    let numbers = tree_numbers names m moved own before namespace_in prefix_in (laws.own m h) few most first in
+    laws.declared (renumbered_tree (secondary_map m moved own) t) (laws.renumbered (secondary_map m moved own) t numbers)

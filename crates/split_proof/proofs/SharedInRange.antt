@@ -7,8 +7,14 @@ use Rattle.wasm_tree_spec.specs.Prelude.{Space, Types, Functions, Tables, Memori
 use Rattle.wasm_tree.specs.declared.module.ConstExpr.TheVariants as const
 use Rattle.wasm_tree.specs.declared.module.ImportDesc.TheVariants as im
 use Rattle.wasm_write_proof.specs.Ranges.{LimitsInRange}
-use Rattle.merge_encode_proof.specs.Numbers.{ConstNumberInRange, ElemNumbersInRange}
+use Rattle.merge_encode_proof.specs.Numbers.{ConstNumberInRange, ElemNumbersInRange, OwnNumbersAreInRange, RenumberedNumbersAreInRange, DeclaredNumbersAreInRange}
 use Rattle.split_spec.specs.Prelude.{slot_segment, slot_table_type, entities}
+
+-- what the laws below say
+pub record NumberLaws : Type 0 where
+  pub own : OwnNumbersAreInRange
+  pub renumbered : RenumberedNumbersAreInRange
+  pub declared : DeclaredNumbersAreInRange
 
 pub slot_limits_in : (count : ℕ) → count < 2 ^ 32 → LimitsInRange (slot_table_type count).limits
 slot_limits_in count few = (few, few)

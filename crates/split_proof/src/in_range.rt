@@ -12,10 +12,9 @@ ghost use Rattle.split_spec.specs.declared.names.SplitNames.{SplitNames};
 ghost use Rattle.split_spec.specs.Primary.{primary_with};
 ghost use Rattle.split_spec.specs.Secondary.{secondary_with};
 
+use merge_encode_proof::{numbers_stay_in_range, valid_modules_are_in_range};
 use module_limits::counts_are_within_where_none_is_over;
-use wasm_tree::operands_pass_layer_by_layer;
-use wasm_valid::valid_where_items_hold;
-use wasm_write_proof::{encoded_operands_are_in_range, renumbering_keeps_numbers_in_range};
+use wasm_valid::valid_code_names_memory_zero;
 
 /// Proves that in both modules of a split each number is in the range of its type and each name is
 /// UTF-8 (`primary`, `secondary`), and that their bodies name no memory but memory 0
@@ -44,9 +43,8 @@ pub fn split_modules_are_in_range()
         → IsValid (secondary_with names m moved own before) → IsSingle (secondary_with names m moved own before) → IsBounded (secondary_with names m moved own before)
         → IsTrue (memory_zero_funcs (secondary_with names m moved own before).funcs) }
 {
-    valid_where_items_hold();
-    operands_pass_layer_by_layer();
-    renumbering_keeps_numbers_in_range();
-    encoded_operands_are_in_range();
+    valid_modules_are_in_range();
+    numbers_stay_in_range();
+    valid_code_names_memory_zero();
     counts_are_within_where_none_is_over();
 }

@@ -1,8 +1,6 @@
 -- A module in range has its other numbers in range, and keeps them with other indices.
-use Rattle.base_lists.proofs.Common.{◌≡◌, ℕ, List, Option, Some, IsUtf8, every_at, chosen_from, right_true, ◌∙◌}
-use Rattle.base_lists.proofs.Every.{every_with, every_from, every_map}
-use Rattle.std.proofs.Common.{filter_map}
-use Rattle.base_lists.specs.Every.{Every}
+use Rattle.base_lists.proofs.Common.{IsUtf8, right_true, ◌∙◌}
+use Rattle.base_lists.proofs.Every.{every_with, every_map}
 use Rattle.wasm_tree_spec.specs.Prelude.{ImportDesc, Import, Export, Func, GlobalDef, ElemMode, ElemSeg, DataMode, DataSeg, Module, all_operands_pass}
 use Rattle.wasm_tree.specs.declared.module.ImportDesc.TheVariants as im
 use Rattle.wasm_tree.specs.declared.module.ElemMode.TheVariants as elem
@@ -12,12 +10,6 @@ use Rattle.index_remap.specs.Prelude.{entry, new_const, new_data, new_data_mode,
 use Rattle.wasm_write_proof.specs.Ranges.{small_operand, all_numbers_in, ConstInRange, DataModeInRange, ElemInRange, ElemModeInRange, ExportInRange, FuncInRange, ImportDescInRange, ImportInRange, InRange, NumbersStay}
 use Rattle.merge_encode_proof.specs.Numbers.{ConstNumberInRange, DataOffsetInRange, ElemNumbersInRange, ElemOffsetInRange, FuncNumbersInRange, ImportLimitsInRange, ImportNumbersInRange, NumbersInRange}
 use Rattle.merge_encode_proof.proofs.Consts.{new_number, number_of}
-
--- ---- lists ----
-
--- what is chosen of such elements
-pub every_chosen : {A B : Type 0} (P : A → Type 0) (Q : B → Type 0) (f : A → Option B) → ((x : A) (y : B) → P x → f x ≡ Some y → Q y) → (xs : List A) → Every P xs → Every Q (filter_map f xs)
-every_chosen P Q f keep xs h = every_from Q (filter_map f xs) (λ n y at. let c = chosen_from f xs n y at in keep c.0 y (every_at P xs c.1.0 c.0 h c.1.1) c.2)
 
 -- ---- a module in range ----
 
@@ -36,7 +28,7 @@ offset_of_data : (m : DataMode) → DataModeInRange m → DataOffsetInRange m
 offset_of_data (segment.Active memory offset) h = number_of offset h.1
 offset_of_data segment.Passive h = tt
 
-func_of_range : (f : Func) → FuncInRange f → FuncNumbersInRange f
+pub func_of_range : (f : Func) → FuncInRange f → FuncNumbersInRange f
 func_of_range f h = (h.1.0, right_true (all_operands_pass small_operand f.body) (all_numbers_in f.body) h.1.1)
 
 elem_of_range : (s : ElemSeg) → ElemInRange s → ElemNumbersInRange s
@@ -66,7 +58,7 @@ module _ (stay : NumbersStay) (r : Remap) where
   import_stays : (i : Import) → ImportNumbersInRange i → ImportNumbersInRange (new_import r i)
   import_stays i h = (h.0, h.1, desc_stays i.desc h.2)
 
-  func_stays : (f : Func) → FuncNumbersInRange f → FuncNumbersInRange (new_func r f)
+  pub func_stays : (f : Func) → FuncNumbersInRange f → FuncNumbersInRange (new_func r f)
   func_stays f h = (h.0, stay (entry r) f.body ∙ h.1)
 
   mode_stays : (m : ElemMode) → ElemOffsetInRange m → ElemOffsetInRange (new_elem_mode r m)
