@@ -1,16 +1,15 @@
 -- What the instantiation of one module leaves: what it defines behind what was there, and its segments copied.
-use Rattle.base_lists.proofs.Common.{◌≡◌, ℕ, ◌+◌, List, [], ◌∷◌, ◌++◌, map, length, Option, Some, false, refl, ap, ◌∙◌, append-nil, slice_get, same_Some, slice_get_within, all_there_at, and_then_is, append_at_left, append_right, map_at, map_from}
+use Rattle.base_lists.proofs.Common.{◌≡◌, ℕ, ◌+◌, List, [], ◌∷◌, ◌++◌, map, length, Option, Some, false, refl, ap, ◌∙◌, append-nil, slice_get, same_Some, slice_get_within, all_there_at, and_then_is, append_at_left, append_right, map_at, map_from, arith}
 use Rattle.base_lists.specs.Options.{◌>>=◌}
 use Rattle.wasm_tree_spec.specs.Prelude.{ConstExpr, ElemMode, ElemSeg, DataMode, DataSeg, Module}
 use Rattle.wasm_tree.specs.declared.module.ElemMode.TheVariants as elem
 use Rattle.wasm_tree.specs.declared.module.DataMode.TheVariants as data'
-use Rattle.wasm_meaning.specs.Prelude.{Text, Entity, RefVal, Val, Inst, Table, Memory, Elem, Data, Store, SetTable, SetMemory, DropElem, DropData, changed, no_items, no_bytes, ref_of, Begun, Filled, PlacedSegment, address_in, all_there, const_value, value_of, elem_with, store_with, part_store, joined_stores, numbers, segments_in, copy_slots, run_elem_with, run_elem, copy_bytes, run_data_with, run_data, and_then, one_by_one, segments, insts_from, own_store, alone, instantiate, Added, added, next_inst, LoaderWorld, store_under, supplied, primary_added, begun_under, Environment, ExternalValue}
+use Rattle.wasm_meaning.specs.Prelude.{Text, Entity, RefVal, Val, Inst, Table, Memory, Elem, Data, Store, SetTable, SetMemory, DropElem, DropData, changed, no_items, no_bytes, ref_of, Begun, Filled, PlacedSegment, address_in, all_there, const_value, value_of, elem_with, store_with, part_store, joined_stores, numbers, segments_in, copy_slots, run_elem_with, run_elem, copy_bytes, run_data_with, run_data, and_then, one_by_one, segments, insts_from, own_store, alone, instantiate, Added, added, next_inst, LoaderWorld, store_under, supplied, primary_added, begun_under, Environment, ExternalValue, World}
 use Rattle.world_contents_proof.specs.Leaves.{Copy, all_over, elem_copy, elem_copies, data_copy, data_copies, Stands, elem_left, data_left, Leaves}
 use Rattle.world_simulation.proofs.Allocated.{adds_with, new_table, new_memory, new_data}
-use Rattle.world_simulation.specs.Prelude.{one}
+use Rattle.world_simulation.specs.Prelude.{one, IsInstantiated}
 use Rattle.world_contents_proof.proofs.Added.{added_is}
 use Rattle.world_simulation.proofs.Single.{one_inst}
-use Rattle.world_simulation.proofs.Simulated.{what_is_made}
 use Rattle.world_contents_proof.proofs.Copies.{Kind, run, runs, left, IsOf, all_ran, all_stay, then_went}
 
 -- ---- the two kinds ----
@@ -172,6 +171,9 @@ added_leaves s m things a h good =
     let i = next_inst s m things in
     rw (← x.2) (left_in_turn _ m i s x.0 x.1 (λ s task. run_elem_with _ s task task.segment.mode) (λ s task. run_data_with _ s task task.segment.mode)
     (λ s n e. elem_runs _ i s n e e.mode) (λ s n d. data_runs _ i s n d d.mode) refl refl _ refl (rw (← x.2) at good))
+
+what_is_made : (env : Environment) (w : World) (b : Begun) → instantiate env w ≡ Some b → IsInstantiated env w b
+what_is_made env w b h = grind arith
 
 -- a world of one module, whatever names it shows
 pub world_leaves : (env : Environment) (m : Module) (view : List (Text × Entity)) (b : Begun) → instantiate env (record { parts = one m; view = view }) ≡ Some b → b.trapped ≡ false →

@@ -15,7 +15,6 @@ use Rattle.world_contents_proof.proofs.Added.{joined_right}
 use Rattle.world_contents_proof.proofs.OwnValues.{const_same}
 use Rattle.world_loader_proof.proofs.OwnEntities.{R, shares, own_like}
 use Rattle.world_simulation.proofs.Single.{all_matched}
-use Rattle.world_simulation.proofs.Instancing.{inst_is}
 
 -- ---- what imports denote ----
 
@@ -82,7 +81,7 @@ module _ (env : Environment) (m : Module) where
 
     -- its constant expressions have the values, and its segments the runs, of a module that is added
     values_same : value_of env (one m) (next ∷ []) 0 ≡ const_value (own_globals env) next
-    values_same = fun_ext (const_same env m next (inst_is env (one m) 0 m next inst_there))
+    values_same = fun_ext (const_same env m next (search (arith, inst_there)))
 
     segments_same : (s : Store) → segments env (one m) (next ∷ []) s ≡ own_segments (const_value (own_globals env) next) m next s
     segments_same s =
