@@ -8,5 +8,6 @@ pub mod Walking
 pub mod NodeChainLaws
 pub mod Following
 pub mod Searching
+pub mod ExactMarks
 pub mod Rows
 pub mod ImportsReached

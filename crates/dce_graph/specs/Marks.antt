@@ -1,12 +1,12 @@
 -- Marks on points.
-use Rattle.std.specs.Prelude.{◌≡◌, ◌⊎◌, ◌<◌, ◌+◌, ℕ, suc, List, [], ◌∷◌, length, Bool, true, false, get_or, slice_get, slice_set, replicate, Contains, Option, Some, None}
+use Rattle.std.specs.Prelude.{◌≡◌, ◌↔◌, ◌⊎◌, ◌<◌, ◌+◌, ℕ, suc, List, [], ◌∷◌, length, Bool, true, false, get_or, slice_get, slice_set, replicate, Contains, Option, Some, None}
 use Rattle.wasm_tree_spec.specs.Prelude.{Module, funcs_of, globals_of}
 use Rattle.dce_graph.specs.declared.graph.Graph.{Graph}
 use Rattle.dce_graph.specs.declared.point.Point.{Point}
 use Rattle.dce_graph.specs.declared.point.Point.TheVariants.{Node, Export, Import, Func, Global}
 use Rattle.dce_graph.specs.declared.marks.Reached.{Reached}
 use Rattle.dce_graph.specs.declared.search.Search.{Search}
-use Rattle.dce_graph.specs.Reach.{place_in_kind}
+use Rattle.dce_graph.specs.Reach.{place_in_kind, IsReached, point_count}
 
 -- the marks of the kind of a point
 abbrev pub flags : Reached → Point → List Bool
@@ -72,3 +72,8 @@ pub record Spread (old : Search) (ps : List Point) (new : Search) : Type 0 where
 
 abbrev pub with_stack : Search → List Point → Search
 with_stack s stack = record s { stack = stack }
+
+-- there is one mark for each point, and it is set if and only if a path from a root meets the point
+pub record AreExact (g : Graph) (m : Module) (r : Reached) : Type 0 where
+  pub exactly : (p : Point) → (marked r p ≡ true) ↔ IsReached g m p
+  pub one_each : (p : Point) → length (flags r p) ≡ point_count g m p

@@ -18,7 +18,7 @@ mod walk;
 
 pub use fault::GraphFault;
 pub use graph::{Graph, ImportPair, Node};
-pub use laws::imports_are_reached_with_their_entries;
+pub use laws::{exact_marks_exist, imports_are_reached_with_their_entries};
 pub use marks::Reached;
 pub use point::Point;
 pub use reach::reached;

@@ -6,7 +6,7 @@ use Rattle.tools_cli.specs.Prelude.{Text, MergeTask, Task, Merge, Metadce, Split
 use Rattle.tools_cli.specs.Texts.{invalid_text, join_text}
 use Rattle.wasm_tree_spec.specs.Prelude.{InputBytes, Module}
 use Rattle.tools_cli.specs.Job.{HoldBytes}
-use Rattle.dce_exact_proof.specs.Laws.{ExactMarksAreOne}
+use Rattle.dce_graph.specs.Laws.{ExactMarksAreOne}
 use Rattle.tools_cli.proofs.Faithful.{whole_is, short_enough}
 use Rattle.tools_cli.proofs.MetadceDecided.{metadce_once}
 use Rattle.tools_cli.proofs.SplitDecided.{NamesAreRead, split_once}

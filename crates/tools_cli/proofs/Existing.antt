@@ -19,7 +19,7 @@ use Rattle.merge_spec.specs.declared.faults.LinkFault.{LinkFault}
 use Rattle.merge_spec.specs.declared.faults.LinkFault.TheVariants as link
 use Rattle.merge_spec.specs.declared.faults.JoinFault.{JoinFault}
 use Rattle.merge_spec.specs.declared.faults.JoinFault.TheVariants as join
-use Rattle.dce_exact_proof.specs.Laws.{ExactMarksExist}
+use Rattle.dce_graph.specs.Laws.{ExactMarksExist}
 use Rattle.tools_cli.proofs.MergeDecided.{length_parts, length_files}
 use Rattle.tools_cli.proofs.MetadceDecided.{metadce_told}
 use Rattle.tools_cli.proofs.SplitDecided.{NamesAreRead, split_decides}

@@ -1,7 +1,7 @@
 -- What a metadce decides: from its parts, that it decides something, and that it is one.
 use Rattle.base_lists.proofs.Common.{◌↔◌, IfOk, true, ◌≡◌, ◌∙◌, ◌⊎◌, inl, inr, refl, sym, ap, ap₂, subst, ℕ, List, [], ◌∷◌, length, get_or, Option, Some, None, Result, Ok, Err, arith, filter_map}
 use Rattle.dce_graph.specs.declared.point.Point.{Point}
-use Rattle.dce_graph.specs.Prelude.{flags, marked, IsReached, point_count, graph_result, if_text, misshapen, entry_of, first_repeated, first_unknown, names_of, place_of_name, reached_names, fault_of}
+use Rattle.dce_graph.specs.Prelude.{AreExact, flags, marked, IsReached, point_count, graph_result, if_text, misshapen, entry_of, first_repeated, first_unknown, names_of, place_of_name, reached_names, fault_of}
 use Rattle.wasm_tree_spec.specs.Prelude.{Which, Module}
 use Rattle.dce_graph.specs.declared.graph.Graph.{Graph}
 use Rattle.dce_graph.specs.declared.marks.Reached.{Reached}
@@ -9,9 +9,10 @@ use Rattle.dce_graph.specs.declared.fault.GraphFault.{GraphFault}
 use Rattle.dce_graph.specs.declared.fault.GraphFault.TheVariants as graph
 use Rattle.serde_json.specs.Data.{Data, Items}
 use Rattle.serde_json.specs.Find.{as_array}
+use Rattle.dce_graph.specs.Laws.{ExactMarksExist, ExactMarksAreOne}
 use Rattle.dce_graph.specs.GraphFile.{Entry, if_array, if_shaped, if_distinct, if_known, value_of, listed, graph_of, IsFault}
 use Rattle.dce_sweep_spec.specs.Marks.{Marks}
-use Rattle.dce_sweep_spec.specs.Reached.{AreExact, marks_of}
+use Rattle.dce_sweep_spec.specs.Reached.{marks_of}
 use Rattle.dce_sweep_spec.specs.Swept.{swept}
 use Rattle.dce_sweep.specs.declared.faults.SweepFault.{SweepFault}
 use Rattle.dce_sweep.specs.declared.faults.SweepFault.TheVariants as sweep
@@ -19,7 +20,6 @@ use Rattle.dce_sweep.specs.Sweeps.{Sweeps, outcome, sweep_of}
 use Rattle.module_limits.specs.Counts.{over_limit}
 use Rattle.wasm_valid.specs.Prelude.{IsValid}
 use Rattle.dce_sweep_spec.specs.Closed.{AreClosed}
-use Rattle.dce_exact_proof.specs.Laws.{ExactMarksExist, ExactMarksAreOne}
 use Rattle.dce_reach_proof.specs.Laws.{ReachedMarksAreClosed}
 use Rattle.tools_cli.specs.Prelude.{Text, MetadceTask, Metadce, Decision, Refuses, Makes, Decides, Reduces, no_graph, not_swept, reduced, unused_lines, unmarked_names, input_texts}
 use Rattle.tools_cli.specs.Job.{GivesMarks}
@@ -165,12 +165,12 @@ no_other text g fault e f = absurd (let both : ◌≡◌ {A = Result Graph Graph
 one_text : (o : Option Text) (says other : Text) → o ≡ Some says → o ≡ Some other → says ≡ other
 one_text o says other e f = let both : Some says ≡ Some other = sym e ∙ f in cc
 
--- marks of one graph and module keep one thing
+-- exact marks of one graph and module keep one thing
 one_sweep : ExactMarksAreOne → (text : Text) (tree : Module) (g h : Graph) (marks others : Reached) (r q : Result Module SweepFault) → GivesMarks text tree g marks → GivesMarks text tree h others → Sweeps (marks_of marks) tree r → Sweeps (marks_of others) tree q → r ≡ q
 one_sweep one text tree g h marks others r q is be e f =
     let same = one_graph text g h is.read be.read in
     let P : Graph → Type 0 = λ x. AreExact x tree marks in
-    sym e ∙ ap (λ k. sweep_of k tree) (one h tree marks others (subst P same is.exact) be.exact) ∙ f
+    sym e ∙ ap (λ (k : Reached). sweep_of (marks_of k) tree) (one h tree marks others (subst P same is.exact) be.exact) ∙ f
 
 pub reduces_once : ExactMarksAreOne → (metadce : MetadceTask) (tree : Module) (text : Text) (this other : Decision) → Reduces metadce tree text this → Reduces metadce tree text other → this ≡ other
 reduces_once one metadce tree text this other (no_graph fault says found told) (no_graph fault' says' found' told') =

@@ -16,7 +16,7 @@ use Rattle.dce_graph.specs.declared.graph.Graph.{Graph}
 use Rattle.dce_graph.specs.declared.graph.Node.{Node}
 use Rattle.dce_graph.specs.declared.point.Point.TheVariants as point
 use Rattle.dce_graph.specs.declared.marks.Reached.{Reached}
-use Rattle.dce_sweep_spec.specs.Reached.{AreExact}
+use Rattle.dce_graph.specs.Prelude.{AreExact}
 use Rattle.tools_cli_words.specs.Words.{Text}
 use Rattle.tools_cli.specs.Prelude.{names_of, unmarked_from, unmarked_names}
 use Rattle.tools_cli.specs.Unused.{AreUnused, IsUnused}

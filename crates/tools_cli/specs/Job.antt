@@ -9,8 +9,8 @@ use Rattle.wasm_meaning.specs.Prelude.{Part}
 use Rattle.dce_graph.specs.declared.graph.Graph.{Graph}
 use Rattle.dce_graph.specs.declared.marks.Reached.{Reached}
 use Rattle.dce_graph.specs.declared.fault.GraphFault.{GraphFault}
-use Rattle.dce_graph.specs.Prelude.{graph_result}
-use Rattle.dce_sweep_spec.specs.Reached.{AreExact, marks_of}
+use Rattle.dce_graph.specs.Prelude.{AreExact, graph_result}
+use Rattle.dce_sweep_spec.specs.Reached.{marks_of}
 use Rattle.dce_sweep.specs.declared.faults.SweepFault.{SweepFault}
 use Rattle.dce_sweep.specs.Sweeps.{Sweeps}
 use Rattle.wasm_names.specs.declared.func_name.FuncName.{FuncName}

@@ -8,7 +8,7 @@ ghost use Rattle.tools_cli.specs.Faithful.{IsFaithful, ReadsBytes, SplitWordsAre
 
 use dce_behaves_proof::swept_module_equivalent;
 use dce_encode_proof::swept_modules_are_in_range;
-use dce_exact_proof::exact_marks_exist;
+use dce_graph::exact_marks_exist;
 use dce_reach_proof::reached_marks_are_closed;
 use dce_sweep_proof::swept_modules_are_valid;
 use eval_encode_proof::{encoded_trees_begin_in_range, snapshots_are_in_range};

@@ -4,14 +4,12 @@ use Rattle.std.proofs.Common.{length-append}
 use Rattle.wasm_tree_spec.specs.Prelude.{Module}
 use Rattle.dce_graph.specs.declared.graph.Graph.{Graph}
 use Rattle.dce_graph.specs.declared.point.Point.{Point}
-use Rattle.dce_graph.specs.declared.point.Point.TheVariants.{Export, Import, Func, Global}
+use Rattle.dce_graph.specs.declared.point.Point.TheVariants.{Node, Export, Import, Func, Global}
 use Rattle.dce_graph.specs.declared.marks.Reached.{Reached}
 use Rattle.dce_graph.specs.Prelude.{routes, roots, edges, flags, marked, unmarked, Spread}
-use Rattle.dce_graph.specs.Marks.{unmet, with_mark, blank_marks}
+use Rattle.dce_graph.specs.Marks.{AreExact, unmet, with_mark, blank_marks}
 use Rattle.dce_graph.proofs.Marking.{spread_none, spread_old, spread_new, spread_then}
 use Rattle.dce_graph.proofs.Searching.{Good, good_start, good_more, good_end}
-use Rattle.dce_sweep_spec.specs.Marks.{Marks}
-use Rattle.dce_sweep_spec.specs.Reached.{AreExact, marks_of}
 
 -- ---- there are some: a search, as a definition, over the marks that it has set and the points that wait ----
 
@@ -86,15 +84,15 @@ same_flags [] (y ∷ ys) long h = absurd (omega arith)
 same_flags (x ∷ xs) [] long h = absurd (omega arith)
 same_flags (x ∷ xs) (y ∷ ys) long h = ap₂ (λ (b : Bool) (bs : List Bool). b ∷ bs) (same_flag x y (h 0)) (same_flags xs ys (omega arith) (λ i. h (suc i)))
 
-same_marks : (a b c d a' b' c' d' : List Bool) → a ≡ a' → b ≡ b' → c ≡ c' → d ≡ d'
-    → ◌≡◌ {A = Marks} (record { exports = a; imports = b; funcs = c; globals = d }) (record { exports = a'; imports = b'; funcs = c'; globals = d' })
-same_marks a b c d a' b' c' d' e f g h = rw (e, f, g, h) refl
+same_marks : (r s : Reached) → r.nodes ≡ s.nodes → r.exports ≡ s.exports → r.imports ≡ s.imports → r.funcs ≡ s.funcs → r.globals ≡ s.globals → r ≡ s
+same_marks r s n e i f g = grind arith
 
-pub one_exact : (g : Graph) (m : Module) (r s : Reached) → AreExact g m r → AreExact g m s → marks_of r ≡ marks_of s
+pub one_exact : (g : Graph) (m : Module) (r s : Reached) → AreExact g m r → AreExact g m s → r ≡ s
 one_exact g m r s h k =
     let both : (p : Point) → (marked r p ≡ true) ↔ (marked s p ≡ true) = λ p. ((λ e. (k.exactly p).1 ((h.exactly p).0 e)), λ e. (h.exactly p).1 ((k.exactly p).0 e)) in
     let long : (p : Point) → length (flags r p) ≡ length (flags s p) = λ p. h.one_each p ∙ sym (k.one_each p) in
-    same_marks r.exports r.imports r.funcs r.globals s.exports s.imports s.funcs s.globals
+    same_marks r s
+    (same_flags r.nodes s.nodes (long (Node 0)) (λ i. both (Node i)))
     (same_flags r.exports s.exports (long (Export 0)) (λ i. both (Export i)))
     (same_flags r.imports s.imports (long (Import 0)) (λ i. both (Import i)))
     (same_flags r.funcs s.funcs (long (Func 0)) (λ i. both (Func i)))
