@@ -1,8 +1,8 @@
 -- memory.init, and where a data segment is found.
 use Rattle.base_lists.proofs.Common.{◌≡◌, ℕ, zero, suc, ◌+◌, ◌-◌, ◌/◌, ◌<◌, ◌≤◌, arith, List, [], ◌∷◌, length, slice_get, Bool, true, false, Option, Some, None, Err, refl, sym, same_Some, slice_get_within, numbers_is}
+use Rattle.std.proofs.Common.{length-drop, length-take-le}
 use Rattle.base_lists.specs.Options.{◌>>=◌}
 use Rattle.block_pool.specs.Pages.{Pages, part}
-use Rattle.block_pool.proofs.Reading.{part_size}
 use Rattle.wasm_tree_spec.specs.Prelude.{DataSegments, Memories, DataSeg, Module, Instr}
 use Rattle.wasm_tree.specs.declared.instr.Instr.TheVariants as i
 use Rattle.wasm_tree.specs.declared.instr.Instr.TheOpen.{Instr-F}
@@ -122,6 +122,9 @@ module _ (m : Module) (k : Kept) (f : Fits m k) (segment n : ℕ) (pages : Pages
     abbrev taken : List ℕ
     taken = part bytes source count
 
+    taken_size : length taken ≡ count
+    taken_size = grind (arith, inside, length-take-le, length-drop)
+
     init_write : (ls : List Val) (rest : List Instr) (p : Place) (es : List Entry) → IsWrite m k f n pages t (i.MemoryInit segment n) (Instr-F.MemoryInit segment n) vs ls rest p es to taken below
     init_write ls rest p es = record {
       layer = i.outs-MemoryInit segment n;
@@ -130,8 +133,8 @@ module _ (m : Module) (k : Kept) (f : Fits m k) (segment n : ℕ) (pages : Pages
       unknown = rw (none_of DataSegments data_kind m.imports 0, none_before segment, own);
       import = refl;
       opens = refl;
-      touched = rw (t.address, pop, part_size bytes source count inside);
-      further = rw (t.address, pop, part_size bytes source count inside);
+      touched = rw (t.address, pop, taken_size);
+      further = rw (t.address, pop, taken_size);
       done = rw (d.address, d.there, t.address, t.memory, pop, d.holds, slice_in bytes source count inside) (wrote_form (record { most = t.limits.max; pages = t.limits.min; bytes = pages.now.bytes }) n (body_at (record { kept = k; operands = below; locals = ls }) rest p) (overwrite pages.now.bytes to taken));
     }
 

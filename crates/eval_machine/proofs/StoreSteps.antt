@@ -1,8 +1,7 @@
 -- Stores.
-use Rattle.base_lists.proofs.Common.{◌≡◌, ℕ, zero, suc, ◌+◌, ◌-◌, ◌/◌, ◌%◌, ◌<◌, ◌≤◌, arith, List, [], ◌∷◌, slice_get, false, Option, Some, None, Err, refl, ap}
+use Rattle.base_lists.proofs.Common.{◌≡◌, ℕ, zero, suc, ◌+◌, ◌-◌, ◌/◌, ◌%◌, ◌<◌, ◌≤◌, arith, List, [], ◌∷◌, length, slice_get, false, Option, Some, None, Err, refl, ap}
 use Rattle.block_pool.specs.Pages.{Pages}
 use Rattle.block_pool.specs.Pages.{little_bytes as lowest_bytes}
-use Rattle.block_pool.proofs.Stored.{little_bytes_size}
 use Rattle.wasm_tree_spec.specs.Prelude.{Memories, StoreOp, MemArg, Instr, Module}
 use Rattle.wasm_tree.specs.declared.instr.StoreOp.TheVariants as op
 use Rattle.wasm_tree.specs.declared.instr.Instr.TheVariants as i
@@ -36,6 +35,9 @@ stored_is op.I32Store16 n = lowest_same 2 n
 stored_is op.I64Store8 n = lowest_same 1 n
 stored_is op.I64Store16 n = lowest_same 2 n
 stored_is op.I64Store32 n = lowest_same 4 n
+
+low_size : (o : StoreOp) (n : ℕ) → length (lowest_bytes (store_width o) n) ≡ store_width o
+low_size o n = grind arith
 
 no_turns : (o : StoreOp) → store_width o / 64 ≡ 0
 no_turns op.I32Store = refl
@@ -91,8 +93,8 @@ module _ (m : Module) (k : Kept) (f : Fits m k) (o : StoreOp) (arg : MemArg) (pa
       unknown = rw own;
       import = refl;
       opens = refl;
-      touched = rw (t.address, is, at, little_bytes_size (store_width o) number);
-      further = rw (t.address, is, at, little_bytes_size (store_width o) number);
+      touched = rw (t.address, is, at, low_size o number);
+      further = rw (t.address, is, at, low_size o number);
       done = rw (t.address, t.memory, is, at, stored_is o number) (wrote_form (record { most = t.limits.max; pages = t.limits.min; bytes = pages.now.bytes }) arg.memory (body_at (record { kept = k; operands = below; locals = ls }) rest p) (overwrite pages.now.bytes (base + arg.offset) low));
     }
 
@@ -102,4 +104,4 @@ module _ (m : Module) (k : Kept) (f : Fits m k) (o : StoreOp) (arg : MemArg) (pa
     pub store_begins : (stop : Option Stop) (after : Pages) → (stop, k.turns) ≡ told_of (first_held (write_tests k.turns pages (base + arg.offset) (store_width o))) k.turns → Wrote stop pages after (base + arg.offset) low →
         BeginsWith m (i.Store o arg) k (v ∷ middle) stop (record k { memory = Some after; turns = k.turns }) below
     store_begins stop after told wrote = begins_from m k f arg.memory pages t own holds (v ∷ middle) below (i.Store o arg) (Instr-F.Store o arg) stop after k.turns
-        (λ ls rest p es. write_begins m k f arg.memory pages t (i.Store o arg) (Instr-F.Store o arg) (v ∷ middle) ls rest p es (base + arg.offset) low below (store_write ls rest p es) after k.turns holds stop (rw (little_bytes_size (store_width o) number, none_spent) (rw none_spent at told)) wrote)
+        (λ ls rest p es. write_begins m k f arg.memory pages t (i.Store o arg) (Instr-F.Store o arg) (v ∷ middle) ls rest p es (base + arg.offset) low below (store_write ls rest p es) after k.turns holds stop (rw (low_size o number, none_spent) (rw none_spent at told)) wrote)

@@ -1,7 +1,7 @@
 -- An instruction that writes the memory, with the tests in their order and what it leaves.
-use Rattle.base_lists.proofs.Common.{◌≡◌, ℕ, ◌+◌, ◌-◌, ◌/◌, ◌%◌, ◌≤◌, List, [], ◌∷◌, length, replicate, Bool, true, false, Option, Some, None, refl, ap, nat_lt, ltb-true, ltb-false, length-replicate}
+use Rattle.base_lists.proofs.Common.{◌≡◌, ℕ, ◌+◌, ◌-◌, ◌/◌, ◌%◌, ◌≤◌, List, [], ◌∷◌, length, replicate, Bool, true, false, Option, Some, None, refl, ap, arith, nat_lt, ltb-true, ltb-false, length-replicate}
+use Rattle.std.proofs.Common.{length-drop, length-take-le}
 use Rattle.block_pool.specs.Pages.{Pages, part, size, with_reached}
-use Rattle.block_pool.proofs.Reading.{part_size}
 use Rattle.wasm_tree_spec.specs.Prelude.{Memories, Instr, out-Instr, Module}
 use Rattle.wasm_tree.specs.declared.instr.Instr.TheVariants as i
 use Rattle.wasm_meaning.specs.Prelude.{pop_three, Gives, bind, or_trap, overwrite, Val, Memory, Entry, Body, Goes, SetMemory, Bytes, touched_by}
@@ -100,6 +100,9 @@ module _ (m : Module) (k : Kept) (f : Fits m k) (n : ℕ) (pages : Pages) (t : I
       abbrev copied : List ℕ
       copied = part pages.now.bytes source count
 
+      copied_size : length copied ≡ count
+      copied_size = grind (arith, inside, length-take-le, length-drop)
+
       copy_write : (ls : List Val) (rest : List Instr) (p : Place) (es : List Entry) → IsWrite m k f n pages t (i.MemoryCopy n n) (Instr-F.MemoryCopy n n) vs ls rest p es to copied below
       copy_write ls rest p es = record {
         layer = i.outs-MemoryCopy n n;
@@ -108,12 +111,12 @@ module _ (m : Module) (k : Kept) (f : Fits m k) (n : ℕ) (pages : Pages) (t : I
         unknown = rw own;
         import = refl;
         opens = refl;
-        touched = rw (t.address, pop, part_size pages.now.bytes source count inside);
-        further = rw (t.address, pop, part_size pages.now.bytes source count inside);
+        touched = rw (t.address, pop, copied_size);
+        further = rw (t.address, pop, copied_size);
         done = rw (t.address, t.memory, pop, slice_in pages.now.bytes source count inside) (wrote_form (record { most = t.limits.max; pages = t.limits.min; bytes = pages.now.bytes }) n (body_at (record { kept = k; operands = below; locals = ls }) rest p) (overwrite pages.now.bytes to copied));
       }
 
       pub copy_begins : (stop : Option Stop) (after : Pages) (turns : ℕ) → (stop, turns) ≡ told_of (first_held (write_tests k.turns pages to count)) (k.turns - count / 64) → Wrote stop pages after to copied →
           BeginsWith m (i.MemoryCopy n n) k vs stop (record k { memory = Some after; turns = turns }) below
       copy_begins stop after turns told wrote = begins_from (i.MemoryCopy n n) (Instr-F.MemoryCopy n n) stop after turns
-          (λ ls rest p es. write_begins m k f n pages t (i.MemoryCopy n n) (Instr-F.MemoryCopy n n) vs ls rest p es to copied below (copy_write ls rest p es) after turns holds stop (rw (part_size pages.now.bytes source count inside) told) wrote)
+          (λ ls rest p es. write_begins m k f n pages t (i.MemoryCopy n n) (Instr-F.MemoryCopy n n) vs ls rest p es to copied below (copy_write ls rest p es) after turns holds stop (rw copied_size told) wrote)
