@@ -1,12 +1,11 @@
 -- For what each entry of a part's index space stands, in the parts' world and in the merged module: for what a part defines, with its number among all
 -- definitions, or for an import that stays.
 use Rattle.base_lists.proofs.Common.{◌≡◌, ℕ, ◌+◌, ◌-◌, ◌<◌, ◌≤◌, List, [], ◌∷◌, length, Option, Some, None, true, arith, option_and_then, slice_get, place_back, slice_get_past, opt_self, then_same_is, then_rel}
-use Rattle.wasm_tree_spec.specs.Prelude.{Space, Module, index_of_export}
+use Rattle.wasm_tree_spec.specs.Prelude.{Space, Module, index_of_export, space_of_import}
 use Rattle.wasm_meaning.specs.Prelude.{Part, Site, Defined, Outside, has_kind, module_at, import_at, imports_of, Environment, owned_of, same_key, own_count, defined_count, defined_before, address_of, own_key, outside_external_value}
 use Rattle.merge_spec.specs.Prelude.{link_fault, staying_of, new_index}
 use Rattle.merge_valid_proof.specs.Ended.{inside, outside}
 use Rattle.merge_valid_proof.proofs.Entities.{import_external}
-use Rattle.merge_valid_proof.proofs.Same.{kind_is}
 use Rattle.index_remap.specs.Prelude.{OptRel, ExternalValueRel}
 use Rattle.world_simulation.proofs.Owned.{look_rel, address_rel}
 use Rattle.world_simulation.specs.Prelude.{OwnEntitiesCorrespond}
@@ -53,7 +52,7 @@ module _ (env : Environment) (parts : List Part) where
     pub import_stands : (k : Space) (p : ℕ) (m : Module) (x n : ℕ) → module_at parts p ≡ Some m → slice_get (imports_of k m) x ≡ Some n → Stands k (import_address env parts k p n) (new_index parts p k x)
     import_stands k p m x n is h =
         let r = place_back (has_kind k) m.imports 0 x n h in
-        let kind = kind_is k _ r.4 in
+        let kind : k ≡ space_of_import r.1.desc = grind (arith, r.4) in
         let entry = (laws.indices parts p m k x is).0 n in
         elim (laws.ends parts linked (record { part = p; import = n }) r.1 (grind (arith, r.2))) [
           | inside w ↦

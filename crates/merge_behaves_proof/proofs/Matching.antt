@@ -1,5 +1,6 @@
 -- All imports of the parts match where all imports of the merged module do.
 use Rattle.base_lists.proofs.Common.{◌≡◌, ℕ, ◌+◌, ◌-◌, ◌≤◌, List, ◌++◌, length, Some, refl, sym, arith, Option, None, true, option_and_then, slice_get, and_then_is, map_from, append_right, same_tests, is_kept, chosen_from, has_chosen, list_all_each, list_all_from, map, map-id, copies_length, then_eq}
+use Rattle.std.proofs.Common.{eq-eqb}
 use Rattle.wasm_tree_spec.specs.Prelude.{Space, Functions, Tables, Memories, Globals, FuncType, ExportDesc, Module, type_of_func, index_of_export, space_of_export, Import}
 use Rattle.wasm_meaning.specs.Prelude.{Inst, Store, type_at, imports_of, module_at, Part, Site, import_at, is_outside, sites, linked_end, met_limits, Environment, owned_of, all_of, base, external_value_at, own_store, stores_from, outside_external_value, is_matched}
 use Rattle.world_simulation.specs.Prelude.{Instantiated, DefinedAt, one, site}
@@ -13,7 +14,6 @@ use Rattle.merge_spec.specs.Merged.{staying}
 use Rattle.merge_valid_proof.specs.Ended.{inside, outside}
 use Rattle.merge_valid_proof.proofs.Ends.{outside_is}
 use Rattle.merge_valid_proof.proofs.MergedSpaces.{import_is}
-use Rattle.merge_valid_proof.proofs.Same.{site_same}
 use Rattle.world_simulation.proofs.Defined.{defined_at}
 use Rattle.merge_behaves_proof.specs.Instances.{InstancesAgree}
 use Rattle.merge_behaves_proof.specs.Shared.{sharing}
@@ -102,7 +102,7 @@ module _ (laws : SpaceLaws) (env : Environment) (parts : List Part) (linked : li
         let c = chosen_from (merged_import parts) (staying parts) t.import x.0 (grind (arith, joined_imports parts mode)) in
         let u = c.0 in
         let w = staying_is laws parts c.1.0 u c.1.1 in
-        let y = ends_at all u u w.import w.at (grind (arith, laws.stays parts linked u, site_same)) in
+        let y = ends_at all u u w.import w.at (rw ((laws.stays parts linked u w.import w.at w.remains).1, eq-eqb u.part u.part refl, eq-eqb u.import u.import refl) refl) in
         rw (only, site_matched u w y.0 y.1 t.import (grind (arith, import_is parts u w.of w.import w.is_part w.at)))
         -- the limits of what it denotes meet those that are asked for together
         (kept_fits parts u y.0 (own_type s u) y.2 (ends_at all u)))
@@ -128,7 +128,7 @@ module _ (laws : SpaceLaws) (env : Environment) (parts : List Part) (linked : li
                 let n = (laws.sites (one whole) (site c.0)).1 _ moved in
                 let f = rw (site_matched u v w.thing w.is c.0 moved) at (list_all_each _ _ all n.0 (site c.0) n.1) in
                 rw (matched_is env parts s t i.0 w.demand i.1 w.asks, w.end, w.same_thing (owned_of env)) (fits_kept w.demand w.thing (own_type s u) (met_limits parts u) w.same f
-                (λ l e size most h. grind (arith, list_all_each _ _ (rw demands_met at h) k t stands, site_same u, site_limits parts t i.0 w.demand)))
+                (λ l e size most h. grind (arith, list_all_each _ _ (rw demands_met at h) k t stands, eq-eqb u.part u.part refl, eq-eqb u.import u.import refl, site_limits parts t i.0 w.demand)))
           ])
 
       pub all_matched : all_of (is_matched env parts s) (sites parts) ≡ all_of (is_matched env (one whole) z) (sites (one whole))

@@ -1,11 +1,11 @@
 -- Where linking finds no fault, each import's end is there, and of the import's kind.
-use Rattle.base_lists.proofs.Common.{◌≡◌, ◌∙◌, sym, ap, refl, subst, inl, inr, ◌⊎◌, ℕ, ◌<◌, List, [], ◌∷◌, ◌++◌, arith, slice_get, Bool, true, false, cond, Option, Some, None, ◌&&◌, and_then_is, unwrap_or_false_is, option_and_then, slice_get_within, left_true, right_true}
-use Rattle.wasm_tree_spec.specs.Prelude.{Space, Functions, Tables, Memories, Globals, same_space, Import, ImportDesc, ExportDesc, Module, funcs_of, tables_of, memories_of, globals_of, type_of_func, index_of_export, space_of_export, space_of_import}
+use Rattle.base_lists.proofs.Common.{◌≡◌, ◌∙◌, sym, ap, refl, subst, inl, inr, ◌⊎◌, ℕ, ◌<◌, List, [], ◌∷◌, ◌++◌, arith, slice_get, Bool, true, false, cond, Option, Some, None, ◌&&◌, and_then_is, unwrap_or_false_is, option_and_then, slice_get_within}
+use Rattle.wasm_tree_spec.specs.Prelude.{Space, Functions, Tables, Memories, Globals, Import, ImportDesc, ExportDesc, Module, funcs_of, tables_of, memories_of, globals_of, type_of_func, index_of_export, space_of_export, space_of_import}
 use Rattle.std.specs.Option.{option_map}
 use Rattle.wasm_tree.specs.declared.module.ImportDesc.TheVariants as im
 use Rattle.wasm_tree.specs.declared.module.ExportDesc.TheVariants as ex
 use Rattle.wasm_meaning.specs.Linking as linking
-use Rattle.wasm_meaning.specs.Prelude.{Part, Site, module_at, import_at, sites, end_of, linked_end, gathered, same_pair, pair_of, is_outside}
+use Rattle.wasm_meaning.specs.Prelude.{Part, Site, module_at, import_at, sites, end_of, linked_end, gathered, is_outside}
 use Rattle.wasm_meaning.specs.Linking.{gathered_at, first_site, stays_as, same_memory}
 use Rattle.merge_spec.specs.declared.links.End.{End}
 use Rattle.merge_spec.specs.declared.faults.LinkFault.{LinkFault}
@@ -16,8 +16,6 @@ use Rattle.merge_join.specs.LinkedParts.{site, space_size, IsEnd}
 use Rattle.merge_join.specs.Spaces.{sites_before}
 use Rattle.merge_join.proofs.Sites.{sites_split}
 use Rattle.merge_join.proofs.SpaceSizes.{funcs_size, tables_size, memories_size, globals_size}
-use Rattle.merge_valid_proof.proofs.Linked.{left_none, right_none}
-use Rattle.merge_valid_proof.proofs.Same.{kind_is}
 
 -- ---- external types have kinds ----
 
@@ -78,8 +76,8 @@ external_there m (ex.Global i) x h =
 -- ---- faults ----
 
 none_at : {A : Type 0} (f : A → Option LinkFault) (xs : List A) (y : A) (ys : List A) → first_fault f (xs ++ y ∷ ys) ≡ None → f y ≡ None
-none_at f [] y ys h = left_none (f y) (first_fault f ys) h
-none_at f (x ∷ xs) y ys h = none_at f xs y ys (right_none (f x) (first_fault f (xs ++ y ∷ ys)) h)
+none_at f [] y ys h = grind arith
+none_at f (x ∷ xs) y ys h = none_at f xs y ys (grind arith)
 
 pub suited : (ps : List Part) (s : Site) (o : Option linking.End) (end : linking.End) → end_fault ps s o ≡ None → o ≡ Some end → is_suited ps s end ≡ true
 suited ps s None end h e = cc
@@ -136,7 +134,7 @@ unfolding link_fault import_fault
 end_there ps p n m i end none at here ends =
     let s = site p n in
     let (rest, is) = sites_split ps p n m at (slice_get_within m.imports n i here) in
-    let first : first_fault (import_fault ps) (sites ps) ≡ None = left_none (first_fault (import_fault ps) (sites ps)) _ none in
+    let first : first_fault (import_fault ps) (sites ps) ≡ None = grind (arith, none) in
     let mine : import_fault ps s ≡ None = none_at (import_fault ps) (sites_before ps p n) s rest (ap (first_fault (import_fault ps)) (sym is) ∙ first) in
     suited_there ps s end i (ap (λ o. option_and_then (λ m. slice_get m.imports n) o) at ∙ here) (suited ps s (end_of ps s) end mine ends)
 
@@ -152,13 +150,7 @@ first_is is (s ∷ ss) other = case (is s) refl (first_is is ss other)
 
 same_memory_kind : (j : Import) (o : Option Import) → same_memory j o ≡ true → (l : Import) × (o ≡ Some l) × (space_of_import l.desc ≡ space_of_import j.desc)
 same_memory_kind j None h = cc
-same_memory_kind j (Some l) h =
-    let a = space_of_import j.desc in
-    let b = space_of_import l.desc in
-    let more = right_true (same_space Memories a) (same_space Memories b && same_pair (pair_of j) (pair_of l)) h in
-    let first : Memories ≡ a = kind_is Memories a (left_true (same_space Memories a) (same_space Memories b && same_pair (pair_of j) (pair_of l)) h) in
-    let second : Memories ≡ b = kind_is Memories b (left_true (same_space Memories b) (same_pair (pair_of j) (pair_of l)) more) in
-    (l, refl, sym second ∙ first)
+same_memory_kind j (Some l) h = (l, refl, grind arith)
 
 stays_same : (ps : List Part) (j : Import) (t : Site) → stays_as ps j t ≡ true → same_memory j (import_at ps t) ≡ true
 stays_same ps j t h = case (is_outside t (end_of ps t)) (same_memory j (import_at ps t)) h

@@ -5,7 +5,6 @@ use Rattle.wasm_tree.specs.declared.module.ImportDesc.TheVariants as im
 use Rattle.wasm_tree.specs.declared.module.ConstExpr.TheVariants as const
 use Rattle.wasm_meaning.specs.Prelude.{Val, Inst, Global, Store, same_type, walk, walk_on, Part, Site, End, Defined, Outside, Read, places, has_kind, space_index, imports_of, module_at, import_at, sites, end_of, global_import, initial, outside_read, end_step, read_step, initials_from, read_of, Environment, GlobalAt, own_globals, all_of, base, is_matched, imported_external_value, insts_from, own_store, stores_from, same_bool, const_value, value_of, address_of, JoinsEarlier}
 use Rattle.merge_valid_proof.proofs.Linked.{in_sites}
-use Rattle.merge_valid_proof.proofs.Same.{bool_is, kind_same}
 use Rattle.world_simulation.proofs.Allocated.{globals_allocate, keeps}
 use Rattle.world_simulation.proofs.Instancing.{IsInst}
 use Rattle.world_simulation.proofs.Ordered.{inst_at}
@@ -19,7 +18,7 @@ use Rattle.wasm_meaning.proofs.Counts.{module_there}
 index_place : (k : Space) (is : List Import) (n off : ℕ) (i : Import) → slice_get is n ≡ Some i → space_of_import i.desc ≡ k → slice_get (places (has_kind k) is off) (space_index is n k) ≡ Some (off + n)
 index_place k [] n off i e h = cc
 index_place k (j ∷ js) zero off i e h =
-    let same : has_kind k j ≡ true = rw (same_Some _ _ e, h) (kind_same k) in
+    let same : has_kind k j ≡ true = grind (arith, same_Some _ _ e) in
     rw (same, add-zero)
 index_place k (j ∷ js) (suc n) off i e h = rw add_next (grind (arith, index_place k js n (suc off) i e h))
 
@@ -79,7 +78,7 @@ module _ (env : Environment) (parts : List Part) (insts : List Inst) (are : inst
               let thing : imported_external_value env parts s ≡ Some (GlobalAt d.address) = d.is ∙ sym (thing_has Globals d.thing d.address d.has) in
               let matches = rw (thing, is_part, c.is_import, c.is_global) at (list_all_each (is_matched env parts allocated) (sites parts) matched at.0 s at.1) in
               let g = and_then_is (slice_get allocated.globals d.address) _ true (unwrap_or_false_is _ matches) in
-              (g.0, g.1, sym (bool_is c.type.mutable g.0.ty.mutable (right_true (same_type c.type.ty g.0.ty.ty) (same_bool c.type.mutable g.0.ty.mutable) (same_Some _ _ g.2))) ∙ c.fixed)
+              (g.0, g.1, grind (arith, c.fixed, right_true (same_type c.type.ty g.0.ty.ty) (same_bool c.type.mutable g.0.ty.mutable) (same_Some _ _ g.2)))
 
           from_store : const_value t.globals i (const.Global x) ≡ Some fixed.0.value
           from_store = let h = holds d.address fixed.0 (imported_low env parts there earlier Globals s d.thing d.address d.is d.has) fixed.1 fixed.2 in rw (d.at, h.1, h.2)

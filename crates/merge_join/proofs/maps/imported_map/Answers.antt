@@ -7,7 +7,6 @@ use Rattle.merge_join.proofs.Fits.{entry_there}
 use Rattle.merge_join.proofs.NewIndex.{new_index_at, import_place}
 use Rattle.merge_join.proofs.Sites.{places_length}
 use Rattle.merge_join.proofs.maps.imported_map.Goals as goal
-use Rattle.merge_valid_proof.proofs.Same.{kind_is}
 
 pub loop-place-preserved : goal.loop-place-preserved
 loop-place-preserved c =
@@ -49,7 +48,7 @@ place-requires c =
     let imports = c.as_slice-imports.result.now in
     let import = c.index-imports-place.result in
     let here : slice_get m.imports i ≡ Some import = ap (λ is. slice_get is i) (sym c.as_slice-imports.ensures) ∙ slice_get_read imports (length imports) i import refl c.loop-place-test.true c.index-imports-place.is in
-    let kind : c.args.into.now.space ≡ space_of_import import.desc = kind_is c.args.into.now.space (space_of_import import.desc) (ap (has_kind c.args.into.now.space) c.index-imports-place.is ∙ sym c.is_in.ensures ∙ c.if-not-is_in.false) in
+    let kind : c.args.into.now.space ≡ space_of_import import.desc = grind (arith, ap (has_kind c.args.into.now.space) c.index-imports-place.is ∙ sym c.is_in.ensures ∙ c.if-not-is_in.false) in
     subst (λ k. IsEnd ps k c.end_of.result) (sym kind) (entry_there ps c.args.part i m import c.end_of.result c.requires.linked.no_fault c.module_of.ensures.at here c.end_of.ensures)
 
 pub returns : goal.returns
