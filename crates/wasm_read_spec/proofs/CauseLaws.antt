@@ -10,14 +10,14 @@ use Rattle.wasm_read_spec.specs.declared.fault.ReadFault.{ReadFault}
 use Rattle.wasm_read_spec.specs.declared.fault.ReadFault.TheVariants.{NoMemory, NotModule, Malformed, MalformedBody, Unsupported, Limit}
 use Rattle.wasm_read_spec.specs.declared.parts.Parts.{Parts}
 use Rattle.wasm_read_spec.specs.Prelude.{nothing, SectionIsSmall, Contents, Stop, NotSupported, Over, code_at, placed, codes_at, agrees, framed_at, read_fault, EntryOf, Cause}
-use Rattle.wasm_read_spec.specs.Contents.{section_at, contents_at, parts_at, read_at}
+use Rattle.wasm_read_spec.specs.Contents.{AreBytes, section_at, contents_at, parts_at, read_at}
 use Rattle.wasm_read_spec.specs.Causes.{UpTo, InEntry, SectionStops, EntryStops, IsCode, MalformedContent, MalformedSection, FaultyWhole}
 use Rattle.wasm_read_spec.proofs.Framing.{framed_reads, framed_sound, framed_fault, header_reads, bad_reads}
 use Rattle.wasm_read_spec.proofs.EntryLaws.{code_sound, code_complete, content_bytes}
 use Rattle.wasm_read_spec.proofs.SectionLaws.{section_right}
 use Rattle.wasm_read_spec.proofs.LimitLaws.{Got, code_gets}
 use Rattle.wasm_read_spec.proofs.SpelledLaws.{section_gets}
-use Rattle.wasm_read_spec.proofs.FileLaws.{AreBytes, framed_bytes, contents_sound, contents_complete, of_rules, rules_of, told}
+use Rattle.wasm_read_spec.proofs.FileLaws.{framed_bytes, contents_sound, contents_complete, of_rules, rules_of, told}
 use Rattle.wasm_read_spec.proofs.Stopping.{bind_err, ok_err, same_err, fault_of}
 use Rattle.wasm_read_spec.proofs.BodyStops.{code_tells}
 use Rattle.wasm_read_spec.proofs.SectionStops.{InnerFault, section_tells, entry_met}

@@ -12,6 +12,7 @@ use Rattle.wasm_read_spec.specs.declared.fault.Fault.{Fault}
 use Rattle.wasm_read_spec.specs.declared.fault.Fault.TheVariants.{Malformed, Limit}
 use Rattle.base_lists.specs.Every.{Every}
 use Rattle.wasm_read_spec.specs.Prelude.{Byte, Never, Both, Made, When, After, Any, Few, Reader, or_malformed, byte_at, u32_at, name_at, sized_at, fault_at, pair_at, mapped_at, chosen_at, when_at, tagged_at, each_at}
+use Rattle.wasm_read_spec.specs.Exact.{Exact}
 use Rattle.wasm_read_spec.specs.SpellingForms.{S32, S64, Coded, Just, Chosen, Closed}
 use Rattle.wasm_read_spec.specs.Reading.{s32_at, s64_at, just_at, coded_at, tag_at, closed_at, each_from, list_at, vector_at}
 
@@ -31,10 +32,6 @@ pub split : (P Q : List ℕ → Type 0) (text rest : List ℕ) (h : Then P Q tex
 split P Q text rest h = ap (λ t. t ++ rest) h.4 ∙ append_assoc h.0 h.1 rest
 
 -- ---- exactness
-
-pub record Exact {A E : Type 0} (spells : List ℕ → A → Type 0) (small : A → Type 0) (reader : List ℕ → Result (A × List ℕ) E) : Type 0 where
-  pub sound : (bytes : List ℕ) (x : A) (rest : List ℕ) → IsBytes bytes → reader bytes ≡ Ok (x, rest) → Took (λ t. spells t x) bytes rest × small x
-  pub complete : (text rest : List ℕ) (x : A) → spells text x → small x → reader (text ++ rest) ≡ Ok (x, rest)
 
 -- another word for what is small
 pub other_small : {A E : Type 0} {P : List ℕ → A → Type 0} {S T : A → Type 0} {r : List ℕ → Result (A × List ℕ) E} → ((x : A) → S x → T x) → ((x : A) → T x → S x) → Exact P S r → Exact P T r

@@ -1,34 +1,31 @@
 -- A file is read exactly where it spells a tree, within the limits.
-use Rattle.base_lists.proofs.Common.{◌≡◌, ℕ, zero, suc, ◌+◌, List, [], ◌∷◌, ◌++◌, length, Result, Ok, Err, Bool, true, false, cond, Option, Some, None, ◌⊎◌, inl, inr, ⊎_elim, refl, sym, ap, ◌∙◌, subst, arith, eqb-true, and_parts, ◌==◌, ◌↔◌, IfOk, IfErr, bind_ok}
+use Rattle.base_lists.proofs.Common.{◌≡◌, ℕ, zero, suc, ◌+◌, ◌<◌, slice_index, List, [], ◌∷◌, ◌++◌, length, Result, Ok, Err, Bool, true, false, cond, Option, Some, None, refl, sym, ap, ◌∙◌, subst, arith, eqb-true, and_parts, ◌==◌, ◌↔◌, bind_ok}
 use Rattle.wasm_bytes.specs.Prelude.{IsBytes, Section, order_after, Frames, Framed}
 use Rattle.wasm_bytes.proofs.Lists.{bytes_rest}
 use Rattle.wasm_tree_spec.specs.Prelude.{Module, any_uses_data}
 use Rattle.wasm_read_spec.specs.declared.fault.ReadFault.{ReadFault}
-use Rattle.wasm_read_spec.specs.declared.fault.ReadFault.TheVariants.{NoMemory, NotModule, Malformed, MalformedBody, Unsupported, Limit}
 use Rattle.wasm_read_spec.specs.declared.parts.Parts.{Parts}
 use Rattle.base_lists.specs.Every.{Every}
 use Rattle.wasm_read_spec.specs.Prelude.{nothing, Contents, tree_of, Spells, SectionIsSmall, Within, section_at, framed_at, read_fault}
 use Rattle.wasm_read_spec.specs.Files.{Counted, Rules}
-use Rattle.wasm_read_spec.specs.Contents.{Fails, GivesAll, contents_at, counted, agrees, parts_at, read_at, fault_of}
+use Rattle.wasm_read_spec.specs.Contents.{AreBytes, contents_at, counted, agrees, parts_at, read_at, fault_of}
 use Rattle.wasm_read_spec.proofs.Framing.{framed_reads, framed_sound}
 use Rattle.wasm_read_spec.proofs.SectionLaws.{section_right}
 
 -- ---- contents are bytes
 
-pub front_bytes : (a b : List ℕ) → IsBytes (a ++ b) → IsBytes a
-front_bytes [] b h zero = omega arith
-front_bytes [] b h (suc i) = omega arith
-front_bytes (x ∷ a) b h zero = h zero
-front_bytes (x ∷ a) b h (suc i) = front_bytes a b (λ j. h (suc j)) i
-
-abbrev pub AreBytes : List Section → Type 0
-AreBytes ss = Every (λ (s : Section). IsBytes s.1) ss
+-- what holds of 0, and of each entry, holds of each entry in front
+pub front_holds : (P : ℕ → Type 0) → P 0 → (a b : List ℕ) → ((i : ℕ) → P (slice_index (a ++ b) i)) → (i : ℕ) → P (slice_index a i)
+front_holds P none [] b h zero = none
+front_holds P none [] b h (suc i) = none
+front_holds P none (x ∷ a) b h zero = h zero
+front_holds P none (x ∷ a) b h (suc i) = front_holds P none a b (λ j. h (suc j)) i
 
 frames_bytes : (last : ℕ) (bytes : List ℕ) (ss : List Section) → IsBytes bytes → Frames last bytes ss → AreBytes ss
 frames_bytes last bytes [] small h = tt
 frames_bytes last bytes (s ∷ ss) small h =
     let both = subst IsBytes h.4 small in
-    let frame = front_bytes h.0 h.1 both in
+    let frame : IsBytes h.0 = front_holds (λ n. n < 256) (omega arith) h.0 h.1 both in
     let sized = h.2.1 in
     let text : IsBytes (s.0 ∷ sized.0) = subst IsBytes sized.2 frame in
     let inner : IsBytes (sized.1.0 ++ s.1) = subst IsBytes sized.1.2 (λ i. text (suc i)) in
@@ -123,42 +120,22 @@ unfolding read_at parts_at
 tree_read many bytes m h k =
     rw (framed_reads bytes h.0 h.2, contents_complete many 0 nothing h.0 h.1 h.3 (k h.0 h.2), of_rules h.1 h.4) (ap Ok (sym h.5))
 
+-- a tree is read exactly where it is spelled within the limits
+pub read_exactly : (many : Bool) (bytes : List ℕ) (m : Module) → IsBytes bytes → (read_at many bytes ≡ Ok m) ↔ (Spells bytes m many × Within bytes many)
+read_exactly many bytes m small = (tree_found many bytes small m, λ h. tree_read many bytes m h.0 h.1)
+
 -- some bytes spell at most one tree
 pub decoding_is_unique : (many : Bool) (bytes : List ℕ) (m n : Module) → Spells bytes m many → Spells bytes n many → m ≡ n
 decoding_is_unique many bytes m n h k =
     let frames = one_framing bytes h.0 k.0 h.2 k.2 in
     h.5 ∙ ap tree_of (contents_one many nothing k.0 h.1 k.1 (subst (λ ss. Contents many nothing ss h.1) frames h.3) k.3) ∙ sym k.5
 
--- ---- what a call gave
+-- ---- faults
 
-fault_is : {A : Type 0} (e : ReadFault) (r : Result A ReadFault) → Fails e r → (e ≡ NoMemory) ⊎ (r ≡ Err e)
-fault_is NoMemory r h = inl refl
-fault_is NotModule r h = inr h
-fault_is (Malformed s) r h = inr h
-fault_is (MalformedBody f) r h = inr h
-fault_is (Unsupported s f) r h = inr h
-fault_is (Limit w) r h = inr h
-
+-- a fault is what reading gives
 pub told : {A : Type 0} (r : Result A ReadFault) (e : ReadFault) → fault_of r ≡ Some e → r ≡ Err e
 told (Ok x) e h = cc
 told (Err w) e h = let same : w ≡ e = cc in ap Err same
-
-module _ (many : Bool) (bytes : List ℕ) (small : IsBytes bytes) where
-  pub call_found : (r : Result Module ReadFault) → GivesAll r (read_at many bytes) → IfOk r (λ m. Spells bytes m many × Within bytes many)
-  call_found (Ok m) g = tree_found many bytes small m g
-  call_found (Err e) g = tt
-
-  pub call_only : (r : Result Module ReadFault) → GivesAll r (read_at many bytes) → (m : Module) → Spells bytes m many → Within bytes many → (r ≡ Ok m) ⊎ (r ≡ Err NoMemory)
-  call_only (Ok q) g m h k = let e = sym g ∙ tree_read many bytes m h k in inl e
-  call_only (Err e) g m h k = ⊎_elim (λ n. inr (ap Err n)) (λ n. absurd (let t = sym n ∙ tree_read many bytes m h k in cc)) (fault_is e (read_at many bytes) g)
-
-  pub call_fault : (r : Result Module ReadFault) → GivesAll r (read_at many bytes) → IfErr r (λ e. (e ≡ NoMemory) ⊎ (read_fault bytes many ≡ Some e))
-  call_fault (Ok q) g = tt
-  call_fault (Err e) g = ⊎_elim inl (λ n. inr (ap fault_of n)) (fault_is e (read_at many bytes) g)
-
-  pub call_first : (r : Result Module ReadFault) → GivesAll r (read_at many bytes) → (e : ReadFault) → read_fault bytes many ≡ Some e → (r ≡ Err e) ⊎ (r ≡ Err NoMemory)
-  call_first (Ok q) g e h = absurd (let t = sym g ∙ told (read_at many bytes) e h in cc)
-  call_first (Err w) g e h = ⊎_elim (λ n. inr (ap Err n)) (λ n. inl (sym n ∙ told (read_at many bytes) e h)) (fault_is w (read_at many bytes) g)
 
 -- ---- no fault
 

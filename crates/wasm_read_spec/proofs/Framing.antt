@@ -1,5 +1,5 @@
 -- What is read of the frames of a whole file is what it frames.
-use Rattle.base_lists.proofs.Common.{◌≡◌, ℕ, ◌≤◌, List, [], ◌∷◌, ◌++◌, length, take, drop, Result, Ok, Err, Bool, true, false, cond, ◌⊎◌, inl, inr, ⊎_elim, refl, sym, ap, ◌∙◌, subst, arith, eqb-true, and_parts, cases_Bool, ◌==◌, length-append, length-drop}
+use Rattle.base_lists.proofs.Common.{◌≡◌, ℕ, ◌≤◌, List, [], ◌∷◌, ◌++◌, length, take, drop, Result, Ok, Err, Bool, true, false, cond, ◌⊎◌, inl, inr, ⊎_elim, refl, sym, ap, ◌∙◌, subst, arith, ◌↔◌, eqb-true, and_parts, cases_Bool, ◌==◌, length-append, length-drop}
 use Rattle.wasm_bytes.proofs.FramedLaws.{header_split}
 use Rattle.wasm_bytes.specs.Prelude.{IsBytes, Section, header, HasHeader, Framed, FirstBad, frames_at}
 use Rattle.wasm_bytes.proofs.Lists.{bytes_drop}
@@ -86,3 +86,18 @@ framed_fault bytes e small k = ⊎_elim
     let same : NotModule ≡ e = cc in
     inl (sym same, λ head. let t = ap (λ z. same_list z header) head ∙ is_same header in absurd (let no_way = sym h ∙ t in cc)))
     (cases_Bool (same_list (take 8 bytes) header))
+
+-- ---- what framed_at gives, exactly
+
+module _ (bytes : List ℕ) (small : IsBytes bytes) where
+  pub framed_exactly : (ss : List Section) → (framed_at bytes ≡ Ok ss) ↔ Framed bytes ss
+  framed_exactly ss = (framed_sound bytes ss small, framed_reads bytes ss)
+
+  pub bad_exactly : (n : ℕ) → (framed_at bytes ≡ Err (Malformed n)) ↔ FirstBad bytes n
+  bad_exactly n = (
+    λ e. ⊎_elim (λ h. absurd (let other = h.0 in cc)) (λ h. let same : h.0 ≡ n = (let k = h.1 in cc) in subst (FirstBad bytes) same h.2) (framed_fault bytes (Malformed n) small e),
+    bad_reads bytes n small,
+  )
+
+  pub header_exactly : (framed_at bytes ≡ Err NotModule) ↔ (HasHeader bytes → ⊥)
+  header_exactly = (λ e. ⊎_elim (λ h. h.1) (λ h. absurd (let other = h.1 in cc)) (framed_fault bytes NotModule small e), header_reads bytes)

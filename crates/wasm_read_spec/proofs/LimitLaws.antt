@@ -13,7 +13,8 @@ use Rattle.wasm_read_spec.specs.Prelude.{Any, Both, After, SpellsVal, SpellsFunc
 use Rattle.wasm_read_spec.specs.Bodies.{depth}
 use Rattle.wasm_read_spec.specs.Reading.{each_from, vector_at, func_type_at, local_at, locals_at}
 use Rattle.wasm_read_spec.specs.BodyReading.{block_at, sequence_at, body_at, closed, code_at}
-use Rattle.wasm_read_spec.proofs.Exact.{Exact, split, u32_exact}
+use Rattle.wasm_read_spec.specs.Exact.{Exact}
+use Rattle.wasm_read_spec.proofs.Exact.{split, u32_exact}
 use Rattle.wasm_read_spec.proofs.ItemLaws.{val_exact}
 use Rattle.wasm_read_spec.proofs.NestLaws.{to_in}
 use Rattle.wasm_read_spec.proofs.BodyLaws.{body_reads}

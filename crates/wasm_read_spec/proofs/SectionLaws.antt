@@ -13,7 +13,8 @@ use Rattle.wasm_read_spec.specs.Files.{section_form, small_form}
 use Rattle.wasm_read_spec.specs.Reading.{whole_at}
 use Rattle.wasm_read_spec.specs.Contents.{section_at}
 use Rattle.wasm_read_spec.specs.Unambiguous.{IsPrefixFree, ItemsArePrefixFree}
-use Rattle.wasm_read_spec.proofs.Exact.{Exact, u32_exact, name_exact, both_exact, mapped_exact, tagged_exact, list_exact, vector_exact}
+use Rattle.wasm_read_spec.specs.Exact.{Exact}
+use Rattle.wasm_read_spec.proofs.Exact.{u32_exact, name_exact, both_exact, mapped_exact, tagged_exact, list_exact, vector_exact}
 use Rattle.wasm_read_spec.proofs.ItemLaws.{val_exact, func_type_exact, import_exact, table_exact, limits_exact, global_def_exact, export_exact, elem_exact, data_exact}
 use Rattle.wasm_read_spec.proofs.EntryLaws.{prefix_free_of, vector_prefix_free, entry_prefix_free, in_ok, codes_sound, codes_complete}
 

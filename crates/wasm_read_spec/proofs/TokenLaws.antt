@@ -14,7 +14,8 @@ use Rattle.wasm_read_spec.specs.Values.{val_of_code}
 use Rattle.wasm_read_spec.specs.Tokens.{typed, arg_of, arg_in, arg_form}
 use Rattle.wasm_read_spec.specs.Reading.{index_of, block_type_at}
 use Rattle.wasm_read_spec.specs.BodyReading.{arg_at, memory_at, simple_of, prefixed_at, token_at}
-use Rattle.wasm_read_spec.proofs.Exact.{Exact, byte_exact, u32_exact, s32_exact, s33_exact, s64_exact, just_exact, never_exact, both_exact, made_exact, chosen_exact, when_exact, tagged_exact, list_exact}
+use Rattle.wasm_read_spec.specs.Exact.{Exact}
+use Rattle.wasm_read_spec.proofs.Exact.{byte_exact, u32_exact, s32_exact, s33_exact, s64_exact, just_exact, never_exact, both_exact, made_exact, chosen_exact, when_exact, tagged_exact, list_exact}
 use Rattle.wasm_read_spec.proofs.ItemLaws.{val_exact, ref_exact}
 
 -- ---- block types

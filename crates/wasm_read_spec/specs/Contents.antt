@@ -1,7 +1,8 @@
 -- Reading functions for the contents of the sections, in the order of the file, and the first fault
 -- of the file.
 use Rattle.std.specs.Prelude.{◌≡◌, ℕ, ◌+◌, List, [], ◌∷◌, length, take, drop, Bool, true, false, Result, Ok, Err, Option, Some, None, nat_lt, ◌==◌, ◌&&◌, if◌then◌else◌}
-use Rattle.wasm_bytes.specs.Prelude.{◌>>=◌, Section, frames_at, header}
+use Rattle.base_lists.specs.Every.{Every}
+use Rattle.wasm_bytes.specs.Prelude.{◌>>=◌, Section, IsBytes, frames_at, header}
 use Rattle.wasm_tree_spec.specs.Prelude.{Imports, Exports, Func, Module, imported_funcs, limit, any_uses_data}
 use Rattle.wasm_tree.specs.declared.which.Which.TheVariants.{Types, Functions, Tables, Memories, Globals, ElementSegments, DataSegments}
 use Rattle.wasm_read_spec.specs.declared.fault.Fault.{Fault}
@@ -114,6 +115,10 @@ same_list (x ∷ xs) (y ∷ ys) = (x == y) && same_list xs ys
 
 unfoldable pub framed_at : List ℕ → Result (List Section) ReadFault
 framed_at bs = if same_list (take 8 bs) header then numbered (frames_at (length bs) 0 0 (drop 8 bs)) else Err NotModule
+
+-- The contents of the sections are bytes.
+abbrev pub AreBytes : List Section → Type 0
+AreBytes ss = Every (λ (s : Section). IsBytes s.1) ss
 
 -- The parts of the file, or its first fault.
 unfoldable pub parts_at : Bool → List ℕ → Result Parts ReadFault

@@ -6,6 +6,7 @@ pub mod Tokens
 pub mod Bodies
 pub mod Files
 pub mod Reading
+pub mod Exact
 pub mod BodyReading
 pub mod Contents
 pub mod Stops

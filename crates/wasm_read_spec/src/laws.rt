@@ -1,7 +1,9 @@
 //! Laws about the definitions, as contracts of calls that do nothing.
 
-ghost use Rattle.std.specs.Prelude.{◌≡◌, ◌↔◌, ◌++◌, ℕ, List, [], Bool, true, false, Option, None, Some};
+ghost use Rattle.std.specs.Prelude.{◌≡◌, ◌↔◌, ◌++◌, ℕ, List, [], Bool, true, false, Option, None, Some, Ok, Err};
 ghost use Rattle.wasm_bytes.specs.Reading.{IsBytes};
+ghost use Rattle.wasm_bytes.specs.Frames.{Section, Framed, FirstBad, HasHeader};
+ghost use Rattle.wasm_bytes.specs.Joins.{U32, Named, Sized};
 ghost use Rattle.wasm_tree.specs.declared.instr.Instr.{Instr as Tree};
 ghost use Rattle.wasm_tree.specs.declared.module.Module.{Module as ModuleTree};
 ghost use Rattle.wasm_tree.specs.Bounds.{IsBounded};
@@ -11,7 +13,10 @@ ghost use Rattle.wasm_read_spec.specs.declared.fault.ReadFault.{ReadFault as Som
 ghost use Rattle.wasm_read_spec.specs.declared.fault.ReadFault.TheVariants as fault;
 ghost use Rattle.wasm_read_spec.specs.Bodies.{SpellsBody};
 ghost use Rattle.wasm_read_spec.specs.Files.{Spells, Within};
-ghost use Rattle.wasm_read_spec.specs.Contents.{read_fault};
+ghost use Rattle.wasm_read_spec.specs.Contents.{AreBytes, framed_at, read_at, read_fault};
+ghost use Rattle.wasm_read_spec.specs.Reading.{u32_at, name_at, sized_at};
+ghost use Rattle.wasm_read_spec.specs.SpellingForms.{Any};
+ghost use Rattle.wasm_read_spec.specs.Exact.{Exact};
 ghost use Rattle.wasm_read_spec.specs.Stops.{Stop as SomeStop};
 ghost use Rattle.wasm_read_spec.specs.Causes.{StopsAt, Cause};
 ghost use Rattle.wasm_read_spec.specs.Cut.{CutFiles};
@@ -37,6 +42,27 @@ pub fn body_encodings_are_prefix_free()
 pub fn section_encodings_are_unambiguous()
     ensures items { ItemsArePrefixFree }
     ensures frames { FramesAreUnique }
+{}
+
+/// Of bytes, `framed_at` gives a list of sections exactly if the file is framed as these sections
+/// (`framed`), the number of a section exactly if its frame is the first bad one (`bad`), and
+/// `NotModule` exactly if the header is missing (`not_module`). The contents of the frames of bytes
+/// are bytes (`contents`).
+pub fn framing_is_decided()
+    ensures framed { (bytes : List ℕ) (ss : List Section) → IsBytes bytes → (framed_at bytes ≡ Ok ss) ↔ Framed bytes ss }
+    ensures bad { (bytes : List ℕ) (n : ℕ) → IsBytes bytes → (framed_at bytes ≡ Err (fault.Malformed n)) ↔ FirstBad bytes n }
+    ensures not_module { (bytes : List ℕ) → IsBytes bytes → (framed_at bytes ≡ Err fault.NotModule) ↔ (HasHeader bytes → ⊥) }
+    ensures contents { (bytes : List ℕ) (ss : List Section) → IsBytes bytes → Framed bytes ss → AreBytes ss }
+{}
+
+/// The reading functions find what is encoded, and nothing else: a u32 (`numbers`), a name
+/// (`names`), or a length with as many bytes (`sized`) in front of some bytes, and the tree that a
+/// whole file encodes within the limits (`files`).
+pub fn reading_is_exact()
+    ensures numbers { Exact U32 Any u32_at }
+    ensures names { Exact Named Any name_at }
+    ensures sized { Exact Sized Any sized_at }
+    ensures files { (many : Bool) (bytes : List ℕ) (m : ModuleTree) → IsBytes bytes → (read_at many bytes ≡ Ok m) ↔ (Spells bytes m many × Within bytes many) }
 {}
 
 /// A file has no fault exactly if it encodes a tree and is within the limits.
