@@ -5,40 +5,40 @@ use Rattle.wasm_bytes.specs.Prelude.{Section, framed, framed_all, Takes, Named, 
 use Rattle.wasm_bytes.specs.declared.framing.Frame.{Frame as Place}
 use Rattle.wasm_read_spec.specs.declared.fault.Fault.{Fault}
 use Rattle.wasm_read_spec.specs.Prelude.{name_at}
-use Rattle.wasm_read_spec.proofs.Exact.{name_exact}
-use Rattle.wasm_read_spec.proofs.FileLaws.{AreBytes}
+use Rattle.wasm_read_spec.specs.Contents.{AreBytes}
 use Rattle.wasm_names.specs.NameList.{IsNameSection, IsCalledOtherwise, section_name}
 use Rattle.wasm_names.specs.Reading.{or_else, lent_option, behind_name, content_of_names, first_content}
+use Rattle.wasm_names.proofs.NameMaps.{ReadsExactly}
 
-named_sound : (bytes rest : List ℕ) (r : Result (List ℕ × List ℕ) Fault) → IsBytes bytes → name_at bytes ≡ r → behind_name r ≡ Some rest → Takes Named bytes section_name rest
-named_sound bytes rest (Ok n) small e h = ⊎_elim
+named_sound : ReadsExactly → (bytes rest : List ℕ) (r : Result (List ℕ × List ℕ) Fault) → IsBytes bytes → name_at bytes ≡ r → behind_name r ≡ Some rest → Takes Named bytes section_name rest
+named_sound reads bytes rest (Ok n) small e h = ⊎_elim
     (λ k.
     let text : n.0 ≡ section_name = (bytes_eq-Decides n.0 section_name).0 k.0 in
     let after : n.1 ≡ rest = (let same = k.1 in cc) in
-    let t = (name_exact.sound bytes n.0 n.1 small e).0 in
+    let t = (reads.names.sound bytes n.0 n.1 small e).0 in
     (t.0, subst (Named t.0) text t.1, t.2 ∙ ap (λ z. t.0 ++ z) after))
     (λ k. absurd (let none = k.1 in cc))
     (cond_is (bytes_eq n.0 section_name) _ _ _ h)
-named_sound bytes rest (Err w) small e h = cc
+named_sound reads bytes rest (Err w) small e h = cc
 
-pub content_sound : (s : Section) (rest : List ℕ) → IsBytes s.1 → content_of_names s ≡ Some rest → IsNameSection s rest
-content_sound s rest small h = ⊎_elim
-    (λ k. (eqb-true s.0 0 k.0, named_sound s.1 rest (name_at s.1) small refl k.1))
+pub content_sound : ReadsExactly → (s : Section) (rest : List ℕ) → IsBytes s.1 → content_of_names s ≡ Some rest → IsNameSection s rest
+content_sound reads s rest small h = ⊎_elim
+    (λ k. (eqb-true s.0 0 k.0, named_sound reads s.1 rest (name_at s.1) small refl k.1))
     (λ k. absurd (let none = k.1 in cc))
     (cond_is (s.0 == 0) _ _ _ h)
 
-pub content_complete : (s : Section) (rest : List ℕ) → IsNameSection s rest → content_of_names s ≡ Some rest
-content_complete s rest h =
+pub content_complete : ReadsExactly → (s : Section) (rest : List ℕ) → IsNameSection s rest → content_of_names s ≡ Some rest
+content_complete reads s rest h =
     let same : bytes_eq section_name section_name ≡ true = (bytes_eq-Decides section_name section_name).1 refl in
     let t = h.1 in
-    rw (h.0, t.2, name_exact.complete t.0 rest section_name t.1 tt) refl
+    rw (h.0, t.2, reads.names.complete t.0 rest section_name t.1 tt) refl
 
-content_none : (s : Section) → IsBytes s.1 → IsCalledOtherwise s → content_of_names s ≡ None
-content_none s small never = split (content_of_names s) refl
+content_none : ReadsExactly → (s : Section) → IsBytes s.1 → IsCalledOtherwise s → content_of_names s ≡ None
+content_none reads s small never = split (content_of_names s) refl
   where
     split : (o : Option (List ℕ)) → content_of_names s ≡ o → content_of_names s ≡ None
     split None e = e
-    split (Some rest) e = absurd (never rest (content_sound s rest small e))
+    split (Some rest) e = absurd (never rest (content_sound reads s rest small e))
 
 -- the sections are those before it, the first section called `name`, and those after it
 pub record HasFirst (ss : List Section) (rest : List ℕ) : Type 0 where
@@ -49,30 +49,30 @@ pub record HasFirst (ss : List Section) (rest : List ℕ) : Type 0 where
   pub first : Every IsCalledOtherwise before
   pub called : IsNameSection section rest
 
-first_or_later : (s : Section) (ss : List Section) (rest : List ℕ) → IsBytes s.1 → (o : Option (List ℕ)) → content_of_names s ≡ o → (content_of_names s ≡ None → HasFirst ss rest) → or_else (content_of_names s) (first_content ss) ≡ Some rest → HasFirst (s ∷ ss) rest
-first_or_later s ss rest small (Some found) e behind h =
+first_or_later : ReadsExactly → (s : Section) (ss : List Section) (rest : List ℕ) → IsBytes s.1 → (o : Option (List ℕ)) → content_of_names s ≡ o → (content_of_names s ≡ None → HasFirst ss rest) → or_else (content_of_names s) (first_content ss) ≡ Some rest → HasFirst (s ∷ ss) rest
+first_or_later reads s ss rest small (Some found) e behind h =
     let same : found ≡ rest = (let k = rw e at h in cc) in
-    record { before = []; section = s; after = ss; all = refl; first = tt; called = content_sound s rest small (e ∙ ap Some same) }
-first_or_later s ss rest small None e behind h =
+    record { before = []; section = s; after = ss; all = refl; first = tt; called = content_sound reads s rest small (e ∙ ap Some same) }
+first_or_later reads s ss rest small None e behind h =
     let later = behind e in
     record {
       before = s ∷ later.before;
       section = later.section;
       after = later.after;
       all = ap (λ z. s ∷ z) later.all;
-      first = (λ r k. (let bad = sym e ∙ content_complete s r k in cc), later.first);
+      first = (λ r k. (let bad = sym e ∙ content_complete reads s r k in cc), later.first);
       called = later.called;
     }
 
-pub first_sound : (ss : List Section) (rest : List ℕ) → AreBytes ss → first_content ss ≡ Some rest → HasFirst ss rest
+pub first_sound : ReadsExactly → (ss : List Section) (rest : List ℕ) → AreBytes ss → first_content ss ≡ Some rest → HasFirst ss rest
 unfolding first_content
-first_sound [] rest small h = cc
-first_sound (s ∷ ss) rest small h = first_or_later s ss rest small.0 (content_of_names s) refl (λ e. first_sound ss rest small.1 (rw e at h)) h
+first_sound reads [] rest small h = cc
+first_sound reads (s ∷ ss) rest small h = first_or_later reads s ss rest small.0 (content_of_names s) refl (λ e. first_sound reads ss rest small.1 (rw e at h)) h
 
-pub first_complete : (before : List Section) (s : Section) (after : List Section) (rest : List ℕ) → AreBytes before → Every IsCalledOtherwise before → IsNameSection s rest → first_content (before ++ s ∷ after) ≡ Some rest
+pub first_complete : ReadsExactly → (before : List Section) (s : Section) (after : List Section) (rest : List ℕ) → AreBytes before → Every IsCalledOtherwise before → IsNameSection s rest → first_content (before ++ s ∷ after) ≡ Some rest
 unfolding first_content
-first_complete [] s after rest small never h = rw (content_complete s rest h) refl
-first_complete (b ∷ before) s after rest small never h = rw (content_none b small.0 never.0) (first_complete before s after rest small.1 never.1 h)
+first_complete reads [] s after rest small never h = rw (content_complete reads s rest h) refl
+first_complete reads (b ∷ before) s after rest small never h = rw (content_none reads b small.0 never.0) (first_complete reads before s after rest small.1 never.1 h)
 
 -- ---- the loop over the frames
 

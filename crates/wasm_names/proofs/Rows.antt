@@ -1,14 +1,17 @@
 -- Names of small files.
-use Rattle.std.proofs.Common.{◌≡◌, refl, ℕ, List, [], ◌∷◌, ◌++◌}
+use Rattle.std.proofs.Common.{◌≡◌, refl, ℕ, List, [], ◌∷◌, ◌++◌, length}
 use Rattle.std.specs.Char.{encode_utf8}
 use Rattle.std.specs.Str.{chars, is_utf8}
 use Rattle.wasm_bytes.specs.Frames.{header, frame_at, frames_at}
 use Rattle.wasm_bytes.specs.Reading.{unsigned_at, name_at as text_at}
 use Rattle.wasm_read_spec.specs.Contents.{framed_at}
 use Rattle.wasm_read_spec.specs.Reading.{each_from, whole_at}
-use Rattle.wasm_read_spec.proofs.FaultRows.{section}
 use Rattle.wasm_names.specs.declared.func_name.FuncName.{FuncName}
 use Rattle.wasm_names.specs.Reading.{func_name_at, func_names_at, name_map_at, names_at, first_content, names_found, name_list}
+
+-- a section of this content, which is short
+abbrev section : ℕ → List ℕ → List ℕ
+section id content = id ∷ length content ∷ content
 
 -- the name section that holds these subsections
 abbrev name_section : List ℕ → List ℕ

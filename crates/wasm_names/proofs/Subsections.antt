@@ -6,10 +6,10 @@ use Rattle.wasm_bytes.proofs.Lists.{Took, small_rest}
 use Rattle.wasm_read_spec.specs.declared.fault.Fault.{Fault}
 use Rattle.wasm_read_spec.specs.declared.fault.Fault.TheVariants.{Malformed}
 use Rattle.wasm_read_spec.specs.Prelude.{Fails, sized_at}
-use Rattle.wasm_read_spec.proofs.Exact.{sized_exact}
 use Rattle.wasm_read_spec.proofs.Loops.{fails_through}
 use Rattle.wasm_names.specs.NameList.{SpellsSubsection, func_name_maps}
 use Rattle.wasm_names.specs.Reading.{found_after, name_map_at, lent_option}
+use Rattle.wasm_names.proofs.NameMaps.{ReadsExactly}
 
 -- the one that is found among those before and those that follow, if there is at most one
 abbrev pub IsFound : Option (List ℕ) → List (List ℕ) → Option (List ℕ) → Type 0
@@ -36,35 +36,35 @@ step_found found s ss r = by_kind (s.0 == 1) refl found
     by_kind true is (Some x) h = absurd (too_many r x s.1 (func_name_maps ss) (rw is at h))
     by_kind false is found h = (found, rw is refl, rw is at h)
 
-pub one_map_sound : (fuel : ℕ) (found : Option (List ℕ)) (bytes : List ℕ) (r : Option (List ℕ)) → IsBytes bytes → name_map_at fuel found bytes ≡ Ok r → (ss : List Section) × Each SpellsSubsection bytes ss × IsFound found (func_name_maps ss) r
+pub one_map_sound : ReadsExactly → (fuel : ℕ) (found : Option (List ℕ)) (bytes : List ℕ) (r : Option (List ℕ)) → IsBytes bytes → name_map_at fuel found bytes ≡ Ok r → (ss : List Section) × Each SpellsSubsection bytes ss × IsFound found (func_name_maps ss) r
 unfolding name_map_at
-one_map_sound fuel found [] r small e = let same : found ≡ r = cc in ([], refl, rw same (sym (append-nil (option_to_list r))))
-one_map_sound zero found (b ∷ bs) r small e = cc
-one_map_sound (suc fuel) found (b ∷ bs) r small e =
+one_map_sound reads fuel found [] r small e = let same : found ≡ r = cc in ([], refl, rw same (sym (append-nil (option_to_list r))))
+one_map_sound reads zero found (b ∷ bs) r small e = cc
+one_map_sound reads (suc fuel) found (b ∷ bs) r small e =
     let s = bind_ok (sized_at bs) _ _ e in
-    let t = (sized_exact.sound bs s.0.0 s.0.1 (λ i. small (suc i)) s.1).0 in
+    let t = (reads.sized.sound bs s.0.0 s.0.1 (λ i. small (suc i)) s.1).0 in
     let next = bind_ok (found_after found (b, s.0.0)) _ _ s.2 in
-    let later = one_map_sound fuel next.0 s.0.1 r (small_rest _ bs s.0.1 (λ i. small (suc i)) t) next.2 in
+    let later = one_map_sound reads fuel next.0 s.0.1 r (small_rest _ bs s.0.1 (λ i. small (suc i)) t) next.2 in
     let first : Took (λ z. SpellsSubsection z (b, s.0.0)) (b ∷ bs) s.0.1 = (b ∷ t.0, (b ∷ [], t.0, refl, t.1, refl), ap (λ z. b ∷ z) t.2) in
     ((b, s.0.0) ∷ later.0, (first.0, s.0.1, first.1, later.1, first.2), found_step found next.0 (b, s.0.0) later.0 r next.1 later.2)
 
-pub one_map_complete : (fuel : ℕ) (found : Option (List ℕ)) (bytes : List ℕ) (ss : List Section) (r : Option (List ℕ)) → length bytes ≤ fuel → Each SpellsSubsection bytes ss → IsFound found (func_name_maps ss) r → name_map_at fuel found bytes ≡ Ok r
+pub one_map_complete : ReadsExactly → (fuel : ℕ) (found : Option (List ℕ)) (bytes : List ℕ) (ss : List Section) (r : Option (List ℕ)) → length bytes ≤ fuel → Each SpellsSubsection bytes ss → IsFound found (func_name_maps ss) r → name_map_at fuel found bytes ≡ Ok r
 unfolding name_map_at
-one_map_complete fuel found bytes [] r enough h k = rw h (ap Ok (same_found found r (k ∙ append-nil (option_to_list found))))
+one_map_complete reads fuel found bytes [] r enough h k = rw h (ap Ok (same_found found r (k ∙ append-nil (option_to_list found))))
   where
     same_found : (a b : Option (List ℕ)) → option_to_list b ≡ option_to_list a → a ≡ b
     same_found None None e = refl
     same_found None (Some y) e = cc
     same_found (Some x) None e = cc
     same_found (Some x) (Some y) e = let same : x ≡ y = cc in ap Some same
-one_map_complete zero found bytes (s ∷ ss) r enough h k =
+one_map_complete reads zero found bytes (s ∷ ss) r enough h k =
     let e : bytes ≡ (s.0 ∷ h.2.1) ++ h.1 = h.4 ∙ ap (λ z. z ++ h.1) (h.2.4 ∙ ap (λ z. z ++ h.2.1) h.2.2) in
     absurd (let long = rw e at enough in omega arith)
-one_map_complete (suc fuel) found bytes (s ∷ ss) r enough h k =
+one_map_complete reads (suc fuel) found bytes (s ∷ ss) r enough h k =
     let e : bytes ≡ s.0 ∷ (h.2.1 ++ h.1) = h.4 ∙ ap (λ z. z ++ h.1) (h.2.4 ∙ ap (λ z. z ++ h.2.1) h.2.2) in
     let next = step_found found s ss r k in
     let less : length h.1 ≤ fuel = (let long = rw e at enough in omega (arith, length-append h.2.1 h.1)) in
-    rw (e, sized_exact.complete h.2.1 h.1 s.1 h.2.3 tt, next.1) (one_map_complete fuel next.0 h.1 ss r less h.3 next.2)
+    rw (e, reads.sized.complete h.2.1 h.1 s.1 h.2.3 tt, next.1) (one_map_complete reads fuel next.0 h.1 ss r less h.3 next.2)
 
 -- ---- the loop that reads them
 

@@ -10,7 +10,7 @@ use crate::laws::name_lists_are_those_of_the_first_name_section;
 use crate::section::{behind_name_of, read_names};
 use std::alloc::Global;
 use wasm_bytes::{Frame, FrameFault, Items, NoMemory, frames};
-use wasm_read_spec::Fault;
+use wasm_read_spec::{Fault, framing_is_decided};
 
 /// Returns what follows the name of the section, if it is a custom section named `name`.
 fn names_content(bytes: &[u8], frame: Frame) -> Option<&[u8]>
@@ -57,6 +57,7 @@ fn read_name_list(alloc: Global, bytes: &[u8]) -> Result<Items<FuncName>, NoMemo
     ensures list { IfOk result (λ ns. ns ≡ name_list bytes.now) }
     ensures bytes { IsBytes bytes.now }
 {
+    framing_is_decided();
     match frames(alloc, bytes) {
         Ok(all) => names_or_none(alloc, first_names_content(bytes, all.as_slice())),
         Err(FrameFault::NotModule) => Ok(Items::new(alloc)),
