@@ -23,7 +23,7 @@ use wasm_bytes::{Frame, FrameFault, Items, frames};
 use wasm_read_spec::{
     Parts, ReadFault, encoded_bodies_name_memory_zero,
     encoded_files_are_within_limits_where_none_is_exceeded, encoded_trees_are_bounded,
-    faults_have_causes,
+    faults_have_causes, framing_is_decided, reading_is_exact,
 };
 use wasm_tree::Module;
 
@@ -34,6 +34,7 @@ fn frame_list(alloc: Global, bytes: &[u8]) -> Result<Items<Frame>, ReadFault>
     ensures inside { IfOk result (λ fs. Inside bytes.now fs) }
     ensures bytes { IsBytes bytes.now }
 {
+    framing_is_decided();
     match frames(alloc, bytes) {
         Ok(all) => Ok(all),
         Err(FrameFault::NotModule) => Err(ReadFault::NotModule),
@@ -166,5 +167,6 @@ pub fn read(alloc: Global, bytes: &[u8]) -> Result<Module, ReadFault>
     encoded_files_are_within_limits_where_none_is_exceeded();
     encoded_trees_are_bounded();
     encoded_bodies_name_memory_zero();
+    reading_is_exact();
     read_file(alloc, bytes, false)
 }
