@@ -1,15 +1,13 @@
 -- What `ref.func` names in well typed code, and code that stays well typed where other functions may be named and there are more element segments.
-use Rattle.base_lists.proofs.Common.{◌≡◌, ℕ, Bool, true, false, nat_eq, List, [], ◌∷◌, ◌++◌, Some, refl, sym, ap, ◌∙◌, ◌⊎◌, inl, inr, ⊎_elim, rules, slice_get, and_then_is, either_true, left_either, same_number, among_left, among_right, keeps_map, keeps_only, only_true}
+use Rattle.base_lists.proofs.Common.{◌≡◌, ℕ, Bool, true, false, nat_eq, List, [], ◌∷◌, ◌++◌, Option, Some, None, refl, sym, ap, ◌∙◌, ◌⊎◌, inl, inr, ⊎_elim, rules, slice_get, and_then_is, either_true, left_either, same_number, among_left, among_right, keeps_map, keeps_only, only_true}
 use Rattle.base_lists.specs.Members.{is_among}
 use Rattle.base_lists.proofs.Members.{among_either}
 use Rattle.std.proofs.Common.{eq-eqb}
 use Rattle.wasm_tree_spec.specs.Prelude.{RefType, ValType, BlockType, Instr, fold_out-Instr, map-Instr, Row_of-Instr, items-the_row-Instr, end_of-Instr, more_of-Instr, the_lemmas, Block, Block', Loop, Loop', If, If', RefFunc, TableInit, ElemDrop}
 use Rattle.wasm_tree.specs.declared.instr.Instr.{out-Instr}
-use Rattle.wasm_valid_bodies.specs.Typing.{Stack, Effect, Context, effect_of, Ends, Fits, Leads, LeadsAll, WellTyped}
+use Rattle.wasm_valid_bodies.specs.Typing.{Stack, Effect, Context, effect_of, Ends, Fits, Leads, LeadsAll, WellTyped, both}
 use Rattle.index_remap.specs.Prelude.{refs, refs_all, refs_step, Keeps, labelled}
-use Rattle.index_remap.proofs.Keeping.{both_keeps, named_keeps}
 use Rattle.index_remap.proofs.Rows.{block_is, loop_is, if_is}
-use Rattle.index_remap.proofs.Marks.{of_If}
 
 ends_map : (f g : Stack → Stack → Type 0) (ps rs : List ValType) → ((s t : Stack) → f s t → g s t) → Ends f ps rs → Ends g ps rs
 ends_map f g ps rs k (last, l, a) = (last, k _ last l, a)
@@ -19,6 +17,9 @@ of_Block bt is = search (rules, the_lemmas)
 
 of_Loop : (bt : BlockType) (is : List Instr) → refs (Loop bt is) ≡ refs_all is
 of_Loop bt is = search (rules, the_lemmas)
+
+of_If : (bt : BlockType) (is os : List Instr) → refs (If bt is os) ≡ refs_all is ++ refs_all os
+of_If bt is os = search (rules, the_lemmas)
 
 block_refs : (bt : BlockType) (n : _) (row : Row_of-Instr _) → refs (Block' bt n row) ≡ refs_all (items-the_row-Instr _ row)
 block_refs bt n row = ap refs (block_is bt n row) ∙ of_Block bt (items-the_row-Instr _ row)
@@ -69,6 +70,11 @@ module _ (c : Context) where
 
 -- ---- other functions may be named ----
 
+-- the type of a segment that is there is still that of a table
+both_wider : (m n t : Option RefType) → Keeps m n → both m t ≡ true → both n t ≡ true
+both_wider None n t k h = cc
+both_wider (Some a) n t k h = ap (λ z. both z t) (k a refl) ∙ h
+
 module _ (c : Context) (es : List RefType) (bs : List Bool) (segments : (i : ℕ) → Keeps (slice_get c.elems i) (slice_get es i)) where
   -- each of these functions that may be named before may be named now
   abbrev Named : List ℕ → Type 0
@@ -82,8 +88,11 @@ module _ (c : Context) (es : List RefType) (bs : List Bool) (segments : (i : ℕ
 
   effect_wider : (ls : List (List ValType)) (i : Instr) (e : Effect) → Named (refs_step (map-Instr Instr (List ℕ) refs (out-Instr i))) → effect_of (labelled c ls) i ≡ Some e → effect_of (wider ls) i ≡ Some e
   unfolding out-Instr denote.Hole.Carrier.out
-  effect_wider ls (RefFunc x) e n h = named_keeps _ _ (n x (itself x)) e h
-  effect_wider ls (TableInit x y) e n h = keeps_only _ _ _ _ (both_keeps (slice_get c.elems x) (slice_get es x) (slice_get c.tables y) (slice_get c.tables y) (segments x) (λ r q. q)) (λ z p. p) e h
+  effect_wider ls (RefFunc x) e n h =
+      let b = and_then_is (slice_get c.named x) _ e h in
+      let may : slice_get c.named x ≡ Some true = b.1 ∙ ap Some (only_true b.0 _ e b.2) in
+      rw (n x (itself x) may) (rw may at h)
+  effect_wider ls (TableInit x y) e n h = keeps_only _ _ _ _ (both_wider (slice_get c.elems x) (slice_get es x) (slice_get c.tables y) (segments x)) (λ z p. p) e h
   effect_wider ls (ElemDrop x) e n h = keeps_map _ _ _ (segments x) e h
   effect_wider ls _ e n h = h
 
