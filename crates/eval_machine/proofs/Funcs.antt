@@ -5,6 +5,7 @@ use Rattle.base_lists.specs.Options.{◌>>=◌, all_there}
 use Rattle.wasm_tree_spec.specs.Prelude.{FuncType, Import, ElemSeg, ElemMode, DataSeg, DataMode, Module, func_of, funcs_of, imported_funcs, memories_of}
 use Rattle.wasm_tree.specs.declared.module.Func.{Func as FuncDef}
 use Rattle.wasm_valid.specs.Prelude.{IsValid}
+use Rattle.wasm_valid.proofs.Order.{each_item}
 use Rattle.wasm_tree.specs.declared.module.ElemMode.TheVariants as elem
 use Rattle.wasm_tree.specs.declared.module.DataMode.TheVariants as data'
 use Rattle.wasm_num.specs.Operations.{W32}
@@ -217,7 +218,7 @@ module _ (m : Module) (k : Kept) (v : IsValid m) (f : Fits m k) where
   funcs_now = (store_in m k).funcs
 
   pub funcs_now_are : FuncsAre m funcs_now
-  funcs_now_are = funcs_are m funcs_now (imports_typed m v) (funcs_begin m f.ready)
+  funcs_now_are = funcs_are m funcs_now (imports_typed m (each_item m v)) (funcs_begin m f.ready)
 
   counted : k.imports.funcs ≡ length (imported_funcs m.imports)
   counted = ap (λ i. i.funcs) f.imports

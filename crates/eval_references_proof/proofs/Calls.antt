@@ -1,6 +1,7 @@
 -- Calls leave the store related to itself.
 use Rattle.base_lists.proofs.Common.{◌≡◌, ◌∙◌, ℕ, zero, suc, ◌-◌, ◌<◌, ◌≤◌, arith, List, [], ◌∷◌, length, Option, Some, None, slice_get, refl, sym, ap, subst, same_Some, slice_get_within, self_rel}
 use Rattle.wasm_tree_spec.specs.Prelude.{Functions, ValType, Module, funcs_of, tables_of, globals_of}
+use Rattle.wasm_valid.specs.Prelude.{ValidWhereItemsHold}
 use Rattle.wasm_meaning.specs.Prelude.{Outcome, Gives, Traps, IllTyped, Func, Global, Store, Entry, Running, Mark, Opening, Waiting, Ended, Growing, Next, Ran, CallsOwn, WaitsGrowth, CallsPlaceholder, EndsCall, zeros, enter, step, StepsWriteWhatTheyTouch}
 use Rattle.index_remap.specs.Prelude.{BothRel, both, ResRel, done, ListRel, nil, cons, ValRel, end, FuncRel, defined, own, slot, TableRel, GlobalRel, ElemRel, StoreRel, EntryRel, running, mark, waiting, NextRel, ran, asked, loads, returned, TopSkips, Above, CodeIsRelatedToItself}
 use Rattle.index_remap.specs.Laws.{NamedAreKnown, StepsAgree}
@@ -119,8 +120,8 @@ module _ (m : Module) (agree : StepsAgree) (known : NamedAreKnown) where
 refs_there : (m : Module) (s : Store) → StoreRel (R m) s s → GlobalsAreTyped m s → RefsAreThere m s
 refs_there m s h typed = λ n g at. global_there m s h n g (slice_get_within (globals_of m) n g.ty (typed n g at).1) at
 
-pub references_there : StepsAgree → NamedAreKnown → CodeIsRelatedToItself → StepsWriteWhatTheyTouch → EvaluatedRefsAreThere
-references_there agree known coded writes m v turns funcs s e = refs_there m s.store (held (instantiated m turns) (instantiated_stored m coded v turns) refl) (globals_typed coded writes m v turns funcs s e)
+pub references_there : StepsAgree → NamedAreKnown → CodeIsRelatedToItself → StepsWriteWhatTheyTouch → ValidWhereItemsHold → EvaluatedRefsAreThere
+references_there agree known coded writes items m v turns funcs s e = refs_there m s.store (held (instantiated m turns) (instantiated_stored m coded ((items m).0 v) turns) refl) (globals_typed coded writes items m v turns funcs s e)
   where
     from : (t : Stage) → Held m agree known (called_in_order m (after_start m t m.start) funcs) → instantiated m turns ≡ t → StoreRel (R m) s.store s.store
     from t h is = subst (Held m agree known) (ap (λ x. called_in_order m (after_start m x m.start) funcs) (sym is) ∙ e) h
@@ -157,9 +158,9 @@ module _ (m : Module) where
     few_funcs = subst (λ xs. length xs ≤ length (funcs_of m)) (sym p.funcs) b.few_funcs;
   }
 
-pub calls_keep_refs : StepsAgree → NamedAreKnown → CodeIsRelatedToItself → StepsWriteWhatTheyTouch → CallsKeepRefs
-calls_keep_refs agree known coded writes m v turns base s t func is parts typed refs e =
-    let b : IsStored m base.store × GlobalsAreTyped m base.store = subst (Stored m) is (instantiated_stored m coded v turns) in
+pub calls_keep_refs : StepsAgree → NamedAreKnown → CodeIsRelatedToItself → StepsWriteWhatTheyTouch → ValidWhereItemsHold → CallsKeepRefs
+calls_keep_refs agree known coded writes items m v turns base s t func is parts typed refs e =
+    let b : IsStored m base.store × GlobalsAreTyped m base.store = subst (Stored m) is (instantiated_stored m coded ((items m).0 v) turns) in
     let i = like_stored m base.store s.store b.0 parts refs in
     let related : StoreRel (R m) t.store t.store = subst (Held m agree known) e (any_held m agree known s func (stored_related m s.store i) i.few_funcs) in
     refs_there m t.store related (calls_keep_types writes m s t func typed e)

@@ -3,6 +3,7 @@ use Rattle.base_lists.proofs.Common.{◌≡◌, ◌∙◌, ℕ, zero, suc, ◌-�
 use Rattle.wasm_tree_spec.specs.Prelude.{same_type, ValType, Instr, out-Instr, Module, globals_of}
 use Rattle.wasm_tree.specs.declared.instr.Instr.TheOpen.{Instr-F}
 use Rattle.wasm_num.specs.Operations.{W32}
+use Rattle.wasm_valid.specs.Prelude.{ValidWhereItemsHold}
 use Rattle.wasm_meaning.specs.Prelude.{Outcome, Gives, Traps, IllTyped, store_from, Val, Func, Code, Own, Placeholder, Global, Store, Level, Frame, Entry, Running, Mark, Opening, Waiting, Ended, Growing, Env, Body, Change, Keep, SetGlobal, SetMemory, SetTable, DropElem, DropData, Act, Goes, Calls, AsksGrow, Ends, Next, Ran, CallsOwn, WaitsGrowth, CallsPlaceholder, EndsCall, global_set, pop, pop_num, pop_ref, pop_typed, type_of, typed, pop_three, type_at, act, changed, enter, exec, give, give_levels, perform, step, step_code, step_levels, Touched, Bytes, Slots, OneGlobal, StepsWriteWhatTheyTouch, Writes, a_global, touched_by, touched_levels, touched_next}
 use Rattle.wasm_meaning.specs.Touched.{range_touches}
 use Rattle.wasm_meaning.proofs.Outcomes.{AllOf, ill_typed, just, all_at, cond_all, with_found, with_is}
@@ -186,8 +187,8 @@ module _ (m : Module) (writes : StepsWriteWhatTheyTouch) (fs : List Func) where
 pub calls_keep_types : StepsWriteWhatTheyTouch → CallsKeepTypes
 calls_keep_types writes m s t func ok e = (subst (HeldTyped m writes s.store.funcs) e (call_typed m writes s.store.funcs s func (ok, refl))).0
 
-pub globals_typed : CodeIsRelatedToItself → StepsWriteWhatTheyTouch → EvaluatedGlobalsAreTyped
-globals_typed coded writes m v turns funcs s e = held (instantiated m turns) (instantiated_stored m coded v turns) refl
+pub globals_typed : CodeIsRelatedToItself → StepsWriteWhatTheyTouch → ValidWhereItemsHold → EvaluatedGlobalsAreTyped
+globals_typed coded writes items m v turns funcs s e = held (instantiated m turns) (instantiated_stored m coded ((items m).0 v) turns) refl
   where
     from : (fs : List Func) (t : Stage) → HeldTyped m writes fs (after_start m t m.start) → instantiated m turns ≡ t → GlobalsAreTyped m s.store
     from fs t h is = (subst (HeldTyped m writes fs) (ap (λ x. called_in_order m (after_start m x m.start) funcs) (sym is) ∙ e) (called_typed m writes fs funcs (after_start m t m.start) h)).0

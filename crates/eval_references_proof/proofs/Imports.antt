@@ -1,10 +1,9 @@
--- The functions that a valid module imports.
+-- The functions that a module with valid items imports.
 use Rattle.base_lists.proofs.Common.{◌≡◌, ◌∙◌, ℕ, suc, ◌<◌, arith, List, [], ◌∷◌, length, slice_get, Option, Some, None, refl, sym, ap, subst, filter_map, same_Some, slice_get_within, none_past}
 use Rattle.wasm_tree_spec.specs.Prelude.{FuncType, Import, ImportDesc, Module, func_of, imported_funcs}
 use Rattle.wasm_tree.specs.declared.module.ImportDesc.TheVariants as imported
 use Rattle.wasm_valid.specs.declared.kinds.ItemKind.TheVariants as kind
-use Rattle.wasm_valid.specs.Prelude.{ImportHolds, IsValid}
-use Rattle.wasm_valid.proofs.Order.{each_item}
+use Rattle.wasm_valid.specs.Prelude.{ImportHolds, ItemsHold}
 use Rattle.eval_spec.specs.Prelude.{imported_func}
 
 -- the types of imported functions are there
@@ -33,6 +32,6 @@ typed_desc m (imported.Table t) ty h e = absurd (let k = e in cc)
 typed_desc m (imported.Memory t) ty h e = absurd (let k = e in cc)
 typed_desc m (imported.Global t) ty h e = absurd (let k = e in cc)
 
-pub imports_typed : (m : Module) → IsValid m → ImportsTyped m m.imports
+pub imports_typed : (m : Module) → ItemsHold m → ImportsTyped m m.imports
 imports_typed m v n i e ty f =
-    let h = each_item m v kind.Import n (slice_get_within m.imports n i e) in let same : h.0 ≡ i = same_Some h.0 i (sym h.1 ∙ e) in typed_desc m i.desc ty (subst (λ x. ImportHolds m x.desc) same h.2) f
+    let h = v kind.Import n (slice_get_within m.imports n i e) in let same : h.0 ≡ i = same_Some h.0 i (sym h.1 ∙ e) in typed_desc m i.desc ty (subst (λ x. ImportHolds m x.desc) same h.2) f

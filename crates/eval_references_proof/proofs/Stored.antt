@@ -1,4 +1,4 @@
--- The store after the instantiation of a valid module is related to itself.
+-- The store after the instantiation of a module with valid items is related to itself.
 use Rattle.base_lists.proofs.Common.{◌≡◌, ℕ, ◌*◌, ◌<◌, arith, List, [], ◌∷◌, length, map, Bool, true, false, Option, Some, None, slice_get, slice_set, refl, subst, nat_lt, cons_option, filter_map, length-append, length-map, length-set, same_Some, all_there_length, numbers_is, append_rel, copies_rel, get_rel, overwrite_rel, put_rel, all_rel, maps_rel, opt_self, self_rel}
 use Rattle.base_lists.specs.Options.{◌>>=◌, all_there}
 use Rattle.wasm_tree_spec.specs.Prelude.{Functions, GlobalType, Limits, TableType, ConstExpr, DataMode, DataSeg, ElemMode, ElemSeg, GlobalDef, Import, Module, func_of, imported_funcs, imported_tables, imported_memories, imported_globals, memories_of}
@@ -7,7 +7,7 @@ use Rattle.wasm_tree.specs.declared.module.DataMode.TheVariants as data'
 use Rattle.wasm_tree.specs.declared.module.ElemMode.TheVariants as elem
 use Rattle.wasm_tree.specs.declared.module.Func.{Func as FuncDef}
 use Rattle.wasm_num.specs.Operations.{W32}
-use Rattle.wasm_valid.specs.Prelude.{IsValid}
+use Rattle.wasm_valid.specs.Prelude.{ItemsHold}
 use Rattle.wasm_meaning.specs.Prelude.{Gives, copies, overwrite, RefVal, Val, Num, Ref, Func, Table, Memory, Global, Elem, Data, Store, num_of, ref_of, null_of, zero_of, no_bytes, no_items, Filled, PlacedSegment, copy_slots, copy_bytes, elem_with, global_with, joined_stores, new_elem, new_func, or_trapped, run_elem_with, run_data_with, segments_in, Bytes}
 use Rattle.index_remap.specs.Prelude.{ListRel, nil, cons, OptRel, none, some, RefRel, ValRel, number, reference, FuncRel, own, defined, TableRel, GlobalRel, ElemRel, func, CodeIsRelatedToItself}
 use Rattle.eval_spec.specs.Prelude.{State, Stage, Going, Stopped, Finished, Test, first_held, stopped_or, written_after, copied_slots, data_tests, elem_tests, place_in, filled_from, imported_func, imported_store, in_order, instantiated, own_inst, state_at_first, value_in, with_data, with_data_mode, with_elem, with_elem_mode, with_segments}
@@ -91,7 +91,7 @@ module _ (m : Module) (coded : CodeIsRelatedToItself) where
 
   -- ---- at first ----
 
-  module _ (v : IsValid m) (fs : List Func) (gs : List Global) (es : List Elem) (ef : all_there (new_func (own_inst m)) m.funcs ≡ Some fs) (eg : all_there (global_with (value_in m)) m.globals ≡ Some gs) (ee : all_there (elem_with (value_in m)) m.elems ≡ Some es) where
+  module _ (v : ItemsHold m) (fs : List Func) (gs : List Global) (es : List Elem) (ef : all_there (new_func (own_inst m)) m.funcs ≡ Some fs) (eg : all_there (global_with (value_in m)) m.globals ≡ Some gs) (ee : all_there (elem_with (value_in m)) m.elems ≡ Some es) where
     abbrev first : Store
     first = joined_stores (imported_store m) (record {
       funcs = fs;
@@ -217,7 +217,7 @@ module _ (m : Module) (coded : CodeIsRelatedToItself) where
       in_order_stored (with_data m) (λ s x k. with_data_stored s x x.segment.mode k) (in_order (with_elem m) (Finished s) (segments_in 0 (own_inst m) (own_inst m).elems m.elems)) (segments_in 0 (own_inst m) (own_inst m).datas m.datas)
       (in_order_stored (with_elem m) (λ s x k. with_elem_stored s x x.segment.mode k) (Finished s) (segments_in 0 (own_inst m) (own_inst m).elems m.elems) h)
 
-  module _ (v : IsValid m) (turns : ℕ) where
+  module _ (v : ItemsHold m) (turns : ℕ) where
     by_elems : (fs : List Func) (gs : List Global) → all_there (new_func (own_inst m)) m.funcs ≡ Some fs → all_there (global_with (value_in m)) m.globals ≡ Some gs → (o : Option (List Elem)) → all_there (elem_with (value_in m)) m.elems ≡ o → Stored m (filled_from m turns (state_at_first m turns))
     by_elems fs gs ef eg None ee = rw (ef, eg, ee) tt
     by_elems fs gs ef eg (Some es) ee = rw (ef, eg, ee) (segments_stored _ (first_stored v fs gs es ef eg ee, first_typed m v gs eg))

@@ -1,4 +1,4 @@
--- The globals of a valid module have values of their types at first.
+-- The globals of a module with valid items have values of their types at first.
 use Rattle.base_lists.proofs.Common.{◌≡◌, ◌∙◌, ℕ, ◌+◌, ◌-◌, ◌<◌, arith, List, ◌++◌, length, map, Bool, true, false, not, ◌&&◌, Option, Some, None, slice_get, refl, sym, ap, subst, inl, inr, nat_lt, cases_lt, and_parts, ltb-true, length-map, same_Some, slice_get_within, all_there_at, all_there_length, numbers_is, append_left, append_right, map_at, map_from, slice_get_there}
 use Rattle.base_lists.specs.Options.{◌>>=◌, all_there}
 use Rattle.wasm_tree_spec.specs.Prelude.{same_type, GlobalType, ValType, ConstExpr, GlobalDef, Module, funcs_of, globals_of, imported_globals}
@@ -7,8 +7,7 @@ use Rattle.wasm_tree.specs.declared.types.ValType.TheVariants as valt
 use Rattle.wasm_tree.specs.declared.module.ConstExpr.TheVariants as const
 use Rattle.wasm_valid_bodies.specs.Typing.{only}
 use Rattle.wasm_valid.specs.declared.kinds.ItemKind.TheVariants as kind
-use Rattle.wasm_valid.specs.Prelude.{const_type, IsValid}
-use Rattle.wasm_valid.proofs.Order.{each_item}
+use Rattle.wasm_valid.specs.Prelude.{const_type, ItemsHold}
 use Rattle.wasm_meaning.specs.Prelude.{FuncRef, Val, Ref, Global, type_of, zero_of, global_with}
 use Rattle.eval_spec.specs.Prelude.{imported_store, own_inst, value_in}
 
@@ -65,7 +64,7 @@ module _ (m : Module) where
           let o = only_type (nat_lt x (length (imported_globals m.imports)) && not g.mutable) g.ty t k in
           subst (λ s. Fits s v) o.1 (by_value g (ltb-true x (length (imported_globals m.imports)) (and_parts (nat_lt x (length (imported_globals m.imports))) (not g.mutable) o.0).0) i (slice_get (own_inst m).globals x) refl e)
 
-  module _ (v : IsValid m) (gs : List Global) (made : all_there (global_with (value_in m)) m.globals ≡ Some gs) where
+  module _ (v : ItemsHold m) (gs : List Global) (made : all_there (global_with (value_in m)) m.globals ≡ Some gs) where
     abbrev Good : ℕ → Global → Type 0
     Good n g = Fits g.ty.ty g.value × (slice_get (globals_of m) n ≡ Some g.ty)
 
@@ -81,7 +80,7 @@ module _ (m : Module) where
     defined_good k g d at e =
         let y = all_there_at (global_with (value_in m)) m.globals gs made k d at in
         let same : y.0 ≡ g = same_Some y.0 g (sym y.2 ∙ e) in
-        let item = each_item m v kind.Global k (slice_get_within m.globals k d at) in
+        let item = v kind.Global k (slice_get_within m.globals k d at) in
         let one : item.0 ≡ d = same_Some item.0 d (sym item.1 ∙ at) in
         subst (Good (length imported + k)) same (by d (value_in m d.init) refl y.0 y.1 (subst (λ (x : GlobalDef). const_type m x.init ≡ Some x.ty.ty) one item.2) (append_right imported (map (λ (d : GlobalDef). d.ty) m.globals) k ∙ map_at (λ (d : GlobalDef). d.ty) m.globals k d at))
       where

@@ -6,6 +6,7 @@ ghost use Rattle.eval_references_proof.specs.References.{CallsKeepRefs, CallsKee
 
 use index_remap::steps_agree;
 use wasm_meaning::steps_write_only_touched_places;
+use wasm_valid::valid_where_items_hold;
 
 /// States that, in each state in which an evaluation of a valid module finishes (WebAssembly Core
 /// 2.0, sections 4.5.4 and 4.5.5), each function to which a global refers is one of the module,
@@ -15,6 +16,7 @@ pub fn evaluated_references_are_there()
 {
     steps_agree();
     steps_write_only_touched_places();
+    valid_where_items_hold();
 }
 
 /// States that in each such state the value of each global has the type of the global.
@@ -23,6 +25,7 @@ pub fn evaluated_globals_are_typed()
 {
     steps_agree();
     steps_write_only_touched_places();
+    valid_where_items_hold();
 }
 
 /// States that a call that finishes preserves both: types in any state, and references, for a valid
@@ -34,4 +37,5 @@ pub fn calls_keep_values_of_globals()
 {
     steps_agree();
     steps_write_only_touched_places();
+    valid_where_items_hold();
 }

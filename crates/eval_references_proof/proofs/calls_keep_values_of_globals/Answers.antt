@@ -4,6 +4,6 @@ use Rattle.eval_references_proof.proofs.calls_keep_values_of_globals.Goals as go
 
 pub returns : goal.returns
 returns c = record {
-  references = calls_keep_refs c.steps_agree.ensures.steps c.steps_agree.ensures.known c.steps_agree.ensures.reflexive c.steps_write_only_touched_places.ensures.writes;
+  references = calls_keep_refs c.steps_agree.ensures.steps c.steps_agree.ensures.known c.steps_agree.ensures.reflexive c.steps_write_only_touched_places.ensures.writes c.valid_where_items_hold.ensures;
   types = calls_keep_types c.steps_write_only_touched_places.ensures.writes;
 }
