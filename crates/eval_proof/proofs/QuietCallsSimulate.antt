@@ -1,11 +1,10 @@
 -- A quiet call leads the same call over a related store, and leaves the rest of it alone.
-use Rattle.base_lists.proofs.Common.{None, ◌≡◌, ◌∙◌, ℕ, suc, List, [], ◌∷◌, Bool, true, false, cond, not, ◌||◌, refl, sym, subst, nat_eq, filter}
+use Rattle.base_lists.proofs.Common.{None, ◌≡◌, ◌∙◌, ℕ, suc, List, [], ◌∷◌, Bool, true, false, cond, not, arith, ◌||◌, refl, sym, subst, nat_eq, filter}
 use Rattle.base_lists.specs.Members.{is_among}
 use Rattle.wasm_tree_spec.specs.Prelude.{Space, Module}
 use Rattle.wasm_meaning.specs.Prelude.{Outcome, Gives, Traps, IllTyped, Val, Store, Change, Keep, SetGlobal, SetMemory, SetTable, DropElem, DropData, Entry, Running, Mark, Opening, Waiting, Ended, Growing, Act, Goes, Calls, AsksGrow, Ends, Next, Ran, EndsCall, act, step, StepsWriteWhatTheyTouch}
 use Rattle.index_remap.specs.Prelude.{Pairing, OneToOneWhereWritten, ResRel, done, ListRel, EntryRel, ran, returned, passed, Above, Unknowns, StoreRelOff, left_by, left_after, left_unknown, NextOff, here, step_on, StepsAgreeOff}
 use Rattle.index_remap.proofs.AboveSteps.{whole, entries_of}
-use Rattle.index_remap.proofs.SameRuns.{touches}
 use Rattle.eval_spec.specs.Prelude.{State, Stage, Going, Stopped, Finished, first_held, tests, ComesTo, on, quiet_step, own_inst}
 use Rattle.eval_spec.specs.Quiet as quiet
 use Rattle.eval_proof.specs.Known.{RelatesAllButImports, FramesOf, FuncsOf}
@@ -126,7 +125,7 @@ module _ (m : Module) (of named : Space → ℕ → ℕ → Bool) (all : Relates
   agrees s es none frames x fs related stack =
       let uses = steps.top_uses m of named all s es none in
       whole (λ xs ys. ResRel (NextOff R (left_unknown s.unknown s.store es) (Above R [] [])) (step s.store xs) (step x ys)) es fs
-      (agree of named [] apart s.unknown s.store x es fs [] [] related stack (touches s.store es) (steps.skips m of named all s.store es) (steps.entries_known m of named all s es fs frames uses) (steps.step_reads m of named all s es uses))
+      (agree of named [] apart s.unknown s.store x es fs [] [] related stack (grind arith) (steps.skips m of named all s.store es) (steps.entries_known m of named all s es fs frames uses) (steps.step_reads m of named all s es uses))
 
   last_step : (s t : State) (es : List Entry) → quiet_step m s es ≡ Finished t → Lead s es t
   last_step s t es e = λ funcs frames x fs related stack.

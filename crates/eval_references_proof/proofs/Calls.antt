@@ -6,7 +6,6 @@ use Rattle.wasm_meaning.specs.Prelude.{Outcome, Gives, Traps, IllTyped, Func, Gl
 use Rattle.index_remap.specs.Prelude.{BothRel, both, ResRel, done, ListRel, nil, cons, ValRel, end, FuncRel, defined, own, slot, TableRel, GlobalRel, ElemRel, StoreRel, EntryRel, running, mark, waiting, NextRel, ran, asked, loads, returned, TopSkips, Above, CodeIsRelatedToItself}
 use Rattle.index_remap.specs.Laws.{NamedAreKnown, StepsAgree}
 use Rattle.index_remap.proofs.AboveSteps.{entries_of, whole}
-use Rattle.index_remap.proofs.SameRuns.{touches}
 use Rattle.index_remap.proofs.StepsAgree.{none_called}
 use Rattle.eval_spec.specs.Prelude.{State, Stage, Going, Stopped, Finished, Test, first_held, stopped_or, frame_turns, host_tests, tests, after_steps, call_end, came_to, host_call, host_opened_if_there, quiet_step, spent, weight, after_start, instantiated, called_in_order}
 use Rattle.eval_references_proof.specs.References.{CallsKeepRefs, EvaluatedRefsAreThere, GlobalsAreTyped, HasPartsOf, IsThere, RefsAreThere}
@@ -51,7 +50,7 @@ module _ (m : Module) (agree : StepsAgree) (known : NamedAreKnown) where
   step_held s es h e =
       tried_held (first_held (tests m s es)) (came_to (spent s es) (step s.store es))
       (next_held (spent s es) (step s.store es)
-      (whole (λ xs ys. Leads (step s.store xs) (step s.store ys)) es es (agree (itself m) (itself m) [] (apart m) s.store s.store es es [] [] h e (touches s.store es) (skips_none s.store es) (known (itself m) (itself m) [] (λ k a b q. q) es es))))
+      (whole (λ xs ys. Leads (step s.store xs) (step s.store ys)) es es (agree (itself m) (itself m) [] (apart m) s.store s.store es es [] [] h e (grind arith) (skips_none s.store es) (known (itself m) (itself m) [] (λ k a b q. q) es es))))
 
   after_held : (n : ℕ) (t : Stage) → Held t → Held (after_steps m n t)
   after_held zero t h = h
