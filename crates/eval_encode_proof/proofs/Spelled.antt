@@ -1,14 +1,15 @@
 -- What is spelled by bytes has bytes in its data segments, and small tables.
-use Rattle.base_lists.proofs.Common.{ℕ, zero, suc, ◌^◌, ◌<◌, List, [], ◌∷◌, Bool, true, false, sym, subst, ◌==◌}
+use Rattle.base_lists.proofs.Common.{ℕ, zero, suc, ◌^◌, ◌<◌, List, [], ◌∷◌, Bool, true, false, sym, subst, arith, ◌==◌}
 use Rattle.base_lists.specs.Every.{Every}
-use Rattle.wasm_bytes.specs.Prelude.{Section, Each, Sized, U32, Vector, IsBytes}
+use Rattle.wasm_bytes.specs.Prelude.{Section, Each, Sized, U32, Vector, IsBytes, Framed}
 use Rattle.wasm_tree_spec.specs.Prelude.{Limits, TableType, DataSeg, Module}
 use Rattle.wasm_read_spec.specs.declared.parts.Parts.{Parts}
 use Rattle.wasm_read_spec.specs.Prelude.{Both, Made, Never, When, SpellsConst, SpellsFuncType, SpellsLimits, SpellsTable, at_least, between, SpellsData, SpellsElem, SpellsExport, SpellsGlobalDef, SpellsImport, data0, data1, data2, SpellsEntry, Contents, Spells, nothing, tree_of, with_codes, with_count, with_datas, with_elems, with_exports, with_func_types, with_globals, with_imports, with_mems, with_start, with_tables, with_types}
 use Rattle.wasm_read_spec.specs.Values.{limits_form}
 use Rattle.wasm_read_spec.specs.Sections.{data_form}
 use Rattle.wasm_read_spec.specs.Files.{section_form}
-use Rattle.wasm_read_spec.proofs.FileLaws.{AreBytes, framed_bytes, front_bytes}
+use Rattle.wasm_read_spec.specs.Contents.{AreBytes}
+use Rattle.wasm_read_spec.proofs.FileLaws.{front_holds}
 use Rattle.wasm_bytes.proofs.Lists.{bytes_rest}
 use Rattle.wasm_write_proof.proofs.NumberRanges.{says_made, says_never, says_vector, says_when, Says, u32_in}
 use Rattle.eval_numbers_proof.specs.Ranges.{BeginsInRange, IsByte}
@@ -48,7 +49,7 @@ of_bytes_never K bytes x small h = absurd h
 
 of_bytes_each : {A : Type 0} (K : A → Type 0) (P : List ℕ → A → Type 0) → SaysOfBytes K P → SaysOfBytes (Every K) (Each P)
 of_bytes_each K P a bytes [] small h = tt
-of_bytes_each K P a bytes (x ∷ xs) small h = let both = subst IsBytes h.4 small in (a h.0 x (front_bytes h.0 h.1 both) h.2, of_bytes_each K P a h.1 xs (bytes_rest h.0 h.1 both) h.3)
+of_bytes_each K P a bytes (x ∷ xs) small h = let both = subst IsBytes h.4 small in (a h.0 x (front_holds (λ n. n < 256) (omega arith) h.0 h.1 both) h.2, of_bytes_each K P a h.1 xs (bytes_rest h.0 h.1 both) h.3)
 
 of_bytes_vector : {A : Type 0} (K : A → Type 0) (P : List ℕ → A → Type 0) → SaysOfBytes K P → SaysOfBytes (Every K) (Vector P)
 of_bytes_vector K P a bytes xs small h = of_bytes_each K P a h.1 xs (bytes_rest h.0 h.1 (subst IsBytes h.4 small)) h.3
@@ -111,5 +112,6 @@ module _ (many : Bool) where
 parts_begin : (p : Parts) → PartsBegin p → BeginsInRange (tree_of p)
 parts_begin p r = record { tables = r.tables; datas = r.datas }
 
-pub spelled_begin : (bytes : List ℕ) (m : Module) (many : Bool) → IsBytes bytes → Spells bytes m many → BeginsInRange m
-spelled_begin bytes m many small h = subst BeginsInRange (sym h.5) (parts_begin h.1 (contents_begin many nothing h.0 h.1 (framed_bytes bytes h.0 small h.2) (record { tables = tt; datas = tt }) h.3))
+-- the contents of frames of bytes are bytes
+pub spelled_begin : ((bytes : List ℕ) (ss : List Section) → IsBytes bytes → Framed bytes ss → AreBytes ss) → (bytes : List ℕ) (m : Module) (many : Bool) → IsBytes bytes → Spells bytes m many → BeginsInRange m
+spelled_begin contents bytes m many small h = subst BeginsInRange (sym h.5) (parts_begin h.1 (contents_begin many nothing h.0 h.1 (contents bytes h.0 small h.2) (record { tables = tt; datas = tt }) h.3))
