@@ -1,7 +1,9 @@
 -- What is read of the subsections of a name section is what they spell.
-use Rattle.base_lists.proofs.Common.{◌≡◌, ◌≢◌, ℕ, zero, suc, ◌≤◌, List, [], ◌∷◌, ◌++◌, length, Option, Some, None, Ok, Err, Bool, true, false, refl, sym, ap, ◌∙◌, subst, arith, append-nil, Bor, ◌==◌, is_some, option_to_list, bind_ok}
+use Rattle.base_lists.proofs.Common.{◌≡◌, ◌≢◌, ℕ, zero, suc, ◌≤◌, List, [], ◌∷◌, ◌++◌, length, Option, Some, None, Ok, Err, Bool, true, false, refl, sym, ap, ◌∙◌, subst, arith, append-nil, Bor, ◌==◌, is_some, option_to_list, bind_ok, ok_pair}
 use Rattle.std.proofs.Common.{length-append}
 use Rattle.wasm_bytes.specs.Prelude.{Section, Each, ◌>>=◌, IsBytes}
+use Rattle.wasm_bytes.specs.declared.cursor.Wrong.{Wrong}
+use Rattle.wasm_bytes.specs.Reading.{byte_at}
 use Rattle.wasm_bytes.proofs.Lists.{Took, small_rest}
 use Rattle.wasm_read_spec.specs.declared.fault.Fault.{Fault}
 use Rattle.wasm_read_spec.specs.declared.fault.Fault.TheVariants.{Malformed}
@@ -81,23 +83,25 @@ pub ends : (bytes : List ℕ) (found : Option (List ℕ)) (rest : List ℕ) → 
 unfolding name_map_at
 ends bytes found rest none on = on.reads ∙ rw none refl
 
-step : (fuel : ℕ) (found : Option (List ℕ)) (rest bs : List ℕ) (b : ℕ) → length rest ≤ fuel → rest ≡ b ∷ bs →
+-- a byte that is read is the id of a subsection
+step : (fuel : ℕ) (found : Option (List ℕ)) (rest bs : List ℕ) (b : ℕ) → length rest ≤ fuel → byte_at rest ≡ Ok (b, bs) →
     (more : ℕ) × (length bs ≤ more) × (name_map_at fuel found rest ≡ (sized_at bs >>= (λ s. found_after found (b, s.0) >>= (λ next. name_map_at more next s.1))))
 unfolding name_map_at
-step zero found rest bs b enough is = absurd (let long = rw is at enough in omega arith)
-step (suc fuel) found rest bs b enough is = (fuel, (let long = rw is at enough in omega arith), rw is refl)
+step fuel found [] bs b enough is = cc
+step zero found (x ∷ xs) bs b enough is = absurd (omega arith)
+step (suc fuel) found (x ∷ xs) bs b enough is = let p = ok_pair {E = Wrong} x b xs bs is in (fuel, omega (arith, ap length p.1), rw (p.0, p.1) refl)
 
-pub goes_on : (bytes : List ℕ) (found next : Option (List ℕ)) (rest bs part after : List ℕ) (b : ℕ) → rest ≡ b ∷ bs → sized_at bs ≡ Ok (part, after) → length after ≤ length bs → found_after found (b, part) ≡ Ok next → GoesOn bytes found rest → GoesOn bytes next after
+pub goes_on : (bytes : List ℕ) (found next : Option (List ℕ)) (rest bs part after : List ℕ) (b : ℕ) → byte_at rest ≡ Ok (b, bs) → sized_at bs ≡ Ok (part, after) → length after ≤ length bs → found_after found (b, part) ≡ Ok next → GoesOn bytes found rest → GoesOn bytes next after
 goes_on bytes found next rest bs part after b is sized shorter after_it on =
     let s = step on.fuel found rest bs b on.enough is in
     record { fuel = s.0; enough = omega (arith, s.1); reads = on.reads ∙ s.2 ∙ rw (sized, after_it) refl }
 
-pub stops : (bytes : List ℕ) (found : Option (List ℕ)) (rest bs : List ℕ) (b : ℕ) (e : Fault) → rest ≡ b ∷ bs → Fails e (sized_at bs) → GoesOn bytes found rest → Fails e (name_map_at (length bytes) None bytes)
+pub stops : (bytes : List ℕ) (found : Option (List ℕ)) (rest bs : List ℕ) (b : ℕ) (e : Fault) → byte_at rest ≡ Ok (b, bs) → Fails e (sized_at bs) → GoesOn bytes found rest → Fails e (name_map_at (length bytes) None bytes)
 stops bytes found rest bs b e is bad on =
     let s = step on.fuel found rest bs b on.enough is in
     subst (Fails e) (sym (on.reads ∙ s.2)) (fails_through e (sized_at bs) _ bad)
 
-pub twice : (bytes : List ℕ) (found : Option (List ℕ)) (rest bs part after : List ℕ) (b : ℕ) → rest ≡ b ∷ bs → sized_at bs ≡ Ok (part, after) → found_after found (b, part) ≡ Err Malformed → GoesOn bytes found rest → name_map_at (length bytes) None bytes ≡ Err Malformed
+pub twice : (bytes : List ℕ) (found : Option (List ℕ)) (rest bs part after : List ℕ) (b : ℕ) → byte_at rest ≡ Ok (b, bs) → sized_at bs ≡ Ok (part, after) → found_after found (b, part) ≡ Err Malformed → GoesOn bytes found rest → name_map_at (length bytes) None bytes ≡ Err Malformed
 twice bytes found rest bs part after b is sized bad on =
     let s = step on.fuel found rest bs b on.enough is in
     on.reads ∙ s.2 ∙ rw (sized, bad) refl
