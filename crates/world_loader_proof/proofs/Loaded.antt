@@ -1,16 +1,15 @@
 -- A loader that supplies nothing begins as its primary module alone is instantiated.
+use Rattle.world_simulation.proofs.Instancing.{import_address}
 use Rattle.base_lists.proofs.Common.{◌≡◌, ℕ, suc, ◌+◌, List, [], ◌∷◌, ◌++◌, map, length, filter, filter_map, Option, Some, None, is_some, Bool, true, false, cond, refl, sym, ap₂, ◌∙◌, arith, append-nil, add-zero, zero-add, slice_get, unwrap_or, fun_ext, add_next}
 use Rattle.base_lists.proofs.Filtered.{at_places, chosen_twice}
 use Rattle.base_lists.specs.Options.{◌>>=◌}
 use Rattle.wasm_tree_spec.specs.Prelude.{Space, Functions, Tables, Memories, Globals, ConstExpr, Import, ImportDesc, ExportDesc, Module, space_of_import, same_space}
 use Rattle.wasm_tree.specs.declared.module.ImportDesc.TheVariants as im
-use Rattle.wasm_meaning.specs.Prelude.{Text, Val, Inst, Store, Site, PlacedSegment, has_kind, sites, sites_in, Environment, ExternalValue, owned_of, own_globals, all_of, Filled, all_there, address_of, address_in, own_count, defined_count, numbers, const_value, value_of, joined_stores, own_store, is_match, is_matched, run_elem_with, run_data_with, and_then, one_by_one, segments, space, instantiate, all_match, addresses_of, added_as, own_segments, next_inst, LoaderWorld, placeholders_of, primary_added, store_under, supplied, begun_of, start_in}
+use Rattle.wasm_meaning.specs.Prelude.{Text, Val, Inst, Store, Site, PlacedSegment, has_kind, sites, sites_in, Environment, ExternalValue, owned_of, own_globals, all_of, Filled, all_there, address_of, address_in, own_count, defined_count, numbers, const_value, value_of, joined_stores, own_store, is_match, is_matched, run_elem_with, run_data_with, and_then, one_by_one, segments, space, instantiate, all_match, addresses_of, added_as, own_segments, next_inst, LoaderWorld, placeholders_of, primary_added, store_under, supplied, begun_of, start_in, imported_external_value}
 use Rattle.wasm_meaning.specs.World as world
 use Rattle.wasm_meaning.specs.Sequential.{own_external_value}
 use Rattle.world_simulation.specs.Prelude.{one, site}
-use Rattle.world_simulation.specs.Alone as alone
 use Rattle.world_loader_proof.specs.Loaded.{LoadersHaveTheirPrimarysInstance, primary_world, LoadersBeginAsTheirPrimary}
-use Rattle.world_simulation.proofs.Alone.{key_is, thing_is, space_is}
 use Rattle.world_contents_proof.proofs.Added.{joined_right}
 use Rattle.world_contents_proof.proofs.OwnValues.{const_same}
 use Rattle.world_loader_proof.proofs.OwnEntities.{R, shares, own_like}
@@ -54,11 +53,15 @@ module _ (env : Environment) (m : Module) where
   abbrev next : Inst
   next = next_inst (own_store env) m (filter_map own m.imports)
 
+  -- what an import of the module alone denotes is that
+  import_is : (n : ℕ) (i : Import) → slice_get m.imports n ≡ Some i → imported_external_value env (one m) (site n) ≡ own i
+  import_is n i h = grind arith
+
   -- whether all imports match does not depend on what is allocated behind what the environment has
   matched_is : (t : Store) → all_of (is_matched env (one m) (joined_stores (own_store env) t)) (sites (one m)) ≡ all_of fits m.imports
   matched_is t =
       sym (all_matched (R env) env (shares env) (own_store env) _ (joined_right (R env) t (own_like env)) m m refl refl)
-      ∙ all_at _ fits m.imports 0 (λ n i h. rw (zero-add, thing_is env m n, h, key_is))
+      ∙ all_at _ fits m.imports 0 (λ n i h. rw (zero-add, import_is n i h, h))
 
   -- if all imports fit, there is what `f` makes of what they denote, and otherwise there is nothing
   fitting : {B : Type 0} (is : List Import) (f : List ExternalValue → Option B) → (all_there own is >>= λ xs. cond (all_match (own_store env) m is xs) (f xs) None) ≡ cond (all_of fits is) (f (filter_map own is)) None
@@ -74,7 +77,7 @@ module _ (env : Environment) (m : Module) where
     space_there : (k : Space) → space env (one m) k 0 m ≡ Some (addresses_of k (filter_map own m.imports) ++ numbers (own_count k env) (defined_count k m))
     space_there k =
         let address : Import → Option ℕ = λ i. own i >>= address_of k in
-        rw (space_is env m k, at_places (has_kind k) address m.imports 0 (alone.address_in env m.types m.imports k) (λ i y e. rw (zero-add, e, key_is)), chosen_there fits (has_kind k) address (kind_is k) m.imports h, chosen_twice)
+        rw (add-zero, at_places (has_kind k) address m.imports 0 (import_address env (one m) k 0) (λ n i h. rw (zero-add, import_is n i h)), chosen_there fits (has_kind k) address (kind_is k) m.imports h, chosen_twice)
 
     inst_there : world.inst_of env (one m) 0 m ≡ Some next
     inst_there = rw (space_there Functions, space_there Tables, space_there Memories, space_there Globals)

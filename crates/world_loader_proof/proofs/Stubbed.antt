@@ -1,4 +1,5 @@
 -- A loader begins as one whose primary module has functions of its own in place of the placeholders.
+use Rattle.world_simulation.specs.Prelude.{external_value_in}
 use Rattle.base_lists.proofs.Common.{◌≡◌, ℕ, suc, ◌+◌, List, [], ◌∷◌, ◌++◌, map, length, Option, Some, None, true, cond, refl, ap, arith, append_assoc, append-nil, slice_get, length-append, length-map, add-zero, same_Some, filter_map-append, numbers_append, append_right, opt_self, add_next}
 use Rattle.base_lists.specs.Every.{Every}
 use Rattle.base_lists.specs.Options.{◌>>=◌}
@@ -8,7 +9,6 @@ use Rattle.wasm_meaning.specs.Sequential.{own_external_value}
 use Rattle.index_remap.specs.Prelude.{StoreRel}
 use Rattle.index_remap.proofs.SlotCalls.{func_type_self}
 use Rattle.world_loader_proof.specs.Stubbed.{ArePlaceholders, ImportsThemLast, stub, stubbed, placeholders_in, LoadersAddAsStubbed, LoadersBeginAsStubbed}
-use Rattle.world_simulation.proofs.Alone.{key_is}
 use Rattle.world_contents_proof.proofs.Added.{joined_right}
 use Rattle.world_simulation.proofs.Single.{thing_rel, match_same}
 use Rattle.world_loader_proof.proofs.OwnEntities.{R, shares, own_like}
@@ -81,13 +81,15 @@ module _ (env : Environment) (w : LoaderWorld) (others : List Import) (tys : Lis
 
   supplied_own : (is : List Import) → Every (λ i. slot_of w i ≡ None) is → all_there (supplied env w) is ≡ all_there (own_external_value (owned_of env) Q) is
   supplied_own [] h = refl
-  supplied_own (i ∷ is) h = simp (h.0, key_is, supplied_own is h.1)
+  supplied_own (i ∷ is) h = grind (arith, h.0, supplied_own is h.1)
 
   like : StoreRel (R env) (own_store env) first
   like = simp append-nil at (joined_right (R env) (record { funcs = placeholders_from 0 ps; tables = []; mems = []; globals = []; elems = []; datas = [] }) (own_like env))
 
   matches_one : (i : Import) (x : ExternalValue) → own_external_value (owned_of env) Q i ≡ Some x → is_match first P i.desc x ≡ is_match (own_store env) Q i.desc x
-  matches_one i x is = grind (arith, match_same (R env) env (shares env) (own_store env) first like Q Q refl refl i.desc (opt_self (thing_rel (R env) env (shares env) Q.types (Some i)) (rw key_is at is)))
+  matches_one i x is =
+      let there : external_value_in env Q.types (Some i) ≡ Some x = grind (arith, is) in
+      grind (arith, match_same (R env) env (shares env) (own_store env) first like Q Q refl refl i.desc (opt_self (thing_rel (R env) env (shares env) Q.types (Some i)) there))
 
   -- what all imports denote, where those other than placeholders denote `xs`
   abbrev behind : List ExternalValue → List ExternalValue
