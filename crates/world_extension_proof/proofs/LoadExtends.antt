@@ -3,11 +3,10 @@ use Rattle.base_lists.proofs.Common.{◌≡◌, ℕ, ◌≤◌, List, [], ◌∷
 use Rattle.wasm_tree_spec.specs.Prelude.{ConstExpr, ElemMode, ElemSeg, DataMode, DataSeg, Module}
 use Rattle.wasm_tree.specs.declared.module.ElemMode.TheVariants as elem
 use Rattle.wasm_tree.specs.declared.module.DataMode.TheVariants as data'
-use Rattle.wasm_meaning.specs.Prelude.{Gives, Traps, IllTyped, overwrite, RefVal, Val, Inst, Table, Memory, Store, Entry, Ran, CallsOwn, WaitsGrowth, CallsPlaceholder, EndsCall, SetTable, SetMemory, DropElem, DropData, changed, Filled, PlacedSegment, joined_stores, value_of, placed_elems, placed_datas, segments_in, or_trapped, copy_slots, run_elem_with, copy_bytes, run_data_with, and_then, one_by_one, Added, added, Run, Event, Transition, Steps, Makes, made, transition, run_after, LoaderWorld, LoaderRun, secondary_of, store_loaded, loader_made, StepsWriteWhatTheyTouch}
+use Rattle.wasm_meaning.specs.Prelude.{Gives, Traps, IllTyped, overwrite, RefVal, Val, Inst, Table, Memory, Store, Entry, Ran, CallsOwn, WaitsGrowth, CallsPlaceholder, EndsCall, SetTable, SetMemory, DropElem, DropData, changed, Filled, PlacedSegment, joined_stores, value_of, placed_elems, placed_datas, segments_in, or_trapped, copy_slots, run_elem_with, copy_bytes, run_data_with, and_then, one_by_one, Added, added, Run, Event, Transition, Steps, Makes, made, transition, run_after, LoaderWorld, LoaderRun, secondary_of, store_loaded, loader_made, StepsWriteWhatTheyTouch, next_inst, const_value, own_segments, ExternalValue, store_with}
 use Rattle.wasm_meaning.specs.Loader.{loader_with, secondary_added, call_answered, secondary_called, placeholder_called}
 use Rattle.index_remap.specs.Prelude.{IsBegun}
 use Rattle.world_simulation.specs.Prelude.{offset_in}
-use Rattle.world_contents_proof.proofs.Added.{added_is}
 use Rattle.world_simulation.proofs.Copied.{then_holds}
 use Rattle.wasm_meaning.proofs.Outcomes.{stopped}
 use Rattle.world_extension_proof.specs.Extends.{TableExtends, MemoryExtends, GlobalExtends, EachExtends, Extends, StaysIn, Kept, OwnSegmentsExtend, SegmentsExtend, AddedModulesExtend, LoaderKept, LoadersExtend}
@@ -96,11 +95,19 @@ own_segments_fill value m i s = all_fill (λ _. value) (segments_in 0 i i.elems 
 pub segments_fill : SegmentsExtend
 segments_fill env parts insts s = all_fill (value_of env parts insts) (placed_elems 0 parts insts) (placed_datas 0 parts insts) s
 
+-- a module that is added where what it defines is `t`
+abbrev pub added_with : Store → Module → List ExternalValue → Store → Added
+added_with s m things t = record { inst = next_inst s m things; filled = own_segments (const_value s.globals (next_inst s m things)) m (next_inst s m things) (joined_stores s t) }
+
+added_stays : (s : Store) (m : Module) (things : List ExternalValue) (t : Store) (a : Added) → added_with s m things t ≡ a → StaysIn s a.filled.store
+added_stays s m things t a is =
+    let start = joined_stores s t in
+    subst (λ (a : Added). StaysIn s a.filled.store) is (still_in s start _ (joined_stays s t) (stays_in start _ (own_segments_fill _ m _ start)))
+
 pub added_extends : AddedModulesExtend
 added_extends s m things a h =
-    let x = added_is s m things a h in
-    let start = joined_stores s x.0 in
-    subst (λ (a : Added). StaysIn s a.filled.store) x.2 (still_in s start _ (joined_stays s x.0) (stays_in start _ (own_segments_fill _ m _ start)))
+    let x : (t : Store) × (store_with (const_value s.globals (next_inst s m things)) m (next_inst s m things) ≡ Some t) × (added_with s m things t ≡ a) = grind (arith, h) in
+    added_stays s m things x.0 a x.2
 
 -- ---- a step under a loader ----
 

@@ -4,14 +4,13 @@ use Rattle.std.proofs.Common.{filter_map}
 use Rattle.base_lists.specs.Options.{◌>>=◌}
 use Rattle.wasm_tree_spec.specs.Prelude.{same_func_type, same_ref, same_type, Functions, Tables, Memories, Globals, FuncType, Limits, TableType, GlobalType, Import, ImportDesc, Module, func_of, table_of, memory_of, global_of, imported_funcs, imported_tables, imported_memories, imported_globals}
 use Rattle.wasm_tree.specs.declared.module.ImportDesc.TheVariants as im
-use Rattle.wasm_meaning.specs.Prelude.{Inst, Func, Table, Memory, Global, Store, null_of, type_of_func, ExternalValue, FuncAt, TableAt, MemoryAt, GlobalAt, address_of, numbers, new_func, global_with, const_value, import_type, joined_stores, same_bool, meets_most, meets, is_match, Added, addresses_of, next_inst, all_match, added_as}
+use Rattle.wasm_meaning.specs.Prelude.{Inst, Func, Table, Memory, Global, Store, null_of, type_of_func, ExternalValue, FuncAt, TableAt, MemoryAt, GlobalAt, address_of, numbers, new_func, global_with, const_value, import_type, joined_stores, same_bool, meets_most, meets, is_match, Added, addresses_of, next_inst, all_match, added_as, store_with}
 use Rattle.index_remap.proofs.SlotCalls.{func_type_self}
 use Rattle.world_simulation.specs.Prelude.{new_table, new_memory}
-use Rattle.world_contents_proof.proofs.Added.{added_is}
 use Rattle.world_simulation.proofs.Allocated.{AddsWith, adds_with}
 use Rattle.world_extension_proof.specs.Extends.{StaysIn}
 use Rattle.world_extension_proof.specs.Typed.{Offers, IsTyped, AddedModulesAreTyped, InstancesStayTyped}
-use Rattle.world_extension_proof.proofs.LoadExtends.{stays_in, joined_stays, own_segments_fill}
+use Rattle.world_extension_proof.proofs.LoadExtends.{stays_in, joined_stays, own_segments_fill, added_with}
 
 -- ---- what matches goes on to match ----
 
@@ -204,7 +203,7 @@ added_typed s m things a h =
     let i = next_inst s m things in
     let matched : all_match s m m.imports things ≡ true =
     ⊎_elim (λ e. e.0) (λ e. let k : None ≡ Some a = e.1 in absurd (let z = k in cc)) (cond_is (all_match s m m.imports things) (added_as s m i) None (Some a) h) in
-    let x = added_is s m things a h in
+    let x : (t : Store) × (store_with (const_value s.globals i) m i ≡ Some t) × (added_with s m things t ≡ a) = grind (arith, h) in
     let start = joined_stores s x.0 in
     subst (λ (a : Added). IsTyped m a.inst a.filled.store) x.2
     (stays_typed m i start _ (stays_in start _ (own_segments_fill (const_value s.globals i) m i start)) (allocated_typed s m things matched x.0 (adds_with (const_value s.globals i) m i x.0 x.1)))
