@@ -14,7 +14,6 @@ use Rattle.index_remap.specs.Replaced.{block_label, loop_label}
 use Rattle.index_remap.proofs.Instructions.{plain_kept, type_kept}
 use Rattle.index_remap.proofs.Keeping.{then_is}
 use Rattle.index_remap.proofs.Lower.{Lower, lower_self, lower_on, lower_match, match_lower, fits_lower, leads_lower, leads_over, leads_on}
-use Rattle.wasm_valid_bodies.proofs.Runs.{ends_from}
 
 -- the type of a call is that of its function
 call_type : (o : Option FuncType) (e : Effect) → gives_of (signature_in o) ≡ Some e → (t : FuncType) × (o ≡ Some t) × (Gives t.params t.results ≡ e)
@@ -41,10 +40,17 @@ both_lead c is js ks s u t v e h l k = (v, subst (λ z. LeadsAll c z s v) (sym e
 lower_ends : (c : Context) (js : List Instr) (last : Stack) (ps rs : List ValType) → AllMatch last (reverse rs) → (u : Stack) × LeadsAll c js (operands ps) u × Lower u last → WellTyped c js ps rs
 lower_ends c js last ps rs a (u, l, k) = (u, l, lower_match (reverse rs) k a)
 
+-- code leads on in a block as it does alone
+block_leads : (d : Context) (js : List Instr) (s t : Stack) → LeadsAll d js s t → Leads d (hidden-the_row-Instr-0 js) s t
+unfolding hidden-the_row-Instr-0 denote.Hole.Carrier.hidden
+block_leads d [] s t h = h
+block_leads d (j ∷ js) s t (u, f, h) = (u, f, block_leads d js u t h)
+
 -- the same for what a block holds
 row_ends : {n : _} (c d : Context) (is : Row_of-Instr n) (js : List Instr) (ps rs : List ValType) → ((s t r : Stack) → Leads c is s t → Lower r s → (u : Stack) × LeadsAll d js r u × Lower u t) →
     Ends (Leads c is) ps rs → Ends (Leads d (hidden-the_row-Instr-0 js)) ps rs
-row_ends c d is js ps rs k (last, l, a) = ends_from d js ps rs (lower_ends d js last ps rs a (k (operands ps) last (operands ps) l (lower_self (operands ps))))
+row_ends c d is js ps rs k (last, l, a) =
+    let (u, h, b) = lower_ends d js last ps rs a (k (operands ps) last (operands ps) l (lower_self (operands ps))) in (u, block_leads d js (operands ps) u h, b)
 
 -- a block itself calls nothing
 calls_none : (listed : List ℕ) (ty : BlockType) → list_any (is_opaque_call listed) (block_operands ty) ≡ false
