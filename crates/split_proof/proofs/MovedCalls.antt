@@ -1,5 +1,5 @@
 -- A step of the first of two related runs begins no call of a function that is opaque, or both enter functions, or other code stands there, or both go wrong alike.
-use Rattle.base_lists.proofs.Common.{◌≡◌, ◌∙◌, refl, sym, ap, subst, ℕ, List, [], ◌∷◌, ◌++◌, Option, Some, None, Bool, true, false, ◌⊎◌, inl, inr, ⊎_elim, slice_get, option_and_then, nat_eq, true≢false, list_any, then_rel, get_rel, length_rel, both_map}
+use Rattle.base_lists.proofs.Common.{◌≡◌, ◌∙◌, refl, sym, ap, subst, ℕ, List, [], ◌∷◌, ◌++◌, Option, Some, None, Bool, true, false, ◌⊎◌, inl, inr, ⊎_elim, arith, slice_get, option_and_then, nat_eq, true≢false, list_any, then_rel, get_rel, length_rel, both_map}
 use Rattle.wasm_tree_spec.specs.Prelude.{Space, Functions, ValType, FuncType, Instr, Call}
 use Rattle.wasm_tree.specs.declared.instr.Instr.{out-Instr}
 use Rattle.wasm_tree.specs.declared.instr.Instr.TheOpen.{Instr-F}
@@ -21,7 +21,6 @@ use Rattle.split_proof.specs.Begins.{RunsRelated}
 use Rattle.split_proof.specs.MovedCalls.{EntersInBoth, ReplacementCode, NoCallBegins, StepsCallMovedTogether, skips, enters, EveryStepCallsMovedTogether}
 use Rattle.split_proof.specs.MovedCalls as way
 use Rattle.index_remap.proofs.Received.{look_rel, func_of_rel, received_all_rel, fits_received}
-use Rattle.index_remap.proofs.Unknown.{all_is_known}
 
 -- ---- what calls ----
 
@@ -199,7 +198,7 @@ module _ (R : Pairing) (apart : OneToOne R) (known : (k : Space) (a b : ℕ) →
           let first_is : act r.store f ≡ exec (out-Instr o) env (record one { rest = c }) = ap (step_levels env f.locals) x ∙ ap (step_code env one) c_is in
           let second_is : act q.store g ≡ exec (out-Instr p) second_env (record two { rest = d }) = ap (step_levels second_env g.locals) y ∙ ap (step_code second_env two) d_is in
           let bodies : BodyRel R f.inst g.inst (record one { rest = c }) (record two { rest = d }) = record { locals = frames.locals; values = lr.values; rest = rest; gives = lr.gives; takes = lr.takes; back = lr.back; outer = outer } in
-          let related = each_group (group_of (out-Instr o)) R none_unknown env second_env (to_off R r.store q.store h.store) (record one { rest = c }) (record two { rest = d }) bodies (out-Instr o) (out-Instr p) (op_known R known f.inst g.inst op) (λ r _. all_is_known r) refl in
+          let related = each_group (group_of (out-Instr o)) R none_unknown env second_env (to_off R r.store q.store h.store) (record one { rest = c }) (record two { rest = d }) bodies (out-Instr o) (out-Instr p) (op_known R known f.inst g.inst op) (λ r _. grind arith) refl in
           from_calls (both_call R f.inst g.inst (act r.store f) (act q.store g) a vs k acts (subst (λ z. ResRel (ActOff R none_unknown f.inst g.inst) z (act q.store g)) (sym first_is) (subst (ResRel (ActOff R none_unknown f.inst g.inst) _) (sym second_is) related))) all_listed
       in_code l n ls ns x y lr outer _ _ c_is d_is (instead {o = o} {n = index} {a = b} {c = c} {d = d} e calls_it names set_apart stands rest) =
           let one : Body = record { locals = f.locals; values = l.values; rest = []; gives = l.gives; takes = l.takes; back = l.back; outer = ls } in

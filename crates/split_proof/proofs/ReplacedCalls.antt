@@ -1,17 +1,17 @@
 -- A call of a function that moves in the first run, where other code stands in place of it in the second: it calls what is in the function's slot, or the function that is
 -- loaded for it.
-use Rattle.base_lists.proofs.Common.{◌≡◌, ◌∙◌, refl, sym, ap, ap₂, subst, ℕ, suc, ◌+◌, ◌≤◌, ◌&&◌, List, [], ◌∷◌, ◌++◌, Option, Some, None, Bool, true, false, arith, slice_get, nat_eq, option_and_then, ℤ, and_parts, eqb-true, same_Some, and_then_is, map_from, unwrap_or_false_is, place_is}
+use Rattle.base_lists.proofs.Common.{◌≡◌, ◌∙◌, refl, sym, ap, ap₂, subst, ℕ, suc, ◌+◌, ◌≤◌, ◌&&◌, List, [], ◌∷◌, ◌++◌, Option, Some, None, Bool, true, false, arith, slice_get, nat_eq, option_and_then, ℤ, and_parts, eqb-true, same_Some, and_then_is, map_from, unwrap_or_false_is, place_is, and_from, each_same_self}
 use Rattle.base_lists.specs.Options.{◌>>=◌}
 use Rattle.base_simulation.specs.Machines.{Machine, noted}
 use Rattle.wasm_num.specs.Operations.{W32, wrapped}
-use Rattle.wasm_tree_spec.specs.Prelude.{Functions, ValType, FuncType, Instr, Call, CallIndirect, I32Const, Module, same_func_type}
+use Rattle.wasm_tree_spec.specs.Prelude.{Functions, ValType, FuncType, Instr, Call, CallIndirect, I32Const, Module, same_type, same_types, same_func_type}
 use Rattle.wasm_tree.specs.declared.instr.Instr.{out-Instr}
-use Rattle.wasm_meaning.specs.Prelude.{Outcome, Gives, bind, or_ill_typed, Caller, Calls, Entry, Frame, Func, FuncRef, Host, Inst, Level, Num, Placeholder, Ran, Running, Starter, Store, Val, pop_typed, type_at, type_of_func, enter, enter_at, perform, step, to_mark, Environment, own_count, LoaderRun, LoaderWorld, tick_loader, Out, Run, Steps, made, tick, transition, transition_at, trapped_to}
+use Rattle.wasm_meaning.specs.Prelude.{Outcome, Gives, bind, or_ill_typed, Caller, Calls, Entry, Frame, Func, FuncRef, Host, Inst, Level, Num, Placeholder, Ran, Running, Starter, Store, Val, pop_typed, type_at, type_of_func, act, enter, enter_at, perform, step, to_mark, Environment, own_count, LoaderRun, LoaderWorld, tick_loader, Out, Run, Steps, made, tick, transition, transition_at, trapped_to}
 use Rattle.index_remap.specs.Prelude.{FrameRel, LevelRel, ListRel, OneToOne, Pairing, ResRel, ValRel, cons, done, nil, trap, wrong, IsBegun, closed, CodeAt, InSlot, WithPassing, at_code}
 use Rattle.index_remap.specs.Trampolines as with_frames
 use Rattle.base_lists.specs.Related.{PairRel}
 use Rattle.index_remap.proofs.ValueSteps.{pop_typed_rel}
-use Rattle.index_remap.proofs.SlotCalls.{func_type_is, slot_act}
+use Rattle.index_remap.proofs.SlotCalls.{func_type_is}
 use Rattle.index_remap.proofs.FramesBetween.{again, between, frames}
 use Rattle.world_loader_proof.specs.LoaderSteps.{PlaceholdersAreAnswered}
 use Rattle.split_spec.specs.declared.names.SplitNames.{SplitNames}
@@ -86,8 +86,12 @@ slot_called : (t : Store) (g : Frame) (m : Level) (ms : List Level) (u : FuncTyp
 unfolding out-Instr denote.Hole.Carrier.out
 slot_called t g m ms u ty table slot c h more d fs =
     let called = at_code g m ms (Num W32 (wrapped 32 slot) ∷ more) (CallIndirect ty table ∷ d) in
+    let self = each_same_self same_type (λ a. grind arith) in
+    let same : same_func_type u u ≡ true = and_from (same_types u.params u.params) (same_types u.results u.results) (self u.params) (self u.results) in
+    let calls : act t called ≡ Gives (Calls c more (record { locals = g.locals; values = Num W32 (wrapped 32 slot) ∷ more; rest = d; gives = m.gives; takes = m.takes; back = m.back; outer = ms })) =
+    rw (h.names, h.stands, h.refers, h.is_function, h.typed, h.type, same) refl in
     let type_is : type_at t c ≡ Some u = ap (option_and_then (λ f. Some (type_of_func f))) h.is_function ∙ ap Some h.typed in
-    ap (λ a. bind a (perform t called fs)) (slot_act t g m ms u ty table slot c h more d)
+    ap (λ a. bind a (perform t called fs)) calls
     ∙ ap (λ o. bind (or_ill_typed o) (λ v. bind (pop_typed v.params more) (λ p. enter_at t c p.0 (Running (at_code g m ms p.1 d) ∷ fs)))) type_is
 
 -- one stuttering step more

@@ -6,7 +6,6 @@ use Rattle.wasm_tree.specs.declared.types.RefType.TheVariants.{Func as func_ref}
 use Rattle.wasm_valid_bodies.specs.Typing.{Acts, AllMatch, Context, Gives, LeadsAll, Stack, WellTyped, effect_of, gives_of, is_func, only, operands, signature_in}
 use Rattle.index_remap.specs.declared.remap.Remap.{Remap}
 use Rattle.index_remap.specs.Prelude.{func_type, renumbered_all, gets, slot_call}
-use Rattle.index_remap.proofs.Lower.{leads_on}
 
 match_operands : (ts : List ValType) → AllMatch (map Some ts) ts
 match_operands [] = tt
@@ -49,25 +48,26 @@ slot_call_typed d ty table slot t a b = (operands t.results, slot_leads d ty tab
 
 -- ---- a trampoline ----
 
-gets_lead : (d : Context) (n : ℕ) (ts : List ValType) (s : Stack) → ((i : ℕ) (t : ValType) → slice_get ts i ≡ Some t → slice_get d.locals (n + i) ≡ Some t) → LeadsAll d (gets n ts) s (operands ts ++ s)
-gets_lead d n [] s there = refl
-gets_lead d n (t ∷ ts) s there =
+-- what leads on from the operands of these types leads on from where they are pushed
+gets_lead : (d : Context) (n : ℕ) (ts : List ValType) (is : List Instr) (s u : Stack) → ((i : ℕ) (t : ValType) → slice_get ts i ≡ Some t → slice_get d.locals (n + i) ≡ Some t) → LeadsAll d is (operands ts ++ s) u → LeadsAll d (gets n ts ++ is) s u
+gets_lead d n [] is s u there h = h
+gets_lead d n (t ∷ ts) is s u there h =
     let e : n + 0 ≡ n = omega arith in
     let at : slice_get d.locals n ≡ Some t = ap (slice_get d.locals) (sym e) ∙ there 0 t refl in
     let last : operands ts ++ (Some t ∷ s) ≡ operands (t ∷ ts) ++ s =
     sym (append_assoc (operands ts) (Some t ∷ []) s) ∙ ap (λ z. z ++ s) (sym (map-append Some (reverse ts) (t ∷ []))) ∙ ap (λ z. map Some z ++ s) (sym (reverse-append (t ∷ []) ts)) in (
       Some t ∷ s,
       (Gives [] (t ∷ []), ap (option_map (λ u. Gives [] (u ∷ []))) at, ([], s, refl, tt, refl)),
-      subst (LeadsAll d (gets (suc n) ts) (Some t ∷ s)) last (gets_lead d (suc n) ts (Some t ∷ s) (λ i u h. let q : suc n + i ≡ n + suc i = omega arith in ap (slice_get d.locals) q ∙ there (suc i) u h)),
+      gets_lead d (suc n) ts is (Some t ∷ s) u (λ i v k. let q : suc n + i ≡ n + suc i = omega arith in ap (slice_get d.locals) q ∙ there (suc i) v k) (subst (λ z. LeadsAll d is z u) (sym last) h),
     )
 
 -- where the parameters are the first locals
 pub trampoline_typed : (d : Context) (ty table : ℕ) (slot : ℤ) (t : FuncType) → slice_get d.types ty ≡ Some t → slice_get d.tables table ≡ Some func_ref → ((i : ℕ) (v : ValType) → slice_get t.params i ≡ Some v → slice_get d.locals i ≡ Some v) →
     WellTyped d (gets 0 t.params ++ slot_call ty table slot) [] t.results
 trampoline_typed d ty table slot t a b locals =
-    let all : LeadsAll d (gets 0 t.params) [] (operands t.params) =
-    subst (LeadsAll d (gets 0 t.params) []) (append-nil (operands t.params)) (gets_lead d 0 t.params [] (λ i v h. let q : 0 + i ≡ i = omega arith in ap (slice_get d.locals) q ∙ locals i v h)) in
-    (operands t.results, leads_on d (gets 0 t.params) (slot_call ty table slot) [] (operands t.params) (operands t.results) all (slot_leads d ty table slot t a b), match_operands (reverse t.results))
+    let calls : LeadsAll d (slot_call ty table slot) (operands t.params ++ []) (operands t.results) =
+    subst (λ z. LeadsAll d (slot_call ty table slot) z (operands t.results)) (sym (append-nil (operands t.params))) (slot_leads d ty table slot t a b) in
+    (operands t.results, gets_lead d 0 t.params (slot_call ty table slot) [] (operands t.results) (λ i v h. let q : 0 + i ≡ i = omega arith in ap (slice_get d.locals) q ∙ locals i v h) calls, match_operands (reverse t.results))
 
 -- ---- with other indices ----
 
