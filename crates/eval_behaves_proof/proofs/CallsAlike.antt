@@ -7,7 +7,6 @@ use Rattle.wasm_tree.specs.declared.types.RefType.TheVariants as reft
 use Rattle.wasm_meaning.specs.Prelude.{Outcome, Gives, bind, or_ill_typed, Val, Func, Code, Store, Entry, Running, Mark, Next, Ran, EndsCall, zeros, zero_of, null_of, enter, step}
 use Rattle.index_remap.specs.Prelude.{Pairing, OneToOneWhereWritten, ResRel, done, none, BothRel, both, ListRel, nil, cons, RefRel, func, extern, ValRel, number, reference, end, FuncRel, defined, own, slot, EntryRel, running, mark, returned, passed, Above, Unknowns, StoreRelOff, StepsAgreeOff, RunsAgreeOff, NextOff, left_unknown}
 use Rattle.index_remap.proofs.AboveSteps.{whole}
-use Rattle.index_remap.proofs.SameRuns.{touches}
 use Rattle.eval_spec.specs.declared.limits.TheConstants.{MOST_TURNS}
 use Rattle.eval_spec.specs.Prelude.{State, Stage, Going, Stopped, Finished, Test, first_held, stopped_or, frame_turns, host_tests, called_in_order, ComesTo, call_end, came_to, host_opened_if_there, run_end, weight, own_inst}
 use Rattle.eval_proof.specs.Known.{RelatesAllButImports, FramesOf, FuncsOf, QuietCallsAreKnown}
@@ -47,7 +46,7 @@ module _ (known : QuietCallsAreKnown) (lead : QuietCallsSimulate) (agree : Steps
       let less : k.number < n = goes_within k.number n s.store k.last.store t.store es k.entries (known_go_on R k.number s.unknown k.last.unknown s.store k.last.store es k.entries k.steps) o.ends in
       let f = runs of named [] apart k.number s.unknown k.last.unknown s.store k.last.store x es k.entries fs related stack k.steps in
       let both_step = whole (λ xs ys. ResRel (NextOff R (left_unknown k.last.unknown k.last.store k.entries) (Above R [] [])) (step k.last.store xs) (step f.store ys)) k.entries f.entries
-      (agree of named [] apart k.last.unknown k.last.store f.store k.entries f.entries [] [] f.related f.stack (touches k.last.store k.entries) k.skips (k.known f.entries) k.reads) in
+      (agree of named [] apart k.last.unknown k.last.store f.store k.entries f.entries [] [] f.related f.stack (grind arith) k.skips (k.known f.entries) k.reads) in
       let l = last_step (left_unknown k.last.unknown k.last.store k.entries) k.last.store t.store k.values k.rest f.store f.entries (step k.last.store k.entries) both_step k.ends in
       let here = ends_in_more (suc k.number) n (omega (arith, less)) (Gives (Ran x fs)) l.1 (ends_after k.number x f.store l.1 fs f.entries l.2 l.0 f.steps l.3) in
       let led = lead m of named all apart s t es funcs frames comes x fs related stack in
