@@ -2,9 +2,8 @@
 use Rattle.base_lists.proofs.Common.{◌≡◌, ℕ, zero, suc, ◌+◌, ◌<◌, List, [], ◌∷◌, length, Option, Some, None, Bool, true, false, cond, refl, arith, option_and_then, slice_get, and_then_is, same_Some, slice_get_within, slice_get_none}
 use Rattle.wasm_tree_spec.specs.Prelude.{Space, Globals, ConstExpr, Import, Module}
 use Rattle.wasm_tree.specs.declared.module.ConstExpr.TheVariants as const
-use Rattle.wasm_meaning.specs.Prelude.{Inst, Val, has_kind, places, space_index, imports_of, Environment, own_globals, const_value, value_of, value_of_read}
+use Rattle.wasm_meaning.specs.Prelude.{Inst, Val, has_kind, places, space_index, imports_of, Environment, own_globals, const_value, value_of, value_of_read, read_of}
 use Rattle.world_simulation.specs.Prelude.{one, read_in}
-use Rattle.world_simulation.proofs.Alone.{read_is}
 use Rattle.world_simulation.proofs.Instancing.{IsInst, imports, defines, is_space, entry_at}
 
 -- an import of the list has the place `n`, counted from `from`, and the index `x` among those of its kind
@@ -36,7 +35,7 @@ module _ (env : Environment) (m : Module) (i : Inst) (a : IsInst env (one m) 0 m
       ]
 
   pub const_same : (e : ConstExpr) → value_of env (one m) (i ∷ []) 0 e ≡ const_value (own_globals env) i e
-  const_same (const.Global x) = rw (read_is m (const.Global x)) (by _ refl _ refl)
+  const_same (const.Global x) = let reads : read_of (one m) 0 (const.Global x) ≡ read_in m.imports (const.Global x) = grind arith in rw reads (by _ refl _ refl)
     where
       by : (o : Option ℕ) → slice_get (imports_of Globals m) x ≡ o → (v : Option Val) → const_value (own_globals env) i (const.Global x) ≡ v → option_and_then (value_of_read (own_globals env) (i ∷ [])) (read_in m.imports (const.Global x)) ≡ v
       by None e None f = rw e
