@@ -1,15 +1,14 @@
 -- For what each entry of a part's index space stands, in the parts' world and in the merged module: for what a part defines, with its number among all
 -- definitions, or for an import that stays.
-use Rattle.base_lists.proofs.Common.{◌≡◌, ℕ, ◌+◌, ◌-◌, ◌<◌, ◌≤◌, List, [], ◌∷◌, length, Option, Some, None, true, arith, option_and_then, slice_get, place_back, slice_get_past, opt_self, then_same_is, then_rel}
-use Rattle.wasm_tree_spec.specs.Prelude.{Space, Module, index_of_export, space_of_import}
-use Rattle.wasm_meaning.specs.Prelude.{Part, Site, Defined, Outside, has_kind, module_at, import_at, imports_of, Environment, owned_of, same_key, own_count, defined_count, defined_before, address_of, own_key, outside_external_value}
+use Rattle.base_lists.proofs.Common.{◌≡◌, ℕ, ◌+◌, ◌-◌, ◌<◌, ◌≤◌, List, [], ◌∷◌, length, Option, Some, None, true, arith, option_and_then, slice_get, place_back, slice_get_past, opt_self, then_same_is, then_rel, numbers_at}
+use Rattle.wasm_tree_spec.specs.Prelude.{Space, Module, index_of_export, space_of_import, space_of_export}
+use Rattle.wasm_meaning.specs.Prelude.{Part, Site, Defined, Outside, has_kind, module_at, import_at, imports_of, Environment, owned_of, same_key, own_count, defined_count, defined_before, address_of, own_key, outside_external_value, base, external_value_at, defined_external_value}
 use Rattle.merge_spec.specs.Prelude.{link_fault, staying_of, new_index}
 use Rattle.merge_valid_proof.specs.Ended.{inside, outside}
 use Rattle.merge_valid_proof.proofs.Entities.{import_external}
 use Rattle.index_remap.specs.Prelude.{OptRel, ExternalValueRel}
 use Rattle.world_simulation.proofs.Owned.{look_rel, address_rel}
 use Rattle.world_simulation.specs.Prelude.{OwnEntitiesCorrespond}
-use Rattle.world_simulation.proofs.Defined.{defined_at}
 use Rattle.world_simulation.proofs.Instancing.{import_address, Entry, imports, defines}
 use Rattle.merge_behaves_proof.specs.Shared.{shared_count, is_shared, sharing}
 use Rattle.merge_behaves_proof.proofs.SpaceLaws.{SpaceLaws}
@@ -57,9 +56,12 @@ module _ (env : Environment) (parts : List Part) where
         elim (laws.ends parts linked (record { part = p; import = n }) r.1 (grind (arith, r.2))) [
           | inside w ↦
               let e = w.entity in
+              let kd = space_of_export e.what in
+              let here : index_of_export e.what - length (imports_of kd w.of) < defined_count kd w.of → defined_external_value env parts e ≡ external_value_at kd (base env parts kd e.part + (index_of_export e.what - length (imports_of kd w.of))) =
+              λ low. rw (w.is_part, numbers_at _ _ _ low) in
               own (defined_before k parts e.part + (index_of_export e.what - length (imports_of k w.of)))
               (grind (arith, defined_low k parts e.part w.of))
-              (grind (arith, defined_at env parts e w.of w.is_part, import_external r.1.desc))
+              (grind (arith, here, import_external r.1.desc))
               (grind (arith, entry (Defined e) h, laws.defined parts e))
           | outside w ↦ stays w.to (grind (arith, entry (Outside w.to) h, laws.places parts w.to w.import w.at w.remains)) (grind (arith, w.same_thing (owned_of env)))
         ]

@@ -11,7 +11,7 @@ use Rattle.merge_valid_proof.specs.Joinable.{CanBeJoined}
 use Rattle.merge_valid_proof.specs.Ended.{added_count, is_external}
 use Rattle.world_simulation.specs.Prelude.{one}
 use Rattle.world_simulation.proofs.Alone.{funcs_counted, tables_counted, memories_counted, globals_counted}
-use Rattle.world_simulation.proofs.Instancing.{import_address, is_space, entry_at, IsInst, insts_are, inst_in}
+use Rattle.world_simulation.proofs.Instancing.{import_address, is_space, entry_at, IsInst, insts_are}
 use Rattle.base_lists.proofs.Related.{both_or_none}
 use Rattle.world_simulation.proofs.Single.{one_inst}
 use Rattle.merge_behaves_proof.specs.Shared.{shared_count}
@@ -65,8 +65,9 @@ module _ (laws : SpaceLaws) (env : Environment) (parts : List Part) (linked : li
   staying_there : (insts : List Inst) → insts_from env parts 0 parts ≡ Some insts → (k : Space) → is_external k ≡ true → AllThere (site_address env parts k) (staying_of parts k)
   staying_there insts h k ext = all_there_from (site_address env parts k) (staying_of parts k) (λ n s at.
       let w = staying_kind laws parts k n s at in
-      let i = inst_in env parts insts h s.part w.0.of w.0.is_part in
-      let t = is_space env parts k s.part w.0.of (addresses_in k i.0) (grind (arith, i.2)) in
+      let i = (insts_are env parts 0 parts insts h).each s.part w.0.of w.0.is_part in
+      let is : IsInst env parts s.part w.0.of i.0 = search (arith, i.2) in
+      let t = is_space env parts k s.part w.0.of (addresses_in k i.0) (grind (arith, is)) in
       let x = place_there (has_kind k) w.0.of.imports 0 s.import w.0.import w.0.stands w.1 in
       is_some_there _ (grind (arith, x, laws.stays parts linked s w.0.import w.0.at w.0.remains, all_there_at (import_address env parts k s.part) (imports_of k w.0.of) t.imported t.are)))
 
@@ -140,7 +141,10 @@ instances_agree laws env parts mode can = both_or_none _ _
       merged = j.0;
       alone = j.1;
       size = (insts_are env parts 0 parts insts h).size;
-      each = λ p m is. let i = inst_in env parts insts h p m is in (i.0, i.1, part_agrees laws env parts can.linked mode p m i.0 j.0 is i.2 j.2);
+      each = λ p m at.
+      let i = (insts_are env parts 0 parts insts h).each p m at in
+      let is : IsInst env parts p m i.0 = search (arith, i.2) in
+      (i.0, i.1, part_agrees laws env parts can.linked mode p m i.0 j.0 at is j.2);
     })
     (λ insts h.
     let i = all_spaces env (one (joined_module parts mode)) 0 (joined_module parts mode) (λ k ext.

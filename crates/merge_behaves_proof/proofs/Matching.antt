@@ -1,8 +1,8 @@
 -- All imports of the parts match where all imports of the merged module do.
-use Rattle.base_lists.proofs.Common.{◌≡◌, ℕ, ◌+◌, ◌-◌, ◌≤◌, List, ◌++◌, length, Some, refl, sym, arith, Option, None, true, option_and_then, slice_get, and_then_is, map_from, append_right, same_tests, is_kept, chosen_from, has_chosen, list_all_each, list_all_from, map, map-id, copies_length, then_eq}
+use Rattle.base_lists.proofs.Common.{◌≡◌, ℕ, ◌+◌, ◌-◌, ◌≤◌, List, ◌++◌, length, Some, refl, sym, arith, Option, None, true, option_and_then, slice_get, and_then_is, map_from, append_right, same_tests, is_kept, chosen_from, has_chosen, list_all_each, list_all_from, map, map-id, copies_length, then_eq, numbers_at, ◌<◌}
 use Rattle.std.proofs.Common.{eq-eqb}
 use Rattle.wasm_tree_spec.specs.Prelude.{Space, Functions, Tables, Memories, Globals, FuncType, ExportDesc, Module, type_of_func, index_of_export, space_of_export, Import}
-use Rattle.wasm_meaning.specs.Prelude.{Inst, Store, type_at, imports_of, module_at, Part, Site, import_at, is_outside, sites, linked_end, met_limits, Environment, owned_of, all_of, base, external_value_at, own_store, stores_from, outside_external_value, is_matched}
+use Rattle.wasm_meaning.specs.Prelude.{Inst, Store, type_at, imports_of, module_at, Part, Site, import_at, is_outside, sites, linked_end, met_limits, Environment, owned_of, all_of, base, external_value_at, own_store, stores_from, outside_external_value, is_matched, defined_external_value, defined_count}
 use Rattle.world_simulation.specs.Prelude.{Instantiated, DefinedAt, one, site}
 use Rattle.world_simulation.proofs.Alone.{funcs_counted, tables_counted, memories_counted, globals_counted}
 use Rattle.world_simulation.proofs.Stored.{func_placed, table_placed, memory_placed, global_placed}
@@ -14,7 +14,6 @@ use Rattle.merge_spec.specs.Merged.{staying}
 use Rattle.merge_valid_proof.specs.Ended.{inside, outside}
 use Rattle.merge_valid_proof.proofs.Ends.{outside_is}
 use Rattle.merge_valid_proof.proofs.MergedSpaces.{import_is}
-use Rattle.world_simulation.proofs.Defined.{defined_at}
 use Rattle.merge_behaves_proof.specs.Instances.{InstancesAgree}
 use Rattle.merge_behaves_proof.specs.Shared.{sharing}
 use Rattle.merge_behaves_proof.proofs.SpaceLaws.{SpaceLaws}
@@ -115,9 +114,12 @@ module _ (laws : SpaceLaws) (env : Environment) (parts : List Part) (linked : li
           elim (laws.ends parts linked t i.0 i.1) [
             | inside w ↦
                 let e = w.entity in
+                let kd = space_of_export e.what in
+                let here : index_of_export e.what - length (imports_of kd w.of) < defined_count kd w.of → defined_external_value env parts e ≡ external_value_at kd (base env parts kd e.part + (index_of_export e.what - length (imports_of kd w.of))) =
+                λ low. rw (w.is_part, numbers_at _ _ _ low) in
                 let a = agree.each e.part w.of w.is_part in
                 let type = defined_type env (record { parts = parts; insts = insts }) s made e.part w.of a.0 w.is_part a.1 a.2.own_types e.what w.thing w.is (grind arith) in
-                grind (arith, matched_is env parts s t i.0 w.demand i.1 w.asks, defined_at env parts e w.of w.is_part)
+                grind (arith, matched_is env parts s t i.0 w.demand i.1 w.asks, here)
             | outside w ↦
                 let u = w.to in
                 let place = (laws.sites parts u).1 w.import w.at in

@@ -1,12 +1,11 @@
 -- The values of constant expressions of a part, and of what these become in the merged module.
 use Rattle.base_lists.proofs.Common.{◌≡◌, ℕ, zero, suc, ◌+◌, List, [], ◌∷◌, length, Some, true, refl, ap, ◌∙◌, arith, option_and_then, slice_get, slice_get_past, length-append, ltb-true, length-map, place_back, get_rel, then_rel}
 use Rattle.wasm_tree_spec.specs.Prelude.{Space, Functions, Globals, Import, Module, funcs_of, ValType, ConstExpr}
-use Rattle.wasm_meaning.specs.Prelude.{Inst, places, has_kind, space_index, Part, module_at, Environment, own_globals, insts_from, value_of, const_value}
+use Rattle.wasm_meaning.specs.Prelude.{Inst, places, has_kind, space_index, Part, module_at, Environment, own_globals, insts_from, value_of, const_value, inst_of}
 use Rattle.world_simulation.proofs.Alone.{funcs_counted}
 use Rattle.world_simulation.specs.Prelude.{one}
 use Rattle.world_simulation.specs.Alone.{ReadsStay}
 use Rattle.world_simulation.proofs.Instancing.{is_space, entry_at, IsInst}
-use Rattle.world_simulation.proofs.Ordered.{inst_at}
 use Rattle.wasm_valid.specs.Prelude.{const_type}
 use Rattle.index_remap.specs.Prelude.{new_const, fits_const, Pairing, OptRel, some, func, ValRel, number, reference}
 use Rattle.merge_names.specs.declared.mode.Mode.{Mode}
@@ -32,7 +31,7 @@ index_at k (i ∷ is) from (suc p) y h = grind (arith, index_at k is (suc from) 
 
 module _ (reads : ReadsStay) (env : Environment) (u : Module) (j : Inst) (are : insts_from env (one u) 0 (one u) ≡ Some (j ∷ [])) where
   pub is_inst : IsInst env (one u) 0 u j
-  is_inst = inst_at env (record { parts = one u; insts = j ∷ [] }) are 0 u j refl refl
+  is_inst = let is : inst_of env (one u) 0 u ≡ Some j = grind (arith, are) in search (arith, is)
 
   pub func_count : length j.funcs ≡ length (funcs_of u)
   func_count = simp (length-append, length-map, ← funcs_counted u.imports 0) (is_space env (one u) Functions 0 u _ is_inst.funcs).size

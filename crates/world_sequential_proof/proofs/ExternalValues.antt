@@ -1,6 +1,6 @@
 -- What the imports of a part denote is the same whether all parts are instantiated at once or the part's turn has come, where each joined import leads to
 -- an earlier part.
-use Rattle.base_lists.proofs.Common.{◌≡◌, ◌∙◌, refl, sym, ap, ℕ, zero, suc, ◌+◌, ◌-◌, List, [], ◌∷◌, ◌++◌, length, Option, Some, None, cond, arith, option_and_then, slice_get, true, and_then_is, all_there_at, all_there_length, same_Some, append_at_left, append_right, slice_get_none}
+use Rattle.base_lists.proofs.Common.{◌≡◌, ◌∙◌, refl, sym, ap, ℕ, zero, suc, ◌+◌, ◌-◌, List, [], ◌∷◌, ◌++◌, length, Option, Some, None, cond, arith, option_and_then, slice_get, true, and_then_is, all_there_at, all_there_length, same_Some, append_at_left, append_right, slice_get_none, zero-add}
 use Rattle.base_lists.proofs.Options.{then_none}
 use Rattle.wasm_tree_spec.specs.Prelude.{Space, Functions, Tables, Memories, Globals, DataSegments, ElementSegments, Types, same_space, Import, ImportDesc, ExportDesc, Module, index_of_export, space_of_export, space_of_import}
 use Rattle.wasm_tree.specs.declared.module.ImportDesc.TheVariants as im
@@ -11,6 +11,12 @@ use Rattle.world_simulation.proofs.Instancing.{import_address, IsSpace, is_space
 
 pub inst_at : (env : Environment) (all : List Part) (p : ℕ) (ps : List Part) (is : List Inst) → insts_from env all p ps ≡ Some is → (q : ℕ) (m : Module) → module_at ps q ≡ Some m → (i : Inst) × (slice_get is q ≡ Some i) × (inst_of env all (p + q) m ≡ Some i)
 inst_at env all p ps is h = (insts_are env all p ps is h).each
+
+pub part_inst : (env : Environment) (parts : List Part) (insts : List Inst) → insts_from env parts 0 parts ≡ Some insts → (q : ℕ) (m : Module) (i : Inst) → module_at parts q ≡ Some m → slice_get insts q ≡ Some i → IsInst env parts q m i
+part_inst env parts insts are q m i e h =
+    let r = inst_at env parts 0 parts insts are q m e in
+    let is : inst_of env parts q m ≡ Some i = rw (zero-add, same_Some _ _ (sym r.1 ∙ h)) at r.2 in
+    search (arith, is)
 
 pub space_is : (env : Environment) (parts : List Part) (k : Space) (p : ℕ) (m : Module) (xs : List ℕ) → space env parts k p m ≡ Some xs →
     (l : List ℕ) × (all_there (λ n. option_and_then (address_of k) (imported_external_value env parts (record { part = p; import = n }))) (imports_of k m) ≡ Some l) × (l ++ numbers (base env parts k p) (defined_count k m) ≡ xs)

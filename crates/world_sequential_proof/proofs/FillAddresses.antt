@@ -1,8 +1,7 @@
 -- The addresses of a part's imports are lower than those of what it defines, and these lower than those of what later parts define.
-use Rattle.base_lists.proofs.Common.{◌≡◌, ◌∙◌, sym, ap, ℕ, suc, ◌+◌, ◌-◌, ◌<◌, List, length, Some, ◌⊎◌, inl, inr, arith, option_and_then, slice_get, true, and_then_is, all_there_at, append_at_left, place_back, number_is}
+use Rattle.base_lists.proofs.Common.{◌≡◌, ◌∙◌, sym, ap, ℕ, suc, ◌+◌, ◌-◌, ◌<◌, List, length, Some, ◌⊎◌, inl, inr, arith, option_and_then, slice_get, true, and_then_is, all_there_at, append_at_left, place_back, number_is, numbers_at}
 use Rattle.wasm_tree_spec.specs.Prelude.{Space, Import, ImportDesc, Module, index_of_export, space_of_export, space_of_import}
-use Rattle.wasm_meaning.specs.Prelude.{Pair, Inst, walk_on, walk, Part, Site, Entity, End, Defined, Outside, imports_of, module_at, import_at, pair_of, import_step, end_of, sites, has_kind, Environment, ExternalValue, OwnKey, defined_count, own_count, base, external_value_at, address_of, own_key_of, own_key, external_value_of, imported_external_value, numbers, JoinsEarlier}
-use Rattle.world_simulation.proofs.Defined.{defined_at}
+use Rattle.wasm_meaning.specs.Prelude.{Pair, Inst, walk_on, walk, Part, Site, Entity, End, Defined, Outside, imports_of, module_at, import_at, pair_of, import_step, end_of, sites, has_kind, Environment, ExternalValue, OwnKey, defined_count, own_count, base, external_value_at, address_of, own_key_of, own_key, external_value_of, imported_external_value, numbers, JoinsEarlier, defined_external_value}
 use Rattle.world_sequential_proof.proofs.ExternalValues.{space_in, in_space, held_external}
 use Rattle.world_sequential_proof.proofs.Joined.{ExportsThere}
 use Rattle.world_sequential_proof.proofs.Reached.{defined_more}
@@ -64,7 +63,8 @@ module _ (env : Environment) (parts : List Part) where
         go (Defined e) ends thing (inside low) =
             let kd = space_of_export e.what in
             let less : index_of_export e.what - length (imports_of kd low.of) < defined_count kd low.of = omega arith in
-            let both = same_thing k kd _ a (ap (option_and_then (address_of k)) (sym (defined_at env parts e low.of low.is_part less) ∙ thing) ∙ has) in
+            let here : defined_external_value env parts e ≡ external_value_at kd (base env parts kd e.part + (index_of_export e.what - length (imports_of kd low.of))) = rw (low.is_part, numbers_at _ _ _ less) in
+            let both = same_thing k kd _ a (ap (option_and_then (address_of k)) (sym here ∙ thing) ∙ has) in
             inl (record { entity = e; end = ends; is = low; kind = both.0; within = rw both.0 at less; address = rw (← both.0) (sym both.1) })
         go (Outside t) ends thing (outside step) =
             let m = and_then_is (module_at parts t.part) _ x thing in

@@ -1,9 +1,9 @@
 -- The store of all parts at once is what the first of them add, then what the rest add.
-use Rattle.base_lists.proofs.Common.{◌≡◌, ◌∙◌, sym, ap, ℕ, zero, suc, ◌+◌, ◌-◌, ◌<◌, ◌≤◌, List, [], ◌∷◌, length, Option, Some, None, append_assoc, arith, add-zero, zero-add, slice_get, slice_get_there, append-nil, length-append, and_then_is, same_Some, add_next}
+use Rattle.base_lists.proofs.Common.{◌≡◌, ◌∙◌, sym, ap, ℕ, zero, suc, ◌+◌, ◌-◌, ◌<◌, ◌≤◌, List, [], ◌∷◌, length, Option, Some, None, append_assoc, arith, add-zero, zero-add, slice_get, slice_get_there, append-nil, length-append, and_then_is, same_Some, add_next, all_there_length, length-map}
 use Rattle.base_lists.specs.Options.{◌>>=◌}
-use Rattle.wasm_tree_spec.specs.Prelude.{Space, Module}
+use Rattle.wasm_tree_spec.specs.Prelude.{Space, Functions, Tables, Memories, Globals, ElementSegments, DataSegments, Module}
 use Rattle.wasm_meaning.specs.Prelude.{Inst, Store, Part, module_at, Environment, base, part_store, joined_stores, own_store, stores_from}
-use Rattle.world_simulation.proofs.Allocated.{Allocates, adds_with, stands, funcs_allocate, tables_allocate, mems_allocate, globals_allocate, elems_allocate, datas_allocate}
+use Rattle.world_simulation.proofs.Allocated.{Allocates, adds_with, stands}
 use Rattle.world_sequential_proof.proofs.Joined.{module_is}
 use Rattle.world_sequential_proof.proofs.OnePart.{Sized}
 use Rattle.world_sequential_proof.proofs.Beside.{empty_store}
@@ -19,6 +19,9 @@ joined_none s = simp append-nil
 
 pub joined_twice : (s t u : Store) → joined_stores (joined_stores s t) u ≡ joined_stores s (joined_stores t u)
 joined_twice s t u = simp append_assoc
+
+-- how many entities a part adds
+ruleset counts = (arith, all_there_length, length-map)
 
 module _ (env : Environment) (parts : List Part) (insts : List Inst) where
   -- what part k adds
@@ -61,12 +64,12 @@ module _ (env : Environment) (parts : List Part) (insts : List Inst) where
 
     pub lengths_next : (t : Store) → Lengths k t → Lengths (suc k) (joined_stores t a)
     lengths_next t h = record {
-      funcs = counted funcs_allocate h.funcs;
-      tables = counted tables_allocate h.tables;
-      mems = counted mems_allocate h.mems;
-      globals = counted globals_allocate h.globals;
-      elems = rw zero-add at (counted elems_allocate (rw zero-add h.elems));
-      datas = rw zero-add at (counted datas_allocate (rw zero-add h.datas));
+      funcs = counted {s = Functions} {get = λ s. s.funcs} (search counts) h.funcs;
+      tables = counted {s = Tables} {get = λ s. s.tables} (search counts) h.tables;
+      mems = counted {s = Memories} {get = λ s. s.mems} (search counts) h.mems;
+      globals = counted {s = Globals} {get = λ s. s.globals} (search counts) h.globals;
+      elems = rw zero-add at (counted {s = ElementSegments} {get = λ s. s.elems} (search counts) (rw zero-add h.elems));
+      datas = rw zero-add at (counted {s = DataSegments} {get = λ s. s.datas} (search counts) (rw zero-add h.datas));
     }
       where
         counted : {s : Space} {A : Type 0} {get : Store → List A} → Allocates s get → length (get t) ≡ base env parts s k → length (get (joined_stores t a)) ≡ base env parts s (suc k)
@@ -106,7 +109,7 @@ module _ (env : Environment) (parts : List Part) (insts : List Inst) where
   module _ (allocated : Store) (stores_are : stores_from env parts insts (own_store env) 0 parts insts ≡ Some allocated) (size : length insts ≡ length parts) where
     pub part_adds : (k : ℕ) (m : Module) (i : Inst) → module_at parts k ≡ Some m → slice_get insts k ≡ Some i → (a : Store) × (part_store env parts insts k m i ≡ Some a)
     part_adds k m i is_part is_inst =
-        let r = stands env parts insts funcs_allocate 0 parts insts (own_store env) allocated stores_are k m i is_part is_inst in
+        let r = stands env parts insts {k = Functions} {get = λ s. s.funcs} (search counts) 0 parts insts (own_store env) allocated stores_are k m i is_part is_inst in
         let a = rw zero-add at r.adds in
         (r.added, rw (a.funcs, a.globals, a.elems, ← a.tables, ← a.mems, ← a.datas))
 

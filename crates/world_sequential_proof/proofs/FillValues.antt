@@ -1,15 +1,14 @@
 -- A constant expression of a part has one value, whether it is read from the store as the part's turn comes or along its path through joined globals.
-use Rattle.base_lists.proofs.Common.{◌≡◌, ◌∙◌, refl, sym, ap, ℕ, zero, suc, ◌+◌, ◌-◌, ◌<◌, List, [], ◌∷◌, length, Some, true, false, inl, inr, arith, add-zero, zero-add, option_and_then, slice_get, right_true, same_Some, slice_get_there, and_then_is, unwrap_or_false_is, list_all_each, add_next}
+use Rattle.base_lists.proofs.Common.{◌≡◌, ◌∙◌, refl, sym, ap, ℕ, zero, suc, ◌+◌, ◌-◌, ◌<◌, List, [], ◌∷◌, length, Some, true, false, inl, inr, arith, add-zero, zero-add, option_and_then, slice_get, right_true, same_Some, slice_get_there, and_then_is, unwrap_or_false_is, list_all_each, add_next, all_there_length, length-map}
 use Rattle.wasm_tree_spec.specs.Prelude.{Space, Globals, GlobalType, Import, ConstExpr, Module, index_of_export, space_of_import}
 use Rattle.wasm_tree.specs.declared.module.ImportDesc.TheVariants as im
 use Rattle.wasm_tree.specs.declared.module.ConstExpr.TheVariants as const
 use Rattle.wasm_meaning.specs.Prelude.{Val, Inst, Global, Store, same_type, walk, walk_on, Part, Site, End, Defined, Outside, Read, places, has_kind, space_index, imports_of, module_at, import_at, sites, end_of, global_import, initial, outside_read, end_step, read_step, initials_from, read_of, Environment, GlobalAt, own_globals, all_of, base, is_matched, imported_external_value, insts_from, own_store, stores_from, same_bool, const_value, value_of, address_of, JoinsEarlier}
 use Rattle.merge_valid_proof.proofs.Linked.{in_sites}
-use Rattle.world_simulation.proofs.Allocated.{globals_allocate, keeps}
+use Rattle.world_simulation.proofs.Allocated.{keeps}
 use Rattle.world_simulation.proofs.Instancing.{IsInst}
-use Rattle.world_simulation.proofs.Ordered.{inst_at}
 use Rattle.world_simulation.proofs.Stored.{global_placed}
-use Rattle.world_sequential_proof.proofs.ExternalValues.{walk_more, thing_has}
+use Rattle.world_sequential_proof.proofs.ExternalValues.{walk_more, thing_has, part_inst}
 use Rattle.world_sequential_proof.proofs.Joined.{ExportsThere}
 use Rattle.world_sequential_proof.proofs.FillAddresses.{AtDefined, AtOwn, HasAddress, import_address, imported_at, imported_low}
 use Rattle.wasm_meaning.proofs.Counts.{module_there}
@@ -43,9 +42,6 @@ abbrev pub HoldsFixed : Environment → List Part → (allocated : Store) → �
 HoldsFixed env parts allocated k t = (a : ℕ) (g : Global) → a < base env parts Globals k → slice_get allocated.globals a ≡ Some g → g.ty.mutable ≡ false → (h : Global) × (slice_get t.globals a ≡ Some h) × (h.value ≡ g.value)
 
 module _ (env : Environment) (parts : List Part) (insts : List Inst) (are : insts_from env parts 0 parts ≡ Some insts) where
-  pub part_inst : (k : ℕ) (m : Module) (i : Inst) → module_at parts k ≡ Some m → slice_get insts k ≡ Some i → IsInst env parts k m i
-  part_inst = inst_at env (record { parts = parts; insts = insts }) are
-
   module _ (allocated : Store) (stores_are : stores_from env parts insts (own_store env) 0 parts insts ≡ Some allocated) (matched : all_of (is_matched env parts allocated) (sites parts) ≡ true) (size : length insts ≡ length parts) (there : ExportsThere parts) (earlier : JoinsEarlier parts) where
     part_there : (k : ℕ) (m : Module) → module_at parts k ≡ Some m → (i : Inst) × (slice_get insts k ≡ Some i)
     part_there k m is_part = slice_get_there insts k (omega (arith, module_there parts k m is_part))
@@ -68,7 +64,7 @@ module _ (env : Environment) (parts : List Part) (insts : List Inst) (are : inst
           s = record { part = k; import = c.at }
 
           d : HasAddress env parts Globals s i x
-          d = import_address env parts k m i (part_inst k m i is_part is_inst) Globals x c.at c.is_place
+          d = import_address env parts k m i (part_inst env parts insts are k m i is_part is_inst) Globals x c.at c.is_place
 
           -- a global that an import matches
           fixed : (g : Global) × (slice_get allocated.globals d.address ≡ Some g) × (g.ty.mutable ≡ false)
@@ -102,10 +98,10 @@ module _ (env : Environment) (parts : List Part) (insts : List Inst) (are : inst
               let r_is = same_Some _ _ (rw last at (at_end (Outside w.last) w.end)) in
               let j = part_there w.last.part w.of w.is_part in
               let stands = rw zero-add at (index_place Globals w.of.imports w.last.import 0 w.import w.is_import w.kind) in
-              let a = import_address env parts w.last.part w.of j.0 (part_inst w.last.part w.of j.0 w.is_part j.1) Globals y w.last.import stands in
+              let a = import_address env parts w.last.part w.of j.0 (part_inst env parts insts are w.last.part w.of j.0 w.is_part j.1) Globals y w.last.import stands in
               let same : a.address ≡ d.address = same_Some _ _ (sym a.has ∙ ap (λ o. option_and_then (address_of Globals) o) (sym a.is ∙ w.thing)) in
               let g = slice_get_there (own_globals env) d.address w.low in
-              let here = g.1 ∙ sym (keeps env parts insts globals_allocate 0 parts insts (own_store env) allocated stores_are d.address g.0 g.1) ∙ fixed.1 in
+              let here = g.1 ∙ sym (keeps env parts insts {k = Globals} {get = λ s. s.globals} (search (arith, all_there_length, length-map)) 0 parts insts (own_store env) allocated stores_are d.address g.0 g.1) ∙ fixed.1 in
               rw (reads, ← r_is, j.1, a.at, same, here)
 
       -- other expressions are read where they stand

@@ -4,8 +4,8 @@ use Rattle.wasm_tree_spec.specs.Prelude.{Import, ExportDesc, Module, index_of_ex
 use Rattle.wasm_meaning.specs.Prelude.{Text, Inst, Part, Site, Entity, Defined, Outside, imports_of, module_at, export_named, first_place, source_of, joined, imported_as, joined_step, import_step, end_of, Environment, ExternalValue, owned_of, defined_count, external_value_of, imported_external_value, insts_from, address_in, external_value_for, JoinsEarlier}
 use Rattle.wasm_meaning.specs.Linking.{is_named}
 use Rattle.wasm_meaning.specs.Sequential.{Made, made_named, exported_by, external_value_or_own}
-use Rattle.world_sequential_proof.proofs.ExternalValues.{goes_to, ends_at, defined_is, imported_is}
-use Rattle.world_simulation.proofs.Instancing.{IsInst, inst_in}
+use Rattle.world_sequential_proof.proofs.ExternalValues.{goes_to, ends_at, defined_is, imported_is, part_inst}
+use Rattle.world_simulation.proofs.Instancing.{IsInst}
 
 -- the first parts, each with its instance
 abbrev pub made_upto : ℕ → List Part → List Inst → List Made
@@ -47,7 +47,7 @@ module _ (env : Environment) (parts : List Part) (insts : List Inst) (are : inst
   made p = made_upto p parts insts
 
   pub inst_of_part : (q : ℕ) (m : Module) (i : Inst) → module_at parts q ≡ Some m → slice_get insts q ≡ Some i → IsInst env parts q m i
-  inst_of_part q m i e h = let r = inst_in env parts insts are q m e in rw (same_Some _ _ (sym h ∙ r.1)) r.2
+  inst_of_part = part_inst env parts insts are
 
   module _ (p n : ℕ) (m : Module) (i : Import) (is_part : module_at parts p ≡ Some m) (is_import : slice_get m.imports n ≡ Some i) where
     abbrev site : Site
