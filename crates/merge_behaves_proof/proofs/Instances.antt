@@ -142,9 +142,9 @@ instances_agree laws env parts mode can = both_or_none _ _
       alone = j.1;
       size = (insts_are env parts 0 parts insts h).size;
       each = λ p m at.
-      let i = (insts_are env parts 0 parts insts h).each p m at in
-      let is : IsInst env parts p m i.0 = search (arith, i.2) in
-      (i.0, i.1, part_agrees laws env parts can.linked mode p m i.0 j.0 at is j.2);
+          let i = (insts_are env parts 0 parts insts h).each p m at in
+          let is : IsInst env parts p m i.0 = search (arith, i.2) in
+          (i.0, i.1, part_agrees laws env parts can.linked mode p m i.0 j.0 at is j.2);
     })
     (λ insts h.
     let i = all_spaces env (one (joined_module parts mode)) 0 (joined_module parts mode) (λ k ext.

@@ -1,5 +1,5 @@
 -- The values of constant expressions of a part, and of what these become in the merged module.
-use Rattle.base_lists.proofs.Common.{◌≡◌, ℕ, zero, suc, ◌+◌, List, [], ◌∷◌, length, Some, true, refl, ap, ◌∙◌, arith, option_and_then, slice_get, slice_get_past, length-append, ltb-true, length-map, place_back, get_rel, then_rel}
+use Rattle.base_lists.proofs.Common.{◌≡◌, ℕ, zero, suc, ◌+◌, List, [], ◌∷◌, length, Some, true, ap, ◌∙◌, arith, option_and_then, slice_get, slice_get_past, length-append, ltb-true, length-map, place_back, get_rel, then_rel}
 use Rattle.wasm_tree_spec.specs.Prelude.{Space, Functions, Globals, Import, Module, funcs_of, ValType, ConstExpr}
 use Rattle.wasm_meaning.specs.Prelude.{Inst, places, has_kind, space_index, Part, module_at, Environment, own_globals, insts_from, value_of, const_value, inst_of}
 use Rattle.world_simulation.proofs.Alone.{funcs_counted}

@@ -6,7 +6,6 @@ use Rattle.wasm_tree.specs.declared.module.ConstExpr.TheVariants as const
 use Rattle.wasm_meaning.specs.Prelude.{Val, Inst, Global, Store, same_type, walk, walk_on, Part, Site, End, Defined, Outside, Read, places, has_kind, space_index, imports_of, module_at, import_at, sites, end_of, global_import, initial, outside_read, end_step, read_step, initials_from, read_of, Environment, GlobalAt, own_globals, all_of, base, is_matched, imported_external_value, insts_from, own_store, stores_from, same_bool, const_value, value_of, address_of, JoinsEarlier}
 use Rattle.merge_valid_proof.proofs.Linked.{in_sites}
 use Rattle.world_simulation.proofs.Allocated.{keeps}
-use Rattle.world_simulation.proofs.Instancing.{IsInst}
 use Rattle.world_simulation.proofs.Stored.{global_placed}
 use Rattle.world_sequential_proof.proofs.ExternalValues.{walk_more, thing_has, part_inst}
 use Rattle.world_sequential_proof.proofs.Joined.{ExportsThere}

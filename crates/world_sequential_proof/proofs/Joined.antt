@@ -1,5 +1,5 @@
 -- What an import of a part is joined with among the parts before it is what it is joined with among all, where each joined import leads to an earlier part.
-use Rattle.base_lists.proofs.Common.{◌≡◌, ◌∙◌, refl, sym, ap, ℕ, zero, suc, ◌+◌, ◌<◌, ◌≤◌, List, [], ◌∷◌, length, Option, Some, None, Bool, true, false, cond, arith, add-zero, zero-add, slice_get, and_then_is, same_Some, add_next}
+use Rattle.base_lists.proofs.Common.{◌≡◌, ◌∙◌, refl, ap, ℕ, zero, suc, ◌+◌, ◌<◌, ◌≤◌, List, [], ◌∷◌, length, Option, Some, None, Bool, true, false, cond, arith, add-zero, zero-add, slice_get, and_then_is, same_Some, add_next}
 use Rattle.wasm_tree_spec.specs.Prelude.{Import, ExportDesc, Module, index_of_export, space_of_export}
 use Rattle.wasm_meaning.specs.Prelude.{Text, Inst, Part, Site, Entity, Defined, Outside, imports_of, module_at, export_named, first_place, source_of, joined, imported_as, joined_step, import_step, end_of, Environment, ExternalValue, owned_of, defined_count, external_value_of, imported_external_value, insts_from, address_in, external_value_for, JoinsEarlier}
 use Rattle.wasm_meaning.specs.Linking.{is_named}
