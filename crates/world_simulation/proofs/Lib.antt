@@ -1,6 +1,5 @@
 mod Starts
 pub mod FirstStep
-pub mod Defined
 pub mod Named
 pub mod Alone
 pub mod Owned
