@@ -1,5 +1,5 @@
 -- In an environment that links a module, what the first step makes of its constructors corresponds to what the snapshot is instantiated to.
-use Rattle.base_lists.proofs.Common.{◌≡◌, ◌∙◌, sym, ap, refl, subst, ℕ, List, [], ◌∷◌, ◌++◌, true, false, slice_get, Some, option_and_then, same_Some, and_then_is, all_rel, opt_at, opt_both, right_there}
+use Rattle.base_lists.proofs.Common.{◌≡◌, ◌∙◌, sym, ap, refl, subst, ℕ, List, [], ◌∷◌, ◌++◌, true, false, slice_get, Some, option_and_then, same_Some, and_then_is, all_rel, opt_at, opt_both, right_there, arith}
 use Rattle.wasm_tree_spec.specs.Prelude.{Functions, GlobalDef, Module}
 use Rattle.wasm_valid.specs.Prelude.{IsValid, ItemsHold}
 use Rattle.wasm_meaning.specs.Prelude.{Text, Inst, Val, Store, StepsWriteWhatTheyTouch, sites, Environment, ExternalValue, all_of, Begun, all_there, alone, begun, inst_of, insts_from, instantiate, is_matched, joined_stores, own_store, part_store, seen_as, segments, start_in, stores_from, value_of}
@@ -9,7 +9,6 @@ use Rattle.world_simulation.specs.Prelude.{one, IsInstantiated}
 use Rattle.world_contents_proof.specs.Leaves.{Leaves}
 use Rattle.world_simulation.proofs.Instancing.{IsInst}
 use Rattle.world_simulation.proofs.Owned.{owned_rel}
-use Rattle.world_simulation.proofs.Simulated.{what_is_made}
 use Rattle.eval_spec.specs.declared.limits.TheConstants.{MOST_TURNS}
 use Rattle.eval_numbers_proof.specs.Ranges.{GlobalsAreExpressible}
 use Rattle.eval_spec.specs.Prelude.{State, imported_store, own_inst, value_in, memory_bytes}
@@ -115,7 +114,7 @@ module _ (laws : Laws) (env : Environment) (m : Module) (s : State) (name : Text
 
   module _ (j : Inst) (j_is : inst_of env (one second) 0 second ≡ Some j) (c : IsInst env (one second) 0 second j) where
     x : IsInstantiated env (evaluated_world m (name ∷ names) kept) b.begun
-    x = what_is_made env (evaluated_world m (name ∷ names) kept) b.begun b.is_begun
+    x = grind (arith, b.is_begun)
 
     insts_are : x.insts ≡ i ∷ []
     insts_are = same_Some _ _ (sym x.are_insts ∙ b.is_inst)

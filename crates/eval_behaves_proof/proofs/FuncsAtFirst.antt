@@ -9,7 +9,7 @@ use Rattle.wasm_meaning.specs.Prelude.{Pair, Inst, Func, Own, Store, has_kind, i
 use Rattle.index_remap.specs.Prelude.{BothRel, FuncRel, own}
 use Rattle.index_remap_proof.specs.Indices.{ImportNamesOnly, TreeNamesOnly, with_entry}
 use Rattle.world_simulation.specs.Prelude.{key_in, one, site, external_value_in, FuncsCorrespond}
-use Rattle.world_simulation.proofs.Alone.{funcs_counted, thing_is}
+use Rattle.world_simulation.proofs.Alone.{funcs_counted}
 use Rattle.world_simulation.proofs.Allocated.{AddsWith}
 use Rattle.world_simulation.proofs.Instancing.{Entry, IsInst, defines, entry_at, import_address, imports, is_space}
 use Rattle.world_simulation.proofs.Stored.{func_rel}
@@ -88,7 +88,8 @@ module _ (m : Module) where
               let key : external_value_in env m.types (Some x) ≡ owned_at (owned_of env) (FuncKey (pair_of x) u.0) =
               ap (λ d. option_and_then (λ key. owned_at (owned_of env) key) (key_in m.types (pair_of x) d)) d
               ∙ ap (λ o. option_and_then (λ key. owned_at (owned_of env) key) (option_and_then (λ t. Some (FuncKey (pair_of x) t)) o)) u.1 in
-              let f = own_found (pair_of x) u.0 env thing.0 (sym key ∙ ap (external_value_in env m.types) (sym import_at) ∙ sym (thing_is env (with_funcs m fs) p) ∙ thing.1) in
+              let denoted : imported_external_value env (one (with_funcs m fs)) (site p) ≡ external_value_in env m.types (slice_get m.imports p) = grind arith in
+              let f = own_found (pair_of x) u.0 env thing.0 (sym key ∙ ap (external_value_in env m.types) (sym import_at) ∙ sym denoted ∙ thing.1) in
               let addressed : Some (0 + f.place) ≡ Some a = sym (ap (address_of Functions) f.thing) ∙ thing.2 in
               let place_is = same_Some (0 + f.place) a addressed in
               let z : a ≡ f.place = omega (arith, place_is) in

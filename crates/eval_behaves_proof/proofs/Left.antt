@@ -1,9 +1,9 @@
 -- What instantiation leaves in the quiet run, in its store of one module alone.
-use Rattle.base_lists.proofs.Common.{subst, refl, false, same_Some, and_then_is, ◌≡◌}
+use Rattle.base_lists.proofs.Common.{subst, refl, false, same_Some, and_then_is, ◌≡◌, arith}
 use Rattle.wasm_tree_spec.specs.Prelude.{Module}
 use Rattle.wasm_meaning.specs.Prelude.{Added, const_value, run_data_with, run_elem_with, store_with}
 use Rattle.world_contents_proof.specs.Leaves.{Leaves}
-use Rattle.world_contents_proof.proofs.Leaves.{data_runs, elem_runs, left_in_turn}
+use Rattle.world_contents_proof.proofs.Leaves.{left_in_turn}
 use Rattle.eval_spec.specs.Prelude.{State, imported_store, own_inst, value_in}
 use Rattle.eval_proof.specs.Machines.{InstantiatedAs}
 
@@ -15,4 +15,4 @@ quiet_leaves m s q =
     let same = same_Some _ _ t.2 in
     subst (λ x. Leaves value m i (imported_store m) x) q.store
     (subst (λ (a : Added). a.filled.trapped ≡ false → Leaves value m i (imported_store m) a.filled.store) same
-    (left_in_turn value m i (imported_store m) t.0 t.1 (λ s task. run_elem_with value s task task.segment.mode) (λ s task. run_data_with value s task task.segment.mode) (λ s n e. elem_runs value i s n e e.mode) (λ s n d. data_runs value i s n d d.mode) refl refl _ refl) q.untrapped)
+    (left_in_turn value m i (imported_store m) t.0 t.1 (λ s task. run_elem_with value s task task.segment.mode) (λ s task. run_data_with value s task task.segment.mode) (λ s n e. grind arith) (λ s n d. grind arith) refl refl _ refl) q.untrapped)

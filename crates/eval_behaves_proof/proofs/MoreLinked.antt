@@ -5,14 +5,13 @@ use Rattle.base_lists.specs.Places.{first_place}
 use Rattle.wasm_tree_spec.specs.Prelude.{Space, Functions, Tables, Memories, Globals, ElementSegments, DataSegments, FuncType, GlobalDef, ElemSeg, Export, ExportDesc, Module, funcs_of, tables_of, memories_of, globals_of}
 use Rattle.wasm_tree.specs.declared.module.Func as tree
 use Rattle.wasm_tree.specs.declared.module.ExportDesc.TheVariants as ex
-use Rattle.wasm_meaning.specs.Prelude.{Text, Inst, Func, Code, Global, Elem, Store, declared, ref_of, Entity, sites, Environment, ExternalValue, FuncAt, TableAt, MemoryAt, GlobalAt, all_of, Begun, address_in, all_there, alone, begun, elem_of, insts_from, instantiate, is_matched, joined_stores, links, new_elem, new_func, new_global, own_count, own_store, part_store, seen_as, segments, stores_from, value_of}
+use Rattle.wasm_meaning.specs.Prelude.{Text, Inst, Func, Code, Global, Elem, Store, declared, ref_of, Entity, sites, Environment, ExternalValue, FuncAt, TableAt, MemoryAt, GlobalAt, all_of, Begun, address_in, all_there, alone, begun, elem_of, insts_from, instantiate, is_matched, joined_stores, links, new_elem, new_func, new_global, own_count, own_store, part_store, seen_as, segments, stores_from, value_of, inst_of, World}
 use Rattle.index_remap.specs.Prelude.{Pairing, passed}
 use Rattle.index_remap_proof.specs.Indices.{ExportNamesOnly, TreeNamesOnly, with_entry}
 use Rattle.world_simulation.specs.Prelude.{one, SharesOwn, DefinitionsCorrespond, Instantiated, IsInstantiated}
 use Rattle.world_simulation.specs.Definitions as partners
 use Rattle.world_simulation.proofs.Allocated.{Adds, adds, part_there}
-use Rattle.world_simulation.proofs.Instancing.{IsInst, inst_is, inst_there}
-use Rattle.world_simulation.proofs.Simulated.{what_is_made}
+use Rattle.world_simulation.proofs.Instancing.{IsInst}
 use Rattle.world_simulation.proofs.Single.{all_matched, one_inst}
 use Rattle.world_simulation.proofs.Stored.{stores_rel}
 use Rattle.eval_spec.specs.Prelude.{takes_and_gives_nothing}
@@ -48,6 +47,9 @@ pub record MoreMade (env : Environment) (m : Module) (evaluated kept : List Text
   pub view : List (Text × ExternalValue)
   pub is_begun : instantiate env (evaluated_world m evaluated kept) ≡ Some
       (begun env (evaluated_world m evaluated kept) (inst ∷ []) view (segments env (one (with_empty_func m)) (inst ∷ []) (joined_stores (own_store env) defined)))
+
+pub what_is_made : (env : Environment) (w : World) (b : Begun) → instantiate env w ≡ Some b → IsInstantiated env w b
+what_is_made env w b h = grind arith
 
 module _ (env : Environment) (m : Module) (names : TreeNamesOnly (with_entry (each_index m)) m) (typed : 0 < length m.types) where
   abbrev more : Module
@@ -189,5 +191,5 @@ module _ (env : Environment) (m : Module) (names : TreeNamesOnly (with_entry (ea
       let t = space_more env m Tables i.0.tables a.tables in
       let s = space_more env m Memories i.0.mems a.mems in
       let g = space_more env m Globals i.0.globals a.globals in
-      let j = inst_there env (one more) 0 more f.0 t.0 s.0 g.0 f.1 t.1 s.1 g.1 in
-      made_with evaluated kept i.0 j.0 a (inst_is env (one more) 0 more j.0 j.1) o.0 x i.1 (rw j.1 refl)
+      let j = is_some_there (inst_of env (one more) 0 more) (rw (f.1, t.1, s.1, g.1)) in
+      made_with evaluated kept i.0 j.0 a (search (arith, j.1)) o.0 x i.1 (ap (option_and_then (λ i. option_and_then (λ is. Some (i ∷ is)) (Some []))) j.1)

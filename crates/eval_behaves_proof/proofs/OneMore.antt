@@ -5,10 +5,10 @@ use Rattle.base_lists.specs.Places.{numbers}
 use Rattle.wasm_tree_spec.specs.Prelude.{Space, Types, Functions, Tables, Memories, Globals, ElementSegments, DataSegments, ConstExpr, Module, imported_funcs, imported_tables, imported_memories, imported_globals, funcs_of, tables_of, memories_of, globals_of}
 use Rattle.wasm_tree.specs.declared.module.ConstExpr.TheVariants as const
 use Rattle.wasm_tree.specs.declared.module.Func as tree
-use Rattle.wasm_meaning.specs.Prelude.{Val, Ref, FuncRef, Inst, Environment, own_globals, defined_count, own_count, space, value_of, value_of_read}
+use Rattle.wasm_meaning.specs.Prelude.{Val, Ref, FuncRef, Inst, Environment, own_globals, defined_count, own_count, space, value_of, value_of_read, read_of}
 use Rattle.world_simulation.specs.Prelude.{addresses, one}
-use Rattle.world_simulation.specs.Alone.{read_place}
-use Rattle.world_simulation.proofs.Alone.{funcs_counted, tables_counted, memories_counted, globals_counted, read_is, space_is}
+use Rattle.world_simulation.specs.Alone.{read_place, read_in}
+use Rattle.world_simulation.proofs.Alone.{funcs_counted, tables_counted, memories_counted, globals_counted, space_is}
 use Rattle.world_simulation.proofs.Instancing.{IsInst, is_space}
 use Rattle.eval_snapshot_spec.specs.Snapshot.{empty_func}
 use Rattle.eval_behaves_proof.specs.Worlds.{with_empty_func}
@@ -108,5 +108,7 @@ module _ (env : Environment) (m : Module) where
         let x = and_then_is (slice_get i.funcs f) (λ a. Some (Ref (FuncRef (Some a)))) v h in
         rw (address_stays Functions i.funcs j.funcs a.funcs b.funcs f x.0 x.1) x.2
     value_stays (const.Global n) v h =
-        ap (option_and_then (value_of_read (own_globals env) (j ∷ []))) (read_is more (const.Global n))
-        ∙ read_in_both (read_place m.imports n) v (ap (option_and_then (value_of_read (own_globals env) (i ∷ []))) (sym (read_is m (const.Global n))) ∙ h)
+        let first : read_of (one m) 0 (const.Global n) ≡ read_in m.imports (const.Global n) = grind arith in
+        let second : read_of (one more) 0 (const.Global n) ≡ read_in m.imports (const.Global n) = grind arith in
+        ap (option_and_then (value_of_read (own_globals env) (j ∷ []))) second
+        ∙ read_in_both (read_place m.imports n) v (ap (option_and_then (value_of_read (own_globals env) (i ∷ []))) (sym first) ∙ h)

@@ -1,5 +1,5 @@
 -- What a quiet instantiation says of the module: it has at most one memory, none of its active data segments goes to an imported one, and its own store has as many memories.
-use Rattle.base_lists.proofs.Common.{◌≡◌, ◌∙◌, sym, ap, ap₂, refl, ℕ, zero, suc, ◌+◌, ◌≤◌, List, [], ◌∷◌, length, Bool, true, false, cond, ◌||◌, Option, Some, None, inl, inr, slice_get, nat_lt, cases_lt, lt-ltb, length-append, length-map, length-set, same_Some, and_then_is}
+use Rattle.base_lists.proofs.Common.{◌≡◌, ◌∙◌, sym, ap, ap₂, refl, ℕ, zero, suc, ◌+◌, ◌≤◌, List, [], ◌∷◌, length, Bool, true, false, cond, ◌||◌, Option, Some, None, inl, inr, slice_get, nat_lt, cases_lt, lt-ltb, length-append, length-map, length-set, same_Some, and_then_is, arith}
 use Rattle.std.proofs.lemmas.Bool.{true≢false}
 use Rattle.base_lists.specs.Places.{numbers}
 use Rattle.wasm_tree_spec.specs.Prelude.{Memories, ConstExpr, DataMode, DataSeg, Module, imported_memories, memories_of}
@@ -8,7 +8,7 @@ use Rattle.wasm_meaning.specs.Prelude.{Outcome, Gives, Inst, Store, Touched, Byt
 use Rattle.world_contents_proof.specs.Leaves.{elem_copies, data_copies}
 use Rattle.world_simulation.proofs.Allocated.{adds_with, new_memory}
 use Rattle.world_contents_proof.proofs.Copies.{all_stay, runs, then_went}
-use Rattle.world_contents_proof.proofs.Leaves.{copies_in_turn, data_runs, elem_runs, memories, tables}
+use Rattle.world_contents_proof.proofs.Leaves.{copies_in_turn, memories, tables}
 use Rattle.eval_spec.specs.declared.stop.Stop.TheVariants as why
 use Rattle.eval_spec.specs.Prelude.{State, Stage, Going, Stopped, Finished, Test, first_held, stopped_or, is_imported, test, writes_too_many, written_after, filled_from, imported_store, in_order, instantiated, own_inst, place_in, reads_global, state_at_first, value_in, with_data, with_data_mode, with_elem, with_segments}
 use Rattle.eval_proof.specs.Machines.{InstantiatedAs}
@@ -104,7 +104,7 @@ module _ (m : Module) where
       let same : record { inst = i; filled = _ } ≡ is.added = same_Some _ _ made.2 in
       let start = joined_stores before made.0 in
       let turn = copies_in_turn value m i (λ s task. run_elem_with value s task task.segment.mode) (λ s task. run_data_with value s task task.segment.mode)
-      (λ s n e. elem_runs value i s n e e.mode) (λ s n d. data_runs value i s n d d.mode) 0 0 refl refl start in
+      (λ s n e. grind arith) (λ s n d. grind arith) 0 0 refl refl start in
       let filled = ap (λ (a : Added). a.filled) same in
       let good : (and_then (runs tables start 0 (elem_copies value i m.elems)) (λ s. runs memories s 0 (data_copies value i m.datas))).trapped ≡ false =
       ap (λ (f : Filled). f.trapped) (sym turn ∙ filled) ∙ is.untrapped in

@@ -1,4 +1,5 @@
 -- A quiet instantiation and start are the machine's, of the module itself, in each environment that links it.
+use Rattle.eval_behaves_proof.proofs.MoreLinked.{what_is_made}
 use Rattle.base_lists.proofs.Common.{◌≡◌, ◌∙◌, sym, ap, ap₂, subst, refl, ◌≤◌, List, [], ◌∷◌, ◌++◌, append-nil, false, Some, arith, IsTrue, same_Some, and_then_is, is_some_there, append_rel}
 use Rattle.wasm_tree_spec.specs.Prelude.{Functions, Module}
 use Rattle.wasm_tree.specs.declared.module.Func as tree
@@ -8,7 +9,6 @@ use Rattle.index_remap.specs.Prelude.{Pairing, ListRel, OneToOneWhereWritten, ni
 use Rattle.index_remap_proof.specs.Indices.{TreeNamesOnly, with_entry}
 use Rattle.world_simulation.specs.Prelude.{one}
 use Rattle.world_simulation.proofs.Instancing.{IsInst}
-use Rattle.world_simulation.proofs.Simulated.{what_is_made}
 use Rattle.world_simulation.proofs.Single.{one_inst}
 use Rattle.eval_spec.specs.declared.limits.TheConstants.{MOST_TURNS}
 use Rattle.eval_spec.specs.Prelude.{State, Stage, Finished, after_start, instantiated, own_inst, called_in_order, evaluated}

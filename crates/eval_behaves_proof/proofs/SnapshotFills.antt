@@ -11,7 +11,7 @@ use Rattle.world_simulation.proofs.Allocated.{Adds, adds, new_data}
 use Rattle.world_contents_proof.proofs.Copies.{AreOf, IsOf, all_stay, runs}
 use Rattle.world_simulation.proofs.Declared.{last_segments}
 use Rattle.world_simulation.proofs.Instancing.{IsInst}
-use Rattle.world_contents_proof.proofs.Leaves.{copies_in_turn, data_runs, elem_runs, memories, tables}
+use Rattle.world_contents_proof.proofs.Leaves.{copies_in_turn, memories, tables}
 use Rattle.eval_spec.specs.Prelude.{State}
 use Rattle.eval_snapshot_spec.specs.Snapshot.{snapshot}
 use Rattle.eval_behaves_proof.specs.Worlds.{with_empty_func}
@@ -138,6 +138,6 @@ module _ (env : Environment) (m : Module) (s : State) (name : Text) (names kept 
     untrapped =
         let plain = ap₂ (λ xs ys. and_then (one_by_one (run_elem env (one second) (j ∷ [])) start xs) (λ s. one_by_one (run_data env (one second) (j ∷ [])) s ys))
         (append-nil (segments_in 0 j j.elems second.elems)) (append-nil (segments_in 0 j j.datas second.datas)) in
-        let turn = copies_in_turn again second j (run_elem env (one second) (j ∷ [])) (run_data env (one second) (j ∷ [])) (λ s n e. elem_runs again j s n e e.mode)
-        (λ s n d. data_runs again j s n d d.mode) 0 0 b.elems b.datas start in
+        let turn = copies_in_turn again second j (run_elem env (one second) (j ∷ [])) (run_data env (one second) (j ∷ [])) (λ s n e. grind arith)
+        (λ s n d. grind arith) 0 0 b.elems b.datas start in
         ap (λ (f : Filled). f.trapped) (plain ∙ turn) ∙ both_went (runs tables start 0 cs) (λ s. runs memories s 0 (data_copies again j second.datas)) elems_went datas_went

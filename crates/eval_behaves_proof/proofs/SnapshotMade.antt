@@ -1,5 +1,5 @@
 -- In an environment where a module with one more function is instantiated, its snapshot is allocated, its imports match and its names denote what the module's names denote.
-use Rattle.base_lists.proofs.Common.{◌≡◌, ◌∙◌, sym, ap, ap₂, refl, subst, ℕ, zero, suc, ◌+◌, List, [], ◌∷◌, ◌++◌, map, length, Bool, true, false, cond, Some, None, ⊎_elim, arith, option_and_then, slice_get, list_any, length-append, any_passes_from_place, same_Some, chosen_from, all_there_at, and_then_is, append_at_left, append_from, push_last, length-map, then_rel}
+use Rattle.base_lists.proofs.Common.{◌≡◌, ◌∙◌, sym, ap, ap₂, refl, subst, ℕ, zero, suc, ◌+◌, List, [], ◌∷◌, ◌++◌, map, length, Bool, true, false, cond, Some, None, ⊎_elim, arith, option_and_then, slice_get, list_any, length-append, any_passes_from_place, same_Some, chosen_from, all_there_at, and_then_is, append_at_left, append_from, push_last, length-map, then_rel, is_some_there}
 use Rattle.base_lists.specs.Options.{◌>>=◌}
 use Rattle.wasm_tree_spec.specs.Prelude.{Space, Functions, Tables, Memories, Globals, ElementSegments, DataSegments, ElemSeg, Export, ExportDesc, GlobalDef, Module, imported_funcs, funcs_of, tables_of, memories_of, globals_of}
 use Rattle.wasm_tree.specs.declared.module.ExportDesc.TheVariants as ex
@@ -13,7 +13,7 @@ use Rattle.world_simulation.specs.Definitions.{own}
 use Rattle.world_simulation.proofs.Alone.{space_is, funcs_counted}
 use Rattle.world_simulation.proofs.Allocated.{Adds, adds, part_there}
 use Rattle.world_simulation.proofs.Declared.{last_elems, last_segments}
-use Rattle.world_simulation.proofs.Instancing.{IsInst, inst_is, inst_there, is_space}
+use Rattle.world_simulation.proofs.Instancing.{IsInst, is_space}
 use Rattle.world_simulation.proofs.Single.{all_matched, space_at}
 use Rattle.world_simulation.proofs.Stored.{stores_rel}
 use Rattle.eval_spec.specs.Prelude.{State}
@@ -70,8 +70,8 @@ module _ (env : Environment) (m : Module) (s : State) (name : Text) (names kept 
       let ts = space_again Tables i.tables a.tables in
       let ms = space_again Memories i.mems a.mems in
       let gs = space_again Globals i.globals a.globals in
-      let j = inst_there env (one second) 0 second fs.0 ts.0 ms.0 gs.0 fs.1 ts.1 ms.1 gs.1 in
-      (j.0, j.1, inst_is env (one second) 0 second j.0 j.1)
+      let j = is_some_there (inst_of env (one second) 0 second) (rw (fs.1, ts.1, ms.1, gs.1)) in
+      (j.0, j.1, search (arith, j.1))
 
   -- ---- functions ----
 
