@@ -4,8 +4,7 @@ use Rattle.base_lists.proofs.Common.{◌≡◌, ℕ, ◌+◌, ◌-◌, ◌<◌, 
 use Rattle.wasm_tree_spec.specs.Prelude.{Space, Module, index_of_export, space_of_import, space_of_export}
 use Rattle.wasm_meaning.specs.Prelude.{Part, Site, Defined, Outside, has_kind, module_at, import_at, imports_of, Environment, owned_of, same_key, own_count, defined_count, defined_before, address_of, own_key, outside_external_value, base, external_value_at, defined_external_value}
 use Rattle.merge_spec.specs.Prelude.{link_fault, staying_of, new_index}
-use Rattle.merge_valid_proof.specs.Ended.{inside, outside}
-use Rattle.merge_valid_proof.proofs.Entities.{import_external}
+use Rattle.merge_valid_proof.specs.Ended.{inside, outside, is_external}
 use Rattle.index_remap.specs.Prelude.{OptRel, ExternalValueRel}
 use Rattle.world_simulation.proofs.Owned.{look_rel, address_rel}
 use Rattle.world_simulation.specs.Prelude.{OwnEntitiesCorrespond}
@@ -52,6 +51,7 @@ module _ (env : Environment) (parts : List Part) where
     import_stands k p m x n is h =
         let r = place_back (has_kind k) m.imports 0 x n h in
         let kind : k ≡ space_of_import r.1.desc = grind (arith, r.4) in
+        let external : is_external (space_of_import r.1.desc) ≡ true = grind arith in
         let entry = (laws.indices parts p m k x is).0 n in
         elim (laws.ends parts linked (record { part = p; import = n }) r.1 (grind (arith, r.2))) [
           | inside w ↦
@@ -61,7 +61,7 @@ module _ (env : Environment) (parts : List Part) where
               λ low. rw (w.is_part, numbers_at _ _ _ low) in
               own (defined_before k parts e.part + (index_of_export e.what - length (imports_of k w.of)))
               (grind (arith, defined_low k parts e.part w.of))
-              (grind (arith, here, import_external r.1.desc))
+              (grind (arith, here, external))
               (grind (arith, entry (Defined e) h, laws.defined parts e))
           | outside w ↦ stays w.to (grind (arith, entry (Outside w.to) h, laws.places parts w.to w.import w.at w.remains)) (grind (arith, w.same_thing (owned_of env)))
         ]

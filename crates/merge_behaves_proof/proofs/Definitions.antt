@@ -1,6 +1,6 @@
 -- What the parts define and what it becomes in the merged module correspond: each definition stands in the merged module at its number among all of its space.
 use Rattle.wasm_tree_spec.specs.Prelude.{Functions, Tables, Memories, Globals, ElementSegments, DataSegments, Space, Module, GlobalDef, ElemSeg}
-use Rattle.merge_valid_proof.proofs.ByPart.{by_part_flat, defined_is, by_part_at, by_part_back}
+use Rattle.merge_valid_proof.proofs.ByPart.{by_part_flat, by_part_at, by_part_back}
 use Rattle.base_lists.proofs.Common.{◌≡◌, refl, ℕ, suc, ◌+◌, List, ◌++◌, map, length, [], append-nil, ◌∷◌, Option, Some, inl, inr, arith, add-zero, add_next, zero-add, slice_get, all_there_at, is_some_there, slice_get_there, map_at, map_from, append_at_left, append_from, list_all_each, length-map, right_there, left_there, map-id}
 use Rattle.wasm_meaning.specs.Prelude.{Inst, Store, Part, module_at, new_func, defined_count, base, defined_before, insts_from, own_store, joined_stores, part_store, stores_from, Environment}
 use Rattle.index_remap.specs.Prelude.{declared_refs, fits_func, new_func as renumbered_func, Pairing, OptRel}
@@ -108,8 +108,8 @@ module _ (laws : Laws) (env : Environment) (parts : List Part) (mode : Mode) (ca
     module _ (p : ℕ) (m : Module) (is : module_at parts p ≡ Some m) (n : ℕ) (x : A) (h : slice_get (definitions m) n ≡ Some x) where
       becomes : slice_get (definitions J) (defined_before k parts p + n) ≡ Some (new p m x)
       becomes =
-          let there = by_part_at (λ p m. map (new p m) (definitions m)) (defined_count k) (λ p m. grind (arith, length-map, q.counts)) 0 parts p m n (new p m x) is (grind (arith, map_at)) in
-          grind (arith, q.is, defined_is, append_at_left)
+          let there = by_part_at (λ p m. map (new p m) (definitions m)) k (λ p m. grind (arith, length-map, q.counts)) 0 parts p m n (new p m x) is (grind (arith, map_at)) in
+          grind (arith, q.is, append_at_left)
 
       abbrev stood : {a : ℕ} → a ≡ base env parts k p + n → DefinedAt env v k definitions a
       stood e = let i = each p m is in record { part = p; of = m; is_part = is; inst = i.0; is_inst = i.1; place = n; definition = x; stands = h; address = e }

@@ -2,7 +2,7 @@
 use Rattle.base_lists.proofs.Common.{◌≡◌, ℕ, ◌+◌, ◌-◌, ◌≤◌, List, ◌++◌, length, Some, refl, sym, arith, Option, None, true, option_and_then, slice_get, and_then_is, map_from, append_right, same_tests, is_kept, chosen_from, has_chosen, list_all_each, list_all_from, map, map-id, copies_length, then_eq, numbers_at, ◌<◌}
 use Rattle.std.proofs.Common.{eq-eqb}
 use Rattle.wasm_tree_spec.specs.Prelude.{Space, Functions, Tables, Memories, Globals, FuncType, ExportDesc, Module, type_of_func, index_of_export, space_of_export, Import}
-use Rattle.wasm_meaning.specs.Prelude.{Inst, Store, type_at, imports_of, module_at, Part, Site, import_at, is_outside, sites, linked_end, met_limits, Environment, owned_of, all_of, base, external_value_at, own_store, stores_from, outside_external_value, is_matched, defined_external_value, defined_count}
+use Rattle.wasm_meaning.specs.Prelude.{Inst, Store, type_at, imports_of, module_at, Part, Site, import_at, is_outside, sites, linked_end, met_limits, Environment, owned_of, all_of, base, external_value_at, own_store, stores_from, outside_external_value, is_matched, defined_external_value, defined_count, Outside}
 use Rattle.world_simulation.specs.Prelude.{Instantiated, DefinedAt, one, site}
 use Rattle.world_simulation.proofs.Alone.{funcs_counted, tables_counted, memories_counted, globals_counted}
 use Rattle.world_simulation.proofs.Stored.{func_placed, table_placed, memory_placed, global_placed}
@@ -12,13 +12,11 @@ use Rattle.index_remap.specs.Prelude.{StoreRel}
 use Rattle.merge_names.specs.declared.mode.Mode.{Mode}
 use Rattle.merge_spec.specs.Merged.{staying}
 use Rattle.merge_valid_proof.specs.Ended.{inside, outside}
-use Rattle.merge_valid_proof.proofs.Ends.{outside_is}
-use Rattle.merge_valid_proof.proofs.MergedSpaces.{import_is}
 use Rattle.merge_behaves_proof.specs.Instances.{InstancesAgree}
 use Rattle.merge_behaves_proof.specs.Shared.{sharing}
 use Rattle.merge_behaves_proof.proofs.SpaceLaws.{SpaceLaws}
 use Rattle.merge_behaves_proof.proofs.Counterparts.{outside_rel}
-use Rattle.merge_behaves_proof.proofs.MergedAlone.{IsStaying, staying_is, moved_thing, joined_types, joined_imports}
+use Rattle.merge_behaves_proof.proofs.MergedAlone.{IsStaying, staying_is, import_is, moved_thing, joined_types, joined_imports}
 use Rattle.wasm_tree.specs.declared.module.ExportDesc.TheVariants as ex
 
 -- ---- what a part defines has the external type that its module says: what is allocated for it has its type, its least size and its maximum ----
@@ -61,6 +59,9 @@ module _ (env : Environment) (w : Instantiated) (s : Store) (made : stores_from 
 
 -- ---- all imports ----
 
+linked_to : (parts : List Part) (u t : Site) → is_outside u (linked_end parts t) ≡ true → linked_end parts t ≡ Some (Outside u)
+linked_to parts u t h = grind arith
+
 module _ (laws : SpaceLaws) (env : Environment) (parts : List Part) (linked : link_fault parts true ≡ None) (mode : Mode) where
   abbrev whole : Module
   whole = joined_module parts mode
@@ -74,11 +75,10 @@ module _ (laws : SpaceLaws) (env : Environment) (parts : List Part) (linked : li
     AllMatch = all_of (is_matched env parts s) (sites parts) ≡ true
 
     -- where all imports match, the type of what a staying import denotes fits what each import asks for that ends at it
-    ends_at : AllMatch → (u t : Site) (i : Import) → import_at parts t ≡ Some i → is_outside u (linked_end parts t) ≡ true → (demand : External) × (asked_at parts t ≡ Some demand) × (fits_type demand (own_type s u) ≡ true)
+    ends_at : AllMatch → (u t : Site) (i : Import) → import_at parts t ≡ Some i → linked_end parts t ≡ Some (Outside u) → (demand : External) × (asked_at parts t ≡ Some demand) × (fits_type demand (own_type s u) ≡ true)
     ends_at all u t i at h =
-        let linked_to = outside_is u (linked_end parts t) h in
         elim (laws.ends parts linked t i at) [
-          | inside w ↦ cc w.linked
+          | inside w ↦ cc (w.linked, h)
           | outside w ↦ (w.demand, w.asks, grind (arith, w.same_thing (owned_of env), type_fits env parts s t i w.demand at w.asks laws.sites all))
         ]
 
@@ -101,10 +101,10 @@ module _ (laws : SpaceLaws) (env : Environment) (parts : List Part) (linked : li
         let c = chosen_from (merged_import parts) (staying parts) t.import x.0 (grind (arith, joined_imports parts mode)) in
         let u = c.0 in
         let w = staying_is laws parts c.1.0 u c.1.1 in
-        let y = ends_at all u u w.import w.at (rw ((laws.stays parts linked u w.import w.at w.remains).1, eq-eqb u.part u.part refl, eq-eqb u.import u.import refl) refl) in
-        rw (only, site_matched u w y.0 y.1 t.import (grind (arith, import_is parts u w.of w.import w.is_part w.at)))
+        let y = ends_at all u u w.import w.at (laws.stays parts linked u w.import w.at w.remains).1 in
+        rw (only, site_matched u w y.0 y.1 t.import (grind (arith, import_is parts u w)))
         -- the limits of what it denotes meet those that are asked for together
-        (kept_fits parts u y.0 (own_type s u) y.2 (ends_at all u)))
+        (kept_fits parts u y.0 (own_type s u) y.2 (λ t i at h. ends_at all u t i at (linked_to parts u t h))))
 
     module _ (insts js : List Inst) (agree : InstancesAgree env parts insts js) (made : stores_from env parts insts (own_store env) 0 parts insts ≡ Some s) where
       all_parts_match : all_of (is_matched env (one whole) z) (sites (one whole)) ≡ true → AllMatch
@@ -125,7 +125,7 @@ module _ (laws : SpaceLaws) (env : Environment) (parts : List Part) (linked : li
                 let place = (laws.sites parts u).1 w.import w.at in
                 let a = is_kept (stays parts) (sites parts) place.0 u place.1 w.remains in
                 let v = staying_is laws parts a.0 u a.1 in
-                let c = has_chosen (merged_import parts) (staying parts) a.0 u _ a.1 (import_is parts u v.of v.import v.is_part v.at) in
+                let c = has_chosen (merged_import parts) (staying parts) a.0 u _ a.1 (import_is parts u v) in
                 let moved = rw (← joined_imports parts mode) at c.1 in
                 let n = (laws.sites (one whole) (site c.0)).1 _ moved in
                 let f = rw (site_matched u v w.thing w.is c.0 moved) at (list_all_each _ _ all n.0 (site c.0) n.1) in

@@ -1,17 +1,16 @@
 -- The merged module alone: its imports are those that stay, and denote what these denote in the parts' world; then comes what the parts define.
-use Rattle.base_lists.proofs.Common.{◌≡◌, ◌∙◌, ℕ, ◌+◌, List, ◌++◌, length, Option, Some, None, true, arith, option_and_then, slice_get, filter_map, length-map, kept_is, and_then_is}
-use Rattle.wasm_tree_spec.specs.Prelude.{Space, DataSegments, ElementSegments, Import, Module}
+use Rattle.base_lists.proofs.Common.{◌≡◌, ◌∙◌, refl, ℕ, ◌+◌, List, ◌++◌, length, Option, Some, None, true, arith, option_and_then, slice_get, filter_map, length-map, kept_is, and_then_is}
+use Rattle.wasm_tree_spec.specs.Prelude.{Space, Functions, DataSegments, ElementSegments, Import, Module}
 use Rattle.wasm_meaning.specs.Prelude.{Text, Part, Site, has_kind, module_at, import_at, sites, Environment, owned_of, own_count, defined_before, address_of, outside_external_value, all_there, numbers, space}
 use Rattle.index_remap.specs.Prelude.{declared_refs}
 use Rattle.world_simulation.proofs.Declared.{IsWithDeclared, is_with_declared}
 use Rattle.merge_names.specs.declared.mode.Mode.{Mode}
 use Rattle.merge_names.specs.Names.{new_names}
-use Rattle.merge_spec.specs.Prelude.{link_fault, stays, merged_types, merged_import, merged_desc, imports_kind, export_names}
-use Rattle.merge_spec.specs.Merged.{merged, staying, staying_of}
+use Rattle.merge_spec.specs.Prelude.{link_fault, stays, merged_types, merged_desc, imports_kind, export_names, named_exports, start_among, start_calls, starts}
+use Rattle.merge_spec.specs.Merged.{merged, merged_import, staying, staying_of, all_exports, defined_funcs}
 use Rattle.merge_spec.specs.Joined.{joined_module}
 use Rattle.merge_valid_proof.specs.Ended.{added_count, is_external}
-use Rattle.merge_valid_proof.proofs.MergedSpaces.{import_is}
-use Rattle.merge_valid_proof.proofs.ByPart.{elems_is, datas_is, by_part_many}
+use Rattle.merge_valid_proof.proofs.ByPart.{by_part_many}
 use Rattle.world_simulation.specs.Alone.{one, external_value_in, addresses}
 use Rattle.merge_behaves_proof.proofs.SpaceLaws.{SpaceLaws}
 use Rattle.merge_behaves_proof.proofs.Counterparts.{site_address}
@@ -35,13 +34,25 @@ pub joined_imports : (parts : List Part) (mode : Mode) → (joined_module parts 
 unfolding merged
 joined_imports parts mode = (joined_keeps parts mode).imports
 
+pub joined_exports : (parts : List Part) (mode : Mode) → (joined_module parts mode).exports ≡ named_exports (all_exports parts) (names_of parts mode)
+unfolding merged
+joined_exports parts mode = (joined_keeps parts mode).exports
+
+pub joined_start : (parts : List Part) (mode : Mode) → (joined_module parts mode).start ≡ start_among (length (staying_of parts Functions) + defined_before Functions parts (length parts)) (starts parts)
+unfolding merged
+joined_start parts mode = (joined_keeps parts mode).start
+
+pub joined_funcs : (parts : List Part) (mode : Mode) → (joined_module parts mode).funcs ≡ defined_funcs parts ++ start_calls parts (starts parts)
+unfolding merged
+joined_funcs parts mode = (joined_keeps parts mode).funcs
+
 pub elems_many : (parts : List Part) (names : List (Option Text)) → length (merged parts names).elems ≡ defined_before ElementSegments parts (length parts)
 unfolding merged
-elems_many parts names = rw elems_is (by_part_many _ _ (λ p m. length-map m.elems _) 0 parts)
+elems_many parts names = by_part_many _ ElementSegments (λ p m. length-map m.elems _) 0 parts
 
 pub datas_many : (parts : List Part) (names : List (Option Text)) → length (merged parts names).datas ≡ defined_before DataSegments parts (length parts)
 unfolding merged
-datas_many parts names = rw datas_is (by_part_many _ _ (λ p m. length-map m.datas _) 0 parts)
+datas_many parts names = by_part_many _ DataSegments (λ p m. length-map m.datas _) 0 parts
 
 -- ---- an import that stays ----
 
@@ -52,6 +63,11 @@ pub record IsStaying (parts : List Part) (s : Site) : Type 0 where
   pub of : Module
   pub is_part : module_at parts s.part ≡ Some of
   pub stands : slice_get of.imports s.import ≡ Some import
+
+-- as it stands in the merged module
+pub import_is : (parts : List Part) (s : Site) (w : IsStaying parts s) → merged_import parts s ≡ Some (record w.import { desc = merged_desc parts s w.of w.import.desc })
+unfolding merged_import
+import_is parts s w = rw (w.is_part, w.stands) refl
 
 pub staying_is : SpaceLaws → (parts : List Part) (n : ℕ) (s : Site) → slice_get (staying parts) n ≡ Some s → IsStaying parts s
 unfolding staying
@@ -84,7 +100,7 @@ module _ (laws : SpaceLaws) (env : Environment) (parts : List Part) (linked : li
       at_places (has_kind k) (λ i. option_and_then (address_of k) (external_value_in env (merged_types parts) (Some i))) _ 0 _ (λ i y e. grind arith)
       ∙ of_chosen _ _ (imports_kind parts k) _ (site_address env parts k) _ (λ n s h.
       let w = staying_is laws parts n s h in
-      (_, import_is parts s w.of w.import w.is_part w.at, grind arith, λ q. grind (arith, moved_thing s w)))
+      (_, import_is parts s w, grind arith, λ q. grind (arith, moved_thing s w)))
 
   -- the index spaces of the merged module: the addresses of the imports that stay, and then of what it defines
   pub merged_space : (mode : Mode) (k : Space) → is_external k ≡ true →

@@ -14,8 +14,7 @@ use Rattle.merge_behaves_proof.proofs.ValueShared.{names_one}
 use Rattle.merge_behaves_proof.proofs.ValueGiven.{Laws}
 use Rattle.merge_names.specs.declared.mode.Mode.{Mode}
 use Rattle.merge_spec.specs.View.{all_entities, named_entities, merge_view}
-use Rattle.merge_behaves_proof.proofs.MergedAlone.{joined_keeps, names_of as names_in}
-use Rattle.merge_valid_proof.proofs.Exports.{exports_are}
+use Rattle.merge_behaves_proof.proofs.MergedAlone.{joined_exports, names_of as names_in}
 use Rattle.world_simulation.proofs.Renamed as renamed
 
 -- each map of a part has an entry for each index that the part names
@@ -87,5 +86,5 @@ module _ (env : Environment) (parts : List Part) (fit : AllFit parts) (insts js 
 
   pub view_agrees : (mode : Mode) → ListRel AreSeenAlike (merge_view parts mode) (alone (joined_module parts mode)).view
   unfolding merge_view all_entities all_exports
-  view_agrees mode = rw ((joined_keeps parts mode).exports, exports_are parts (names_in parts mode)) (named_rel
+  view_agrees mode = rw (joined_exports parts mode) (named_rel
       (by_part_rel _ _ 0 parts (λ p m is. let fits = fit p m is in rw zero-add (exports_seen p m is m.exports (grind arith)))) (names_in parts mode))

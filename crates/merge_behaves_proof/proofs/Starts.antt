@@ -7,7 +7,6 @@ use Rattle.merge_names.specs.declared.mode.Mode.{Mode}
 use Rattle.merge_spec.specs.Prelude.{link_fault, FuncOf, map_of, start_of, by_part_from, nullary, start_calls, place_of_type, joined_module}
 use Rattle.merge_spec.specs.Merged.{starts, defined_funcs}
 use Rattle.index_remap.proofs.SlotCalls.{func_type_is}
-use Rattle.merge_valid_proof.proofs.Starts.{start_is, funcs_are}
 use Rattle.world_simulation.specs.Prelude.{Instantiated, one, site}
 use Rattle.merge_behaves_proof.specs.Shared.{shared_count, sharing}
 use Rattle.merge_behaves_proof.specs.Instances.{PartAgrees, InstancesAgree}
@@ -15,7 +14,7 @@ use Rattle.merge_behaves_proof.proofs.SpaceLaws.{SpaceLaws}
 use Rattle.world_simulation.proofs.Instancing.{IsInst, is_space, imports, defines, entry_at}
 use Rattle.world_simulation.proofs.Single.{one_inst}
 use Rattle.merge_behaves_proof.proofs.ValueShared.{shares}
-use Rattle.merge_behaves_proof.proofs.MergedAlone.{joined_keeps, names_of, joined_types}
+use Rattle.merge_behaves_proof.proofs.MergedAlone.{joined_keeps, names_of, joined_types, joined_start, joined_funcs}
 use Rattle.merge_behaves_proof.proofs.Instances.{entry_is, along, own_at}
 use Rattle.merge_behaves_proof.proofs.Named.{AllFit, start_fits}
 use Rattle.merge_valid_proof.specs.Joinable.{CanBeJoined}
@@ -66,7 +65,7 @@ module _ (laws : SpaceLaws) (env : Environment) (parts : List Part) (linked : li
       (λ p part i rest is at a later. let m = part.«module» in append_rel (one_named p m i a m.start (start_fits (map_of parts p m) m (fit p m at))) later)
 
   pub starts_agree : insts_from env (one J) 0 (one J) ≡ Some js → StartsAgree env parts agree.merged (starts_of parts insts) (starts_of (one J) js)
-  starts_agree there = rw (agree.alone, (joined_keeps parts mode).start, start_is parts (names_of parts mode)) (record {
+  starts_agree there = rw (agree.alone, joined_start parts mode) (record {
     named = all_named;
     shared = shared_with_self all_named;
     few = λ l. grind (arith, all_named);
@@ -118,7 +117,7 @@ module _ (laws : SpaceLaws) (nothing : StartsTakeNothing) (env : Environment) (p
           append_right (defined_funcs parts) calls 0,
           length-append (defined_funcs parts) calls,
           (joined_keeps parts mode).funcs,
-          funcs_are,
+          joined_funcs parts mode,
           laws.counts parts (names_of parts mode) Functions refl,
         );
         address = omega arith;

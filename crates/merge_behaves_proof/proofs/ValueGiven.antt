@@ -3,7 +3,6 @@ use Rattle.base_lists.proofs.Common.{◌≡◌, ℕ, ◌<◌, List, length, Some
 use Rattle.wasm_tree_spec.specs.Prelude.{Ref, Func, GlobalDef, ElemSeg, DataSeg, ValType, ConstExpr, Module}
 use Rattle.wasm_valid.specs.declared.kinds.ItemKind.TheVariants as kind
 use Rattle.wasm_valid.specs.Prelude.{const_type, IsValid, ElemModeHolds, DataModeHolds, ValidWhereItemsHold}
-use Rattle.wasm_valid.specs.declared.kinds.ItemKind.{ItemKind}
 use Rattle.wasm_meaning.specs.Prelude.{Inst, Part, Read, module_at, read_of, Environment}
 use Rattle.index_remap.specs.Prelude.{fits_tree, RenumberedCodeIsRelated}
 use Rattle.world_simulation.specs.Alone.{SpacesAreImportsAndOwn, ReadsStay}

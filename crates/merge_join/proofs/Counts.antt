@@ -12,7 +12,7 @@ use Rattle.merge_join.specs.Spaces.{picked, sites_before, count_before}
 use Rattle.merge_join.proofs.ByPart.{named_length, part_more}
 use Rattle.merge_join.proofs.Sites.{sites_in_more, sites_split, staying_is}
 pub use Rattle.wasm_meaning.proofs.Counts.{defined_none, defined_next}
-use Rattle.merge_valid_proof.proofs.Linked.{sites_are}
+use Rattle.merge_valid_proof.proofs.ByPart.{by_part_is}
 
 -- ---- imports ----
 
@@ -32,7 +32,8 @@ count_more ps k p n =
 
 sites_push : (ps : List Part) (p : ℕ) (m : Module) → module_at ps p ≡ Some m → sites_from 0 (take (p + 1) ps) ≡ sites_from 0 (take p ps) ++ sites_in p (length m.imports) 0
 sites_push ps p m at =
-    sites_are 0 (take (p + 1) ps) ∙ sym (part_more (λ p m. sites_in p (length m.imports) 0) ps p m (sites_from 0 (take p ps)) (sites_from 0 (take p ps) ++ sites_in p (length m.imports) 0) at (sites_are 0 (take p ps)) refl)
+    let are = by_part_is sites_from (λ p m. sites_in p (length m.imports) 0) (λ q. refl) (λ q part ps. refl) 0 in
+    are (take (p + 1) ps) ∙ sym (part_more (λ p m. sites_in p (length m.imports) 0) ps p m (sites_from 0 (take p ps)) (sites_from 0 (take p ps) ++ sites_in p (length m.imports) 0) at (are (take p ps)) refl)
 
 pub count_part : (ps : List Part) (k : Space) (p : ℕ) (m : Module) → module_at ps p ≡ Some m → count_before ps k p (length m.imports) ≡ count_before ps k (p + 1) 0
 unfolding count_before

@@ -5,11 +5,10 @@ use Rattle.std.specs.Option.{option_map}
 use Rattle.wasm_meaning.specs.Prelude.{defined_before, numbers, Part, places, module_at, imports_of, linked_end}
 use Rattle.wasm_meaning.specs.Linking as linking
 use Rattle.merge_spec.specs.declared.links.End.{End}
-use Rattle.merge_spec.specs.Prelude.{end_entry, staying_of, place_of_end}
+use Rattle.merge_spec.specs.Prelude.{end_entry, staying_of, place_of_end, imported_count}
 use Rattle.merge_spec.specs.Merged.{place_of_entry, new_index}
 use Rattle.merge_join.specs.LinkedParts.{site, place_at}
 use Rattle.merge_join.proofs.Ends.{place_is}
-use Rattle.merge_valid_proof.proofs.Entries.{count_is}
 
 -- by the import that the entry is, if it is one
 index_is : (ps : List Part) (p : ℕ) (k : Space) (i : ℕ) (m : Module) (o : Option ℕ) → module_at ps p ≡ Some m → slice_get (imports_of k m) i ≡ o → new_index ps p k i ≡ unwrap_or (place_of_entry ps p k i o) 0
@@ -35,7 +34,8 @@ pub new_index_own : (ps : List Part) (p : ℕ) (k : Space) (j : ℕ) (m : Module
 new_index_own ps p k j m at =
     let i = length (imports_of k m) + j in
     let past : length (imports_of k m) ≤ i = omega arith in
-    index_is ps p k i m None at (place_past (imports_of k m) i past) ∙ omega (arith, count_is ps k p m at)
+    let many : imported_count ps p k ≡ length (imports_of k m) = rw at refl in
+    index_is ps p k i m None at (place_past (imports_of k m) i past) ∙ omega (arith, many)
 
 places_there : {A : Type 0} (is : A → Bool) (xs : List A) (x : A) (i n : ℕ) → slice_get xs i ≡ Some x → is x ≡ true → slice_get (places is xs n) (length (places is (take i xs) n)) ≡ Some (n + i)
 places_there is [] x i n h yes_ = cc

@@ -5,12 +5,11 @@ use Rattle.wasm_tree_spec.specs.Prelude.{Limits, Import, ImportDesc, Module}
 use Rattle.wasm_tree.specs.declared.module.ImportDesc.TheVariants as im
 use Rattle.wasm_meaning.specs.Prelude.{Text, Part, Site, module_at, import_at, limits_of, met_limits, sites_in, sites_from}
 use Rattle.index_remap.specs.declared.remap.Remap.{Remap}
-use Rattle.merge_spec.specs.Prelude.{stays, by_part_from, by_part, map_of, merged_desc, merged_import}
+use Rattle.merge_spec.specs.Prelude.{stays, by_part_from, by_part, map_of, merged_desc}
 use Rattle.merge_spec.specs.Faults.{kept_limits}
-use Rattle.merge_spec.specs.Merged.{staying}
+use Rattle.merge_spec.specs.Merged.{staying, merged_import}
 use Rattle.merge_join.specs.Kept.{kept_desc}
 use Rattle.merge_join.specs.LinkedParts.{site}
-use Rattle.merge_valid_proof.proofs.MergedSpaces.{import_is}
 
 -- ---- one import ----
 
@@ -32,13 +31,18 @@ import_of a b d = record { «module» = a; field = b; desc = d }
 made : (i : Import) (a b : Text) (d e : ImportDesc) → a ≡ i.«module» → b ≡ i.field → d ≡ e → Some (record i { desc = e }) ≡ Some (import_of a b d)
 made i a b d e p q r = sym (ap (λ a. Some (import_of a b d)) p ∙ ap (λ b. Some (import_of i.«module» b d)) q ∙ ap (λ d. Some (import_of i.«module» i.field d)) r)
 
+import_is : (ps : List Part) (s : Site) (m : Module) (i : Import) → module_at ps s.part ≡ Some m → slice_get m.imports s.import ≡ Some i → merged_import ps s ≡ Some (record i { desc = merged_desc ps s m i.desc })
+unfolding merged_import
+import_is ps s m i at here = rw (at, here) refl
+
 pub import_made : (ps : List Part) (s : Site) (m : Module) (r : Remap) (kept : Option Limits) (is : List Import) (i : Import) (a b : Text) (d : ImportDesc) → stays ps s ≡ true → module_at ps s.part ≡ Some m → is ≡ m.imports → s.import < length is → i ≡ get_or is s.import i →
     r ≡ map_of ps s.part m → kept ≡ kept_limits ps s → a ≡ i.«module» → b ≡ i.field → d ≡ kept_desc r kept i.desc → merged_import ps s ≡ Some (record { «module» = a; field = b; desc = d })
 import_made ps s m r kept is i a b d stay at same lt here map limits p q e =
-    let there : import_at ps s ≡ Some i = ap (λ o. option_and_then (λ m. slice_get m.imports s.import) o) at ∙ ap (λ l. slice_get l s.import) (sym same) ∙ slice_get-get_or is s.import i lt ∙ ap Some (sym here) in
+    let stands : slice_get m.imports s.import ≡ Some i = ap (λ l. slice_get l s.import) (sym same) ∙ slice_get-get_or is s.import i lt ∙ ap Some (sym here) in
+    let there : import_at ps s ≡ Some i = ap (λ o. option_and_then (λ m. slice_get m.imports s.import) o) at ∙ stands in
     let desc : d ≡ merged_desc ps s m i.desc =
     e ∙ ap (λ r. kept_desc r kept i.desc) map ∙ ap (λ k. kept_desc (map_of ps s.part m) k i.desc) (limits ∙ kept_is ps s i stay there) ∙ desc_is ps s m i.desc in
-    import_is ps s m i at there ∙ made i a b d (merged_desc ps s m i.desc) p q desc
+    import_is ps s m i at stands ∙ made i a b d (merged_desc ps s m i.desc) p q desc
 
 -- ---- the imports of one part ----
 

@@ -20,8 +20,7 @@ use Rattle.merge_join.specs.LinkedParts.{PartsHold}
 use Rattle.merge_join.proofs.Reading.{becomes_new}
 use Rattle.merge_join.proofs.RefOperands.{refs_kept}
 use Rattle.base_lists.proofs.Bools.{and_not}
-use Rattle.merge_valid_proof.proofs.Linked.{by_part_has}
-use Rattle.merge_valid_proof.proofs.Exports.{exports_are}
+use Rattle.merge_valid_proof.proofs.ByPart.{by_part_has}
 
 -- ---- lists ----
 
@@ -286,7 +285,8 @@ ValidHasEntries = (ps : List Part) (p : ℕ) (m : Module) → IsValid m → fits
 
 -- where no export is dropped, the merged module has no function to be declared
 pub none_undeclared : (ps : List Part) (names : List (Option Text)) (tree : Module) → ValidIsDeclared → ValidHasEntries → PartsHold ps → tree ≡ merged ps names → length names ≡ length (all_exports ps) → length names ≤ length tree.exports → declared tree ≡ tree
+unfolding merged
 none_undeclared ps names tree stays entries hold is many all =
-    let same : length tree.exports ≡ length (named_exports (all_exports ps) names) = ap (λ (t : Module). length t.exports) is ∙ ap length (exports_are ps names) in
+    let same : length tree.exports ≡ length (named_exports (all_exports ps) names) = ap (λ (t : Module). length t.exports) is in
     subst (λ t. declared t ≡ t) (sym is)
     (all_declared ps names many (omega (arith, all, same)) (λ p m at. stays m (hold p m at).0) (λ p m at. entries ps p m (hold p m at).0))

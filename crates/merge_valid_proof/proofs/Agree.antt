@@ -2,7 +2,6 @@
 use Rattle.base_lists.proofs.Common.{◌≡◌, ◌∙◌, ap, sym, subst, refl, ℕ, ◌+◌, ◌<◌, List, map, length, Option, Some, None, true, arith, ◌⊎◌, inl, inr, slice_get, slice_index, option_and_then, length-map, slice_get_within, slice_get_there, slice_index_is, map_at, map_from, append_from, chosen_from, numbers_at, length-numbers, and_then_is}
 use Rattle.wasm_tree_spec.specs.Prelude.{Space, Types, Functions, Tables, Memories, Globals, DataSegments, ElementSegments, RefType, FuncType, GlobalType, Import, ImportDesc, Func, ElemSeg, DataSeg, Module, funcs_of, tables_of, memories_of, globals_of, type_of_func}
 use Rattle.wasm_tree.specs.declared.module.ImportDesc.TheVariants as im
-use Rattle.wasm_valid.specs.declared.kinds.ItemKind.{ItemKind}
 use Rattle.wasm_valid.specs.declared.kinds.ItemKind.TheVariants as kind
 use Rattle.wasm_valid.specs.Prelude.{table_types, elem_types, ImportHolds, ItemsHold}
 use Rattle.wasm_meaning.specs.Prelude.{Text, EndsArePaths, numbers, defined_before, Part, module_at}
@@ -14,7 +13,7 @@ use Rattle.merge_spec.specs.Prelude.{merged_elem, merged_data, by_part, new_inde
 use Rattle.merge_spec.specs.Merged.{merged, map_of}
 use Rattle.merge_valid_proof.specs.Ended.{is_external}
 use Rattle.merge_valid_proof.proofs.Entities.{of_desc, of_import, own, imported, space, Ty, FuncTy, TableTy, MemoryTy, GlobalTy, type_of, type_at, typed_external}
-use Rattle.merge_valid_proof.proofs.ByPart.{elems_is, datas_is, by_part_at}
+use Rattle.merge_valid_proof.proofs.ByPart.{by_part_at}
 use Rattle.merge_valid_proof.proofs.TypePlaces.{type_stands, types_map}
 use Rattle.merge_valid_proof.proofs.MergedSpaces.{types_are}
 use Rattle.merge_valid_proof.proofs.Linked.{AllAreSuited}
@@ -165,8 +164,7 @@ elem_stands : (parts : List Part) (names : List (Option Text)) (p : ℕ) (m : Mo
 elem_stands parts names p m i s is h =
     let part_0 : 0 + p ≡ p = omega arith in
     ap (λ z. slice_get z (defined_before ElementSegments parts p + i)) (elems_are parts names)
-    ∙ ap (λ n. slice_get (by_part (λ p m. map (merged_elem parts p (map_of parts p m)) m.elems) parts) (n + i)) (elems_is parts p)
-    ∙ by_part_at (λ p m. map (merged_elem parts p (map_of parts p m)) m.elems) (λ m. length m.elems) (λ p m. length-map m.elems (merged_elem parts p (map_of parts p m))) 0 parts p m i (merged_elem parts p (map_of parts p m) s) is
+    ∙ by_part_at (λ p m. map (merged_elem parts p (map_of parts p m)) m.elems) ElementSegments (λ p m. length-map m.elems (merged_elem parts p (map_of parts p m))) 0 parts p m i (merged_elem parts p (map_of parts p m) s) is
     (ap (λ q. slice_get (map (merged_elem parts q (map_of parts q m)) m.elems) i) part_0 ∙ map_at (merged_elem parts p (map_of parts p m)) m.elems i s h)
 
 data_stands : (parts : List Part) (names : List (Option Text)) (p : ℕ) (m : Module) (i : ℕ) (s : DataSeg) → module_at parts p ≡ Some m → slice_get m.datas i ≡ Some s →
@@ -174,8 +172,7 @@ data_stands : (parts : List Part) (names : List (Option Text)) (p : ℕ) (m : Mo
 data_stands parts names p m i s is h =
     let part_0 : 0 + p ≡ p = omega arith in
     ap (λ z. slice_get z (defined_before DataSegments parts p + i)) (datas_are parts names)
-    ∙ ap (λ n. slice_get (by_part (λ p m. map (merged_data parts p (map_of parts p m)) m.datas) parts) (n + i)) (datas_is parts p)
-    ∙ by_part_at (λ p m. map (merged_data parts p (map_of parts p m)) m.datas) (λ m. length m.datas) (λ p m. length-map m.datas (merged_data parts p (map_of parts p m))) 0 parts p m i (merged_data parts p (map_of parts p m) s) is
+    ∙ by_part_at (λ p m. map (merged_data parts p (map_of parts p m)) m.datas) DataSegments (λ p m. length-map m.datas (merged_data parts p (map_of parts p m))) 0 parts p m i (merged_data parts p (map_of parts p m) s) is
     (ap (λ q. slice_get (map (merged_data parts q (map_of parts q m)) m.datas) i) part_0 ∙ map_at (merged_data parts p (map_of parts p m)) m.datas i s h)
 
 -- ---- the whole ----

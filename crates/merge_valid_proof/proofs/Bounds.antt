@@ -1,7 +1,6 @@
 -- A u32 can count what the merged module has, and it has at most one memory.
 use Rattle.base_lists.proofs.Common.{◌≡◌, ◌∙◌, ap, sym, refl, ℕ, ◌+◌, ◌^◌, ◌<◌, ◌≤◌, List, [], ◌∷◌, length, Option, Some, None, Bool, true, false, cond, nat_lt, arith, slice_get, ltb-false, length-append, filter_map_most}
-use Rattle.wasm_tree_spec.specs.Prelude.{Space, Functions, Tables, Memories, Globals, Which, Func, Module, memories_of, IsBounded, local_count, limit}
-use Rattle.wasm_tree.specs.declared.which.Which.TheVariants as which
+use Rattle.wasm_tree_spec.specs.Prelude.{Space, Functions, Tables, Memories, Globals, Func, Module, memories_of, IsBounded, local_count}
 use Rattle.wasm_valid.specs.Prelude.{IsSingle}
 use Rattle.wasm_meaning.specs.Prelude.{Text, defined_before, Part, count_of, sites}
 use Rattle.index_remap.specs.Prelude.{declared, declared_refs, with_declared, declaring}

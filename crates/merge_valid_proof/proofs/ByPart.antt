@@ -1,45 +1,34 @@
 -- Lists that are joined by part: an entry of a part's list has its place in all of them, and each entry comes from a part.
-use Rattle.base_lists.proofs.Common.{◌≡◌, ◌∙◌, ap, ap₂, sym, refl, ℕ, zero, suc, ◌+◌, List, [], ◌∷◌, ◌++◌, map, length, Some, arith, ◌⊎◌, inl, inr, slice_get, flat_map, length-append, map-append, append_at_left, append_right, append_from}
-use Rattle.wasm_tree_spec.specs.Prelude.{DataSegments, ElementSegments, Space, Module}
+use Rattle.base_lists.proofs.Common.{◌≡◌, ◌∙◌, ap, ap₂, sym, subst, refl, ℕ, zero, suc, ◌+◌, List, [], ◌∷◌, ◌++◌, map, length, Some, arith, ◌⊎◌, inl, inr, slice_get, flat_map, length-append, map-append, append_at_left, append_right, append_from, has_left, has_right, Has}
+use Rattle.wasm_tree_spec.specs.Prelude.{Space, Module}
 use Rattle.wasm_meaning.specs.Prelude.{defined_count, defined_before, Part, module_at}
 use Rattle.merge_spec.specs.Prelude.{by_part_from}
 
--- how many the first parts have
-abbrev pub before : (Module → ℕ) → List Part → ℕ → ℕ
-before count [] q = 0
-before count (part ∷ parts) zero = 0
-before count (part ∷ parts) (suc q) = count part.«module» + before count parts q
-
-pub defined_is : (k : Space) (parts : List Part) (q : ℕ) → defined_before k parts q ≡ before (defined_count k) parts q
-defined_is k [] q = refl
-defined_is k (part ∷ parts) zero = refl
-defined_is k (part ∷ parts) (suc q) = ap (λ n. defined_count k part.«module» + n) (defined_is k parts q)
-
-pub elems_is : (parts : List Part) (q : ℕ) → defined_before ElementSegments parts q ≡ before (λ m. length m.elems) parts q
-elems_is [] q = refl
-elems_is (part ∷ parts) zero = refl
-elems_is (part ∷ parts) (suc q) = ap (λ n. length part.«module».elems + n) (elems_is parts q)
-
-pub datas_is : (parts : List Part) (q : ℕ) → defined_before DataSegments parts q ≡ before (λ m. length m.datas) parts q
-datas_is [] q = refl
-datas_is (part ∷ parts) zero = refl
-datas_is (part ∷ parts) (suc q) = ap (λ n. length part.«module».datas + n) (datas_is parts q)
-
-pub by_part_at : {A : Type 0} (f : ℕ → Module → List A) (count : Module → ℕ) → ((p : ℕ) (m : Module) → length (f p m) ≡ count m) → (first : ℕ) (parts : List Part) (q : ℕ) (m : Module) (j : ℕ) (x : A) → module_at parts q ≡ Some m →
-    slice_get (f (first + q) m) j ≡ Some x → slice_get (by_part_from f first parts) (before count parts q + j) ≡ Some x
-by_part_at f count e first [] q m j x h g = cc
-by_part_at f count e first (part ∷ parts) zero m j x h g =
+pub by_part_at : {A : Type 0} (f : ℕ → Module → List A) (k : Space) → ((p : ℕ) (m : Module) → length (f p m) ≡ defined_count k m) → (first : ℕ) (parts : List Part) (q : ℕ) (m : Module) (j : ℕ) (x : A) → module_at parts q ≡ Some m →
+    slice_get (f (first + q) m) j ≡ Some x → slice_get (by_part_from f first parts) (defined_before k parts q + j) ≡ Some x
+by_part_at f k e first [] q m j x h g = cc
+by_part_at f k e first (part ∷ parts) zero m j x h g =
     let same : part.«module» ≡ m = cc in
     let at_first : first + 0 ≡ first = omega arith in
     let here : slice_get (f first part.«module») j ≡ Some x = ap₂ (λ p n. slice_get (f p n) j) (sym at_first) same ∙ g in
     let z : 0 + j ≡ j = omega arith in
     ap (slice_get (f first part.«module» ++ by_part_from f (suc first) parts)) z ∙ append_at_left (f first part.«module») (by_part_from f (suc first) parts) j x here
-by_part_at f count e first (part ∷ parts) (suc q) m j x h g =
+by_part_at f k e first (part ∷ parts) (suc q) m j x h g =
     let n : first + suc q ≡ suc first + q = omega arith in
-    let later = by_part_at f count e (suc first) parts q m j x h (ap (λ p. slice_get (f p m) j) (sym n) ∙ g) in
+    let later = by_part_at f k e (suc first) parts q m j x h (ap (λ p. slice_get (f p m) j) (sym n) ∙ g) in
     let many = e first part.«module» in
-    let at : (count part.«module» + before count parts q) + j ≡ length (f first part.«module») + (before count parts q + j) = omega (arith, many) in
-    ap (slice_get (f first part.«module» ++ by_part_from f (suc first) parts)) at ∙ append_right (f first part.«module») (by_part_from f (suc first) parts) (before count parts q + j) ∙ later
+    let at : (defined_count k part.«module» + defined_before k parts q) + j ≡ length (f first part.«module») + (defined_before k parts q + j) = omega (arith, many) in
+    ap (slice_get (f first part.«module» ++ by_part_from f (suc first) parts)) at ∙ append_right (f first part.«module») (by_part_from f (suc first) parts) (defined_before k parts q + j) ∙ later
+
+pub by_part_has : {A : Type 0} (f : ℕ → Module → List A) (first : ℕ) (parts : List Part) (q : ℕ) (m : Module) (x : A) → module_at parts q ≡ Some m → Has (f (first + q) m) x → Has (by_part_from f first parts) x
+by_part_has f first [] q m x h g = absurd (let k = h in cc)
+by_part_has f first (part ∷ parts) zero m x h g =
+    let same : m ≡ part.«module» = cc in
+    let at_first : first + 0 ≡ first = omega arith in
+    has_left (f first part.«module») (by_part_from f (suc first) parts) x (subst (λ n. Has (f n part.«module») x) at_first (subst (λ n. Has (f (first + 0) n) x) same g))
+by_part_has f first (part ∷ parts) (suc q) m x h g =
+    let n : first + suc q ≡ suc first + q = omega arith in
+    has_right (f first part.«module») (by_part_from f (suc first) parts) x (by_part_has f (suc first) parts q m x h (subst (λ p. Has (f p m) x) n g))
 
 -- an entry comes from a part
 pub record From {A : Type 0} (f : ℕ → Module → List A) (first : ℕ) (parts : List Part) (x : A) : Type 0 where
@@ -61,10 +50,10 @@ by_part_back {A} f first (part ∷ parts) i x h = by (append_from (f first part.
         let e : first + suc l.part ≡ suc first + l.part = omega arith in
         record { part = suc l.part; «module» = l.«module»; place = l.place; is_part = l.is_part; got = ap (λ p. slice_get (f p l.«module») l.place) e ∙ l.got }
 
-pub by_part_many : {A : Type 0} (f : ℕ → Module → List A) (count : Module → ℕ) → ((p : ℕ) (m : Module) → length (f p m) ≡ count m) → (first : ℕ) (parts : List Part) → length (by_part_from f first parts) ≡ before count parts (length parts)
-by_part_many f count e first [] = refl
-by_part_many f count e first (part ∷ parts) =
-    length-append (f first part.«module») (by_part_from f (suc first) parts) ∙ ap₂ (λ a b. a + b) (e first part.«module») (by_part_many f count e (suc first) parts)
+pub by_part_many : {A : Type 0} (f : ℕ → Module → List A) (k : Space) → ((p : ℕ) (m : Module) → length (f p m) ≡ defined_count k m) → (first : ℕ) (parts : List Part) → length (by_part_from f first parts) ≡ defined_before k parts (length parts)
+by_part_many f k e first [] = refl
+by_part_many f k e first (part ∷ parts) =
+    length-append (f first part.«module») (by_part_from f (suc first) parts) ∙ ap₂ (λ a b. a + b) (e first part.«module») (by_part_many f k e (suc first) parts)
 
 pub by_part_map : {A B : Type 0} (g : A → B) (f : ℕ → Module → List A) (first : ℕ) (parts : List Part) → map g (by_part_from f first parts) ≡ by_part_from (λ p m. map g (f p m)) first parts
 by_part_map g f first [] = refl
@@ -74,6 +63,11 @@ pub by_part_same : {A : Type 0} (f g : ℕ → Module → List A) → ((p : ℕ)
 by_part_same f g e first [] = refl
 by_part_same f g e first (part ∷ parts) = ap₂ (λ a b. a ++ b) (e first part.«module») (by_part_same f g e (suc first) parts)
 
+-- a list that begins with what the first part has, and goes on with those behind it, is joined by part
+pub by_part_is : {A : Type 0} (g : ℕ → List Part → List A) (f : ℕ → Module → List A) → ((first : ℕ) → g first [] ≡ []) → ((first : ℕ) (part : Part) (parts : List Part) → g first (part ∷ parts) ≡ f first part.«module» ++ g (suc first) parts) → (first : ℕ) (parts : List Part) →
+    g first parts ≡ by_part_from f first parts
+by_part_is g f none next first [] = none first
+by_part_is g f none next first (part ∷ parts) = next first part parts ∙ ap (λ z. f first part.«module» ++ z) (by_part_is g f none next (suc first) parts)
+
 pub by_part_flat : {A : Type 0} (f : Module → List A) (first : ℕ) (parts : List Part) → flat_map (λ p. f p.«module») parts ≡ by_part_from (λ p m. f m) first parts
-by_part_flat f first [] = refl
-by_part_flat f first (part ∷ parts) = ap (λ z. f part.«module» ++ z) (by_part_flat f (suc first) parts)
+by_part_flat f = by_part_is (λ first parts. flat_map (λ p. f p.«module») parts) (λ p m. f m) (λ first. refl) (λ first part parts. refl)

@@ -1,5 +1,5 @@
 -- The index spaces of entities at once: what an entry of one is, and its type, with the limits of tables and memories left aside. Types and segments are no entities.
-use Rattle.base_lists.proofs.Common.{◌≡◌, ◌∙◌, ap, ap₂, sym, refl, ℕ, List, ◌++◌, map, length, Option, Some, None, true, is_some, [], slice_get, option_and_then, filter_map, length-map, and_then_is, and_parts, arith}
+use Rattle.base_lists.proofs.Common.{◌≡◌, ◌∙◌, ap, ap₂, sym, refl, ℕ, List, ◌++◌, map, length, Option, Some, None, true, is_some, [], slice_get, option_and_then, filter_map, length-map, and_then_is, and_parts}
 use Rattle.wasm_tree_spec.specs.Prelude.{Space, Types, Functions, Tables, Memories, Globals, ElementSegments, DataSegments, RefType, FuncType, Limits, TableType, GlobalType, Import, ImportDesc, ExportDesc, Module, func_of, table_of, memory_of, global_of, funcs_of, tables_of, memories_of, globals_of, type_of_func, index_of_export, space_of_export, space_of_import}
 use Rattle.wasm_tree.specs.declared.module.ImportDesc.TheVariants as im
 use Rattle.wasm_tree.specs.declared.module.ExportDesc.TheVariants as ex
@@ -126,9 +126,6 @@ abbrev pub type_at : Module → (k : Space) → ℕ → Option Ty
 type_at m k i = option_and_then (type_of m k) (slice_get (space k m) i)
 
 -- what an import adds to, and what stands in an index space, is an entity
-pub import_external : (d : ImportDesc) → is_external (space_of_import d) ≡ true
-import_external d = grind arith
-
 pub entry_external : (k : Space) → Entry k → is_external k ≡ true
 entry_external Functions c = refl
 entry_external Tables c = refl

@@ -58,7 +58,7 @@ no_import parts p n (Some x) h = cc
 
 -- ---- places ----
 
-pub count_is : (parts : List Part) (k : Space) (p : ℕ) (m : Module) → module_at parts p ≡ Some m → imported_count parts p k ≡ length (imports_of k m)
+count_is : (parts : List Part) (k : Space) (p : ℕ) (m : Module) → module_at parts p ≡ Some m → imported_count parts p k ≡ length (imports_of k m)
 count_is parts k p m e = ap (λ o. unwrap_or (option_and_then (λ m. Some (length (imports_of k m))) o) 0) e
 
 -- the place of what a part defines

@@ -12,7 +12,7 @@ use Rattle.merge_spec.specs.Prelude.{map_of, export_names, named_exports}
 use Rattle.merge_spec.specs.Merged.{merged, all_exports}
 use Rattle.merge_valid_proof.proofs.ByPart.{by_part_back}
 
-pub exports_are : (parts : List Part) (names : List (Option Text)) → (merged parts names).exports ≡ named_exports (all_exports parts) names
+exports_are : (parts : List Part) (names : List (Option Text)) → (merged parts names).exports ≡ named_exports (all_exports parts) names
 unfolding merged
 exports_are parts names = refl
 

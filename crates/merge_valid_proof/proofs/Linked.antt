@@ -1,28 +1,18 @@
 -- What it says that parts have no fault of linking: of each import, of the memories, and of each global that a part defines.
-use Rattle.base_lists.proofs.Common.{◌≡◌, ◌∙◌, ap, ap₂, sym, subst, refl, ℕ, zero, suc, ◌+◌, ◌<◌, List, [], ◌∷◌, ◌++◌, length, Option, Some, None, Bool, true, false, cond, arith, option_and_then, slice_get, slice_get_within, has_left, has_right, Has, and_then_is, unwrap_or_false_is, and_parts}
+use Rattle.base_lists.proofs.Common.{◌≡◌, ◌∙◌, ap, ap₂, sym, subst, refl, ℕ, zero, suc, ◌+◌, ◌<◌, List, [], ◌∷◌, length, Option, Some, None, Bool, true, false, cond, arith, option_and_then, slice_get, slice_get_within, Has, and_then_is, unwrap_or_false_is, and_parts}
 use Rattle.wasm_tree_spec.specs.Prelude.{Globals, Import, GlobalDef, Module}
 use Rattle.wasm_meaning.specs.Prelude.{Part, Site, End, Defined, Outside, Read, module_at, import_at, imports_of, sites_in, sites_from, sites, end_of, read_of}
 use Rattle.merge_spec.specs.declared.faults.LinkFault.{LinkFault}
 use Rattle.merge_spec.specs.declared.faults.LinkFault.TheVariants.{ImportMismatch}
 use Rattle.merge_spec.specs.Prelude.{External, asked_at, found, suits, same_but_limits, meets_limits, is_suited, or_else, first_fault, end_fault, clash_fault, memory_fault, defined_globals_in, defined_globals_from, by_part_from}
 use Rattle.merge_spec.specs.Faults.{import_fault, DefinedGlobal, defined_globals, value_fault, global_fault, link_fault}
+use Rattle.merge_valid_proof.proofs.ByPart.{by_part_is, by_part_has}
 use Rattle.merge_valid_proof.proofs.Entities.{bare, bare_is}
 
 -- ---- what stands in lists that are joined by part ----
 
-pub by_part_has : {A : Type 0} (f : ℕ → Module → List A) (first : ℕ) (parts : List Part) (q : ℕ) (m : Module) (x : A) → module_at parts q ≡ Some m → Has (f (first + q) m) x → Has (by_part_from f first parts) x
-by_part_has f first [] q m x h g = absurd (let k = h in cc)
-by_part_has f first (part ∷ parts) zero m x h g =
-    let same : m ≡ part.«module» = cc in
-    let at_first : first + 0 ≡ first = omega arith in
-    has_left (f first part.«module») (by_part_from f (suc first) parts) x (subst (λ n. Has (f n part.«module») x) at_first (subst (λ n. Has (f (first + 0) n) x) same g))
-by_part_has f first (part ∷ parts) (suc q) m x h g =
-    let n : first + suc q ≡ suc first + q = omega arith in
-    has_right (f first part.«module») (by_part_from f (suc first) parts) x (by_part_has f (suc first) parts q m x h (subst (λ p. Has (f p m) x) n g))
-
 pub sites_are : (first : ℕ) (parts : List Part) → sites_from first parts ≡ by_part_from (λ p m. sites_in p (length m.imports) 0) first parts
-sites_are first [] = refl
-sites_are first (part ∷ parts) = ap (λ z. sites_in first (length part.«module».imports) 0 ++ z) (sites_are (suc first) parts)
+sites_are = by_part_is sites_from (λ p m. sites_in p (length m.imports) 0) (λ first. refl) (λ first part parts. refl)
 
 pub site_in : (p count from i : ℕ) → i < count → slice_get (sites_in p count from) i ≡ Some (record { part = p; import = from + i })
 site_in p zero from i l = absurd (omega (arith, l))
@@ -43,8 +33,7 @@ in_sites parts s i h =
     subst (λ z. Has z s) (sym (sites_are 0 parts)) (by_part_has (λ p m. sites_in p (length m.imports) 0) 0 parts s.part m.0 s m.1 (subst (λ p. Has (sites_in p (length m.0.imports) 0) s) part_0 there))
 
 own_are : (first : ℕ) (parts : List Part) → defined_globals_from first parts ≡ by_part_from (λ p m. defined_globals_in p (length (imports_of Globals m)) m.globals) first parts
-own_are first [] = refl
-own_are first (part ∷ parts) = ap (λ z. defined_globals_in first (length (imports_of Globals part.«module»)) part.«module».globals ++ z) (own_are (suc first) parts)
+own_are = by_part_is defined_globals_from (λ p m. defined_globals_in p (length (imports_of Globals m)) m.globals) (λ first. refl) (λ first part parts. refl)
 
 own_in : (p n : ℕ) (gs : List GlobalDef) (j : ℕ) (g : GlobalDef) → slice_get gs j ≡ Some g → slice_get (defined_globals_in p n gs) j ≡ Some (record { part = p; index = n + j; init = g.init })
 own_in p n [] j g h = cc

@@ -8,7 +8,7 @@ use Rattle.merge_spec.specs.Prelude.{merged_types, map_of, merged_desc, merged_g
 use Rattle.merge_spec.specs.Merged.{merged, merged_import, staying_of, defined_funcs}
 use Rattle.merge_valid_proof.specs.Ended.{is_external}
 use Rattle.merge_valid_proof.proofs.Entities.{Entry, of_desc, of_import, own, imported, space, import_kind, own_many, entry_external, Ty, FuncTy, type_of, type_at}
-use Rattle.merge_valid_proof.proofs.ByPart.{before, defined_is, by_part_at, by_part_map, by_part_same, by_part_flat, by_part_many}
+use Rattle.merge_valid_proof.proofs.ByPart.{by_part_at, by_part_map, by_part_same, by_part_flat, by_part_many}
 use Rattle.merge_valid_proof.proofs.TypePlaces.{type_stands}
 use Rattle.base_lists.proofs.Filtered.{chosen_at, as_many, chosen_twice}
 
@@ -74,7 +74,7 @@ own_count : (parts : List Part) (k : Space) → is_external k ≡ true → (p : 
 own_count parts k e p m = length-map (own k m) (moved parts k p m) ∙ own_many k m e
 
 pub all_own : (parts : List Part) (k : Space) → is_external k ≡ true → length (by_part (moved_own parts k) parts) ≡ defined_before k parts (length parts)
-all_own parts k e = by_part_many (moved_own parts k) (defined_count k) (own_count parts k e) 0 parts ∙ sym (defined_is k parts (length parts))
+all_own parts k e = by_part_many (moved_own parts k) k (own_count parts k e) 0 parts
 
 -- ---- imports that stay ----
 
@@ -124,7 +124,7 @@ imported_at parts names k n s h =
     ap (λ z. slice_get (filter_map (of_import k) z) n) (imports_are parts names) ∙ ap (λ z. slice_get z n) (chosen_twice (merged_import parts) (of_import k) (staying parts))
     ∙ chosen_at (imports_kind parts k) (λ s. option_and_then (of_import k) (merged_import parts s)) (staying parts) (import_moved parts k) n s h
 
-pub import_is : (parts : List Part) (s : Site) (m : Module) (i : Import) → module_at parts s.part ≡ Some m → import_at parts s ≡ Some i → merged_import parts s ≡ Some (record i { desc = merged_desc parts s m i.desc })
+import_is : (parts : List Part) (s : Site) (m : Module) (i : Import) → module_at parts s.part ≡ Some m → import_at parts s ≡ Some i → merged_import parts s ≡ Some (record i { desc = merged_desc parts s m i.desc })
 unfolding merged_import
 import_is parts s m i e h = by (module_at parts s.part) e h
   where
@@ -193,9 +193,9 @@ pub own_at : (parts : List Part) (names : List (Option Text)) (k : Space) (q : �
 own_at parts names k q m j c e h =
     let ext = entry_external k c in
     let from_0 : 0 + q ≡ q = omega arith in
-    let got = by_part_at (moved_own parts k) (defined_count k) (own_count parts k ext) 0 parts q m j (moved parts k q m c) e (ap (λ p. slice_get (moved_own parts k p m) j) from_0 ∙ map_at (moved parts k q m) (own k m) j c h) in
+    let got = by_part_at (moved_own parts k) k (own_count parts k ext) 0 parts q m j (moved parts k q m c) e (ap (λ p. slice_get (moved_own parts k p m) j) from_0 ∙ map_at (moved parts k q m) (own k m) j c h) in
     let at : slice_get (own k (merged parts names)) (defined_before k parts q + j) ≡ Some (moved parts k q m c) =
-    ap (λ z. slice_get z (defined_before k parts q + j)) (own_is parts names k ext) ∙ ap (λ z. slice_get (by_part (moved_own parts k) parts ++ extra parts k) (z + j)) (defined_is k parts q) ∙ append_at_left (by_part (moved_own parts k) parts) (extra parts k) (before (defined_count k) parts q + j) (moved parts k q m c) got in
+    ap (λ z. slice_get z (defined_before k parts q + j)) (own_is parts names k ext) ∙ append_at_left (by_part (moved_own parts k) parts) (extra parts k) (defined_before k parts q + j) (moved parts k q m c) got in
     ap (λ z. slice_get (space k (merged parts names)) (z + (defined_before k parts q + j))) (sym (imported_many parts names k)) ∙ append_right (imported k (merged parts names)) (own k (merged parts names)) (defined_before k parts q + j) ∙ at
 
 -- what a part defines has its type at its place

@@ -1,9 +1,9 @@
 -- The tests of sameness: what passes them is equal, and each passes with itself.
-use Rattle.base_lists.proofs.Common.{◌≡◌, ap₂, refl, Bool, true, nat_eq, arith, each_same_is, each_same_self, eqb-true, and_parts, and_from}
+use Rattle.base_lists.proofs.Common.{◌≡◌, ap₂, refl, Bool, true, nat_eq, arith, eqb-true, and_parts, and_from}
 use Rattle.base_lists.proofs.Same.{text_is, text_self}
 use Rattle.std.proofs.Common.{eq-eqb}
 use Rattle.wasm_tree_spec.specs.Prelude.{Space, same_space, RefType, ValType}
-use Rattle.wasm_meaning.specs.Prelude.{Text, Pair, same_ref, same_type, same_bool, Site, same_text, same_pair, same_site}
+use Rattle.wasm_meaning.specs.Prelude.{Pair, same_ref, same_type, same_bool, Site, same_text, same_pair, same_site}
 
 pub ref_is : (r s : RefType) → same_ref r s ≡ true → r ≡ s
 ref_is r s h = grind arith

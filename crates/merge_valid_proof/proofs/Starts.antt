@@ -17,7 +17,7 @@ use Rattle.merge_valid_proof.proofs.Linked.{AllAreSuited, are_linked}
 use Rattle.merge_valid_proof.proofs.Entries.{entry_kept}
 use Rattle.merge_valid_proof.proofs.Agree.{func_to, func_back}
 
-pub start_is : (parts : List Part) (names : List (Option Text)) → (merged parts names).start ≡ start_among (length (staying_of parts Functions) + defined_before Functions parts (length parts)) (starts parts)
+start_is : (parts : List Part) (names : List (Option Text)) → (merged parts names).start ≡ start_among (length (staying_of parts Functions) + defined_before Functions parts (length parts)) (starts parts)
 unfolding merged
 start_is parts names = refl
 

@@ -1,12 +1,13 @@
 -- The next part's active segments, as its turn comes: what they do at once, with those of the parts before it and none of later ones.
 use Rattle.world_sequential_proof.proofs.ExternalValues.{part_inst}
-use Rattle.base_lists.proofs.Common.{◌≡◌, ◌∙◌, refl, ℕ, suc, List, ◌++◌, length, Some, true, false, append_assoc, arith, slice_get}
+use Rattle.base_lists.proofs.Common.{◌≡◌, ◌∙◌, refl, ℕ, suc, List, ◌++◌, length, Some, false, append_assoc, arith, slice_get}
 use Rattle.wasm_tree_spec.specs.Prelude.{Space, Tables, Memories, DataSegments, ElementSegments, ConstExpr, Module}
-use Rattle.wasm_meaning.specs.Prelude.{Val, numbers, defined_count, Inst, Table, Memory, Elem, Data, Store, no_items, no_bytes, Part, module_at, sites, Environment, all_of, base, is_matched, insts_from, own_store, stores_from, part_store, joined_stores, const_value, value_of, placed_elems, placed_datas, segments, defined_before, JoinsEarlier, own_segments}
+use Rattle.wasm_meaning.specs.Prelude.{Val, numbers, defined_count, Inst, Table, Memory, Elem, Data, Store, no_items, no_bytes, Part, module_at, Environment, base, insts_from, own_store, stores_from, part_store, joined_stores, const_value, value_of, placed_elems, placed_datas, segments, defined_before, JoinsEarlier, own_segments}
 use Rattle.world_sequential_proof.proofs.Joined.{ExportsThere}
 use Rattle.world_sequential_proof.proofs.FillAddresses.{numbers_low, space_low}
 use Rattle.world_sequential_proof.proofs.FillStores.{rest_from, rest_next, Lengths, lengths_next}
 use Rattle.world_sequential_proof.proofs.FillValues.{Constant, value_given}
+use Rattle.world_sequential_proof.proofs.OnePart.{EachMatches}
 use Rattle.world_sequential_proof.proofs.FillAdded.{Constants}
 use Rattle.world_sequential_proof.proofs.FillRuns.{runs_front, runs_kept, next_runs}
 use Rattle.world_sequential_proof.proofs.FillTurns.{table_fill, elem_jobs, elems_low, elems_kept}
@@ -16,7 +17,7 @@ use Rattle.world_sequential_proof.proofs.FillSegments.{both_went, own_go, elem_j
 use Rattle.world_simulation.proofs.Instancing.{IsInst}
 use Rattle.wasm_meaning.proofs.Counts.{defined_next, module_there}
 
-module _ (env : Environment) (parts : List Part) (insts : List Inst) (are : insts_from env parts 0 parts ≡ Some insts) (allocated : Store) (stores_are : stores_from env parts insts (own_store env) 0 parts insts ≡ Some allocated) (matched : all_of (is_matched env parts allocated) (sites parts) ≡ true) (size : length insts ≡ length parts) (there : ExportsThere parts) (earlier : JoinsEarlier parts) where
+module _ (env : Environment) (parts : List Part) (insts : List Inst) (are : insts_from env parts 0 parts ≡ Some insts) (allocated : Store) (stores_are : stores_from env parts insts (own_store env) 0 parts insts ≡ Some allocated) (matched : EachMatches env parts allocated) (size : length insts ≡ length parts) (there : ExportsThere parts) (earlier : JoinsEarlier parts) where
   -- the store after the segments of part k, where nothing else has changed
   pub record Next (k : ℕ) (m : Module) (i : Inst) (t a : Store) : Type 0 where
     pub store : Store

@@ -1,9 +1,8 @@
 -- What valid parts give: their constant expressions read imports that are not mutable, and what they export is there.
 use Rattle.base_lists.proofs.Common.{◌≡◌, ◌∙◌, sym, ap, ℕ, ◌+◌, ◌<◌, List, map, length, Some, arith, not, nat_lt, slice_get, ltb-true, and_parts, not-true, length-append, length-map, slice_get_within, same_Some, slice_get_there, append_left, place_of, and_then_is, only_true}
-use Rattle.wasm_tree_spec.specs.Prelude.{Globals, ValType, Ref, GlobalType, Import, Export, ExportDesc, ConstExpr, GlobalDef, ElemSeg, DataSeg, Module, global_of, imported_globals, globals_of, index_of_export, space_of_export}
+use Rattle.wasm_tree_spec.specs.Prelude.{Globals, ValType, Ref, GlobalType, Import, ExportDesc, ConstExpr, GlobalDef, ElemSeg, DataSeg, Module, global_of, imported_globals, globals_of, index_of_export, space_of_export}
 use Rattle.wasm_tree.specs.declared.module.ImportDesc.TheVariants as im
 use Rattle.wasm_tree.specs.declared.module.ExportDesc.TheVariants as ex
-use Rattle.wasm_valid.specs.declared.kinds.ItemKind.{ItemKind}
 use Rattle.wasm_valid.specs.declared.kinds.ItemKind.TheVariants as kind
 use Rattle.wasm_valid.specs.Prelude.{const_type, IsValid, InSpace, ElemModeHolds, DataModeHolds, ValidWhereItemsHold}
 use Rattle.wasm_meaning.specs.Prelude.{Part, has_kind, imports_of, module_at, defined_count}

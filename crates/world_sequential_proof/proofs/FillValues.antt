@@ -1,14 +1,14 @@
 -- A constant expression of a part has one value, whether it is read from the store as the part's turn comes or along its path through joined globals.
-use Rattle.base_lists.proofs.Common.{◌≡◌, ◌∙◌, refl, sym, ap, ℕ, zero, suc, ◌+◌, ◌-◌, ◌<◌, List, [], ◌∷◌, length, Some, true, false, inl, inr, arith, add-zero, zero-add, option_and_then, slice_get, right_true, same_Some, slice_get_there, and_then_is, unwrap_or_false_is, list_all_each, add_next, all_there_length, length-map}
+use Rattle.base_lists.proofs.Common.{◌≡◌, ◌∙◌, refl, sym, ap, ℕ, zero, suc, ◌+◌, ◌-◌, ◌<◌, List, [], ◌∷◌, length, Some, true, false, inl, inr, arith, add-zero, zero-add, option_and_then, slice_get, right_true, same_Some, slice_get_there, and_then_is, unwrap_or_false_is, add_next, all_there_length, length-map}
 use Rattle.wasm_tree_spec.specs.Prelude.{Space, Globals, GlobalType, Import, ConstExpr, Module, index_of_export, space_of_import}
 use Rattle.wasm_tree.specs.declared.module.ImportDesc.TheVariants as im
 use Rattle.wasm_tree.specs.declared.module.ConstExpr.TheVariants as const
-use Rattle.wasm_meaning.specs.Prelude.{Val, Inst, Global, Store, same_type, walk, walk_on, Part, Site, End, Defined, Outside, Read, places, has_kind, space_index, imports_of, module_at, import_at, sites, end_of, global_import, initial, outside_read, end_step, read_step, initials_from, read_of, Environment, GlobalAt, own_globals, all_of, base, is_matched, imported_external_value, insts_from, own_store, stores_from, same_bool, const_value, value_of, address_of, JoinsEarlier}
-use Rattle.merge_valid_proof.proofs.Linked.{in_sites}
+use Rattle.wasm_meaning.specs.Prelude.{Val, Inst, Global, Store, same_type, walk, walk_on, Part, Site, End, Defined, Outside, Read, places, has_kind, space_index, imports_of, module_at, import_at, end_of, global_import, initial, outside_read, end_step, read_step, initials_from, read_of, Environment, GlobalAt, own_globals, base, imported_external_value, insts_from, own_store, stores_from, same_bool, const_value, value_of, address_of, JoinsEarlier}
 use Rattle.world_simulation.proofs.Allocated.{keeps}
 use Rattle.world_simulation.proofs.Stored.{global_placed}
 use Rattle.world_sequential_proof.proofs.ExternalValues.{walk_more, thing_has, part_inst}
 use Rattle.world_sequential_proof.proofs.Joined.{ExportsThere}
+use Rattle.world_sequential_proof.proofs.OnePart.{EachMatches}
 use Rattle.world_sequential_proof.proofs.FillAddresses.{AtDefined, AtOwn, HasAddress, import_address, imported_at, imported_low}
 use Rattle.wasm_meaning.proofs.Counts.{module_there}
 
@@ -41,7 +41,7 @@ abbrev pub HoldsFixed : Environment → List Part → (allocated : Store) → �
 HoldsFixed env parts allocated k t = (a : ℕ) (g : Global) → a < base env parts Globals k → slice_get allocated.globals a ≡ Some g → g.ty.mutable ≡ false → (h : Global) × (slice_get t.globals a ≡ Some h) × (h.value ≡ g.value)
 
 module _ (env : Environment) (parts : List Part) (insts : List Inst) (are : insts_from env parts 0 parts ≡ Some insts) where
-  module _ (allocated : Store) (stores_are : stores_from env parts insts (own_store env) 0 parts insts ≡ Some allocated) (matched : all_of (is_matched env parts allocated) (sites parts) ≡ true) (size : length insts ≡ length parts) (there : ExportsThere parts) (earlier : JoinsEarlier parts) where
+  module _ (allocated : Store) (stores_are : stores_from env parts insts (own_store env) 0 parts insts ≡ Some allocated) (matched : EachMatches env parts allocated) (size : length insts ≡ length parts) (there : ExportsThere parts) (earlier : JoinsEarlier parts) where
     part_there : (k : ℕ) (m : Module) → module_at parts k ≡ Some m → (i : Inst) × (slice_get insts k ≡ Some i)
     part_there k m is_part = slice_get_there insts k (omega (arith, module_there parts k m is_part))
 
@@ -69,9 +69,8 @@ module _ (env : Environment) (parts : List Part) (insts : List Inst) (are : inst
           fixed : (g : Global) × (slice_get allocated.globals d.address ≡ Some g) × (g.ty.mutable ≡ false)
           fixed =
               let import_is : import_at parts s ≡ Some c.import = rw is_part c.is_import in
-              let at = in_sites parts s c.import import_is in
               let thing : imported_external_value env parts s ≡ Some (GlobalAt d.address) = d.is ∙ sym (thing_has Globals d.thing d.address d.has) in
-              let matches = rw (thing, is_part, c.is_import, c.is_global) at (list_all_each (is_matched env parts allocated) (sites parts) matched at.0 s at.1) in
+              let matches = rw (thing, is_part, c.is_import, c.is_global) at (matched s c.import import_is) in
               let g = and_then_is (slice_get allocated.globals d.address) _ true (unwrap_or_false_is _ matches) in
               (g.0, g.1, grind (arith, c.fixed, right_true (same_type c.type.ty g.0.ty.ty) (same_bool c.type.mutable g.0.ty.mutable) (same_Some _ _ g.2)))
 

@@ -7,6 +7,7 @@ use Rattle.world_sequential_proof.proofs.ExtensionLaws.{ExtensionLaws}
 use Rattle.world_sequential_proof.proofs.Given.{IsGiven}
 use Rattle.world_sequential_proof.proofs.Begins.{FillLaws}
 use Rattle.world_sequential_proof.proofs.FillStores.{rest_from, rest_last, rest_next, inst_there}
+use Rattle.world_sequential_proof.proofs.OnePart.{EachMatches, each_matches}
 use Rattle.world_sequential_proof.proofs.FillAdded.{Constants}
 use Rattle.world_sequential_proof.proofs.FillSegments
 use Rattle.world_sequential_proof.proofs.FillSegments.{FilledUpto}
@@ -24,14 +25,17 @@ module _ (env : Environment) (w : World) (insts : List Inst) (allocated : Store)
       let added = g.laid.part_adds k x.0 x.1 x.2 x.3 in
       rw (rest_next env w.parts insts k x.0 x.1 (g.laid.adds k) x.2 x.3 added, rest_same n (suc k) (omega arith)) (sym (g.laid.rest_next k x.0 x.2))
 
+  each : EachMatches env w.parts allocated
+  each = each_matches env w.parts allocated g.listed g.matched
+
   pub fill_laws : (itself : CodeIsRelatedToItself) (below : StartDependsOnlyOnItsFrames) (extend : ExtensionLaws) (ticks : RelatedTicksAgree) (others : OthersStay) (view : List (Text × ExternalValue)) (view_is : all_there (seen_as insts) w.view ≡ Some view) → FillLaws env w insts allocated g itself below extend ticks others view view_is (FilledUpto env w.parts insts allocated)
   fill_laws itself below extend ticks others view view_is = record {
     filled_none = FillSegments.filled_none env w.parts insts allocated stores_are g.size;
     filled_next = λ k m i t is_part is_inst h.
-        let n = FillNext.filled_next env w.parts insts g.are allocated stores_are g.matched g.size g.exports g.earlier k m i is_part is_inst t (g.laid.adds k) (g.laid.part_adds k m i is_part is_inst) h (constants k m is_part) well in
+        let n = FillNext.filled_next env w.parts insts g.are allocated stores_are each g.size g.exports g.earlier k m i is_part is_inst t (g.laid.adds k) (g.laid.part_adds k m i is_part is_inst) h (constants k m is_part) well in
         rw n.is (refl, n.filled);
     filled_all = λ k t l h none.
         let n : length w.parts - k + k ≡ length w.parts = omega arith in
         ap (λ f. f.store) (FillSegments.filled_all env w.parts insts allocated stores_are g.size k t l h none) ∙ ap (joined_stores t) (rest_same (length w.parts - k) k n);
-    filled_sized = λ k t l h. FillGiven.filled_sized env w.parts insts g.are allocated stores_are g.matched g.size g.exports g.earlier k t h;
+    filled_sized = λ k t l h. FillGiven.filled_sized env w.parts insts g.are allocated stores_are each g.size g.exports g.earlier k t h;
   }

@@ -53,12 +53,18 @@ module _ (env : Environment) (parts : List Part) (p : ℕ) (s t : Store) (holds 
 abbrev pub SitesThere : List Part → Type 0
 SitesThere parts = (s : Site) (i : Import) → import_at parts s ≡ Some i → (n : ℕ) × (slice_get (sites parts) n ≡ Some s)
 
+-- each import matches
+abbrev pub EachMatches : Environment → List Part → (allocated : Store) → Type 0
+EachMatches env parts allocated = (s : Site) (i : Import) → import_at parts s ≡ Some i → is_matched env parts allocated s ≡ true
+
+pub each_matches : (env : Environment) (parts : List Part) (allocated : Store) → SitesThere parts → all_of (is_matched env parts allocated) (sites parts) ≡ true → EachMatches env parts allocated
+each_matches env parts allocated listed matched s i h = let n = listed s i h in list_all_each (is_matched env parts allocated) (sites parts) matched n.0 s n.1
+
 -- an import matches what it denotes
 pub matches : (env : Environment) (parts : List Part) (allocated : Store) → SitesThere parts → all_of (is_matched env parts allocated) (sites parts) ≡ true →
     (p n : ℕ) (m : Module) (i : Import) (x : ExternalValue) → module_at parts p ≡ Some m → slice_get m.imports n ≡ Some i → imported_external_value env parts (record { part = p; import = n }) ≡ Some x → is_match allocated m i.desc x ≡ Some true
 matches env parts allocated listed matched p n m i x is_part here h =
-    let s = listed (record { part = p; import = n }) i (rw (is_part, here)) in
-    unwrap_or_false_is (is_match allocated m i.desc x) (rw (h, is_part, here) at (list_all_each (is_matched env parts allocated) (sites parts) matched s.0 (record { part = p; import = n }) s.1))
+    unwrap_or_false_is (is_match allocated m i.desc x) (rw (h, is_part, here) at (each_matches env parts allocated listed matched (record { part = p; import = n }) i (rw (is_part, here))))
 
 module _ (env : Environment) (parts : List Part) (insts : List Inst) (are : insts_from env parts 0 parts ≡ Some insts) (size : length insts ≡ length parts) (earlier : JoinsEarlier parts) (own : OwnEntitiesCorrespond) (listed : SitesThere parts) (allocated : Store) (matched : all_of (is_matched env parts allocated) (sites parts) ≡ true) where
   module _ (p : ℕ) (m : Module) (i : Inst) (is_part : module_at parts p ≡ Some m) (is_inst : slice_get insts p ≡ Some i) (t : Store) (sized : Sized env parts p t) (holds : Holds env parts p allocated t) where

@@ -5,6 +5,7 @@
 ghost use Rattle.world_sequential_proof.specs.Laws.{SequentialInstantiationIsEquivalent};
 
 use index_remap::{related_runs_have_equal_traces, steps_agree};
+use merge_valid_proof::linked_imports_have_ends;
 use wasm_meaning::start_depends_only_on_its_frames;
 use wasm_valid::valid_where_items_hold;
 use world_extension_proof::{store_extension_is_a_preorder, stores_are_extended};
@@ -25,4 +26,5 @@ pub fn sequential_instantiation_equivalent()
     steps_agree();
     related_runs_have_equal_traces();
     own_entities_correspond();
+    linked_imports_have_ends();
 }

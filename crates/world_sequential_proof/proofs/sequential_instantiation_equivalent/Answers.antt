@@ -2,7 +2,7 @@ use Rattle.world_sequential_proof.proofs.ExtensionLaws.{ExtensionLaws}
 use Rattle.world_sequential_proof.proofs.Assembled.{turns_not_seen}
 use Rattle.world_sequential_proof.proofs.sequential_instantiation_equivalent.Goals as goal
 
-extension : (c : goal.After-own_entities_correspond) → ExtensionLaws
+extension : (c : goal.After-linked_imports_have_ends) → ExtensionLaws
 extension c = record {
   reflexive = c.store_extension_is_a_preorder.ensures.reflexive;
   transitive = c.store_extension_is_a_preorder.ensures.transitive;
@@ -13,5 +13,5 @@ extension c = record {
 
 pub returns : goal.returns
 returns c = record {
-  equivalent = turns_not_seen c.valid_where_items_hold.ensures c.start_depends_only_on_its_frames.ensures.own_frames (extension c) c.steps_agree.ensures.reflexive c.related_runs_have_equal_traces.ensures.steps c.related_runs_have_equal_traces.ensures.unrelated c.own_entities_correspond.ensures.own;
+  equivalent = turns_not_seen c.valid_where_items_hold.ensures c.start_depends_only_on_its_frames.ensures.own_frames (extension c) c.steps_agree.ensures.reflexive c.related_runs_have_equal_traces.ensures.steps c.related_runs_have_equal_traces.ensures.unrelated c.own_entities_correspond.ensures.own c.linked_imports_have_ends.ensures.sites;
 }

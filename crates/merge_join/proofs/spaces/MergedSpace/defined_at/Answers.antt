@@ -1,10 +1,10 @@
-use Rattle.std.proofs.Common.{arith}
+use Rattle.std.proofs.Common.{◌≡◌, refl, length, arith}
+use Rattle.wasm_meaning.specs.Prelude.{imports_of}
 use Rattle.merge_spec.specs.Parts.{named_modules}
 use Rattle.merge_join.specs.LinkedParts.{place_at}
 use Rattle.merge_join.specs.Spaces.{first_of, imported_in}
 use Rattle.merge_join.proofs.ByPart.{each_within, each_index}
 use Rattle.merge_join.proofs.spaces.MergedSpace.defined_at.Goals as goal
-use Rattle.merge_valid_proof.proofs.Entries.{count_is}
 use Rattle.merge_behaves_proof.proofs.Counterparts.{defined_low}
 
 pub number_at-imported-requires : goal.number_at-imported-requires
@@ -27,12 +27,13 @@ overflow_add-result c =
     let ps = named_modules s.parts.now in
     let k = s.space in
     let (m, at, within) = c.requires in
+    let many : imported_in ps k c.args.part m ≡ length (imports_of k m) = rw at refl in
     omega (
       arith,
       s.few,
       s.is.count_is,
       defined_low k ps c.args.part m at,
-      count_is ps k c.args.part m at,
+      many,
       within,
       c.number_at.ensures,
       c.saturating_sub.ensures,
