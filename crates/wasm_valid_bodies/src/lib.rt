@@ -21,3 +21,4 @@ pub use check::{Stacks, is_well_typed_body};
 pub use laws::bodies_are_well_typed_or_not;
 pub use locals::Locals;
 pub use scope::Scope;
+pub use types::{bin_operand, un_operand};

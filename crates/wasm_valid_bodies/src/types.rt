@@ -6,6 +6,7 @@ ghost use Rattle.wasm_valid_bodies.specs.Ops.{un_operand, un_result, bin_operand
 use wasm_num::{BinOp, UnOp};
 use wasm_tree::{LoadOp, StoreOp, ValType};
 
+/// The type of the operand of an operation on one integer (WebAssembly Core 2.0, section 3.3.1).
 #[tactic(auto, unfolding(wasm_num::specs::Operations::un_from))]
 pub fn un_operand(op: UnOp) -> ValType
     ensures { result ≡ un_operand op }
@@ -54,6 +55,7 @@ pub fn un_result(op: UnOp) -> ValType
     }
 }
 
+/// The type of both operands of an operation on two integers (WebAssembly Core 2.0, section 3.3.1).
 #[tactic(auto, unfolding(wasm_num::specs::Operations::bin_from))]
 pub fn bin_operand(op: BinOp) -> ValType
     ensures { result ≡ bin_operand op }
