@@ -14,10 +14,10 @@ use Rattle.eval_machine.specs.Flows.{RunsCode, back_of, entered, given, level_at
 use Rattle.eval_machine.proofs.Levels.{and_then, inner, inner_depth}
 use Rattle.eval_machine.proofs.Typed.{results_cut}
 
-shallow : (d : ℕ) → d < 1000 → nat_le MOST_DEPTH d ≡ false
+shallow : (d : ℕ) → d < MOST_DEPTH → nat_le MOST_DEPTH d ≡ false
 shallow d lt = lt-leb MOST_DEPTH d lt
 
-deep : (d : ℕ) → d ≡ 1000 → nat_le MOST_DEPTH d ≡ true
+deep : (d : ℕ) → d ≡ MOST_DEPTH → nat_le MOST_DEPTH d ≡ true
 deep d e = rw e
 
 enough : (n k : ℕ) → k ≤ n → nat_lt n k ≡ false
@@ -50,7 +50,7 @@ module _ (m : Module) (r : Registers) (b : Opening) (o : Instr) (rest : List Ins
   level_in below = inner b.gives b.takes (back_of o b.again) below rest p
 
   -- it is opened, and its code runs
-  pub level_runs : (vs below top : List Val) (new : Registers) (flow : Flow) (d : ℕ) (u : Stage) → depth p es ≡ d → d < 1000 → pop_typed b.params.now r.operands ≡ Gives (vs, below) → top ≡ onto vs [] →
+  pub level_runs : (vs below top : List Val) (new : Registers) (flow : Flow) (d : ℕ) (u : Stage) → depth p es ≡ d → d < MOST_DEPTH → pop_typed b.params.now r.operands ≡ Gives (vs, below) → top ≡ onto vs [] →
       RunsCode m b.body.now (d + 1) (record r { operands = top }) flow new → ComesTo m (outcome m flow new (level_in below) es) u → ComesTo m (opened_by m r b o rest p es) u
   level_runs vs below top new flow d u e lt cut is runs q =
       let inside = and_then (runs (level_in below) es (inner_depth b.gives b.takes (back_of o b.again) below rest p es d e)) q in rw (cut, shallow (depth p es) (omega (arith, e, lt))) (rw is at inside)
@@ -58,7 +58,7 @@ module _ (m : Module) (r : Registers) (b : Opening) (o : Instr) (rest : List Ins
   pub level_short : pop_typed b.params.now r.operands ≡ IllTyped → ComesTo m (opened_by m r b o rest p es) (Stopped why.Trap r.kept.turns)
   level_short e = rw e here
 
-  pub level_deep : (vs below : List Val) → pop_typed b.params.now r.operands ≡ Gives (vs, below) → depth p es ≡ 1000 → ComesTo m (opened_by m r b o rest p es) (Stopped why.Depth r.kept.turns)
+  pub level_deep : (vs below : List Val) → pop_typed b.params.now r.operands ≡ Gives (vs, below) → depth p es ≡ MOST_DEPTH → ComesTo m (opened_by m r b o rest p es) (Stopped why.Depth r.kept.turns)
   level_deep vs below e f = rw (e, deep (depth p es) f) here
 
 pub back_again : (o : Instr) (again : Bool) (rest : List Instr) → again ≡ true → back_of o again ++ rest ≡ o ∷ rest
@@ -77,7 +77,7 @@ with_turns r n = record r { kept = record r.kept { turns = n } }
 
 module _ (m : Module) (r : Registers) (ty : FuncType) (args : List Val) (locals : List ValType) (body : List Instr) (es : List Entry) where
   -- it is entered, and its code runs
-  pub frame_runs : (left : ℕ) (inside new : Registers) (code : List Instr) (flow : Flow) (d : ℕ) (u : Stage) → stack_depth es ≡ d → d < 1000 → length locals / 64 ≤ r.kept.turns → left ≡ r.kept.turns - length locals / 64 →
+  pub frame_runs : (left : ℕ) (inside new : Registers) (code : List Instr) (flow : Flow) (d : ℕ) (u : Stage) → stack_depth es ≡ d → d < MOST_DEPTH → length locals / 64 ≤ r.kept.turns → left ≡ r.kept.turns - length locals / 64 →
       inside ≡ record { kept = record r.kept { turns = left }; operands = []; locals = args ++ zeros locals } → code ≡ body → RunsCode m code (d + 1) inside flow new →
       ComesTo m (outcome m flow new (body_place ty.results) es) u → ComesTo m (entered m r ty args locals body es) u
   frame_runs left inside new code flow d u e lt le f g h runs q =
@@ -86,7 +86,7 @@ module _ (m : Module) (r : Registers) (ty : FuncType) (args : List Val) (locals 
   pub entered_slow : r.kept.turns < length locals / 64 → ComesTo m (entered m r ty args locals body es) (Stopped why.Steps r.kept.turns)
   entered_slow lt = rw (too_few r.kept.turns (length locals / 64) lt) here
 
-  pub entered_deep : (left : ℕ) → length locals / 64 ≤ r.kept.turns → stack_depth es ≡ 1000 → left ≡ r.kept.turns - length locals / 64 → ComesTo m (entered m r ty args locals body es) (Stopped why.Depth left)
+  pub entered_deep : (left : ℕ) → length locals / 64 ≤ r.kept.turns → stack_depth es ≡ MOST_DEPTH → left ≡ r.kept.turns - length locals / 64 → ComesTo m (entered m r ty args locals body es) (Stopped why.Depth left)
   entered_deep left le e f = rw (enough r.kept.turns (length locals / 64) le, deep (stack_depth es) e, f) here
 
 -- the frame ends with those of its operands that are its results

@@ -4,6 +4,7 @@
 ghost use Rattle.std.specs.Prelude.{◌≡◌, ◌<◌, ◌≤◌, [], Ok, IfOk};
 ghost use Rattle.wasm_valid.specs.Validity.{IsValid};
 ghost use Rattle.wasm_meaning.specs.Values.{declared};
+ghost use Rattle.eval_spec.specs.declared.limits.TheConstants.{MOST_DEPTH};
 ghost use Rattle.eval_spec.specs.declared.stop.Stop.TheVariants as why;
 ghost use Rattle.eval_machine.specs.declared.registers.Flow.TheVariants as flow;
 ghost use Rattle.eval_machine.specs.declared.registers.Next.TheVariants as next;
@@ -29,7 +30,7 @@ impl Registers {
         code: &[Instr],
         depth: u32,
     ) -> Result<Flow, NoMemory>
-        requires deep { depth ≤ 1000 }
+        requires deep { depth ≤ MOST_DEPTH }
         requires valid { IsValid input.now }
         requires fits { Fits input.now self.old.kept }
         ensures runs { IfOk result (λ flow. RunsCode input.now code.now depth self.old flow self.new) }
@@ -54,7 +55,7 @@ impl Registers {
         instr: &Instr,
         depth: u32,
     ) -> Result<Next, NoMemory>
-        requires deep { depth ≤ 1000 }
+        requires deep { depth ≤ MOST_DEPTH }
         requires valid { IsValid input.now }
         requires fits { Fits input.now self.old.kept }
         ensures runs { IfOk result (λ next. RunsInstr input.now instr.now depth self.old next self.new) }
@@ -82,7 +83,7 @@ impl Registers {
         opening: &Opening<'_>,
         depth: u32,
     ) -> Result<Next, NoMemory>
-        requires deep { depth ≤ 1000 }
+        requires deep { depth ≤ MOST_DEPTH }
         requires valid { IsValid input.now }
         requires fits { Fits input.now self.old.kept }
         ensures runs { IfOk result (λ next. RunsOpened input.now opening.now depth self.old next self.new) }
@@ -131,7 +132,7 @@ impl Registers {
         func: u32,
         depth: u32,
     ) -> Result<Next, NoMemory>
-        requires deep { depth ≤ 1000 }
+        requires deep { depth ≤ MOST_DEPTH }
         requires valid { IsValid input.now }
         requires fits { Fits input.now self.old.kept }
         ensures runs { IfOk result (λ next. RunsCall input.now func depth self.old next self.new) }
@@ -173,7 +174,7 @@ impl Registers {
         callee: &Func,
         depth: u32,
     ) -> Result<Option<Stop>, NoMemory>
-        requires deep { depth ≤ 1000 }
+        requires deep { depth ≤ MOST_DEPTH }
         requires valid { IsValid input.now }
         requires fits { Fits input.now self.old.kept }
         requires bare { self.old.operands ≡ [] }
