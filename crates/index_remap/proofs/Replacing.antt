@@ -6,7 +6,7 @@ use Rattle.wasm_tree.specs.declared.types.BlockType.TheVariants as bt
 use Rattle.wasm_tree.specs.declared.instr.Instr.{out-Instr}
 use Rattle.wasm_tree.specs.declared.instr.Instr.TheBlock.{hidden-the_row-Instr-0}
 use Rattle.wasm_tree.specs.declared.instr.Instr.TheViews.{outs-Block', outs-Loop', outs-If'}
-use Rattle.wasm_valid_bodies.specs.Typing.{Stack, operands, AllMatch, Signature, signature_of, signature_in, Effect, Gives, Acts, gives_of, Context, Ends, Fits, Leads, LeadsAll, WellTyped}
+use Rattle.wasm_valid_bodies.specs.Typing.{Stack, operands, AllMatch, Signature, signature_of, signature_in, Effect, Gives, Acts, gives_of, Context, LeadsToMatch, Fits, Leads, LeadsAll, WellTyped}
 use Rattle.index_remap.specs.declared.remap.Remap.{Remap}
 use Rattle.index_remap.specs.Prelude.{new_type, renumbered, OperandAgrees, LayerAgrees, SameFrame, labelled, Labels, Codes, CallReplaced, DenotesOne, RowReplaced, Replaced, is_opaque_call, OthersAgree, CodesHaveTypes}
 use Rattle.base_lists.specs.Every.{Every}
@@ -48,7 +48,7 @@ block_leads d (j ∷ js) s t (u, f, h) = (u, f, block_leads d js u t h)
 
 -- the same for what a block holds
 row_ends : {n : _} (c d : Context) (is : Row_of-Instr n) (js : List Instr) (ps rs : List ValType) → ((s t r : Stack) → Leads c is s t → Lower r s → (u : Stack) × LeadsAll d js r u × Lower u t) →
-    Ends (Leads c is) ps rs → Ends (Leads d (hidden-the_row-Instr-0 js)) ps rs
+    LeadsToMatch (Leads c is) ps rs → LeadsToMatch (Leads d (hidden-the_row-Instr-0 js)) ps rs
 row_ends c d is js ps rs k (last, l, a) =
     let (u, h, b) = lower_ends d js last ps rs a (k (operands ps) last (operands ps) l (lower_self (operands ps))) in (u, block_leads d js (operands ps) u h, b)
 

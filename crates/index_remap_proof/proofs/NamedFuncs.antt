@@ -5,11 +5,11 @@ use Rattle.base_lists.proofs.Members.{among_either}
 use Rattle.std.proofs.Common.{eq-eqb}
 use Rattle.wasm_tree_spec.specs.Prelude.{RefType, ValType, BlockType, Instr, fold_out-Instr, map-Instr, Row_of-Instr, items-the_row-Instr, end_of-Instr, more_of-Instr, the_lemmas, Block, Block', Loop, Loop', If, If', RefFunc, TableInit, ElemDrop}
 use Rattle.wasm_tree.specs.declared.instr.Instr.{out-Instr}
-use Rattle.wasm_valid_bodies.specs.Typing.{Stack, Effect, Context, effect_of, Ends, Fits, Leads, LeadsAll, WellTyped, both}
+use Rattle.wasm_valid_bodies.specs.Typing.{Stack, Effect, Context, effect_of, LeadsToMatch, Fits, Leads, LeadsAll, WellTyped, both}
 use Rattle.index_remap.specs.Prelude.{refs, refs_all, refs_step, Keeps, labelled}
 use Rattle.index_remap.proofs.Rows.{block_is, loop_is, if_is}
 
-ends_map : (f g : Stack → Stack → Type 0) (ps rs : List ValType) → ((s t : Stack) → f s t → g s t) → Ends f ps rs → Ends g ps rs
+ends_map : (f g : Stack → Stack → Type 0) (ps rs : List ValType) → ((s t : Stack) → f s t → g s t) → LeadsToMatch f ps rs → LeadsToMatch g ps rs
 ends_map f g ps rs k (last, l, a) = (last, k _ last l, a)
 
 of_Block : (bt : BlockType) (is : List Instr) → refs (Block bt is) ≡ refs_all is

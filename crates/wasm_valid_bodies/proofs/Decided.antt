@@ -2,7 +2,7 @@
 use Rattle.base_lists.proofs.Common.{◌≡◌, ◌∙◌, refl, sym, ap, subst, Bool, true, false, List, [], ◌∷◌, ◌++◌, append-nil, map, reverse, length, Option, Some, None, ◌⊎◌, inl, inr}
 use Rattle.wasm_tree_spec.specs.Prelude.{ValType, I32, Instr, Row_of-Instr, end_of-Instr, more_of-Instr}
 use Rattle.wasm_tree.specs.declared.instr.Instr.{Block', Loop', If'}
-use Rattle.wasm_valid_bodies.specs.Typing.{Stack, operands, Effect, Gives, Acts, Signature, Context, under, signature_of, effect_of, Ends, Fits, Leads, LeadsAll, WellTyped}
+use Rattle.wasm_valid_bodies.specs.Typing.{Stack, operands, Effect, Gives, Acts, Signature, Context, under, signature_of, effect_of, LeadsToMatch, Fits, Leads, LeadsAll, WellTyped}
 use Rattle.wasm_valid_bodies.specs.Tracking.{Instance, Concrete, StepsTo, TracksStep, pop_all, act, answer_of}
 use Rattle.wasm_valid_bodies.proofs.Pops.{pop_all-on, pop_all-back, padded}
 use Rattle.wasm_valid_bodies.proofs.Acts.{act-on, act-back}
@@ -36,7 +36,7 @@ plain_tracked c i xs o plain (Some r) h = (r.0, r.1, true, plain_arm c i xs o r.
 abbrev Either : Type 0 → Type 0
 Either P = P ⊎ (P → ⊥)
 
-ends_by : (L : Relation) (ps rs : List ValType) (ys : Stack) (p : Bool) → StepsTo L (operands ps) false ys p → (r : Option Stack) → pop_all ys p (reverse rs) ≡ r → Either (Ends L ps rs)
+ends_by : (L : Relation) (ps rs : List ValType) (ys : Stack) (p : Bool) → StepsTo L (operands ps) false ys p → (r : Option Stack) → pop_all ys p (reverse rs) ≡ r → Either (LeadsToMatch L ps rs)
 ends_by L ps rs ys p f (Some []) h =
     let b = pop_all-back ys p (reverse rs) [] h in
     let last = padded (length (reverse rs)) ys in
@@ -54,7 +54,7 @@ ends_by L ps rs ys p f None h =
     let q = pop_all-on ys p last [] (reverse rs) (subst (Instance ys p) (sym (append-nil last)) i) m in
     let same : ◌≡◌ {A = Option Stack} (Some q.0) None = sym q.1 ∙ h in cc)
 
-ends_either : (L : Relation) (ps rs : List ValType) → IsTracked L (operands ps) false → Either (Ends L ps rs)
+ends_either : (L : Relation) (ps rs : List ValType) → IsTracked L (operands ps) false → Either (LeadsToMatch L ps rs)
 ends_either L ps rs (ys, p, true, f) = ends_by L ps rs ys p f _ refl
 ends_either L ps rs (ys, p, false, fails) = inr (λ (last, l, m). fails (operands ps) last (own_instance (reverse ps)) l)
 
@@ -136,13 +136,13 @@ if_tracked sig IsRight IsRightToo effect xs o right too =
 mutual
   step_tracked : (c : Context) (i : Instr) (xs : Stack) (o : Bool) → IsTracked (Fits c i) xs o
   step_tracked c (Block' bt n body) xs o =
-      does_tracked (signature_of c.types bt) (λ f. Ends (Leads (under c f.results) body) f.params f.results) (λ f. Gives f.params f.results) xs o
+      does_tracked (signature_of c.types bt) (λ f. LeadsToMatch (Leads (under c f.results) body) f.params f.results) (λ f. Gives f.params f.results) xs o
       (λ f. ends_either (Leads (under c f.results) body) f.params f.results (row_tracked (under c f.results) body (operands f.params) false)) (signature_of c.types bt) refl
   step_tracked c (Loop' bt n body) xs o =
-      does_tracked (signature_of c.types bt) (λ f. Ends (Leads (under c f.params) body) f.params f.results) (λ f. Gives f.params f.results) xs o
+      does_tracked (signature_of c.types bt) (λ f. LeadsToMatch (Leads (under c f.params) body) f.params f.results) (λ f. Gives f.params f.results) xs o
       (λ f. ends_either (Leads (under c f.params) body) f.params f.results (row_tracked (under c f.params) body (operands f.params) false)) (signature_of c.types bt) refl
   step_tracked c (If' bt n body m other) xs o =
-      if_tracked (signature_of c.types bt) (λ f. Ends (Leads (under c f.results) body) f.params f.results) (λ f. Ends (Leads (under c f.results) other) f.params f.results) (λ f. Gives (f.params ++ I32 ∷ []) f.results) xs o
+      if_tracked (signature_of c.types bt) (λ f. LeadsToMatch (Leads (under c f.results) body) f.params f.results) (λ f. LeadsToMatch (Leads (under c f.results) other) f.params f.results) (λ f. Gives (f.params ++ I32 ∷ []) f.results) xs o
       (λ f. ends_either (Leads (under c f.results) body) f.params f.results (row_tracked (under c f.results) body (operands f.params) false))
       (λ f. ends_either (Leads (under c f.results) other) f.params f.results (row_tracked (under c f.results) other (operands f.params) false))
   step_tracked c i xs o = plain_tracked c i xs o tt _ refl

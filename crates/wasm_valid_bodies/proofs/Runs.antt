@@ -6,7 +6,7 @@ use Rattle.wasm_tree.specs.declared.instr.Instr.TheBlock.{hidden-the_row-Instr-0
 use Rattle.wasm_tree.specs.declared.instr.Instr.TheViews.{roll-Instr, outs-Block', rolls-Block, outs-Loop', rolls-Loop, outs-If', rolls-If}
 use Rattle.std.specs.Bool.{OnTrue}
 use Rattle.std.specs.declared.alloc.AllocError.{AllocError}
-use Rattle.wasm_valid_bodies.specs.Typing.{Stack, AllMatch, operands, Effect, Gives, Acts, Signature, Context, under, signature_of, effect_of, Ends, ActsAs, Fits, Leads, LeadsAll, WellTyped}
+use Rattle.wasm_valid_bodies.specs.Typing.{Stack, AllMatch, operands, Effect, Gives, Acts, Signature, Context, under, signature_of, effect_of, LeadsToMatch, ActsAs, Fits, Leads, LeadsAll, WellTyped}
 use Rattle.wasm_valid_bodies.specs.Tracking.{Instance, Concrete, StepsTo, Fails, TracksStep, pop_all, act, answer_of}
 use Rattle.wasm_valid_bodies.specs.Kept.{when}
 use Rattle.wasm_valid_bodies.proofs.Rows.{to_list, to_row}
@@ -14,11 +14,11 @@ use Rattle.wasm_valid_bodies.proofs.Pops.{pop_all-on, pop_all-back, padded}
 use Rattle.wasm_valid_bodies.proofs.Acts.{act-on, act-back}
 
 -- a body as a list
-pub ends_to : (c : Context) (v : List Instr) (ps rs : List ValType) → Ends (Leads c (hidden-the_row-Instr-0 v)) ps rs → WellTyped c v ps rs
+pub ends_to : (c : Context) (v : List Instr) (ps rs : List ValType) → LeadsToMatch (Leads c (hidden-the_row-Instr-0 v)) ps rs → WellTyped c v ps rs
 ends_to c v ps rs (last, l, m) =
     (last, subst (λ is. LeadsAll c is (operands ps) last) (items_hidden-the_row-Instr-0 v) (to_list c (hidden-the_row-Instr-0 v) (operands ps) last l), m)
 
-pub ends_from : (c : Context) (v : List Instr) (ps rs : List ValType) → WellTyped c v ps rs → Ends (Leads c (hidden-the_row-Instr-0 v)) ps rs
+pub ends_from : (c : Context) (v : List Instr) (ps rs : List ValType) → WellTyped c v ps rs → LeadsToMatch (Leads c (hidden-the_row-Instr-0 v)) ps rs
 ends_from c v ps rs (last, l, m) =
     (last, to_row c (hidden-the_row-Instr-0 v) (operands ps) last (subst (λ is. LeadsAll c is (operands ps) last) (sym (items_hidden-the_row-Instr-0 v)) l), m)
 

@@ -202,8 +202,8 @@ effect_of c (Loop' bt n body) = None
 effect_of c (If' bt n body m other) = None
 
 -- A body leads from operands `ps` to operands that match `rs`.
-abbrev pub Ends : (Stack → Stack → Type 0) → List ValType → List ValType → Type 0
-Ends leads ps rs = (last : Stack) × leads (operands ps) last × AllMatch last (reverse rs)
+abbrev pub LeadsToMatch : (Stack → Stack → Type 0) → List ValType → List ValType → Type 0
+LeadsToMatch leads ps rs = (last : Stack) × leads (operands ps) last × AllMatch last (reverse rs)
 
 -- The instruction type exists and leads from `s` to `t`.
 abbrev pub ActsAs : Option Effect → Stack → Stack → Type 0
@@ -214,11 +214,11 @@ abbrev mutual
   -- label (section 3.3.8).
   pub Fits : Context → Instr → Stack → Stack → Type 0
   Fits c (Block' bt n body) s t =
-      (f : Signature) × (signature_of c.types bt ≡ Some f) × Ends (Leads (under c f.results) body) f.params f.results × Acts (Gives f.params f.results) s t
+      (f : Signature) × (signature_of c.types bt ≡ Some f) × LeadsToMatch (Leads (under c f.results) body) f.params f.results × Acts (Gives f.params f.results) s t
   Fits c (Loop' bt n body) s t =
-      (f : Signature) × (signature_of c.types bt ≡ Some f) × Ends (Leads (under c f.params) body) f.params f.results × Acts (Gives f.params f.results) s t
+      (f : Signature) × (signature_of c.types bt ≡ Some f) × LeadsToMatch (Leads (under c f.params) body) f.params f.results × Acts (Gives f.params f.results) s t
   Fits c (If' bt n body m other) s t =
-      (f : Signature) × (signature_of c.types bt ≡ Some f) × Ends (Leads (under c f.results) body) f.params f.results × Ends (Leads (under c f.results) other) f.params f.results × Acts (Gives (f.params ++ I32 ∷ []) f.results) s t
+      (f : Signature) × (signature_of c.types bt ≡ Some f) × LeadsToMatch (Leads (under c f.results) body) f.params f.results × LeadsToMatch (Leads (under c f.results) other) f.params f.results × Acts (Gives (f.params ++ I32 ∷ []) f.results) s t
   Fits c Unreachable s t = ActsAs (effect_of c Unreachable) s t
   Fits c Nop s t = ActsAs (effect_of c Nop) s t
   Fits c (Br l) s t = ActsAs (effect_of c (Br l)) s t
@@ -271,7 +271,7 @@ LeadsAll c (i ∷ is) s t = (u : Stack) × Fits c i s u × LeadsAll c is u t
 
 -- The body takes operands `ps` and leaves operands that match `rs` (section 3.3.9).
 abbrev pub WellTyped : Context → List Instr → List ValType → List ValType → Type 0
-WellTyped c is ps rs = Ends (LeadsAll c is) ps rs
+WellTyped c is ps rs = LeadsToMatch (LeadsAll c is) ps rs
 
 -- Every body is well typed, or is not.
 abbrev pub TypingIsDecided : Type 0
