@@ -5,4 +5,4 @@ pub mod Kept
 pub mod Labels
 pub mod Groups
 pub mod LocalTypes
-pub mod ScopeWords
+pub mod ScopeContexts

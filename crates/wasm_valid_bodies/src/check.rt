@@ -6,7 +6,7 @@ ghost use Rattle.wasm_valid_bodies.specs.Typing.{Fits, WellTyped};
 ghost use Rattle.wasm_valid_bodies.specs.Tracking.{TracksStep};
 ghost use Rattle.wasm_valid_bodies.specs.Kept.{stack_of, beneath, IsBack};
 ghost use Rattle.wasm_valid_bodies.specs.Labels.{label_list};
-ghost use Rattle.wasm_valid_bodies.specs.ScopeWords.{context_of};
+ghost use Rattle.wasm_valid_bodies.specs.ScopeContexts.{context_of};
 
 use crate::kept::Kept;
 use crate::labels::Labels;

@@ -4,7 +4,7 @@ ghost use Rattle.std.specs.Prelude.{◌≡◌, ◌≤◌, ◌^◌, nat_le, [], I
 ghost use Rattle.wasm_tree.specs.declared.instr.Instr.TheVariants.{Load, Store, MemorySize, MemoryGrow, MemoryFill, MemoryCopy, MemoryInit};
 ghost use Rattle.wasm_valid_bodies.specs.Typing.{effect_of, fits_memory};
 ghost use Rattle.wasm_valid_bodies.specs.Kept.{Answers};
-ghost use Rattle.wasm_valid_bodies.specs.ScopeWords.{context_of};
+ghost use Rattle.wasm_valid_bodies.specs.ScopeContexts.{context_of};
 
 use crate::kept::Kept;
 use crate::scope::Scope;

@@ -4,7 +4,7 @@ ghost use Rattle.std.specs.Prelude.{IfOk};
 ghost use Rattle.wasm_valid_bodies.specs.Typing.{effect_of};
 ghost use Rattle.wasm_valid_bodies.specs.Kept.{Answers};
 ghost use Rattle.wasm_valid_bodies.specs.Labels.{label_list};
-ghost use Rattle.wasm_valid_bodies.specs.ScopeWords.{context_of};
+ghost use Rattle.wasm_valid_bodies.specs.ScopeContexts.{context_of};
 
 use crate::control::{branch, branch_if, call, call_indirect};
 use crate::kept::Kept;

@@ -2,7 +2,7 @@
 
 ghost use Rattle.std.specs.Prelude.{◌≡◌, nat_lt, slice_get, option_and_then, option_map};
 ghost use Rattle.wasm_valid_bodies.specs.Typing.{signature_of};
-ghost use Rattle.wasm_valid_bodies.specs.ScopeWords.{signature};
+ghost use Rattle.wasm_valid_bodies.specs.ScopeContexts.{signature};
 
 use crate::locals::Locals;
 use std::slice;

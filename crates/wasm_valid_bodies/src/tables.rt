@@ -4,7 +4,7 @@ ghost use Rattle.std.specs.Prelude.{◌≡◌, [], option_copied, IfOk};
 ghost use Rattle.wasm_tree.specs.declared.instr.Instr.TheVariants.{TableGet, TableSet, TableSize, TableGrow, TableFill, TableCopy, TableInit, ElemDrop};
 ghost use Rattle.wasm_valid_bodies.specs.Typing.{both, effect_of};
 ghost use Rattle.wasm_valid_bodies.specs.Kept.{Answers};
-ghost use Rattle.wasm_valid_bodies.specs.ScopeWords.{context_of};
+ghost use Rattle.wasm_valid_bodies.specs.ScopeContexts.{context_of};
 
 use crate::kept::Kept;
 use crate::scope::Scope;

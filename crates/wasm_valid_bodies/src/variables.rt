@@ -5,7 +5,7 @@ ghost use Rattle.std.specs.Prelude.{[], IfOk};
 ghost use Rattle.wasm_tree.specs.declared.instr.Instr.TheVariants.{SelectTyped, LocalGet, LocalSet, LocalTee, GlobalGet, GlobalSet, RefFunc};
 ghost use Rattle.wasm_valid_bodies.specs.Typing.{effect_of};
 ghost use Rattle.wasm_valid_bodies.specs.Kept.{Answers};
-ghost use Rattle.wasm_valid_bodies.specs.ScopeWords.{context_of};
+ghost use Rattle.wasm_valid_bodies.specs.ScopeContexts.{context_of};
 
 use crate::kept::Kept;
 use crate::scope::Scope;

@@ -4,7 +4,7 @@ use Rattle.wasm_valid_bodies.specs.Typing.{Gives, effect_of, Fits, WellTyped}
 use Rattle.wasm_valid_bodies.specs.Tracking.{TracksStep}
 use Rattle.wasm_valid_bodies.specs.Kept.{stack_of}
 use Rattle.wasm_valid_bodies.specs.Labels.{label_list}
-use Rattle.wasm_valid_bodies.specs.ScopeWords.{context_of, signature}
+use Rattle.wasm_valid_bodies.specs.ScopeContexts.{context_of, signature}
 use Rattle.wasm_valid_bodies.proofs.Runs.{is_plain, block_stopped, loop_stopped, then_stopped, else_stopped, block_done, loop_done, if_done, plain_done, rest_start, rest_end, turn, stopped, on_true, true_or_not, kept_so}
 use Rattle.wasm_valid_bodies.proofs.Around.{after_block, answered, undisturbed, back_again, back}
 use Rattle.wasm_valid_bodies.proofs.check.+body.Goals as goal

@@ -1,7 +1,7 @@
 use Rattle.std.proofs.Common.{◌≡◌, ◌∷◌, drop}
 use Rattle.wasm_valid_bodies.specs.Kept.{stack_of, beneath}
 use Rattle.wasm_valid_bodies.specs.Labels.{label_list}
-use Rattle.wasm_valid_bodies.specs.ScopeWords.{context_of}
+use Rattle.wasm_valid_bodies.specs.ScopeContexts.{context_of}
 use Rattle.wasm_valid_bodies.proofs.Runs.{Rest}
 use Rattle.wasm_valid_bodies.proofs.check.+body.Given as goal
 
