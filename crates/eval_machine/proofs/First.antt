@@ -162,7 +162,7 @@ null_is reft.Extern = refl
 null_stands : (p : ℕ) (t : TableType) → StandsAs false (slice_get (copies t.limits.min (null_of t.ty)) p) (null_in (Some t) p)
 null_stands p t = subst (λ o. StandsAs false o (null_in (Some t) p)) (sym (copy_at t.limits.min p (null_of t.ty))) (by (nat_lt p t.limits.min))
   where
-    by : (b : Bool) → StandsAs false (cond b (Some (null_of t.ty)) None) (cond b (slot.Known (own.null_of t.ty)) slot.Outside)
+    by : (b : Bool) → StandsAs false (cond b (Some (null_of t.ty)) None) (cond b (slot.Known (own.null_of t.ty)) slot.OutOfBounds)
     by true = (refl, ap Some (null_is t.ty))
     by false = (refl, refl)
 

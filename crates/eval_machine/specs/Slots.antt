@@ -27,7 +27,7 @@ is_unknown_in s table place = any_in_row s.unknown.slots table place 1
 abbrev pub StandsAs : (unknown : Bool) → Option RefVal → Slot → Type 0
 StandsAs unknown r slot.Unknown = unknown ≡ true
 StandsAs unknown r (slot.Known value) = (unknown ≡ false) × ((r >>= λ x. Some (Ref x)) ≡ Some (val_of value))
-StandsAs unknown r slot.Outside = (unknown ≡ false) × (r ≡ None)
+StandsAs unknown r slot.OutOfBounds = (unknown ≡ false) × (r ≡ None)
 
 -- The `Slot` describes this slot of the state.
 abbrev pub IsSlot : State → (table place : ℕ) → Slot → Type 0
@@ -45,8 +45,8 @@ null_of reft.Extern = v.Extern
 
 -- A slot of a table of this type to which no segment was copied; without a table there is no slot.
 abbrev pub null_in : Option TableType → (place : ℕ) → Slot
-null_in None place = slot.Outside
-null_in (Some t) place = cond (nat_lt place t.limits.min) (slot.Known (null_of t.ty)) slot.Outside
+null_in None place = slot.OutOfBounds
+null_in (Some t) place = cond (nat_lt place t.limits.min) (slot.Known (null_of t.ty)) slot.OutOfBounds
 
 -- The type of a table that the module defines; `None` for an imported one.
 abbrev pub defined_table : Module → (table : ℕ) → Option TableType

@@ -108,7 +108,7 @@ impl Registers {
                 Some(func) => self.reached(input, ty, func),
                 None => stopped(Stop::Trap),
             },
-            Slot::Outside => stopped(Stop::Trap),
+            Slot::OutOfBounds => stopped(Stop::Trap),
         }
     }
 

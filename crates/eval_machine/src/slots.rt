@@ -22,7 +22,7 @@ pub enum Slot {
     /// It holds a reference.
     Known(Value),
     /// It does not exist.
-    Outside,
+    OutOfBounds,
 }
 
 /// The slots to which active element segments were copied, by table and place. Every other slot is
@@ -88,7 +88,7 @@ fn null_slot(table: Option<TableType>, place: u32) -> Slot
 {
     match table {
         Some(table) if place < table.limits.min => Slot::Known(null(table.ty)),
-        _ => Slot::Outside,
+        _ => Slot::OutOfBounds,
     }
 }
 

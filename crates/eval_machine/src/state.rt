@@ -98,7 +98,7 @@ impl Kept {
                 operands.push(value)?;
                 Ok(None)
             }
-            Slot::Outside => Ok(Some(Stop::Trap)),
+            Slot::OutOfBounds => Ok(Some(Stop::Trap)),
         }
     }
 

@@ -22,7 +22,7 @@ returns-in_ok-push-in-Known c =
     (get_known c.args.input.now c.args.self.now c.requires.fits c.args.table c.args.operands.now c.args.operands.now c.if-table-self.false c.in-Some.field-0 (table_found c.args.input.now c.args.self.now c.requires.fits c.args.table c.if-table-self.false c.in-Some.field-0 (sym c.in-Some.ensures))
     c.in-Some-pop_narrow.place c.pop_narrow.new.self c.in-Some-pop_narrow.ensures.some c.in-Known.value c.in-Known.ensures)
 
-pub returns-in-Outside : goal.returns-in-Outside
-returns-in-Outside c =
+pub returns-in-OutOfBounds : goal.returns-in-OutOfBounds
+returns-in-OutOfBounds c =
     get_outside c.args.input.now c.args.self.now c.requires.fits c.args.table c.args.operands.now c.args.operands.now c.if-table-self.false c.in-Some.field-0 (table_found c.args.input.now c.args.self.now c.requires.fits c.args.table c.if-table-self.false c.in-Some.field-0 (sym c.in-Some.ensures))
-    c.in-Some-pop_narrow.place c.pop_narrow.new.self c.in-Some-pop_narrow.ensures.some c.in-Outside.ensures.0 c.in-Outside.ensures.1
+    c.in-Some-pop_narrow.place c.pop_narrow.new.self c.in-Some-pop_narrow.ensures.some c.in-OutOfBounds.ensures.0 c.in-OutOfBounds.ensures.1

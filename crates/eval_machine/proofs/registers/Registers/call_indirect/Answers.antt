@@ -34,8 +34,8 @@ returns-in-None-clause-begins c =
     (table_found c.args.input.now c.args.self.now.kept c.requires.fits c.args.table c.if-table-self.false c.in-Some.field-0 (sym c.in-Some.ensures)) c.in-Some-pop_narrow.place c.in-Some-pop_narrow.ensures.some c.in-Known.ensures.0
     c.in-Known.value c.in-Known.ensures (sym c.in-None.ensures))
 
-pub returns-in-Outside-clause-begins : goal.returns-in-Outside-clause-begins
-returns-in-Outside-clause-begins c =
-    rw c.stopped-in-Outside.ensures
+pub returns-in-OutOfBounds-clause-begins : goal.returns-in-OutOfBounds-clause-begins
+returns-in-OutOfBounds-clause-begins c =
+    rw c.stopped-in-OutOfBounds.ensures
     (indirect_outside c.args.input.now c.args.self.now (record c.args.self.now { operands = c.pop_narrow.new.self }) c.requires.fits c.args.ty c.args.table refl c.if-table-self.false c.in-Some.field-0
-    (table_found c.args.input.now c.args.self.now.kept c.requires.fits c.args.table c.if-table-self.false c.in-Some.field-0 (sym c.in-Some.ensures)) c.in-Some-pop_narrow.place c.in-Some-pop_narrow.ensures.some c.in-Outside.ensures.0 c.in-Outside.ensures.1)
+    (table_found c.args.input.now c.args.self.now.kept c.requires.fits c.args.table c.if-table-self.false c.in-Some.field-0 (sym c.in-Some.ensures)) c.in-Some-pop_narrow.place c.in-Some-pop_narrow.ensures.some c.in-OutOfBounds.ensures.0 c.in-OutOfBounds.ensures.1)
