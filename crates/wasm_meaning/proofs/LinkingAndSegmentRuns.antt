@@ -60,8 +60,8 @@ abbrev its_own : Shown
 its_own = OwnFunc (e, g) to_i32
 
 -- the same of the environment: its function is the one that it has by the name of the number
-abbrev own_globals : Environment
-own_globals = record { pair = (e, g); funcs = to_i32 ∷ []; table = None; memory = None; global = Some (record { ty = fixed i32; value = Number 1 }) }
+abbrev with_a_global : Environment
+with_a_global = record { pair = (e, g); funcs = to_i32 ∷ []; table = None; memory = None; global = Some (record { ty = fixed i32; value = Number 1 }) }
     ∷ (record { pair = (e, m); funcs = []; table = None; memory = None; global = Some (record { ty = fixed funcref; value = its_own }) } ∷ [])
 
 -- its start calls the environment's function; the second part starts the same function
@@ -154,7 +154,7 @@ unfolding out-Instr denote.Hole.Carrier.out wrapped un_from un_to un_value bin_f
 segments_by_joined_globals_in_turn = refl
 
 -- and from the environment's
-segments_by_globals_of_the_environment : events (plain (by_globals (from_e (im.Global (fixed i32))) (record { «module» = e; field = m; desc = im.Global (fixed funcref) }))) own_globals (Call f [] ∷ (Answer (Number 3 ∷ []) ∷ [])) 40 ≡ Linked ∷ (Asked (e, g) to_i32 [] ∷ (Returned (Number 12 ∷ []) ∷ []))
+segments_by_globals_of_the_environment : events (plain (by_globals (from_e (im.Global (fixed i32))) (record { «module» = e; field = m; desc = im.Global (fixed funcref) }))) with_a_global (Call f [] ∷ (Answer (Number 3 ∷ []) ∷ [])) 40 ≡ Linked ∷ (Asked (e, g) to_i32 [] ∷ (Returned (Number 12 ∷ []) ∷ []))
 unfolding out-Instr denote.Hole.Carrier.out wrapped un_from un_to un_value bin_from bin_to bin_value load_to load_width loaded store_from stored
 segments_by_globals_of_the_environment = refl
 

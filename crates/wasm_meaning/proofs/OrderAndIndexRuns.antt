@@ -414,21 +414,21 @@ unfolding out-Instr denote.Hole.Carrier.out wrapped un_from un_to un_value bin_f
 a_call_in_the_second_part = refl
 
 -- f is called first where the parts are instantiated sequentially
-abbrev in_turn : World → List Event
-in_turn w = events_sequential w [] (Call f [] ∷ (Call g [] ∷ [])) 40
+abbrev one_by_one_events : World → List Event
+one_by_one_events w = events_sequential w [] (Call f [] ∷ (Call g [] ∷ [])) 40
 
 -- so it is where the second part comes after the first
-bytes_of_the_second_part_in_turn : in_turn with_bytes ≡ return_both 6 0
+bytes_of_the_second_part_in_turn : one_by_one_events with_bytes ≡ return_both 6 0
 unfolding out-Instr denote.Hole.Carrier.out wrapped un_from un_to un_value bin_from bin_to bin_value load_to load_width loaded store_from stored
 bytes_of_the_second_part_in_turn = refl
 
 -- of tables and their segments
-entries_of_the_second_part_in_turn : in_turn with_entries ≡ return_both 2 1
+entries_of_the_second_part_in_turn : one_by_one_events with_entries ≡ return_both 2 1
 unfolding out-Instr denote.Hole.Carrier.out wrapped un_from un_to un_value bin_from bin_to bin_value load_to load_width loaded store_from stored
 entries_of_the_second_part_in_turn = refl
 
 -- and of globals
-a_global_of_the_second_part_in_turn : in_turn with_globals ≡ return_both 51 40
+a_global_of_the_second_part_in_turn : one_by_one_events with_globals ≡ return_both 51 40
 unfolding out-Instr denote.Hole.Carrier.out wrapped un_from un_to un_value bin_from bin_to bin_value load_to load_width loaded store_from stored
 a_global_of_the_second_part_in_turn = refl
 
