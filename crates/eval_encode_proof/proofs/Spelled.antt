@@ -10,7 +10,7 @@ use Rattle.wasm_read_spec.specs.Sections.{data_form}
 use Rattle.wasm_read_spec.specs.Files.{section_form}
 use Rattle.wasm_read_spec.specs.Contents.{AreBytes}
 use Rattle.wasm_read_spec.proofs.FileLaws.{front_holds}
-use Rattle.wasm_bytes.proofs.Lists.{bytes_rest}
+use Rattle.wasm_bytes.proofs.Lists.{rest_holds}
 use Rattle.wasm_write_proof.proofs.NumberRanges.{says_made, says_never, says_vector, says_when, Says, u32_in}
 use Rattle.eval_numbers_proof.specs.Ranges.{BeginsInRange, IsByte}
 
@@ -49,10 +49,10 @@ of_bytes_never K bytes x small h = absurd h
 
 of_bytes_each : {A : Type 0} (K : A → Type 0) (P : List ℕ → A → Type 0) → SaysOfBytes K P → SaysOfBytes (Every K) (Each P)
 of_bytes_each K P a bytes [] small h = tt
-of_bytes_each K P a bytes (x ∷ xs) small h = let both = subst IsBytes h.4 small in (a h.0 x (front_holds (λ n. n < 256) (omega arith) h.0 h.1 both) h.2, of_bytes_each K P a h.1 xs (bytes_rest h.0 h.1 both) h.3)
+of_bytes_each K P a bytes (x ∷ xs) small h = let both = subst IsBytes h.4 small in (a h.0 x (front_holds (λ n. n < 256) (omega arith) h.0 h.1 both) h.2, of_bytes_each K P a h.1 xs (rest_holds (λ n. n < 256) h.0 h.1 both) h.3)
 
 of_bytes_vector : {A : Type 0} (K : A → Type 0) (P : List ℕ → A → Type 0) → SaysOfBytes K P → SaysOfBytes (Every K) (Vector P)
-of_bytes_vector K P a bytes xs small h = of_bytes_each K P a h.1 xs (bytes_rest h.0 h.1 (subst IsBytes h.4 small)) h.3
+of_bytes_vector K P a bytes xs small h = of_bytes_each K P a h.1 xs (rest_holds (λ n. n < 256) h.0 h.1 (subst IsBytes h.4 small)) h.3
 
 -- ---- data segments ----
 
@@ -61,7 +61,7 @@ each_byte [] small = tt
 each_byte (b ∷ bs) small = (small zero, each_byte bs (λ i. small (suc i)))
 
 content_bytes : SaysOfBytes (Every IsByte) Sized
-content_bytes bytes content small h = each_byte content (bytes_rest h.0 content (subst IsBytes h.2 small))
+content_bytes bytes content small h = each_byte content (rest_holds (λ n. n < 256) h.0 content (subst IsBytes h.2 small))
 
 abbrev HoldsBytes : DataSeg → Type 0
 HoldsBytes d = Every IsByte d.bytes
@@ -69,14 +69,14 @@ HoldsBytes d = Every IsByte d.bytes
 data_form_bytes : (n : ℕ) → SaysOfBytes HoldsBytes (data_form n)
 unfolding data_form
 data_form_bytes n =
-    of_bytes_when HoldsBytes _ _ (n == 0) (of_bytes_made HoldsBytes data0 (Both SpellsConst Sized) (λ b p small s. content_bytes s.1 p.1 (bytes_rest s.0 s.1 (subst IsBytes s.4 small)) s.3))
+    of_bytes_when HoldsBytes _ _ (n == 0) (of_bytes_made HoldsBytes data0 (Both SpellsConst Sized) (λ b p small s. content_bytes s.1 p.1 (rest_holds (λ n. n < 256) s.0 s.1 (subst IsBytes s.4 small)) s.3))
     (of_bytes_when HoldsBytes _ _ (n == 1) (of_bytes_made HoldsBytes data1 Sized content_bytes)
     (of_bytes_when HoldsBytes _ _ (n == 2) (of_bytes_made HoldsBytes data2 (Both U32 (Both SpellsConst Sized)) (λ b p small s.
-    let r = s.3 in content_bytes r.1 p.1.1 (bytes_rest r.0 r.1 (subst IsBytes r.4 (bytes_rest s.0 s.1 (subst IsBytes s.4 small)))) r.3))
+    let r = s.3 in content_bytes r.1 p.1.1 (rest_holds (λ n. n < 256) r.0 r.1 (subst IsBytes r.4 (rest_holds (λ n. n < 256) s.0 s.1 (subst IsBytes s.4 small)))) r.3))
     (of_bytes_never HoldsBytes)))
 
 data_bytes : SaysOfBytes HoldsBytes SpellsData
-data_bytes bytes d small h = data_form_bytes h.0 h.1.1 d (bytes_rest h.1.0 h.1.1 (subst IsBytes h.1.4 small)) h.1.3
+data_bytes bytes d small h = data_form_bytes h.0 h.1.1 d (rest_holds (λ n. n < 256) h.1.0 h.1.1 (subst IsBytes h.1.4 small)) h.1.3
 
 -- ---- the parts of a file ----
 

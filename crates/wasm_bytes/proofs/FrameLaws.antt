@@ -4,8 +4,9 @@ use Rattle.std.specs.Prelude.{IsTrue}
 use Rattle.wasm_bytes.specs.declared.cursor.Wrong.{Wrong}
 use Rattle.wasm_bytes.specs.declared.cursor.Wrong.TheVariants.{Spelling}
 use Rattle.wasm_bytes.specs.Reading.{◌>>=◌, IsBytes, sized_at}
+use Rattle.wasm_bytes.specs.Joins.{Took}
 use Rattle.wasm_bytes.specs.Frames.{Section, may_follow, order_after, Frame, Frames, last_of, FirstBadFrame, frame_at, before, or_number, frames_at}
-use Rattle.wasm_bytes.proofs.Lists.{Took, small_rest}
+use Rattle.wasm_bytes.proofs.Lists.{small_rest}
 use Rattle.wasm_bytes.proofs.Sized.{sized_sound, sized_complete}
 use Rattle.base_lists.proofs.Common.{bind_ok, ok_pair}
 

@@ -1,16 +1,16 @@
 -- What is read behind the header is what the whole file frames.
-use Rattle.std.proofs.Common.{◌≡◌, ℕ, zero, suc, ◌≤◌, List, [], ◌∷◌, ◌++◌, length, drop, Result, Ok, Err, IfOk, ◌⊎◌, inl, inr, refl, sym, ap, ◌∙◌, subst, arith, length-append, length-drop}
+use Rattle.std.proofs.Common.{◌≡◌, ℕ, ◌≤◌, List, ◌++◌, length, drop, Result, Ok, Err, IfOk, ◌⊎◌, inl, inr, refl, sym, ap, ◌∙◌, subst, arith, length-append, length-drop}
 use Rattle.std.specs.Prelude.{IsOkAnd}
 use Rattle.wasm_bytes.specs.declared.framing.Frame.{Frame as Place}
 use Rattle.wasm_bytes.specs.declared.framing.FrameFault.{FrameFault}
 use Rattle.wasm_bytes.specs.declared.framing.FrameFault.TheVariants.{NotModule, BadFrame, NoMemory}
 use Rattle.wasm_bytes.specs.Reading.{IsBytes}
 use Rattle.wasm_bytes.specs.Frames.{Section, header, HasHeader, Framed, FirstBad, frames_at}
-use Rattle.wasm_bytes.specs.FrameViews.{framed_all, frames_behind, GivesFrames}
+use Rattle.wasm_bytes.specs.FrameViews.{framed_all, frames_behind, FramesAreRead, GivesFrames}
 use Rattle.wasm_bytes.proofs.Lists.{halves, bytes_drop}
 use Rattle.wasm_bytes.proofs.FrameLaws.{frames_sound, frames_complete, bad_sound, bad_complete}
 
-pub header_split : (bytes : List ℕ) → HasHeader bytes → bytes ≡ header ++ drop 8 bytes
+header_split : (bytes : List ℕ) → HasHeader bytes → bytes ≡ header ++ drop 8 bytes
 header_split bytes h = halves 8 bytes ∙ ap (λ t. t ++ drop 8 bytes) h
 
 -- what stands behind the header
@@ -19,8 +19,11 @@ behind bytes front back h e =
     let whole : bytes ≡ header ++ back = e ∙ ap (λ t. t ++ back) h in
     (ap (drop 8) whole, omega (arith, ap length whole, length-append header back))
 
+read_framed : (bytes : List ℕ) (ss : List Section) → IsBytes bytes → HasHeader bytes → frames_behind bytes ≡ Ok ss → Framed bytes ss
+read_framed bytes ss small h e = (header, drop 8 bytes, refl, frames_sound (length bytes) 0 0 (drop 8 bytes) ss (bytes_drop 8 bytes small) e, header_split bytes h)
+
 pub found : (bytes : List ℕ) (r : Result (List Place) FrameFault) → IsBytes bytes → HasHeader bytes → GivesFrames bytes r → IfOk r (λ fs. Framed bytes (framed_all bytes fs))
-found bytes (Ok fs) small h g = (header, drop 8 bytes, refl, frames_sound (length bytes) 0 0 (drop 8 bytes) (framed_all bytes fs) (bytes_drop 8 bytes small) g, header_split bytes h)
+found bytes (Ok fs) small h g = read_framed bytes (framed_all bytes fs) small h g
 found bytes (Err e) small h g = tt
 
 read_of_framed : (bytes : List ℕ) (ss : List Section) → Framed bytes ss → frames_behind bytes ≡ Ok ss
@@ -57,3 +60,6 @@ only_bad bytes (Ok fs) small g n f = absurd (let k = sym g ∙ read_of_bad bytes
 only_bad bytes (Err NotModule) small g n f = absurd g
 only_bad bytes (Err (BadFrame m)) small g n f = inr (let k = sym g ∙ read_of_bad bytes n small f in let same : m ≡ n = cc in ap (λ i. Err (BadFrame i)) same)
 only_bad bytes (Err NoMemory) small g n f = inl refl
+
+pub frames_read : FramesAreRead
+frames_read = record { sound = read_framed; complete = read_of_framed; bad = λ bytes n small h. (bad_read bytes n small h, read_of_bad bytes n small) }

@@ -3,6 +3,7 @@ pub mod FrameLaws
 pub mod Lists
 pub mod NameLaws
 pub mod NumberLaws
+pub mod NumberRanges
 pub mod Places
 pub mod Sized
 pub mod Shortest

@@ -1,6 +1,7 @@
 -- Fronts and rests of lists of bytes.
-use Rattle.std.proofs.Common.{◌≡◌, ℕ, zero, suc, ◌≤◌, List, [], ◌∷◌, ◌++◌, length, take, drop, refl, ap, subst, arith}
+use Rattle.std.proofs.Common.{◌≡◌, ℕ, zero, suc, ◌<◌, ◌≤◌, slice_index, List, [], ◌∷◌, ◌++◌, length, take, drop, refl, ap, subst, arith}
 use Rattle.wasm_bytes.specs.Reading.{IsBytes}
+use Rattle.wasm_bytes.specs.Joins.{Took}
 
 pub take_all : (front rest : List ℕ) → take (length front) (front ++ rest) ≡ front
 take_all [] rest = refl
@@ -25,13 +26,10 @@ bytes_drop zero bs h = h
 bytes_drop (suc n) [] h = h
 bytes_drop (suc n) (b ∷ bs) h = bytes_drop n bs (λ i. h (suc i))
 
-pub bytes_rest : (text rest : List ℕ) → IsBytes (text ++ rest) → IsBytes rest
-bytes_rest [] rest h = h
-bytes_rest (b ∷ bs) rest h = bytes_rest bs rest (λ i. h (suc i))
-
--- the bytes begin with a text of which P holds, and rest is left
-abbrev pub Took : (List ℕ → Type 0) → List ℕ → List ℕ → Type 0
-Took P bytes rest = (text : List ℕ) × P text × (bytes ≡ text ++ rest)
+-- what holds of each entry holds of each entry behind a front
+pub rest_holds : (P : ℕ → Type 0) (front rest : List ℕ) → ((i : ℕ) → P (slice_index (front ++ rest) i)) → (i : ℕ) → P (slice_index rest i)
+rest_holds P [] rest h = h
+rest_holds P (x ∷ front) rest h = rest_holds P front rest (λ i. h (suc i))
 
 pub small_rest : (P : List ℕ → Type 0) (bytes rest : List ℕ) → IsBytes bytes → Took P bytes rest → IsBytes rest
-small_rest P bytes rest h t = bytes_rest t.0 rest (subst IsBytes t.2 h)
+small_rest P bytes rest h t = rest_holds (λ n. n < 256) t.0 rest (subst IsBytes t.2 h)

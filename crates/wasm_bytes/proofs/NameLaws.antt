@@ -1,5 +1,5 @@
 -- A name is read exactly where one is spelled.
-use Rattle.base_lists.proofs.Common.{◌≡◌, ℕ, ◌≤◌, List, ◌++◌, length, take, drop, Result, Ok, Err, false, ◌⊎◌, inl, inr, ⊎_elim, refl, sym, ap, ◌∙◌, subst, arith, append_assoc, cases_lt, lt-ltb, le-ltb, cases_Bool, IsUtf8-from_is_utf8, is_utf8-from_IsUtf8, IsUtf8, is_utf8}
+use Rattle.base_lists.proofs.Common.{◌≡◌, ℕ, ◌≤◌, List, ◌++◌, length, take, drop, Result, Ok, Err, false, inl, inr, ⊎_elim, refl, sym, ap, ◌∙◌, subst, arith, append_assoc, cases_lt, lt-ltb, le-ltb, cases_Bool, IsUtf8-from_is_utf8, is_utf8-from_IsUtf8, IsUtf8, is_utf8}
 use Rattle.wasm_bytes.specs.declared.cursor.Wrong.{Wrong}
 use Rattle.wasm_bytes.specs.declared.cursor.Wrong.TheVariants.{Short, Spelling}
 use Rattle.wasm_bytes.specs.Prelude.{Takes, last_unsigned, join_unsigned, IsBytes, U32, Named}
@@ -12,7 +12,7 @@ use Rattle.wasm_bytes.proofs.Sized.{u32_sound, u32_complete, sized_complete}
 
 u32_cut : (old : List ℕ) → IsCut U32 old → unsigned_at 32 old ≡ Err Short
 unfolding unsigned_at
-u32_cut old c = reading_of_cut last_unsigned join_unsigned unsigned_ends 32 old c.0 c.1 c.2 c.3
+u32_cut old c = reading_of_cut last_unsigned join_unsigned 32 old c.0 c.1 c.2 c.3
 
 cut_u32 : (old : List ℕ) → IsBytes old → unsigned_at 32 old ≡ Err Short → IsCut U32 old
 unfolding unsigned_at

@@ -1,10 +1,11 @@
 -- The frames of a file as parts of its bytes.
-use Rattle.std.specs.Prelude.{◌≡◌, ℕ, ◌+◌, ◌<◌, ◌≤◌, List, [], ◌∷◌, ◌++◌, length, take, drop, map, get_or, Result, Ok, Err, Option, Some, None}
+use Rattle.std.specs.Prelude.{◌≡◌, ℕ, ◌+◌, ◌<◌, ◌≤◌, List, [], ◌∷◌, ◌++◌, length, take, drop, map, get_or, Result, Ok, Err, Option, Some, None, ◌↔◌}
 use Rattle.wasm_bytes.specs.declared.framing.Frame.{Frame as Place}
 use Rattle.wasm_bytes.specs.declared.framing.FrameFault.{FrameFault}
 use Rattle.wasm_bytes.specs.declared.framing.FrameFault.TheVariants.{NotModule, BadFrame, NoMemory}
 use Rattle.wasm_bytes.specs.Joins.{U32}
-use Rattle.wasm_bytes.specs.Frames.{Section, frame_at, frames_at, or_number}
+use Rattle.wasm_bytes.specs.Reading.{IsBytes}
+use Rattle.wasm_bytes.specs.Frames.{Section, HasHeader, Framed, FirstBad, frame_at, frames_at, or_number}
 
 -- The section that a frame is in the bytes: its id and its content.
 abbrev pub framed : List ℕ → Place → Section
@@ -29,6 +30,15 @@ Stand bytes at (f ∷ fs) end = StandsAt bytes at f × Stand bytes (f.start + f.
 -- What is read behind the header.
 abbrev pub frames_behind : List ℕ → Result (List Section) ℕ
 frames_behind bytes = frames_at (length bytes) 0 0 (drop 8 bytes)
+
+-- What is read behind the header is how the file is framed.
+pub record FramesAreRead : Type 0 where
+  -- If sections are read, the file is framed as these sections.
+  pub sound : (bytes : List ℕ) (ss : List Section) → IsBytes bytes → HasHeader bytes → frames_behind bytes ≡ Ok ss → Framed bytes ss
+  -- If a file is framed as sections, these are read.
+  pub complete : (bytes : List ℕ) (ss : List Section) → Framed bytes ss → frames_behind bytes ≡ Ok ss
+  -- The number that is read instead is that of the first bad frame.
+  pub bad : (bytes : List ℕ) (n : ℕ) → IsBytes bytes → HasHeader bytes → (frames_behind bytes ≡ Err n) ↔ FirstBad bytes n
 
 -- The program's result is what is read behind the header, unless memory runs out.
 abbrev pub GivesFrames : List ℕ → Result (List Place) FrameFault → Type 0

@@ -13,6 +13,9 @@ mod spelled;
 pub use cursor::{Cursor, Wrong};
 pub use framing::{Frame, FrameFault, frames};
 pub use items::Items;
-pub use laws::{integer_encodings_are_prefix_free, shortest_encodings};
+pub use laws::{
+    encoded_numbers_are_in_range, frames_are_read, integer_encodings_are_prefix_free,
+    shortest_encodings,
+};
 pub use name::{Name, NoMemory};
 pub use out::Out;

@@ -5,7 +5,7 @@ use Rattle.std.specs.Result.{result_ok}
 use Rattle.base_lists.specs.Every.{Every}
 use Rattle.wasm_bytes.specs.Prelude.{Section, Framed, framed_all, Each, IsBytes}
 use Rattle.wasm_bytes.specs.declared.framing.Frame.{Frame as Place}
-use Rattle.wasm_bytes.proofs.Lists.{bytes_rest}
+use Rattle.wasm_bytes.proofs.Lists.{rest_holds}
 use Rattle.wasm_read_spec.specs.Prelude.{framed_at}
 use Rattle.wasm_read_spec.specs.declared.fault.ReadFault.TheVariants.{NotModule, Malformed}
 use Rattle.wasm_read_spec.specs.Contents.{AreBytes}
@@ -29,8 +29,8 @@ subsections_bytes bytes [] small h = tt
 subsections_bytes bytes (s ∷ ss) small h =
     let both = subst IsBytes h.4 small in
     let front : IsBytes h.0 = front_holds (λ n. n < 256) (omega arith) h.0 h.1 both in
-    let sized = bytes_rest h.2.0 h.2.1 (subst IsBytes h.2.4 front) in
-    (bytes_rest h.2.3.0 s.1 (subst IsBytes h.2.3.2 sized), subsections_bytes h.1 ss (bytes_rest h.0 h.1 both) h.3)
+    let sized = rest_holds (λ n. n < 256) h.2.0 h.2.1 (subst IsBytes h.2.4 front) in
+    (rest_holds (λ n. n < 256) h.2.3.0 s.1 (subst IsBytes h.2.3.2 sized), subsections_bytes h.1 ss (rest_holds (λ n. n < 256) h.0 h.1 both) h.3)
 
 map_bytes : (s : Section) (ss : List Section) → IsBytes s.1 → (one : Bool) → (s.0 == 1) ≡ one → Every IsBytes (func_name_maps ss) → Every IsBytes (func_name_maps (s ∷ ss))
 map_bytes s ss small true is later = rw is (small, later)
@@ -42,7 +42,7 @@ maps_bytes (s ∷ ss) small = map_bytes s ss small.0 (s.0 == 1) refl (maps_bytes
 
 -- what stands behind the name is bytes
 behind_bytes : (s : Section) (rest : List ℕ) → IsBytes s.1 → IsNameSection s rest → IsBytes rest
-behind_bytes s rest small h = bytes_rest h.1.0 rest (subst IsBytes h.1.2 small)
+behind_bytes s rest small h = rest_holds (λ n. n < 256) h.1.0 rest (subst IsBytes h.1.2 small)
 
 -- ---- what stands behind the name
 

@@ -1,8 +1,8 @@
 -- What is read as a name map is one.
 use Rattle.base_lists.proofs.Common.{◌≡◌, ℕ, zero, suc, ◌+◌, ◌≤◌, List, [], ◌∷◌, ◌++◌, length, Ok, ⊎_elim, sym, ap, ◌∙◌, subst, arith, append-nil, le-ltb, eqb-true, IsStrictlyIncreasing, cond_is, bind_ok, ok_pair, err_ok, within_most}
 use Rattle.std.proofs.lemmas.List.{nil_from_length}
-use Rattle.wasm_bytes.specs.Prelude.{U32, Named, Sized, Vector, IsBytes}
-use Rattle.wasm_bytes.proofs.Lists.{Took, small_rest}
+use Rattle.wasm_bytes.specs.Prelude.{Took, U32, Named, Sized, Vector, IsBytes}
+use Rattle.wasm_bytes.proofs.Lists.{small_rest}
 use Rattle.wasm_read_spec.specs.declared.fault.Fault.{Fault}
 use Rattle.wasm_read_spec.specs.declared.fault.Fault.TheVariants.{Malformed}
 use Rattle.wasm_read_spec.specs.Prelude.{Any, u32_at, name_at, sized_at}

@@ -1,10 +1,10 @@
 -- What is read of the subsections of a name section is what they spell.
 use Rattle.base_lists.proofs.Common.{◌≡◌, ◌≢◌, ℕ, zero, suc, ◌≤◌, List, [], ◌∷◌, ◌++◌, length, Option, Some, None, Ok, Err, Bool, true, false, refl, sym, ap, ◌∙◌, subst, arith, append-nil, Bor, ◌==◌, is_some, option_to_list, bind_ok, ok_pair}
 use Rattle.std.proofs.Common.{length-append}
-use Rattle.wasm_bytes.specs.Prelude.{Section, Each, ◌>>=◌, IsBytes}
+use Rattle.wasm_bytes.specs.Prelude.{Took, Section, Each, ◌>>=◌, IsBytes}
 use Rattle.wasm_bytes.specs.declared.cursor.Wrong.{Wrong}
 use Rattle.wasm_bytes.specs.Reading.{byte_at}
-use Rattle.wasm_bytes.proofs.Lists.{Took, small_rest}
+use Rattle.wasm_bytes.proofs.Lists.{small_rest}
 use Rattle.wasm_read_spec.specs.declared.fault.Fault.{Fault}
 use Rattle.wasm_read_spec.specs.declared.fault.Fault.TheVariants.{Malformed}
 use Rattle.wasm_read_spec.specs.Prelude.{Fails, sized_at}

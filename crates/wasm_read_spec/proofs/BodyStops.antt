@@ -1,8 +1,8 @@
 -- Reading a body tells the stops of its bytes, and no others; and so does reading what is inside an entry.
 use Rattle.base_lists.proofs.Common.{◌≡◌, ℕ, zero, suc, ◌≤◌, List, [], ◌∷◌, ◌++◌, length, Result, Ok, Err, Bool, true, false, cond, ◌⊎◌, inl, inr, ⊎_elim, refl, sym, ap, ◌∙◌, subst, arith, append_assoc, ◌==◌, cond_is}
 use Rattle.std.proofs.Common.{length-append}
-use Rattle.wasm_bytes.specs.Prelude.{Then, Each, ◌>>=◌, IsBytes}
-use Rattle.wasm_bytes.proofs.Lists.{Took, small_rest}
+use Rattle.wasm_bytes.specs.Prelude.{Took, Then, Each, ◌>>=◌, IsBytes}
+use Rattle.wasm_bytes.proofs.Lists.{small_rest}
 use Rattle.wasm_tree_spec.specs.Prelude.{BlockType, Instr, Block, Loop, If, Nesting, limit}
 use Rattle.wasm_read_spec.specs.declared.fault.Fault.{Fault}
 use Rattle.wasm_read_spec.specs.declared.fault.Fault.TheVariants.{Malformed, Limit}

@@ -1,8 +1,8 @@
 -- The first fault of a file is that which has its cause.
-use Rattle.base_lists.proofs.Common.{◌≡◌, ℕ, suc, ◌+◌, List, [], ◌∷◌, ◌++◌, length, Result, Ok, Err, Bool, true, false, cond, Option, Some, None, ◌⊎◌, inl, inr, ⊎_elim, refl, sym, ap, ◌∙◌, subst, arith, cases_Bool, ◌↔◌, cond_is}
+use Rattle.base_lists.proofs.Common.{◌≡◌, ℕ, suc, ◌+◌, ◌<◌, List, [], ◌∷◌, ◌++◌, length, Result, Ok, Err, Bool, true, false, cond, Option, Some, None, ◌⊎◌, inl, inr, ⊎_elim, refl, sym, ap, ◌∙◌, subst, arith, cases_Bool, ◌↔◌, cond_is}
 use Rattle.base_lists.specs.Every.{Every}
-use Rattle.wasm_bytes.specs.Prelude.{IsBytes, Section, Framed}
-use Rattle.wasm_bytes.proofs.Lists.{bytes_rest}
+use Rattle.wasm_bytes.specs.Prelude.{IsBytes, Section, Framed, FramesAreRead}
+use Rattle.wasm_bytes.proofs.Lists.{rest_holds}
 use Rattle.wasm_tree_spec.specs.Prelude.{imported_funcs, Func, Which}
 use Rattle.wasm_read_spec.specs.declared.fault.Fault.{Fault}
 use Rattle.wasm_read_spec.specs.declared.fault.Fault.TheVariants as fault
@@ -62,7 +62,7 @@ stopped many n p (s ∷ ss) e small h = ⊎_elim
     record { front = s ∷ w.front; here = w.here; back = w.back; parts = w.parts; all = ap (λ t. s ∷ t) w.all; spelled = (good.0, one.0, w.spelled); within = (one.1, w.within); bytes = w.bytes; stops = rw k w.stops })
     (bind_err (section_at many n p s) _ e h)
 
-module _ (bytes : List ℕ) (many : Bool) (small : IsBytes bytes) where
+module _ (reads : FramesAreRead) (bytes : List ℕ) (many : Bool) (small : IsBytes bytes) where
   -- ---- what has a cause is read
 
   read_err : (e : ReadFault) → parts_at many bytes ≡ Err e → read_fault bytes many ≡ Some e
@@ -77,7 +77,7 @@ module _ (bytes : List ℕ) (many : Bool) (small : IsBytes bytes) where
   unfolding parts_at
   section_err n s p e u h =
       let here : section_at many (0 + length u.front) p s ≡ Err e = (let k : 0 + length u.front ≡ n = omega (arith, u.number) in rw k h) in
-      read_err e (rw (framed_reads bytes (u.front ++ s ∷ u.back) u.framed, contents_met many u.front 0 nothing p s u.back e u.spelled u.within here))
+      read_err e (rw (framed_reads reads bytes (u.front ++ s ∷ u.back) u.framed, contents_met many u.front 0 nothing p s u.back e u.spelled u.within here))
 
   -- the content of a section is made of bytes
   here_bytes : (n : ℕ) (s : Section) (p : Parts) → UpTo bytes many n s p → IsBytes s.1
@@ -105,8 +105,8 @@ module _ (bytes : List ℕ) (many : Bool) (small : IsBytes bytes) where
   -- the content of an entry is made of bytes
   entry_bytes : (func : ℕ) (c : List ℕ) (f : ℕ) (content : List ℕ) → IsBytes c → EntryOf many func c f content → IsBytes content
   entry_bytes func c f content ok h =
-      let behind_count : IsBytes (h.front ++ (h.entry ++ h.back)) = bytes_rest h.count _ (subst IsBytes h.text ok) in
-      let behind_front : IsBytes (h.entry ++ h.back) = bytes_rest h.front _ behind_count in
+      let behind_count : IsBytes (h.front ++ (h.entry ++ h.back)) = rest_holds (λ n. n < 256) h.count _ (subst IsBytes h.text ok) in
+      let behind_front : IsBytes (h.entry ++ h.back) = rest_holds (λ n. n < 256) h.front _ behind_count in
       content_bytes many (h.entry ++ h.back) content h.back behind_front (h.entry, h.sized, refl)
 
   -- ---- what an entry's content comes to
@@ -144,7 +144,7 @@ module _ (bytes : List ℕ) (many : Bool) (small : IsBytes bytes) where
   unfolding parts_at
   whole_met n h = ⊎_elim
       (λ yes. absurd (h.faulty (rules_of h.parts yes)))
-      (λ broken. read_err (Malformed n) (rw (framed_reads bytes h.sections h.framed, contents_complete many 0 nothing h.sections h.parts h.spelled h.within) (told_broken (agrees h.parts) h.parts (length h.sections) broken ∙ ap (λ z. Err (Malformed z)) h.number)))
+      (λ broken. read_err (Malformed n) (rw (framed_reads reads bytes h.sections h.framed, contents_complete many 0 nothing h.sections h.parts h.spelled h.within) (told_broken (agrees h.parts) h.parts (length h.sections) broken ∙ ap (λ z. Err (Malformed z)) h.number)))
       (cases_Bool (agrees h.parts))
 
   body_met : (n f : ℕ) (content : List ℕ) → InEntry bytes many n f content → MalformedContent many content → read_fault bytes many ≡ Some (MalformedBody f)
@@ -162,7 +162,7 @@ module _ (bytes : List ℕ) (many : Bool) (small : IsBytes bytes) where
   pub cause_met : (e : ReadFault) → Cause bytes many e → read_fault bytes many ≡ Some e
   cause_met NoMemory h = absurd h
   cause_met NotModule h = framed_err NotModule (header_reads bytes h)
-  cause_met (Malformed n) h = ⊎_elim (λ bad. framed_err (Malformed n) (bad_reads bytes n small bad)) (λ k. ⊎_elim (malformed_met n) (whole_met n) k) h
+  cause_met (Malformed n) h = ⊎_elim (λ bad. framed_err (Malformed n) (bad_reads reads bytes n small bad)) (λ k. ⊎_elim (malformed_met n) (whole_met n) k) h
   cause_met (MalformedBody f) h = let t = h.1 in body_met h.0 f t.0 t.1 t.2
   cause_met (Unsupported n None) h = stop_err n NotSupported h
   cause_met (Unsupported n (Some f)) h = entry_err n f NotSupported h
@@ -248,9 +248,9 @@ module _ (bytes : List ℕ) (many : Bool) (small : IsBytes bytes) where
       (λ bad. ⊎_elim
       (λ none. subst (Cause bytes many) (sym none.0) none.1)
       (λ frame. subst (Cause bytes many) (sym frame.1) (inl frame.2))
-      (framed_fault bytes e small bad))
+      (framed_fault reads bytes e small bad))
       (λ good.
-      let framed = framed_sound bytes good.0 small good.1 in
+      let framed = framed_sound reads bytes good.0 small good.1 in
       let are = framed_bytes bytes good.0 small framed in
       ⊎_elim
       (λ bad. section_cause good.0 framed e (stopped many 0 nothing good.0 e are bad))
@@ -275,8 +275,8 @@ module _ (bytes : List ℕ) (many : Bool) (small : IsBytes bytes) where
       (λ ok. absurd (ok_err _ e ok.2))
       (bind_err (parts_at many bytes) _ e (told (read_at many bytes) e h))
 
-pub causes : (bytes : List ℕ) (many : Bool) (e : ReadFault) → IsBytes bytes → (read_fault bytes many ≡ Some e) ↔ Cause bytes many e
-causes bytes many e small = (cause_found bytes many small e, cause_met bytes many small e)
+pub causes : FramesAreRead → (bytes : List ℕ) (many : Bool) (e : ReadFault) → IsBytes bytes → (read_fault bytes many ≡ Some e) ↔ Cause bytes many e
+causes reads bytes many e small = (cause_found reads bytes many small e, cause_met reads bytes many small e)
 
-pub one_cause : (bytes : List ℕ) (many : Bool) (e f : ReadFault) → IsBytes bytes → Cause bytes many e → Cause bytes many f → e ≡ f
-one_cause bytes many e f small h k = let same = sym (cause_met bytes many small e h) ∙ cause_met bytes many small f k in (let t : ◌≡◌ {A = Option ReadFault} (Some e) (Some f) = same in cc)
+pub one_cause : FramesAreRead → (bytes : List ℕ) (many : Bool) (e f : ReadFault) → IsBytes bytes → Cause bytes many e → Cause bytes many f → e ≡ f
+one_cause reads bytes many e f small h k = let same = sym (cause_met reads bytes many small e h) ∙ cause_met reads bytes many small f k in (let t : ◌≡◌ {A = Option ReadFault} (Some e) (Some f) = same in cc)

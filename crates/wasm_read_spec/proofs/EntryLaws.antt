@@ -1,7 +1,7 @@
 -- Code entries: what is read is what is spelled and small.
 use Rattle.base_lists.proofs.Common.{◌≡◌, ℕ, zero, suc, ◌+◌, ◌≤◌, List, [], ◌∷◌, ◌++◌, length, Result, Ok, Err, Bool, cond, Option, Some, None, refl, sym, ap, ◌∙◌, subst, arith, append-nil, le-ltb, eqb-suc-zero, ◌==◌, bind_ok, ok_pair, within_most}
-use Rattle.wasm_bytes.specs.Prelude.{U32, Each, Vector, Sized, IsBytes}
-use Rattle.wasm_bytes.proofs.Lists.{Took, small_rest}
+use Rattle.wasm_bytes.specs.Prelude.{Took, U32, Each, Vector, Sized, IsBytes}
+use Rattle.wasm_bytes.proofs.Lists.{small_rest}
 use Rattle.wasm_tree.specs.declared.which.Which.TheVariants.{Functions}
 use Rattle.wasm_tree_spec.specs.Prelude.{LocalGroup, Func, limit}
 use Rattle.wasm_read_spec.specs.declared.fault.Fault.{Fault}

@@ -1,12 +1,13 @@
 -- A reader that finds what is spelled and small, and nothing else; and how such readers are put together.
-use Rattle.base_lists.proofs.Common.{◌≡◌, ℕ, zero, suc, ◌≤◌, List, [], ◌∷◌, ◌++◌, length, Result, Ok, Err, Bool, true, false, cond, refl, sym, ap, ◌∙◌, subst, arith, append_assoc, le-ltb, eqb-true, IsUtf8-from_is_utf8, is_utf8-from_IsUtf8, ◌==◌, IsUtf8, is_utf8, bind_ok, ok_pair, err_ok, within_most}
+use Rattle.base_lists.proofs.Common.{◌≡◌, ℕ, zero, suc, ◌≤◌, List, [], ◌∷◌, ◌++◌, length, Option, Result, Ok, Err, Bool, true, false, cond, refl, sym, ap, ◌∙◌, subst, arith, append_assoc, le-ltb, eqb-true, IsUtf8-from_is_utf8, is_utf8-from_IsUtf8, ◌==◌, IsUtf8, is_utf8, bind_ok, ok_pair, err_ok, within_most}
 use Rattle.wasm_bytes.specs.declared.cursor.Wrong.{Wrong}
 use Rattle.wasm_bytes.specs.declared.cursor.Wrong.TheVariants.{Spelling}
-use Rattle.wasm_bytes.specs.Prelude.{Signed, last_signed, join_signed, Then, U32, Each, Vector, Sized, Named, ◌>>=◌, IsBytes}
-use Rattle.wasm_bytes.specs.Reading.{signed_at, name_at as text_at, sized_at as content_at}
-use Rattle.wasm_bytes.proofs.NumberLaws.{reading_of_spelled, spelled_of_reading, signed_ends}
-use Rattle.wasm_bytes.proofs.Lists.{Took, small_rest}
-use Rattle.wasm_bytes.proofs.Sized.{u32_sound, u32_complete, sized_sound, sized_complete}
+use Rattle.wasm_bytes.specs.Prelude.{Took, Signed, last_unsigned, join_unsigned, last_signed, join_signed, Then, U32, Each, Vector, Sized, Named, ◌>>=◌, IsBytes}
+use Rattle.wasm_bytes.specs.Reading.{reading, unsigned_at, signed_at, name_at as text_at, sized_at as content_at}
+use Rattle.wasm_bytes.specs.Numbers.{Spells as SpellsNumber}
+use Rattle.wasm_bytes.proofs.NumberLaws.{reading_of_spelled, spelled_of_reading}
+use Rattle.wasm_bytes.proofs.Lists.{small_rest}
+use Rattle.wasm_bytes.proofs.Sized.{content_sound, content_complete}
 use Rattle.wasm_tree_spec.specs.Prelude.{Which, limit}
 use Rattle.wasm_read_spec.specs.declared.fault.Fault.{Fault}
 use Rattle.wasm_read_spec.specs.declared.fault.Fault.TheVariants.{Malformed, Limit}
@@ -50,18 +51,20 @@ byte_exact = record {
   complete = λ text rest x h k. rw h;
 }
 
-pub u32_exact : Exact U32 Any u32_at
-u32_exact = record {
-  sound = λ bytes x rest small e. (u32_sound bytes x rest small (or_ok _ _ e), tt);
-  complete = λ text rest x h k. ap or_malformed (u32_complete text rest x h);
+-- numbers of any form
+number_exact : {V : Type 0} (last : ℕ → ℕ → Option V) (join : ℕ → V → V) (bits : ℕ) → Exact (SpellsNumber last join bits) Any (λ bs. or_malformed (reading last join bits bs))
+number_exact last join bits = record {
+  sound = λ bytes x rest small e. (spelled_of_reading last join bits bytes x rest small (or_ok _ _ e), tt);
+  complete = λ text rest x h k. ap or_malformed (reading_of_spelled last join bits text rest x h);
 }
+
+pub u32_exact : Exact U32 Any u32_at
+unfolding unsigned_at
+u32_exact = number_exact last_unsigned join_unsigned 32
 
 signed_exact : (bits : ℕ) → Exact (Signed bits) Any (λ bs. or_malformed (signed_at bits bs))
 unfolding signed_at
-signed_exact bits = record {
-  sound = λ bytes x rest small e. (spelled_of_reading last_signed join_signed signed_ends bits bytes x rest small (or_ok _ _ e), tt);
-  complete = λ text rest x h k. ap or_malformed (reading_of_spelled last_signed join_signed signed_ends bits text rest x h);
-}
+signed_exact bits = number_exact last_signed join_signed bits
 
 pub s32_exact : Exact S32 Any s32_at
 s32_exact = signed_exact 32
@@ -73,9 +76,10 @@ pub s64_exact : Exact S64 Any s64_at
 s64_exact = signed_exact 64
 
 pub sized_exact : Exact Sized Any sized_at
+unfolding unsigned_at
 sized_exact = record {
-  sound = λ bytes x rest small e. (sized_sound bytes x rest small (or_ok _ _ e), tt);
-  complete = λ text rest x h k. ap or_malformed (sized_complete text rest x h);
+  sound = λ bytes x rest small e. (content_sound U32 (unsigned_at 32) (λ bs n more ok k. (u32_exact.sound bs n more ok (ap or_malformed k)).0) bytes x rest small (or_ok _ _ e), tt);
+  complete = λ text rest x h k. ap or_malformed (content_complete U32 (unsigned_at 32) (λ t more n g. or_ok _ _ (u32_exact.complete t more n g tt)) text rest x h);
 }
 
 -- a name
@@ -87,13 +91,13 @@ name_sound : (bytes x rest : List ℕ) → IsBytes bytes → text_at bytes ≡ O
 unfolding text_at
 name_sound bytes x rest small e =
     let c = bind_ok (content_at bytes) _ _ e in
-    let s = sized_sound bytes c.0.0 c.0.1 small c.1 in
+    let s = (sized_exact.sound bytes c.0.0 c.0.1 small (ap or_malformed c.1)).0 in
     let u = text_is (is_utf8 c.0.0) c.0.0 c.0.1 x rest c.2 in
     (s.0, (subst IsUtf8 u.1 (IsUtf8-from_is_utf8 c.0.0 u.0), subst (Sized s.0) u.1 s.1), s.2 ∙ ap (λ t. s.0 ++ t) u.2)
 
 name_complete : (text rest x : List ℕ) → Named text x → text_at (text ++ rest) ≡ Ok (x, rest)
 unfolding text_at
-name_complete text rest x h = rw (sized_complete text rest x h.1, is_utf8-from_IsUtf8 x h.0)
+name_complete text rest x h = rw (or_ok _ _ (sized_exact.complete text rest x h.1 tt), is_utf8-from_IsUtf8 x h.0)
 
 pub name_exact : Exact Named Any name_at
 name_exact = record {

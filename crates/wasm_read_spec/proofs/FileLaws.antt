@@ -1,7 +1,7 @@
 -- A file is read exactly where it spells a tree, within the limits.
 use Rattle.base_lists.proofs.Common.{◌≡◌, ℕ, zero, suc, ◌+◌, ◌<◌, slice_index, List, [], ◌∷◌, ◌++◌, length, Result, Ok, Err, Bool, true, false, cond, Option, Some, None, refl, sym, ap, ◌∙◌, subst, arith, eqb-true, and_parts, ◌==◌, ◌↔◌, bind_ok}
-use Rattle.wasm_bytes.specs.Prelude.{IsBytes, Section, order_after, Frames, Framed}
-use Rattle.wasm_bytes.proofs.Lists.{bytes_rest}
+use Rattle.wasm_bytes.specs.Prelude.{IsBytes, Section, order_after, Frames, Framed, FramesAreRead}
+use Rattle.wasm_bytes.proofs.Lists.{rest_holds}
 use Rattle.wasm_tree_spec.specs.Prelude.{Module, any_uses_data}
 use Rattle.wasm_read_spec.specs.declared.fault.ReadFault.{ReadFault}
 use Rattle.wasm_read_spec.specs.declared.parts.Parts.{Parts}
@@ -29,13 +29,13 @@ frames_bytes last bytes (s ∷ ss) small h =
     let sized = h.2.1 in
     let text : IsBytes (s.0 ∷ sized.0) = subst IsBytes sized.2 frame in
     let inner : IsBytes (sized.1.0 ++ s.1) = subst IsBytes sized.1.2 (λ i. text (suc i)) in
-    (bytes_rest sized.1.0 s.1 inner, frames_bytes (order_after last s.0) h.1 ss (bytes_rest h.0 h.1 both) h.3)
+    (rest_holds (λ n. n < 256) sized.1.0 s.1 inner, frames_bytes (order_after last s.0) h.1 ss (rest_holds (λ n. n < 256) h.0 h.1 both) h.3)
 
 pub framed_bytes : (bytes : List ℕ) (ss : List Section) → IsBytes bytes → Framed bytes ss → AreBytes ss
-framed_bytes bytes ss small f = frames_bytes 0 f.1 ss (bytes_rest f.0 f.1 (subst IsBytes f.4 small)) f.3
+framed_bytes bytes ss small f = frames_bytes 0 f.1 ss (rest_holds (λ n. n < 256) f.0 f.1 (subst IsBytes f.4 small)) f.3
 
-pub one_framing : (bytes : List ℕ) (ss ts : List Section) → Framed bytes ss → Framed bytes ts → ss ≡ ts
-one_framing bytes ss ts f g = let e = sym (framed_reads bytes ss f) ∙ framed_reads bytes ts g in let same : ss ≡ ts = cc in same
+pub one_framing : FramesAreRead → (bytes : List ℕ) (ss ts : List Section) → Framed bytes ss → Framed bytes ts → ss ≡ ts
+one_framing reads bytes ss ts f g = let e = sym (framed_reads reads bytes ss f) ∙ framed_reads reads bytes ts g in let same : ss ≡ ts = cc in same
 
 -- ---- contents
 
@@ -95,13 +95,13 @@ whole_ok : (b : Bool) (p q : Parts) (e : ReadFault) → cond b (Ok p) (Err e) �
 whole_ok true p q e h = let same : p ≡ q = cc in (refl, same)
 whole_ok false p q e h = cc
 
-module _ (many : Bool) (bytes : List ℕ) (small : IsBytes bytes) where
+module _ (reads : FramesAreRead) (many : Bool) (bytes : List ℕ) (small : IsBytes bytes) where
   -- the parts of a file that is read
   pub parts_found : (p : Parts) → parts_at many bytes ≡ Ok p → (ss : List Section) × Framed bytes ss × Contents many nothing ss p × Every (SectionIsSmall many) ss × Rules p
   unfolding parts_at
   parts_found p h =
       let f = bind_ok (framed_at bytes) _ _ h in
-      let framed = framed_sound bytes f.0 small f.1 in
+      let framed = framed_sound reads bytes f.0 small f.1 in
       let c = bind_ok (contents_at many 0 nothing f.0) _ _ f.2 in
       let w = whole_ok (agrees c.0) c.0 p _ c.2 in
       let t = contents_sound many 0 nothing f.0 c.0 (framed_bytes bytes f.0 small framed) c.1 in
@@ -113,21 +113,21 @@ module _ (many : Bool) (bytes : List ℕ) (small : IsBytes bytes) where
       let p = bind_ok (parts_at many bytes) _ _ h in
       let f = parts_found p.0 p.1 in
       let same : tree_of p.0 ≡ m = (let k = p.2 in cc) in
-      ((f.0, p.0, f.1, f.2, f.4, sym same), λ ss g. subst (Every (SectionIsSmall many)) (one_framing bytes f.0 ss f.1 g) f.3)
+      ((f.0, p.0, f.1, f.2, f.4, sym same), λ ss g. subst (Every (SectionIsSmall many)) (one_framing reads bytes f.0 ss f.1 g) f.3)
 
-pub tree_read : (many : Bool) (bytes : List ℕ) (m : Module) → Spells bytes m many → Within bytes many → read_at many bytes ≡ Ok m
+pub tree_read : FramesAreRead → (many : Bool) (bytes : List ℕ) (m : Module) → Spells bytes m many → Within bytes many → read_at many bytes ≡ Ok m
 unfolding read_at parts_at
-tree_read many bytes m h k =
-    rw (framed_reads bytes h.0 h.2, contents_complete many 0 nothing h.0 h.1 h.3 (k h.0 h.2), of_rules h.1 h.4) (ap Ok (sym h.5))
+tree_read reads many bytes m h k =
+    rw (framed_reads reads bytes h.0 h.2, contents_complete many 0 nothing h.0 h.1 h.3 (k h.0 h.2), of_rules h.1 h.4) (ap Ok (sym h.5))
 
 -- a tree is read exactly where it is spelled within the limits
-pub read_exactly : (many : Bool) (bytes : List ℕ) (m : Module) → IsBytes bytes → (read_at many bytes ≡ Ok m) ↔ (Spells bytes m many × Within bytes many)
-read_exactly many bytes m small = (tree_found many bytes small m, λ h. tree_read many bytes m h.0 h.1)
+pub read_exactly : FramesAreRead → (many : Bool) (bytes : List ℕ) (m : Module) → IsBytes bytes → (read_at many bytes ≡ Ok m) ↔ (Spells bytes m many × Within bytes many)
+read_exactly reads many bytes m small = (tree_found reads many bytes small m, λ h. tree_read reads many bytes m h.0 h.1)
 
 -- some bytes spell at most one tree
-pub decoding_is_unique : (many : Bool) (bytes : List ℕ) (m n : Module) → Spells bytes m many → Spells bytes n many → m ≡ n
-decoding_is_unique many bytes m n h k =
-    let frames = one_framing bytes h.0 k.0 h.2 k.2 in
+pub decoding_is_unique : FramesAreRead → (many : Bool) (bytes : List ℕ) (m n : Module) → Spells bytes m many → Spells bytes n many → m ≡ n
+decoding_is_unique reads many bytes m n h k =
+    let frames = one_framing reads bytes h.0 k.0 h.2 k.2 in
     h.5 ∙ ap tree_of (contents_one many nothing k.0 h.1 k.1 (subst (λ ss. Contents many nothing ss h.1) frames h.3) k.3) ∙ sym k.5
 
 -- ---- faults
@@ -143,8 +143,8 @@ none_is : {A : Type 0} (r : Result A ReadFault) → fault_of r ≡ None → (x :
 none_is (Ok x) h = (x, refl)
 none_is (Err e) h = cc
 
-pub no_fault : (many : Bool) (bytes : List ℕ) → IsBytes bytes → (read_fault bytes many ≡ None) ↔ ((m : Module) × Spells bytes m many × Within bytes many)
-no_fault many bytes small = (
-  λ h. let r = none_is (read_at many bytes) h in let t = tree_found many bytes small r.0 r.1 in (r.0, t.0, t.1),
-  λ t. ap fault_of (tree_read many bytes t.0 t.1 t.2),
+pub no_fault : FramesAreRead → (many : Bool) (bytes : List ℕ) → IsBytes bytes → (read_fault bytes many ≡ None) ↔ ((m : Module) × Spells bytes m many × Within bytes many)
+no_fault reads many bytes small = (
+  λ h. let r = none_is (read_at many bytes) h in let t = tree_found reads many bytes small r.0 r.1 in (r.0, t.0, t.1),
+  λ t. ap fault_of (tree_read reads many bytes t.0 t.1 t.2),
 )

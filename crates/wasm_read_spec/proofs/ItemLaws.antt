@@ -2,8 +2,8 @@
 use Rattle.base_lists.proofs.Common.{◌≡◌, ℕ, ◌+◌, ◌-◌, ◌≤◌, List, [], ◌∷◌, ◌++◌, length, refl, subst, arith, ◌∙◌, ap, sym, ◌==◌, bind_ok, ok_pair, within_most}
 use Rattle.std.proofs.Common.{le-ltb}
 use Rattle.std.proofs.lemmas.List.Sums.{sum-map, sum_by-cons}
-use Rattle.wasm_bytes.specs.Prelude.{U32, Vector}
-use Rattle.wasm_bytes.proofs.Lists.{Took, small_rest}
+use Rattle.wasm_bytes.specs.Prelude.{Took, U32, Vector}
+use Rattle.wasm_bytes.proofs.Lists.{small_rest}
 use Rattle.wasm_tree_spec.specs.Prelude.{Parameters, Results, Locals, LocalGroup, limit, declared_count}
 use Rattle.wasm_tree.specs.declared.module.ConstExpr.TheVariants as const
 use Rattle.wasm_tree.specs.declared.module.ImportDesc.TheVariants as import

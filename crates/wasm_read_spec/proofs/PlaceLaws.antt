@@ -1,7 +1,7 @@
 -- The place of a fault is one: the contents come to a stop in one section, and in the code section in one entry.
 use Rattle.base_lists.proofs.Common.{◌≡◌, Bool, ℕ, suc, ◌+◌, List, [], ◌∷◌, ◌++◌, length, Result, Ok, Err, Option, Some, None, ⊎_elim, append_assoc, refl, sym, ap, ◌∙◌, subst, arith}
 use Rattle.base_lists.specs.Every.{Every}
-use Rattle.wasm_bytes.specs.Prelude.{U32, Each, Sized, IsBytes, Section}
+use Rattle.wasm_bytes.specs.Prelude.{U32, Each, Sized, IsBytes, Section, FramesAreRead}
 use Rattle.wasm_tree_spec.specs.Prelude.{Func, imported_funcs}
 use Rattle.wasm_read_spec.specs.declared.fault.Fault.{Fault}
 use Rattle.wasm_read_spec.specs.declared.fault.ReadFault.{ReadFault}
@@ -47,9 +47,9 @@ module _ (many : Bool) (e e' : ReadFault) where
       let r = fronts_same (n + 1) c.0 q q' front front' s s' back back' others c.2 w.1 (ap (λ z. section_at many z q s) here ∙ bad) (subst (λ z. Contents many z front' q') (sym parts) c'.2) w'.1 (ap (λ z. section_at many z q' s') here' ∙ bad') in
       (ap suc r.0, r.1, r.2)
 
-  sections_same : (bytes : List ℕ) (n n' : ℕ) (s s' : Section) (p p' : Parts) → UpTo bytes many n s p → UpTo bytes many n' s' p' → section_at many n p s ≡ Err e → section_at many n' p' s' ≡ Err e' → (n ≡ n') × (s ≡ s') × (p ≡ p')
-  sections_same bytes n n' s s' p p' u v bad bad' =
-      let is = one_framing bytes (u.front ++ s ∷ u.back) (v.front ++ s' ∷ v.back) u.framed v.framed in
+  sections_same : FramesAreRead → (bytes : List ℕ) (n n' : ℕ) (s s' : Section) (p p' : Parts) → UpTo bytes many n s p → UpTo bytes many n' s' p' → section_at many n p s ≡ Err e → section_at many n' p' s' ≡ Err e' → (n ≡ n') × (s ≡ s') × (p ≡ p')
+  sections_same reads bytes n n' s s' p p' u v bad bad' =
+      let is = one_framing reads bytes (u.front ++ s ∷ u.back) (v.front ++ s' ∷ v.back) u.framed v.framed in
       let here : 0 + length u.front ≡ n = omega (arith, u.number) in
       let here' : 0 + length v.front ≡ n' = omega (arith, v.number) in
       let r = fronts_same 0 nothing p p' u.front v.front s s' u.back v.back is u.spelled u.within (ap (λ z. section_at many z p s) here ∙ bad) v.spelled v.within (ap (λ z. section_at many z p' s') here' ∙ bad') in
@@ -101,14 +101,14 @@ module _ (many : Bool) (n : ℕ) where
 
 -- ---- places
 
-module _ (bytes : List ℕ) (many : Bool) (small : IsBytes bytes) where
+module _ (reads : FramesAreRead) (bytes : List ℕ) (many : Bool) (small : IsBytes bytes) where
   -- where a section comes to a stop, and where an entry does, the section is not read
   inner_stops : (n f : ℕ) (content : List ℕ) (w : Fault) (h : InEntry bytes many n f content) → code_at many content ≡ Err w → section_at many n h.parts h.here ≡ Err (placed n (Some f) w)
-  inner_stops n f content w h bad = code_section bytes many small n h.parts h.here _ h.code (entry_met many n (length (imported_funcs h.parts.imports)) h.here.1 f content w h.entry bad)
+  inner_stops n f content w h bad = code_section reads bytes many small n h.parts h.here _ h.code (entry_met many n (length (imported_funcs h.parts.imports)) h.here.1 f content w h.entry bad)
 
   entry_place : (n n' f f' : ℕ) (content content' : List ℕ) (w w' : Fault) → InEntry bytes many n f content → InEntry bytes many n' f' content' → code_at many content ≡ Err w → code_at many content' ≡ Err w' → (n ≡ n') × (f ≡ f')
   entry_place n n' f f' content content' w w' h k bad bad' =
-      let r = sections_same many _ _ bytes n n' h.here k.here h.parts k.parts h.before k.before (inner_stops n f content w h bad) (inner_stops n' f' content' w' k bad') in
+      let r = sections_same many _ _ reads bytes n n' h.here k.here h.parts k.parts h.before k.before (inner_stops n f content w h bad) (inner_stops n' f' content' w' k bad') in
       let entry = subst (λ (s : Section). EntryOf many (length (imported_funcs k.parts.imports)) s.1 f content) r.1 (subst (λ (p : Parts). EntryOf many (length (imported_funcs p.imports)) h.here.1 f content) r.2 h.entry) in
       (r.0, functions_same many n' (length (imported_funcs k.parts.imports)) k.here.1 f f' content content' w w' entry k.entry bad bad')
 
@@ -117,11 +117,11 @@ module _ (bytes : List ℕ) (many : Bool) (small : IsBytes bytes) where
 
   never_both : (n n' f : ℕ) (s t : Stop) → SectionStops bytes many n s → EntryStops bytes many n' f t → ⊥
   never_both n n' f s t h (content, k, stops) =
-      let r = sections_same many _ _ bytes n n' h.here k.here h.parts k.parts h.before k.before (section_stops_at n s h) (inner_stops n' f content (fault_of t) k ((code_tells many).met content t stops)) in
+      let r = sections_same many _ _ reads bytes n n' h.here k.here h.parts k.parts h.before k.before (section_stops_at n s h) (inner_stops n' f content (fault_of t) k ((code_tells many).met content t stops)) in
       count_not many n' (length (imported_funcs k.parts.imports)) k.here.1 f content k.here.0 s k.code (subst (λ (z : Section). section_stops many z.0 s z.1) r.1 h.stops) k.entry
 
   pub one_place : (n n' : ℕ) (f f' : Option ℕ) (s t : Stop) → StopsAt bytes many n f s → StopsAt bytes many n' f' t → (n ≡ n') × (f ≡ f')
-  one_place n n' None None s t h k = ((sections_same many _ _ bytes n n' h.here k.here h.parts k.parts h.before k.before (section_stops_at n s h) (section_stops_at n' t k)).0, refl)
+  one_place n n' None None s t h k = ((sections_same many _ _ reads bytes n n' h.here k.here h.parts k.parts h.before k.before (section_stops_at n s h) (section_stops_at n' t k)).0, refl)
   one_place n n' None (Some f') s t h k = absurd (never_both n n' f' s t h k)
   one_place n n' (Some f) None s t h k = absurd (never_both n' n f t s k h)
   one_place n n' (Some f) (Some f') s t (c, h, stops) (c', k, stops') =

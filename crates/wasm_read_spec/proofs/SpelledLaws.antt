@@ -1,6 +1,6 @@
 -- What is spelled, a section or a file, is read, or a quantity in it is over its limit.
 use Rattle.base_lists.proofs.Common.{ℕ, ◌+◌, List, [], ◌∷◌, ◌++◌, length, Result, Ok, Err, Bool, true, false, cond, Option, Some, None, inl, inr, refl, sym, ap, subst, append-nil, ◌==◌}
-use Rattle.wasm_bytes.specs.Prelude.{Vector, ◌>>=◌, Section}
+use Rattle.wasm_bytes.specs.Prelude.{Vector, ◌>>=◌, Section, FramesAreRead}
 use Rattle.wasm_tree_spec.specs.Prelude.{Imports, Exports, Func, Module, imported_funcs, limit}
 use Rattle.wasm_tree.specs.declared.which.Which.TheVariants.{Types, Functions, Tables, Memories, Globals, ElementSegments, DataSegments}
 use Rattle.wasm_read_spec.specs.declared.fault.Fault.{Fault}
@@ -90,11 +90,11 @@ contents_got many n p (s ∷ ss) q h = bind_got Limit (section_at many n p s) h.
 
 -- ---- the file
 
-pub read_got : (many : Bool) (bytes : List ℕ) (m : Module) → Spells bytes m many → Got Limit (read_at many bytes) m
+pub read_got : FramesAreRead → (many : Bool) (bytes : List ℕ) (m : Module) → Spells bytes m many → Got Limit (read_at many bytes) m
 unfolding read_at parts_at
-read_got many bytes m h =
+read_got reads many bytes m h =
     let ss = h.0 in
     let p = h.1 in
     let agreed : Got Limit (cond (agrees p) (Ok p) (Err (Malformed (length ss)))) p = inl (rw (of_rules p h.4)) in
-    let parts : Got Limit (parts_at many bytes) p = bind_got Limit (framed_at bytes) ss _ p (inl (framed_reads bytes ss h.2)) (bind_got Limit (contents_at many 0 nothing ss) p _ p (contents_got many 0 nothing ss p h.3) agreed) in
+    let parts : Got Limit (parts_at many bytes) p = bind_got Limit (framed_at bytes) ss _ p (inl (framed_reads reads bytes ss h.2)) (bind_got Limit (contents_at many 0 nothing ss) p _ p (contents_got many 0 nothing ss p h.3) agreed) in
     bind_got Limit (parts_at many bytes) p _ m parts (inl (ap Ok (sym h.5)))

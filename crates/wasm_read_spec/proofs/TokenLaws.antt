@@ -1,8 +1,7 @@
 -- Tokens: what is read is what is spelled.
 use Rattle.base_lists.proofs.Common.{◌≡◌, ℕ, ◌<◌, ◌≤◌, List, [], ◌∷◌, ◌++◌, Result, Ok, Bool, true, false, cond, Option, Some, None, ◌⊎◌, inl, inr, ⊎_elim, refl, ap, ◌∙◌, subst, arith, ℤ, pos, negsuc, ◌-ℤ◌, ints, cases_lt, eqb-true, ne_eqb, ◌&&◌, nat_lt, and_false, cond_is, bind_ok, ok_pair, err_ok}
 use Rattle.std.proofs.Common.{le-ltb, eqb, leb}
-use Rattle.wasm_bytes.specs.Prelude.{Signed, ◌>>=◌, IsBytes, signed_at}
-use Rattle.wasm_bytes.proofs.Lists.{Took}
+use Rattle.wasm_bytes.specs.Prelude.{Took, Signed, ◌>>=◌, IsBytes, signed_at}
 use Rattle.wasm_tree_spec.specs.Prelude.{ValType, BlockType, Value, BrTable, SelectTyped, I32Const, I64Const, RefNull}
 use Rattle.wasm_tree.specs.declared.types.BlockType.TheVariants.{Empty, Index}
 use Rattle.wasm_read_spec.specs.declared.fault.Fault.{Fault}

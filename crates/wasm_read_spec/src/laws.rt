@@ -22,12 +22,15 @@ ghost use Rattle.wasm_read_spec.specs.Causes.{StopsAt, Cause};
 ghost use Rattle.wasm_read_spec.specs.Cut.{CutFiles};
 ghost use Rattle.wasm_read_spec.specs.Unambiguous.{ItemsArePrefixFree, FramesAreUnique};
 
+use wasm_bytes::frames_are_read;
 use wasm_tree::operands_pass_layer_by_layer;
 
 /// The same bytes encode at most one tree.
 pub fn decoding_is_unique()
     ensures { (many : Bool) (bytes : List ℕ) (m n : ModuleTree) → Spells bytes m many → Spells bytes n many → m ≡ n }
-{}
+{
+    frames_are_read();
+}
 
 /// No encoding of a body is a proper prefix of another, and the same bytes encode at most one body.
 /// (For numbers see `wasm_bytes::integer_encodings_are_prefix_free`. For files this is false,
@@ -42,7 +45,9 @@ pub fn body_encodings_are_prefix_free()
 pub fn section_encodings_are_unambiguous()
     ensures items { ItemsArePrefixFree }
     ensures frames { FramesAreUnique }
-{}
+{
+    frames_are_read();
+}
 
 /// Of bytes, `framed_at` gives a list of sections exactly if the file is framed as these sections
 /// (`framed`), the number of a section exactly if its frame is the first bad one (`bad`), and
@@ -53,7 +58,9 @@ pub fn framing_is_decided()
     ensures bad { (bytes : List ℕ) (n : ℕ) → IsBytes bytes → (framed_at bytes ≡ Err (fault.Malformed n)) ↔ FirstBad bytes n }
     ensures not_module { (bytes : List ℕ) → IsBytes bytes → (framed_at bytes ≡ Err fault.NotModule) ↔ (HasHeader bytes → ⊥) }
     ensures contents { (bytes : List ℕ) (ss : List Section) → IsBytes bytes → Framed bytes ss → AreBytes ss }
-{}
+{
+    frames_are_read();
+}
 
 /// The reading functions find what is encoded, and nothing else: a u32 (`numbers`), a name
 /// (`names`), or a length with as many bytes (`sized`) in front of some bytes, and the tree that a
@@ -63,12 +70,16 @@ pub fn reading_is_exact()
     ensures names { Exact Named Any name_at }
     ensures sized { Exact Sized Any sized_at }
     ensures files { (many : Bool) (bytes : List ℕ) (m : ModuleTree) → IsBytes bytes → (read_at many bytes ≡ Ok m) ↔ (Spells bytes m many × Within bytes many) }
-{}
+{
+    frames_are_read();
+}
 
 /// A file has no fault exactly if it encodes a tree and is within the limits.
 pub fn no_fault_where_encoded()
     ensures { (many : Bool) (bytes : List ℕ) → IsBytes bytes → (read_fault bytes many ≡ None) ↔ ((m : ModuleTree) × Spells bytes m many × Within bytes many) }
-{}
+{
+    frames_are_read();
+}
 
 /// The first fault of a file is the fault whose cause holds (`causes`), and there is at most one
 /// (`one`). A missing header comes first, and then a bad frame, whatever the sections contain. If
@@ -81,14 +92,18 @@ pub fn faults_have_causes()
     ensures causes { (bytes : List ℕ) (many : Bool) (e : SomeFault) → IsBytes bytes → (read_fault bytes many ≡ Some e) ↔ Cause bytes many e }
     ensures one { (bytes : List ℕ) (many : Bool) (e f : SomeFault) → IsBytes bytes → Cause bytes many e → Cause bytes many f → e ≡ f }
     ensures places { (bytes : List ℕ) (many : Bool) (n m : ℕ) (f g : Option ℕ) (s t : SomeStop) → IsBytes bytes → StopsAt bytes many n f s → StopsAt bytes many m g t → (n ≡ m) × (f ≡ g) }
-{}
+{
+    frames_are_read();
+}
 
 /// A file that encodes a tree is within the limits exactly if no count that is written in it, no
 /// nesting and no sum of locals is over its limit. (`Within` is about what is encoded. `Limit` is
 /// about what is written, even if the items do not follow.)
 pub fn encoded_files_are_within_limits_where_none_is_exceeded()
     ensures { (bytes : List ℕ) (many : Bool) (m : ModuleTree) → IsBytes bytes → Spells bytes m many → Within bytes many ↔ ((which : SomeWhich) → Cause bytes many (fault.Limit which) → ⊥) }
-{}
+{
+    frames_are_read();
+}
 
 /// If a file encodes a tree and so does a proper prefix of it, the prefix is the header alone or
 /// ends where a frame of the file ends.

@@ -14,7 +14,8 @@ use Rattle.wasm_read_spec.specs.Prelude.{SpellsBlockType, un_of, bin_of, load_of
 use Rattle.wasm_read_spec.specs.Tokens.{typed, or_else, the_form, rest_form, sub_form, arg_form}
 use Rattle.wasm_write_proof.specs.Ranges.{small, spellable, all_spellable, all_in_range, IsU32}
 use Rattle.wasm_write_proof.proofs.Inside.{in_range_of, Small, block_in, loop_in, if_in, more_in}
-use Rattle.wasm_write_proof.proofs.NumberRanges.{u32_in, signed_in, is_small, is_small_32, is_small_64, is_index, says_vector}
+use Rattle.wasm_bytes.proofs.NumberRanges.{signed_in}
+use Rattle.wasm_write_proof.proofs.NumberRanges.{u32_in, is_small, is_small_32, is_small_64, is_index, says_vector}
 
 -- what is known of a token
 abbrev Right : Token → Type 0

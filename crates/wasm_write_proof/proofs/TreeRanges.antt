@@ -13,7 +13,8 @@ use Rattle.wasm_read_spec.specs.Values.{limits_form, const_form}
 use Rattle.wasm_read_spec.specs.Sections.{import_form, export_form, elem_form, data_form}
 use Rattle.wasm_read_spec.specs.Files.{section_form}
 use Rattle.wasm_write_proof.specs.Ranges.{all_in_range, IsU32, MaxInRange, LimitsInRange, ConstInRange, ImportDescInRange, ImportInRange, ExportDescInRange, ExportInRange, ElemInRange, DataModeInRange, FuncInRange, InRange}
-use Rattle.wasm_write_proof.proofs.NumberRanges.{u32_in, signed_in, Says, says_when, says_made, says_never, says_vector}
+use Rattle.wasm_bytes.proofs.NumberRanges.{signed_in}
+use Rattle.wasm_write_proof.proofs.NumberRanges.{u32_in, Says, says_when, says_made, says_never, says_vector}
 use Rattle.wasm_write_proof.proofs.BodyRanges.{body_in}
 
 -- ---- what the sections hold

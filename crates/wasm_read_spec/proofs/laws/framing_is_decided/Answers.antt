@@ -4,8 +4,8 @@ use Rattle.wasm_read_spec.proofs.laws.framing_is_decided.Goals as goal
 
 pub returns : goal.returns
 returns c = record {
-  framed = λ bytes ss small. framed_exactly bytes small ss;
-  bad = λ bytes n small. bad_exactly bytes small n;
-  not_module = λ bytes small. header_exactly bytes small;
+  framed = λ bytes ss small. framed_exactly c.frames_are_read.ensures bytes small ss;
+  bad = λ bytes n small. bad_exactly c.frames_are_read.ensures bytes small n;
+  not_module = λ bytes small. header_exactly c.frames_are_read.ensures bytes small;
   contents = framed_bytes;
 }
