@@ -1,12 +1,13 @@
 -- Marks at the functions that bodies name, and the list of those that are to be declared.
-use Rattle.base_lists.proofs.Common.{◌≡◌, ℕ, zero, suc, ◌+◌, ◌<◌, Bool, true, false, ◌&&◌, not, cond, List, [], ◌∷◌, ◌++◌, map, length, drop, get_or, refl, sym, ap, ap₂, ◌∙◌, arith, zero-add, add-zero, append-nil, rules, map-append, filter, flat_map, range_with_len}
+use Rattle.base_lists.proofs.Common.{◌≡◌, ℕ, zero, suc, ◌+◌, ◌<◌, Bool, true, false, ◌&&◌, not, cond, List, [], ◌∷◌, ◌++◌, map, length, drop, get_or, refl, sym, ap, ap₂, ◌∙◌, arith, zero-add, add-zero, append-nil, rules, map-append, filter, filter_map, flat_map, flat_map-append, range_with_len}
 use Rattle.base_lists.specs.Members.{is_among}
 use Rattle.base_kept.specs.Marks.{named_from, marked_all}
 use Rattle.base_kept.proofs.Marks.{segment_step, marked_append, marks_length}
-use Rattle.wasm_tree_spec.specs.Prelude.{BlockType, Instr, the_lemmas, ConstExpr, Func}
-use Rattle.wasm_tree.specs.declared.instr.Instr.{If}
+use Rattle.wasm_tree_spec.specs.Prelude.{BlockType, Instr, the_lemmas, ConstExpr, Func, block_operands}
+use Rattle.wasm_tree.specs.declared.instr.Instr.{Block, Loop, If}
+use Rattle.wasm_tree.specs.declared.types.BlockType.TheVariants as block
 use Rattle.wasm_tree.specs.declared.module.ConstExpr.TheVariants as const
-use Rattle.index_remap.specs.Prelude.{refs, refs_all, body_refs, marked_only}
+use Rattle.index_remap.specs.Prelude.{referred, refs, refs_all, body_refs, marked_only}
 
 joined : {X : Type 0} (f : X → List ℕ) (xs : List X) → flat_map (λ ys. ys) (map f xs) ≡ flat_map f xs
 joined f [] = refl
@@ -18,14 +19,29 @@ pub body_step : (xs : List Instr) (i : ℕ) (x : Instr) (marks new : List Bool) 
 body_step xs i x marks new lt is e =
     ap (marked_all new) (joined refs (drop (i + 1) xs)) ∙ segment_step refs xs i x marks new lt is e ∙ ap (marked_all marks) (sym (joined refs (drop i xs)))
 
-pub of_If : (ty : BlockType) (is os : List Instr) → refs (If ty is os) ≡ refs_all is ++ refs_all os
-of_If ty is os = search (rules, the_lemmas)
+-- the type of a block names no function
+no_refs : (ty : BlockType) (xs : List ℕ) → filter_map referred (block_operands ty) ++ xs ≡ xs
+no_refs block.Empty xs = refl
+no_refs (block.Value t) xs = refl
+no_refs (block.Index n) xs = refl
 
--- both bodies of an `if`, one after the other
+-- the body of a block or loop, and both bodies of an `if`, one after the other
+pub block_marks : (i : Instr) (ty : BlockType) (body is : List Instr) (old new : List Bool) → i ≡ Block ty body → is ≡ body → new ≡ marked_all old (refs_all is) → new ≡ marked_all old (refs i)
+block_marks i ty body is old new e f a =
+    let inside : refs (Block ty body) ≡ filter_map referred (block_operands ty) ++ refs_all body = search (rules, the_lemmas) in
+    a ∙ ap (λ xs. marked_all old (refs_all xs)) f ∙ ap (marked_all old) (sym (ap refs e ∙ inside ∙ no_refs ty (refs_all body)))
+
+pub loop_marks : (i : Instr) (ty : BlockType) (body is : List Instr) (old new : List Bool) → i ≡ Loop ty body → is ≡ body → new ≡ marked_all old (refs_all is) → new ≡ marked_all old (refs i)
+loop_marks i ty body is old new e f a =
+    let inside : refs (Loop ty body) ≡ filter_map referred (block_operands ty) ++ refs_all body = search (rules, the_lemmas) in
+    a ∙ ap (λ xs. marked_all old (refs_all xs)) f ∙ ap (marked_all old) (sym (ap refs e ∙ inside ∙ no_refs ty (refs_all body)))
+
 pub if_marks : (i : Instr) (ty : BlockType) (body other is os : List Instr) (old one new : List Bool) → i ≡ If ty body other → is ≡ body → os ≡ other → one ≡ marked_all old (refs_all is) → new ≡ marked_all one (refs_all os) →
     new ≡ marked_all old (refs i)
 if_marks i ty body other is os old one new e f g a b =
-    b ∙ ap₂ (λ ms xs. marked_all ms (refs_all xs)) (a ∙ ap (λ xs. marked_all old (refs_all xs)) f) g ∙ sym (marked_append old (refs_all body) (refs_all other)) ∙ ap (marked_all old) (sym (ap refs e ∙ of_If ty body other))
+    let inside : refs (If ty body other) ≡ filter_map referred (block_operands ty) ++ (refs_all body ++ refs_all other) = search (rules, the_lemmas, flat_map-append) in
+    b ∙ ap₂ (λ ms xs. marked_all ms (refs_all xs)) (a ∙ ap (λ xs. marked_all old (refs_all xs)) f) g ∙ sym (marked_append old (refs_all body) (refs_all other))
+    ∙ ap (marked_all old) (sym (ap refs e ∙ inside ∙ no_refs ty (refs_all body ++ refs_all other)))
 
 -- the step over the functions
 pub func_step : (xs : List Func) (i : ℕ) (x : Func) (marks new : List Bool) → i < length xs → x ≡ get_or xs i x → new ≡ marked_all marks (refs_all x.body) →

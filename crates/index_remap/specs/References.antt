@@ -1,61 +1,25 @@
 -- A tree in which one more declarative element segment declares the functions that `ref.func` names
 -- in bodies, if any is not declared (WebAssembly Core 2.0, sections 2.5.7 and 3.4.10, the context's
 -- refs).
-use Rattle.std.specs.Prelude.{ℕ, Bool, false, ◌&&◌, not, List, [], ◌∷◌, ◌++◌, map, length, get_or, Option, None}
+use Rattle.std.specs.Prelude.{ℕ, Bool, false, cond, ◌&&◌, not, List, [], ◌∷◌, ◌++◌, map, length, get_or, Option, Some, None}
 use Rattle.base_lists.specs.Members.{is_among}
 use Rattle.std.specs.List.{filter, filter_map, flat_map, range_with_len}
 use Rattle.wasm_tree.specs.declared.types.RefType.TheVariants.{Func as func_ref}
-use Rattle.wasm_tree_spec.specs.Prelude.{Instr, fold-Instr, ElemMode, ElemSeg, Func, Module, funcs_of}
+use Rattle.wasm_tree_spec.specs.Prelude.{Functions, Operand, same_space, operands, held, Instr, fold-Instr, ElemMode, ElemSeg, Func, Module, funcs_of}
 use Rattle.wasm_tree.specs.declared.instr.Instr.TheOpen.{Instr-F}
 use Rattle.wasm_tree.specs.declared.module.ConstExpr.TheVariants as const
 use Rattle.wasm_tree.specs.declared.module.ElemMode.TheVariants as elem
 use Rattle.wasm_valid.specs.Prelude.{const_func, refs_of}
 
+-- The function that an operand names, unless it is the operand of a `call`: then it is one of
+-- `ref.func`, which alone names functions besides.
+abbrev pub referred : Operand → Option ℕ
+referred o = cond (same_space o.space Functions && not o.called) (Some o.index) None
+
 -- The functions that `ref.func` names in an instruction, given those that it names in each
 -- instruction inside.
 abbrev pub refs_step : Instr-F (List ℕ) → List ℕ
-refs_step (Instr-F.Block ty body) = flat_map (λ xs. xs) body
-refs_step (Instr-F.Loop ty body) = flat_map (λ xs. xs) body
-refs_step (Instr-F.If ty body other) = flat_map (λ xs. xs) body ++ flat_map (λ xs. xs) other
-refs_step Instr-F.Unreachable = []
-refs_step Instr-F.Nop = []
-refs_step (Instr-F.Br label) = []
-refs_step (Instr-F.BrIf label) = []
-refs_step (Instr-F.BrTable labels last) = []
-refs_step Instr-F.Return = []
-refs_step (Instr-F.Call func) = []
-refs_step (Instr-F.CallIndirect ty table) = []
-refs_step Instr-F.Drop = []
-refs_step Instr-F.Select = []
-refs_step (Instr-F.SelectTyped types) = []
-refs_step (Instr-F.LocalGet local) = []
-refs_step (Instr-F.LocalSet local) = []
-refs_step (Instr-F.LocalTee local) = []
-refs_step (Instr-F.GlobalGet global) = []
-refs_step (Instr-F.GlobalSet global) = []
-refs_step (Instr-F.TableGet table) = []
-refs_step (Instr-F.TableSet table) = []
-refs_step (Instr-F.Load op arg) = []
-refs_step (Instr-F.Store op arg) = []
-refs_step (Instr-F.MemorySize memory) = []
-refs_step (Instr-F.MemoryGrow memory) = []
-refs_step (Instr-F.I32Const value) = []
-refs_step (Instr-F.I64Const value) = []
-refs_step (Instr-F.Un op) = []
-refs_step (Instr-F.Bin op) = []
-refs_step (Instr-F.RefNull ty) = []
-refs_step Instr-F.RefIsNull = []
-refs_step (Instr-F.RefFunc func) = func ∷ []
-refs_step (Instr-F.MemoryInit segment memory) = []
-refs_step (Instr-F.DataDrop segment) = []
-refs_step (Instr-F.MemoryCopy to from) = []
-refs_step (Instr-F.MemoryFill memory) = []
-refs_step (Instr-F.TableInit segment table) = []
-refs_step (Instr-F.ElemDrop segment) = []
-refs_step (Instr-F.TableCopy to from) = []
-refs_step (Instr-F.TableGrow table) = []
-refs_step (Instr-F.TableSize table) = []
-refs_step (Instr-F.TableFill table) = []
+refs_step layer = filter_map referred (operands layer) ++ flat_map (λ xs. xs) (held layer)
 
 abbrev pub refs : Instr → List ℕ
 refs = fold-Instr (List ℕ) refs_step
