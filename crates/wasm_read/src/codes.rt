@@ -1,7 +1,9 @@
-ghost use Rattle.std.specs.Prelude.{◌≡◌, ◌<◌, ◌≤◌, ◌+◌, ◌^◌, ◌||◌, length, OnOk, IfOk};
+ghost use Rattle.std.specs.Prelude.{◌≡◌, ◌<◌, ◌≤◌, ◌+◌, ◌^◌, ◌||◌, length, map, OnOk, IfOk};
 ghost use Rattle.wasm_tree.specs.DataUse.{uses_data, any_uses_data};
 ghost use Rattle.wasm_tree.specs.Limits.{limit};
 ghost use Rattle.wasm_tree.specs.declared.which.Which.TheVariants.{Imports};
+ghost use Rattle.wasm_read_spec.specs.Bodies.{code_in, code_read, codes_read};
+ghost use Rattle.wasm_read_spec.specs.Files.{untyped};
 ghost use Rattle.wasm_read_spec.specs.Reading.{each_from};
 ghost use Rattle.wasm_read_spec.specs.Contents.{placed, Gives, GivesAll, entry_at, next_func, codes_at};
 
@@ -26,7 +28,8 @@ pub fn placed_fault(section: u32, func: Option<u32>, fault: Fault) -> ReadFault
     }
 }
 
-/// Reads a code entry with its size (WebAssembly Core 2.0, section 5.5.13).
+/// Reads a code entry with its size (WebAssembly Core 2.0, section 5.5.13). The function gets the
+/// type index 0 (`no_type`).
 #[tactic(auto, unfolding(wasm_read_spec::specs::Contents::entry_at))]
 fn read_entry(
     alloc: Global,
@@ -36,7 +39,8 @@ fn read_entry(
     func: u32,
     pile: &mut Pile,
 ) -> Result<Func, ReadFault>
-    ensures gives { Gives result cursor.new (entry_at many section func cursor.old) }
+    ensures gives { Gives (code_read result) cursor.new (entry_at many section func cursor.old) }
+    ensures no_type { IfOk result (λ f. f.ty ≡ 0) }
     ensures uses { IfOk result (λ f. pile.new.uses_data ≡ (pile.old.uses_data || uses_data f.body)) }
 {
     let content = match read_sized(cursor) {
@@ -61,7 +65,8 @@ fn read_entries(
     pile: &mut Pile,
 ) -> Result<Items<Func>, ReadFault>
     requires { first + count < 2 ^ 32 }
-    ensures gives { Gives result cursor.new (each_from (entry_at many section) next_func count first cursor.old) }
+    ensures gives { Gives (codes_read result) cursor.new (each_from (entry_at many section) next_func count first cursor.old) }
+    ensures no_types { IfOk result (λ fs. map untyped (map code_in fs) ≡ fs) }
     ensures uses { IfOk result (λ fs. pile.new.uses_data ≡ (pile.old.uses_data || any_uses_data fs)) }
 {
     let mut codes = Items::new(alloc);
@@ -75,7 +80,7 @@ fn read_entries(
 }
 
 /// Reads the code section (WebAssembly Core 2.0, section 5.5.13), whose first entry is that of
-/// function `first`.
+/// function `first`. The functions get the type index 0 (`no_types`).
 #[tactic(auto, unfolding(wasm_read_spec::specs::Contents::codes_at))]
 pub fn read_codes(
     alloc: Global,
@@ -86,7 +91,8 @@ pub fn read_codes(
     pile: &mut Pile,
 ) -> Result<Items<Func>, ReadFault>
     requires { first ≤ limit Imports }
-    ensures gives { GivesAll result (codes_at many section first content.now) }
+    ensures gives { GivesAll (codes_read result) (codes_at many section first content.now) }
+    ensures no_types { IfOk result (λ fs. map untyped (map code_in fs) ≡ fs) }
     ensures uses { IfOk result (λ fs. pile.new.uses_data ≡ (pile.old.uses_data || any_uses_data fs)) }
 {
     let mut cursor = Cursor::new(content);

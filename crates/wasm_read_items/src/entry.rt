@@ -1,6 +1,7 @@
 ghost use Rattle.std.specs.Prelude.{◌≡◌, ◌<◌, ◌≤◌, ◌+◌, ◌||◌, length, OnOk, IfOk};
 ghost use Rattle.wasm_tree.specs.DataUse.{uses_data};
 ghost use Rattle.wasm_read_spec.specs.Reading.{Gives, GivesAll, local_at, locals_at, each_from, with_group};
+ghost use Rattle.wasm_read_spec.specs.Bodies.{code_read};
 ghost use Rattle.wasm_read_spec.specs.BodyReading.{code_at};
 ghost use Rattle.wasm_tree.specs.Limits.{limit};
 ghost use Rattle.wasm_tree.specs.declared.which.Which.TheVariants.{Locals};
@@ -63,11 +64,13 @@ fn read_locals(alloc: Global, cursor: &mut Cursor<'_>) -> Result<Items<LocalGrou
 }
 
 /// Reads the content of a code entry: the locals and the body (WebAssembly Core 2.0, section
-/// 5.5.13). The type index of the function is set to 0, because it is elsewhere in the file. If
-/// `many` is true, memories have indices. The error is the first fault, or `NoMemory`.
+/// 5.5.13). The function gets the type index 0, because its type is elsewhere in the file
+/// (`no_type`). If `many` is true, memories have indices. The error is the first fault, or
+/// `NoMemory`.
 #[tactic(auto, unfolding(wasm_read_spec::specs::BodyReading::code_at))]
 pub fn read_code(alloc: Global, bytes: &[u8], many: bool, pile: &mut Pile) -> Result<Func, Fault>
-    ensures gives { GivesAll result (code_at many bytes.now) }
+    ensures gives { GivesAll (code_read result) (code_at many bytes.now) }
+    ensures no_type { IfOk result (λ f. f.ty ≡ 0) }
     ensures uses { IfOk result (λ f. pile.new.uses_data ≡ (pile.old.uses_data || uses_data f.body)) }
 {
     let mut cursor = Cursor::new(bytes);

@@ -1,5 +1,5 @@
 -- What is read is bounded, and names no memory but memory 0 where memories have no indices.
-use Rattle.base_lists.proofs.Common.{◌≡◌, ℕ, ◌≤◌, List, [], ◌∷◌, length, slice_get, Bool, true, false, Option, Some, None, refl, arith, rules, ◌==◌, and_parts, length-map, every_at, filter_map_most}
+use Rattle.base_lists.proofs.Common.{◌≡◌, ℕ, ◌≤◌, List, [], ◌∷◌, map, length, slice_get, Bool, true, false, Option, Some, None, refl, arith, rules, ◌==◌, and_parts, length-map, every_at, filter_map_most}
 use Rattle.std.proofs.Common.{length-append}
 use Rattle.wasm_bytes.specs.Prelude.{Each, Section}
 use Rattle.wasm_tree_spec.specs.Prelude.{FuncType, Func, Module, func_of, table_of, memory_of, global_of, param_count, declared_count, IsBounded, memory_zero_all, memory_zero_funcs, limit, Imports, Exports, Locals, Parameters}
@@ -7,7 +7,7 @@ use Rattle.wasm_tree.specs.OperandLaws.{BlockPasses, LoopPasses, IfPasses}
 use Rattle.wasm_tree.specs.declared.which.Which.TheVariants.{Types, Functions, Tables, Memories, Globals, ElementSegments, DataSegments}
 use Rattle.wasm_read_spec.specs.declared.parts.Parts.{Parts}
 use Rattle.base_lists.specs.Every.{Every}
-use Rattle.wasm_read_spec.specs.Prelude.{Never, Made, When, Any, Few, Limited, WhenSmall, SmallFuncType, SpellsEntry, SmallCode, nothing, with_types, with_imports, with_func_types, with_tables, with_mems, with_globals, with_exports, with_start, with_elems, with_codes, with_datas, with_count, SpellsCustom, SectionIsSmall, Contents, typed, tree_of, Spells, Within}
+use Rattle.wasm_read_spec.specs.Prelude.{Never, Made, When, Any, Few, Limited, WhenSmall, SmallFuncType, Code, SpellsEntry, SmallCode, HasSmallCode, nothing, with_types, with_imports, with_func_types, with_tables, with_mems, with_globals, with_exports, with_start, with_elems, with_codes, with_datas, with_count, SpellsCustom, SectionIsSmall, Contents, typed, untyped, tree_of, Spells, Within}
 use Rattle.wasm_read_spec.specs.Files.{section_form, small_form}
 use Rattle.wasm_read_spec.proofs.NestLaws.{body_zero}
 
@@ -21,7 +21,7 @@ pub record Small (p : Parts) : Type 0 where
   pub globals : length p.globals ≤ limit Globals
   pub exports : length p.exports ≤ limit Exports
   pub elems : length p.elems ≤ limit ElementSegments
-  pub codes : Few (limit Functions) SmallCode p.codes
+  pub codes : Few (limit Functions) HasSmallCode p.codes
   pub datas : length p.datas ≤ limit DataSegments
 
 -- the sections keep what is known of the parts
@@ -46,6 +46,14 @@ module _ {K : Parts → Type 0} where
   keep_never : Keeps K Never Any
   keep_never = record { keep = λ c q h s. absurd h }
 
+-- what has small codes as codes has them as functions
+small_untyped : (cs : List Code) → Few (limit Functions) SmallCode cs → Few (limit Functions) HasSmallCode (map untyped cs)
+small_untyped cs h = (rw (length-map cs untyped) h.0, each cs h.1)
+  where
+    each : (cs : List Code) → Every SmallCode cs → Every HasSmallCode (map untyped cs)
+    each [] h = tt
+    each (c ∷ cs) h = (h.0, each cs h.1)
+
 small_kept : (many : Bool) (p : Parts) (id : ℕ) → Small p → Keeps Small (section_form many p id) (small_form many id)
 unfolding section_form small_form
 small_kept many p id s =
@@ -59,7 +67,7 @@ small_kept many p id s =
     (keep_when (id == 7) (keep_put (with_exports p) (λ x k. assumption))
     (keep_when (id == 8) (keep_free (with_start p) (λ x. assumption))
     (keep_when (id == 9) (keep_put (with_elems p) (λ x k. assumption))
-    (keep_when (id == 10) (keep_put (with_codes p) (λ x k. assumption))
+    (keep_when (id == 10) (keep_put (with_codes p) (λ x k. let codes = small_untyped x k in assumption))
     (keep_when (id == 11) (keep_put (with_datas p) (λ x k. assumption))
     (keep_when (id == 12) (keep_free (with_count p) (λ x. assumption))
     keep_never))))))))))))
@@ -80,7 +88,7 @@ length_typed _ _ = omega arith
 abbrev FewDeclared : List Func → Type 0
 FewDeclared fs = Every (λ (f : Func). declared_count f.locals ≤ limit Locals) fs
 
-typed_few : (ts : List ℕ) (fs : List Func) → Every SmallCode fs → FewDeclared (typed ts fs)
+typed_few : (ts : List ℕ) (fs : List Func) → Every HasSmallCode fs → FewDeclared (typed ts fs)
 typed_few (t ∷ ts) (f ∷ fs) h = (h.0.0, typed_few ts fs h.1)
 typed_few _ _ h = tt
 
@@ -124,9 +132,9 @@ module _ {K : Parts → Type 0} where
   put_keeps make keep = record { keep = λ c q h. rw h.2 (keep c h.0 h.1) }
 
 module _ (blocks : BlockPasses) (loops : LoopPasses) (ifs : IfPasses) where
-  entries_zero : (fs : List Func) (bytes : List ℕ) → Each (SpellsEntry false) bytes fs → memory_zero_funcs fs ≡ true
+  entries_zero : (cs : List Code) (bytes : List ℕ) → Each (SpellsEntry false) bytes cs → memory_zero_funcs (map untyped cs) ≡ true
   entries_zero [] bytes h = refl
-  entries_zero (f ∷ fs) bytes h = rw (body_zero blocks loops ifs h.2.2.0.1 f.body h.2.2.0.3, entries_zero fs h.1 h.3)
+  entries_zero (c ∷ cs) bytes h = rw (body_zero blocks loops ifs h.2.2.1 c.body h.2.2.3, entries_zero cs h.1 h.3)
 
   zeros_kept : (p : Parts) (id : ℕ) → Zeros p → Keeps' Zeros (section_form false p id)
   unfolding section_form

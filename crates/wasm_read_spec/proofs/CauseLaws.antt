@@ -3,13 +3,13 @@ use Rattle.base_lists.proofs.Common.{◌≡◌, ℕ, suc, ◌+◌, ◌<◌, List
 use Rattle.base_lists.specs.Every.{Every}
 use Rattle.wasm_bytes.specs.Prelude.{IsBytes, Section, Framed, FramesAreRead}
 use Rattle.wasm_bytes.proofs.Lists.{rest_holds}
-use Rattle.wasm_tree_spec.specs.Prelude.{imported_funcs, Func, Which}
+use Rattle.wasm_tree_spec.specs.Prelude.{imported_funcs, Which}
 use Rattle.wasm_read_spec.specs.declared.fault.Fault.{Fault}
 use Rattle.wasm_read_spec.specs.declared.fault.Fault.TheVariants as fault
 use Rattle.wasm_read_spec.specs.declared.fault.ReadFault.{ReadFault}
 use Rattle.wasm_read_spec.specs.declared.fault.ReadFault.TheVariants.{NoMemory, NotModule, Malformed, MalformedBody, Unsupported, Limit}
 use Rattle.wasm_read_spec.specs.declared.parts.Parts.{Parts}
-use Rattle.wasm_read_spec.specs.Prelude.{nothing, SectionIsSmall, Contents, Stop, NotSupported, Over, code_at, placed, codes_at, agrees, framed_at, read_fault, EntryOf, Cause}
+use Rattle.wasm_read_spec.specs.Prelude.{Code, nothing, SectionIsSmall, Contents, Stop, NotSupported, Over, code_at, placed, codes_at, agrees, framed_at, read_fault, EntryOf, Cause}
 use Rattle.wasm_read_spec.specs.Contents.{AreBytes, section_at, contents_at, parts_at, read_at}
 use Rattle.wasm_read_spec.specs.Causes.{UpTo, InEntry, SectionStops, EntryStops, IsCode, MalformedContent, MalformedSection, FaultyWhole}
 use Rattle.wasm_read_spec.proofs.Framing.{framed_reads, framed_sound, framed_fault, header_reads, bad_reads}
@@ -220,8 +220,8 @@ module _ (reads : FramesAreRead) (bytes : List ℕ) (many : Bool) (small : IsByt
         (λ is.
         let bad : code_at many t.1 ≡ Err fault.Malformed = t.4 ∙ ap Err is in
         let malformed : MalformedContent many t.1 = record {
-          unspelled = λ g h. not_malformed {A = Func} fault.Limit fault.Malformed (code_at many t.1) g (λ w e. (let k : ◌≡◌ {A = Fault} (fault.Limit w) fault.Malformed = e in cc)) (code_gets many t.1 g h) bad;
-          no_stop = λ s k. never s (same_err {A = Func} _ _ (sym ((code_tells many).met t.1 s k) ∙ bad));
+          unspelled = λ g h. not_malformed {A = Code} fault.Limit fault.Malformed (code_at many t.1) g (λ w e. (let k : ◌≡◌ {A = Fault} (fault.Limit w) fault.Malformed = e in cc)) (code_gets many t.1 g h) bad;
+          no_stop = λ s k. never s (same_err {A = Code} _ _ (sym ((code_tells many).met t.1 s k) ∙ bad));
         } in
         subst (Cause bytes many) (sym (t.5 ∙ ap (placed place (Some t.0)) is)) (place, (t.1, inside, malformed)))
         (λ k. subst (Cause bytes many) (sym (t.5 ∙ ap (placed place (Some t.0)) k.1)) (entry_stop_cause place t.0 k.0 (t.1, inside, k.2)))

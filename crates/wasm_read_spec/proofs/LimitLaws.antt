@@ -1,7 +1,7 @@
 -- What is spelled is read, or a quantity in it is over its limit.
 use Rattle.base_lists.proofs.Common.{◌≡◌, ℕ, zero, suc, ◌-◌, ◌≤◌, List, [], ◌∷◌, ◌++◌, length, max, Result, Ok, Err, Bool, true, false, cond, ◌⊎◌, inl, inr, ⊎_elim, refl, sym, ap, subst, arith, append-nil, cases_lt, lt-ltb, le-ltb, nat_lt}
 use Rattle.wasm_bytes.specs.Prelude.{U32, Each, Vector, ◌>>=◌}
-use Rattle.wasm_tree_spec.specs.Prelude.{BlockType, FuncType, Instr, If, Which, Nesting, Locals, Parameters, Results, LocalGroup, Func, limit}
+use Rattle.wasm_tree_spec.specs.Prelude.{BlockType, FuncType, Instr, If, Which, Nesting, Locals, Parameters, Results, LocalGroup, limit}
 use Rattle.wasm_read_spec.specs.declared.fault.Fault.{Fault}
 use Rattle.wasm_read_spec.specs.declared.fault.Fault.TheVariants as fault
 use Rattle.wasm_read_spec.specs.declared.token.Opener.{Opener}
@@ -9,7 +9,7 @@ use Rattle.wasm_read_spec.specs.declared.token.Opener.TheVariants as opener
 use Rattle.wasm_read_spec.specs.declared.token.Token.{Token}
 use Rattle.wasm_read_spec.specs.declared.token.Token.TheVariants.{Open, Else, End, Plain}
 use Rattle.wasm_read_spec.specs.declared.token.Sequence.{Sequence}
-use Rattle.wasm_read_spec.specs.Prelude.{Any, Both, After, SpellsVal, SpellsFuncType, SpellsGroup, SpellsBody, SpellsCode, Reader, tag_at, u32_at, val_at, pair_at, mapped_at, tagged_at, func_type_of, with_group, ReadResult, behind, token_at, after_token, whole, enclosed, code_of}
+use Rattle.wasm_read_spec.specs.Prelude.{Code, Any, Both, After, SpellsVal, SpellsFuncType, SpellsGroup, SpellsBody, SpellsCode, Reader, tag_at, u32_at, val_at, pair_at, mapped_at, tagged_at, func_type_of, with_group, ReadResult, behind, token_at, after_token, whole, enclosed, code_of}
 use Rattle.wasm_read_spec.specs.Bodies.{depth}
 use Rattle.wasm_read_spec.specs.Reading.{each_from, vector_at, func_type_at, local_at, locals_at}
 use Rattle.wasm_read_spec.specs.BodyReading.{block_at, sequence_at, body_at, closed, code_at}
@@ -163,10 +163,8 @@ module _ (many : Bool) where
       let all : sequence_at many (length bytes) d bytes ≡ Ok (record { items = is; by_else = false }, []) = subst (λ z. sequence_at many (length z) d z ≡ Ok (record { items = is; by_else = false }, [])) (append-nil bytes) reads in
       read_or_deep (length bytes) (limit Nesting) d bytes (record { items = is; by_else = false }, []) is all refl (sequence_same (length bytes) (limit Nesting) d (omega arith) bytes)
 
-  pub code_gets : (bytes : List ℕ) (f : Func) → SpellsCode many bytes f → Got fault.Limit (code_at many bytes) f
+  pub code_gets : (bytes : List ℕ) (f : Code) → SpellsCode many bytes f → Got fault.Limit (code_at many bytes) f
   unfolding code_at
-  code_gets bytes f s =
-      let h = s.0 in
-      let ty : ◌≡◌ {A = Result Func Fault} (Ok (code_of f.locals f.body)) (Ok f) = ap (λ t. Ok (record f { ty = t })) (sym s.1) in
+  code_gets bytes f h =
       subst (λ z. Got fault.Limit (code_at many z) f) (sym h.4)
-      (bind_got fault.Limit (locals_at (h.0 ++ h.1)) (f.locals, h.1) _ f (locals_get.gets h.0 h.1 f.locals h.2) (bind_got fault.Limit (body_at many h.1) f.body _ f (body_gets h.1 f.body h.3) (inl ty)))
+      (bind_got fault.Limit (locals_at (h.0 ++ h.1)) (f.locals, h.1) _ f (locals_get.gets h.0 h.1 f.locals h.2) (bind_got fault.Limit (body_at many h.1) f.body _ f (body_gets h.1 f.body h.3) (inl refl)))

@@ -1,14 +1,14 @@
 -- What is spelled, a section or a file, is read, or a quantity in it is over its limit.
 use Rattle.base_lists.proofs.Common.{ℕ, ◌+◌, List, [], ◌∷◌, ◌++◌, length, Result, Ok, Err, Bool, true, false, cond, Option, Some, None, inl, inr, refl, sym, ap, subst, append-nil, ◌==◌}
 use Rattle.wasm_bytes.specs.Prelude.{Vector, ◌>>=◌, Section, FramesAreRead}
-use Rattle.wasm_tree_spec.specs.Prelude.{Imports, Exports, Func, Module, imported_funcs, limit}
+use Rattle.wasm_tree_spec.specs.Prelude.{Imports, Exports, Module, imported_funcs, limit}
 use Rattle.wasm_tree.specs.declared.which.Which.TheVariants.{Types, Functions, Tables, Memories, Globals, ElementSegments, DataSegments}
 use Rattle.wasm_read_spec.specs.declared.fault.Fault.{Fault}
 use Rattle.wasm_read_spec.specs.declared.fault.Fault.TheVariants as fault
 use Rattle.wasm_read_spec.specs.declared.fault.ReadFault.{ReadFault}
 use Rattle.wasm_read_spec.specs.declared.fault.ReadFault.TheVariants.{Limit, Malformed}
 use Rattle.wasm_read_spec.specs.declared.parts.Parts.{Parts}
-use Rattle.wasm_read_spec.specs.Prelude.{Made, When, SpellsEntry, nothing, with_types, with_imports, with_func_types, with_tables, with_mems, with_globals, with_exports, with_start, with_elems, with_codes, with_datas, with_count, SpellsCustom, Contents, Spells, Reader, u32_at, sized_at, each_from, code_at, in_place, next_func, custom_at, put_at, framed_at, agrees}
+use Rattle.wasm_read_spec.specs.Prelude.{Code, Made, When, SpellsEntry, nothing, with_types, with_imports, with_func_types, with_tables, with_mems, with_globals, with_exports, with_start, with_elems, with_codes, with_datas, with_count, SpellsCustom, Contents, Spells, Reader, u32_at, sized_at, each_from, code_at, in_place, next_func, custom_at, put_at, framed_at, agrees}
 use Rattle.wasm_read_spec.specs.Files.{section_form}
 use Rattle.wasm_read_spec.specs.Reading.{whole_at}
 use Rattle.wasm_read_spec.specs.Contents.{entry_at, codes_at, section_at, contents_at, parts_at, read_at}
@@ -34,7 +34,7 @@ module _ (many : Bool) (n : ℕ) where
         (bind_got Limit (in_place n (Some func) (code_at many h.0)) f _ (f, rest) (in_place_got n (Some func) _ f (code_gets many h.0 f h.2)) (inl refl));
   }
 
-  codes_got : (func : ℕ) (c : List ℕ) (fs : List Func) → Vector (SpellsEntry many) c fs → Got Limit (codes_at many n func c) fs
+  codes_got : (func : ℕ) (c : List ℕ) (fs : List Code) → Vector (SpellsEntry many) c fs → Got Limit (codes_at many n func c) fs
   unfolding codes_at
   codes_got func c fs h =
       let items : Got Limit (each_from (entry_at many n) next_func (length fs) func h.1) (fs, []) =

@@ -1,5 +1,5 @@
 -- The instructions that tokens encode, and code entries (Core 2.0, 5.4.1, 5.4.9 and 5.5.13).
-use Rattle.std.specs.Prelude.{◌≡◌, ℕ, suc, ◌≤◌, max, List, [], ◌∷◌, ◌++◌, map, Bool}
+use Rattle.std.specs.Prelude.{ℕ, suc, ◌≤◌, max, List, [], ◌∷◌, ◌++◌, map, Bool, Result, Ok, Err}
 use Rattle.wasm_bytes.specs.Prelude.{U32, Each, Vector, Sized}
 use Rattle.wasm_tree_spec.specs.Prelude.{BlockType, Instr, fold-Instr, Block, Loop, If, LocalGroup, Func, limit, Locals, Nesting, declared_count}
 use Rattle.wasm_tree.specs.declared.instr.Instr.TheOpen.{Instr-F}
@@ -29,13 +29,31 @@ SpellsBody many bytes is = (ts : List Token) × Nests ts is × Each (SpellsToken
 abbrev pub SpellsGroup : List ℕ → LocalGroup → Type 0
 SpellsGroup bytes g = Both U32 SpellsVal bytes (g.count, g.ty)
 
--- The content of a code entry. The type index of the function is 0, because it is elsewhere.
-abbrev pub SpellsCode : Bool → List ℕ → Func → Type 0
-SpellsCode many bytes f = Both (Vector SpellsGroup) (SpellsBody many) bytes (f.locals, f.body) × (f.ty ≡ 0)
+-- What a code entry has of a function: its locals and its body. The function section has its type.
+pub record Code : Type 0 where
+  pub locals : List LocalGroup
+  pub body : List Instr
+
+abbrev pub code_in : Func → Code
+code_in f = record { locals = f.locals; body = f.body }
+
+-- The code of the function that is read, or the fault.
+abbrev pub code_read : {E : Type 0} → Result Func E → Result Code E
+code_read (Ok f) = Ok (code_in f)
+code_read (Err e) = Err e
+
+-- The same of several functions.
+abbrev pub codes_read : {E : Type 0} → Result (List Func) E → Result (List Code) E
+codes_read (Ok fs) = Ok (map code_in fs)
+codes_read (Err e) = Err e
+
+-- The content of a code entry.
+abbrev pub SpellsCode : Bool → List ℕ → Code → Type 0
+SpellsCode many bytes c = Both (Vector SpellsGroup) (SpellsBody many) bytes (c.locals, c.body)
 
 -- A code entry, with its size.
-abbrev pub SpellsEntry : Bool → List ℕ → Func → Type 0
-SpellsEntry many bytes f = (content : List ℕ) × Sized bytes content × SpellsCode many content f
+abbrev pub SpellsEntry : Bool → List ℕ → Code → Type 0
+SpellsEntry many bytes c = (content : List ℕ) × Sized bytes content × SpellsCode many content c
 
 -- ---- sizes
 
@@ -96,5 +114,9 @@ abbrev pub depth : List Instr → ℕ
 depth is = deepest (map depth_of is)
 
 -- The sum of the locals and the nesting are within their limits.
-abbrev pub SmallCode : Func → Type 0
-SmallCode f = (declared_count f.locals ≤ limit Locals) × (depth f.body ≤ limit Nesting)
+abbrev pub SmallCode : Code → Type 0
+SmallCode c = (declared_count c.locals ≤ limit Locals) × (depth c.body ≤ limit Nesting)
+
+-- So they are in the code of the function.
+abbrev pub HasSmallCode : Func → Type 0
+HasSmallCode f = SmallCode (code_in f)

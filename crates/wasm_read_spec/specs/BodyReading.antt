@@ -1,7 +1,7 @@
 -- Reading functions for tokens and their nesting, in the order of the bytes.
 use Rattle.std.specs.Prelude.{ℕ, zero, suc, length, List, [], ◌∷◌, ◌++◌, Bool, true, false, Result, Ok, Err, nat_lt, ◌==◌, if◌then◌else◌}
 use Rattle.wasm_bytes.specs.Prelude.{◌>>=◌}
-use Rattle.wasm_tree_spec.specs.Prelude.{Nesting, BlockType, MemArg, Instr, Block, Loop, If, BrTable, SelectTyped, I32Const, I64Const, RefNull, LocalGroup, Func, limit}
+use Rattle.wasm_tree_spec.specs.Prelude.{Nesting, BlockType, MemArg, Instr, Block, Loop, If, BrTable, SelectTyped, I32Const, I64Const, RefNull, LocalGroup, limit}
 use Rattle.wasm_read_spec.specs.declared.fault.Fault.{Fault}
 use Rattle.wasm_read_spec.specs.declared.fault.Fault.TheVariants.{Malformed, Unsupported, Limit}
 use Rattle.wasm_read_spec.specs.declared.token.Opener.{Opener}
@@ -10,6 +10,7 @@ use Rattle.wasm_read_spec.specs.declared.token.Token.{Token}
 use Rattle.wasm_read_spec.specs.declared.token.Token.TheVariants.{Open, Else, End, Plain}
 use Rattle.wasm_read_spec.specs.declared.token.Sequence.{Sequence}
 use Rattle.wasm_read_spec.specs.Tokens.{Form, plain, number, numbers, const32, const64, table, typed, access, memory, memories, with_memory, null, open', else', end', prefixed, unsupported, unknown, the_form, sub_form, arg_of, arg_in}
+use Rattle.wasm_read_spec.specs.Bodies.{Code}
 use Rattle.wasm_read_spec.specs.Reading.{Reader, byte_at, u32_at, s32_at, s64_at, just_at, fault_at, pair_at, mapped_at, chosen_at, when_at, tagged_at, list_at, val_at, ref_at, block_type_at, locals_at}
 
 -- ---- tokens
@@ -105,8 +106,8 @@ body_at many bs = sequence_at many (length bs) (limit Nesting) bs >>= whole
 
 -- ---- the content of an entry
 
-abbrev pub code_of : List LocalGroup → List Instr → Func
-code_of ls is = record { ty = 0; locals = ls; body = is }
+abbrev pub code_of : List LocalGroup → List Instr → Code
+code_of ls is = record { locals = ls; body = is }
 
-unfoldable pub code_at : Bool → List ℕ → Result Func Fault
+unfoldable pub code_at : Bool → List ℕ → Result Code Fault
 code_at many bs = locals_at bs >>= (λ ls. body_at many ls.1 >>= (λ is. Ok (code_of ls.0 is)))

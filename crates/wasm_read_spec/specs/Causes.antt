@@ -5,12 +5,12 @@
 use Rattle.std.specs.Prelude.{◌≡◌, ℕ, ◌+◌, ◌<◌, ◌≤◌, ◌⊎◌, List, ◌∷◌, ◌++◌, length, Bool, Option, Some, None}
 use Rattle.wasm_bytes.specs.Prelude.{U32, Each, Sized, Section, HasHeader, Framed, FirstBad}
 use Rattle.wasm_tree.specs.declared.which.Which.TheVariants.{Functions}
-use Rattle.wasm_tree_spec.specs.Prelude.{Func, limit, imported_funcs}
+use Rattle.wasm_tree_spec.specs.Prelude.{limit, imported_funcs}
 use Rattle.wasm_read_spec.specs.declared.fault.ReadFault.{ReadFault}
 use Rattle.wasm_read_spec.specs.declared.fault.ReadFault.TheVariants.{NoMemory, NotModule, Malformed, MalformedBody, Unsupported, Limit}
 use Rattle.wasm_read_spec.specs.declared.parts.Parts.{Parts}
 use Rattle.base_lists.specs.Every.{Every}
-use Rattle.wasm_read_spec.specs.Bodies.{SpellsCode, SpellsEntry, SmallCode}
+use Rattle.wasm_read_spec.specs.Bodies.{Code, SpellsCode, SpellsEntry, SmallCode}
 use Rattle.wasm_read_spec.specs.Files.{nothing, SpellsSection, SectionIsSmall, Contents, Rules}
 use Rattle.wasm_read_spec.specs.Stops.{Stop, NotSupported, Over, CodeStops, section_stops}
 
@@ -38,7 +38,7 @@ pub record EntryOf (many : Bool) (func : ℕ) (section : List ℕ) (f : ℕ) (co
   pub text : section ≡ count ++ (front ++ (entry ++ back))
   pub counted : U32 count total
   pub few : total ≤ limit Functions
-  pub codes : List Func
+  pub codes : List Code
   pub more : length codes < total
   pub spelled : Each (SpellsEntry many) front codes
   pub within : Every SmallCode codes
@@ -73,11 +73,11 @@ StopsAt bytes many n (Some f) stop = EntryStops bytes many n f stop
 
 -- The content of an entry is encoded and within the limits.
 abbrev pub IsCode : Bool → List ℕ → Type 0
-IsCode many content = (g : Func) × SpellsCode many content g × SmallCode g
+IsCode many content = (c : Code) × SpellsCode many content c × SmallCode c
 
 -- The content of an entry is no encoding and has no stop. Left-over bytes are one case.
 pub record MalformedContent (many : Bool) (content : List ℕ) : Type 0 where
-  pub unspelled : (g : Func) → SpellsCode many content g → ⊥
+  pub unspelled : (c : Code) → SpellsCode many content c → ⊥
   pub no_stop : (stop : Stop) → CodeStops many stop content → ⊥
 
 -- In section `n` the entry of function `f` is malformed.

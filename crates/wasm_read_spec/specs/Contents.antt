@@ -3,7 +3,7 @@
 use Rattle.std.specs.Prelude.{◌≡◌, ℕ, ◌+◌, List, [], ◌∷◌, length, take, drop, Bool, true, false, Result, Ok, Err, Option, Some, None, nat_lt, ◌==◌, ◌&&◌, if◌then◌else◌}
 use Rattle.base_lists.specs.Every.{Every}
 use Rattle.wasm_bytes.specs.Prelude.{◌>>=◌, Section, IsBytes, frames_at, header}
-use Rattle.wasm_tree_spec.specs.Prelude.{Imports, Exports, Func, Module, imported_funcs, limit, any_uses_data}
+use Rattle.wasm_tree_spec.specs.Prelude.{Imports, Exports, Module, imported_funcs, limit, any_uses_data}
 use Rattle.wasm_tree.specs.declared.which.Which.TheVariants.{Types, Functions, Tables, Memories, Globals, ElementSegments, DataSegments}
 use Rattle.wasm_read_spec.specs.declared.fault.Fault.{Fault}
 use Rattle.wasm_read_spec.specs.declared.fault.Fault.TheVariants as fault
@@ -12,6 +12,7 @@ use Rattle.wasm_read_spec.specs.declared.fault.ReadFault.TheVariants.{NoMemory, 
 use Rattle.wasm_read_spec.specs.declared.parts.Parts.{Parts}
 use Rattle.wasm_read_spec.specs.Files.{nothing, with_types, with_imports, with_func_types, with_tables, with_mems, with_globals, with_exports, with_start, with_elems, with_codes, with_datas, with_count, tree_of}
 use Rattle.wasm_read_spec.specs.Reading.{u32_at, name_at, sized_at, each_from, vector_at, whole_at, func_type_at, import_at, table_at, limits_at, global_def_at, export_at, elem_at, data_at}
+use Rattle.wasm_read_spec.specs.Bodies.{Code}
 use Rattle.wasm_read_spec.specs.BodyReading.{code_at}
 
 -- A fault in a section, or in the entry of a function in it, as a fault of the file.
@@ -50,13 +51,13 @@ GivesAfter (Err e) new read = Fails e read
 
 -- ---- the code section: each entry has a size; faults inside an entry are the function's
 
-unfoldable pub entry_at : Bool → ℕ → ℕ → List ℕ → Result (Func × List ℕ) ReadFault
+unfoldable pub entry_at : Bool → ℕ → ℕ → List ℕ → Result (Code × List ℕ) ReadFault
 entry_at many section func bs = in_place section None (sized_at bs) >>= (λ s. in_place section (Some func) (code_at many s.0) >>= (λ c. Ok (c, s.1)))
 
-abbrev pub next_func : ℕ → Func → ℕ
-next_func func f = func + 1
+abbrev pub next_func : {A : Type 0} → ℕ → A → ℕ
+next_func func x = func + 1
 
-unfoldable pub codes_at : Bool → ℕ → ℕ → List ℕ → Result (List Func) ReadFault
+unfoldable pub codes_at : Bool → ℕ → ℕ → List ℕ → Result (List Code) ReadFault
 codes_at many section func bs = in_place section None (u32_at bs) >>= (λ n.
     if nat_lt (limit Functions) n.0 then Err (Limit Functions)
     else (each_from (entry_at many section) next_func n.0 func n.1 >>= (λ r. if length r.1 == 0 then Ok r.0 else Err (Malformed section))))

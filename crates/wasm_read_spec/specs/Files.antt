@@ -1,5 +1,5 @@
 -- Module files (Core 2.0, 5.5).
-use Rattle.std.specs.Prelude.{◌≡◌, ℕ, List, [], ◌∷◌, length, Bool, false, Option, Some, None, ◌==◌}
+use Rattle.std.specs.Prelude.{◌≡◌, ℕ, List, [], ◌∷◌, map, length, Bool, false, Option, Some, None, ◌==◌}
 use Rattle.wasm_bytes.specs.Prelude.{Then, U32, Vector, Named, Section, Framed}
 use Rattle.wasm_tree_spec.specs.Prelude.{Limits, TableType, FuncType, Import, GlobalDef, Export, ElemSeg, DataSeg, Func, Module, limit, Imports, Exports, any_uses_data}
 use Rattle.wasm_tree.specs.declared.which.Which.TheVariants.{Types, Functions, Tables, Memories, Globals, ElementSegments, DataSegments}
@@ -8,7 +8,7 @@ use Rattle.base_lists.specs.Every.{Every}
 use Rattle.wasm_read_spec.specs.SpellingForms.{Never, Made, When, Any, Few, Limited, WhenSmall}
 use Rattle.wasm_read_spec.specs.Values.{SpellsFuncType, SmallFuncType, SpellsTable, SpellsLimits}
 use Rattle.wasm_read_spec.specs.Sections.{SpellsImport, SpellsGlobalDef, SpellsExport, SpellsElem, SpellsData}
-use Rattle.wasm_read_spec.specs.Bodies.{SpellsEntry, SmallCode}
+use Rattle.wasm_read_spec.specs.Bodies.{Code, SpellsEntry, SmallCode}
 
 -- ---- sections
 
@@ -44,8 +44,12 @@ with_start p x = record p { start = Some x }
 abbrev pub with_elems : Parts → List ElemSeg → Parts
 with_elems p xs = record p { elems = xs }
 
-abbrev pub with_codes : Parts → List Func → Parts
-with_codes p xs = record p { codes = xs }
+-- The function with this code, before its type index is put in: until then it has index 0.
+abbrev pub untyped : Code → Func
+untyped c = record { ty = 0; locals = c.locals; body = c.body }
+
+abbrev pub with_codes : Parts → List Code → Parts
+with_codes p xs = record p { codes = map untyped xs }
 
 abbrev pub with_datas : Parts → List DataSeg → Parts
 with_datas p xs = record p { datas = xs }
