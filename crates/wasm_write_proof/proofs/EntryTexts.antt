@@ -5,7 +5,7 @@ use Rattle.std.proofs.Common.{length-append}
 use Rattle.base_lists.specs.Every.{Every}
 use Rattle.wasm_bytes.specs.Prelude.{u32_text}
 use Rattle.wasm_tree_spec.specs.Prelude.{LocalGroup, Func, uses_data, any_uses_data, memory_zero_all, memory_zero_funcs}
-use Rattle.wasm_read_spec.specs.Prelude.{SpellsGroup, SpellsCode, SpellsEntry}
+use Rattle.wasm_read_spec.specs.Prelude.{SpellsGroup, SpellsCode, SpellsEntry, code_in, untyped}
 use Rattle.wasm_write_spec.specs.PlainValues.{vector_text, val_text}
 use Rattle.wasm_write_spec.specs.PlainCode.{group_text, body_text, code_text, entry_text}
 use Rattle.wasm_write_proof.specs.Ranges.{IsU32, FuncInRange}
@@ -22,22 +22,15 @@ pub group_some : (g : LocalGroup) → 0 < length (group_text g)
 unfolding group_text
 group_some g = omega (arith, u32_some g.count, length-append (u32_text g.count) (val_text g.ty))
 
--- a function without its type
-abbrev pub untyped : Func → Func
-untyped f = record f { ty = 0 }
-
-code_spells : (f : Func) → FuncInRange f → memory_zero_all f.body ≡ true → length (code_text f) < 2 ^ 32 → SpellsCode false (code_text f) (untyped f)
+code_spells : (f : Func) → FuncInRange f → memory_zero_all f.body ≡ true → length (code_text f) < 2 ^ 32 → SpellsCode false (code_text f) (code_in f)
 code_spells f h zero few =
     let groups = vector_text group_text f.locals in
     let body = body_text f.body in
     let both = length-append groups body in (
-      (
-        groups,
-        body,
-        vector_spells SpellsGroup group_text f.locals group_some (omega (arith, few, both)) (every_with (λ (g : LocalGroup). IsU32 g.count) (λ g. SpellsGroup (group_text g) g) f.locals group_spells h.1.0),
-        body_spells f.body (spellable_of f.body h.1.1 zero) (omega (arith, few, both)),
-        refl,
-      ),
+      groups,
+      body,
+      vector_spells SpellsGroup group_text f.locals group_some (omega (arith, few, both)) (every_with (λ (g : LocalGroup). IsU32 g.count) (λ g. SpellsGroup (group_text g) g) f.locals group_spells h.1.0),
+      body_spells f.body (spellable_of f.body h.1.1 zero) (omega (arith, few, both)),
       refl,
     )
 
@@ -45,7 +38,7 @@ code_spells f h zero few =
 abbrev pub Spellable : Func → Type 0
 Spellable f = FuncInRange f × (memory_zero_all f.body ≡ true)
 
-pub entry_spells : (f : Func) → Spellable f → length (entry_text f) < 2 ^ 32 → SpellsEntry false (entry_text f) (untyped f)
+pub entry_spells : (f : Func) → Spellable f → length (entry_text f) < 2 ^ 32 → SpellsEntry false (entry_text f) (code_in f)
 unfolding entry_text
 entry_spells f h few =
     let short : length (code_text f) < 2 ^ 32 = omega (arith, few, length-append (u32_text (length (code_text f))) (code_text f)) in
@@ -57,7 +50,7 @@ entry_some f = omega (arith, u32_some (length (code_text f)), length-append (u32
 
 -- ---- memory.init and data.drop
 
-pub funcs_use_same : (fs : List Func) → any_uses_data fs ≡ any_uses_data (map untyped fs)
+pub funcs_use_same : (fs : List Func) → any_uses_data fs ≡ any_uses_data (map untyped (map code_in fs))
 funcs_use_same [] = refl
 funcs_use_same (f ∷ fs) = ap (λ b. uses_data f.body || b) (funcs_use_same fs)
 

@@ -7,7 +7,7 @@ use Rattle.wasm_bytes.specs.Writing.{unsigned_text}
 use Rattle.wasm_tree_spec.specs.Prelude.{FuncType, Limits, TableType, Func, Import, GlobalDef, Export, ElemSeg, DataSeg, Module, any_uses_data, memory_zero_funcs, limit, Imports, Exports}
 use Rattle.wasm_read_spec.specs.declared.parts.Parts.{Parts}
 use Rattle.base_lists.specs.Every.{Every}
-use Rattle.wasm_read_spec.specs.Prelude.{SmallFuncType, SpellsFuncType, SpellsTable, SpellsLimits, SpellsImport, SpellsGlobalDef, SpellsExport, SpellsElem, SpellsData, SpellsEntry, SmallCode, Any, Few, Limited, SectionIsSmall, Within, nothing, with_types, with_imports, with_func_types, with_tables, with_mems, with_globals, with_exports, with_elems, with_codes, with_datas, Contents, typed, tree_of, Spells}
+use Rattle.wasm_read_spec.specs.Prelude.{SmallFuncType, SpellsFuncType, SpellsTable, SpellsLimits, SpellsImport, SpellsGlobalDef, SpellsExport, SpellsElem, SpellsData, SpellsEntry, SmallCode, Any, Few, Limited, SectionIsSmall, Within, nothing, with_types, with_imports, with_func_types, with_tables, with_mems, with_globals, with_exports, with_elems, with_codes, with_datas, Contents, typed, tree_of, Spells, HasSmallCode, code_in, untyped}
 use Rattle.wasm_tree.specs.declared.which.Which.TheVariants.{Types, Functions, Tables, Memories, Globals, ElementSegments, DataSegments}
 use Rattle.wasm_read_spec.specs.Files.{small_form, section_form, Counted, Rules}
 use Rattle.wasm_read_spec.specs.Unambiguous.{IsPrefixFree, ItemsArePrefixFree, FramesAreUnique}
@@ -23,7 +23,7 @@ use Rattle.wasm_write_proof.specs.TreeLimits.{WithinLimits}
 use Rattle.wasm_write_proof.proofs.Parts.{u32_some, u32_spells, sized_spells, vector_mapped, every_short}
 use Rattle.wasm_write_proof.proofs.ItemTexts.{func_type_spells, func_type_some, table_spells, table_some, limits_spells, limits_some, import_spells, import_some, global_spells, global_some, export_spells, export_some}
 use Rattle.wasm_write_proof.proofs.SegmentTexts.{elem_spells, elem_some, data_spells, data_some}
-use Rattle.wasm_write_proof.proofs.EntryTexts.{untyped, Spellable, all_spellable, entry_spells, entry_some, funcs_use_same}
+use Rattle.wasm_write_proof.proofs.EntryTexts.{Spellable, all_spellable, entry_spells, entry_some, funcs_use_same}
 
 -- ---- one section order_after another
 
@@ -64,8 +64,8 @@ items : {A : Type 0} (P : A → Type 0) (spells : List ℕ → A → Type 0) (te
 items P spells text xs some spelled h few =
     vector_mapped (λ x. x) spells text xs some few (every_short P (λ x. spells (text x) x) text xs spelled (each_short text xs few) h)
 
-entries : (fs : List Func) → Every Spellable fs → length (vector_text entry_text fs) < 2 ^ 32 → Vector (SpellsEntry false) (vector_text entry_text fs) (map untyped fs)
-entries fs h few = vector_mapped untyped (SpellsEntry false) entry_text fs entry_some few (every_short Spellable (λ f. SpellsEntry false (entry_text f) (untyped f)) entry_text fs entry_spells (each_short entry_text fs few) h)
+entries : (fs : List Func) → Every Spellable fs → length (vector_text entry_text fs) < 2 ^ 32 → Vector (SpellsEntry false) (vector_text entry_text fs) (map code_in fs)
+entries fs h few = vector_mapped code_in (SpellsEntry false) entry_text fs entry_some few (every_short Spellable (λ f. SpellsEntry false (entry_text f) (code_in f)) entry_text fs entry_spells (each_short entry_text fs few) h)
 
 func_types : (fs : List Func) → Every FuncInRange fs → length (vector_text (λ (f : Func). u32_text f.ty) fs) < 2 ^ 32 → Vector U32 (vector_text (λ (f : Func). u32_text f.ty) fs) (map (λ (f : Func). f.ty) fs)
 func_types fs h few = vector_mapped (λ (f : Func). f.ty) U32 (λ (f : Func). u32_text f.ty) fs (λ f. u32_some f.ty) few (every_with FuncInRange (λ f. U32 (u32_text f.ty) f.ty) fs (λ f g. u32_spells f.ty g.0) h)
@@ -116,7 +116,7 @@ module _ (m : Module) where
   p10 = set_count p9 (counted m)
 
   abbrev p11 : Parts
-  p11 = with_codes p10 (map untyped m.funcs)
+  p11 = with_codes p10 (map code_in m.funcs)
 
   abbrev p12 : Parts
   p12 = with_datas p11 (same m.datas)
@@ -176,9 +176,9 @@ small_items spells S c xs free v s = λ ys h. subst S (one_whole (Vector spells)
 few_any : {A : Type 0} (most : ℕ) (xs : List A) → length xs ≤ most → Few most Any (map (λ (x : A). x) xs)
 few_any {A} most xs le = subst (Few {A = A} most Any) (sym (map_id xs)) (le, every_any xs)
 
-every_untyped : (fs : List Func) → Every SmallCode fs → Every SmallCode (map untyped fs)
-every_untyped [] h = tt
-every_untyped (f ∷ fs) h = (h.0, every_untyped fs h.1)
+every_code : (fs : List Func) → Every HasSmallCode fs → Every SmallCode (map code_in fs)
+every_code [] h = tt
+every_code (f ∷ fs) h = (h.0, every_code fs h.1)
 
 -- that no encoding of an item goes on as another is a law of wasm_read_spec
 module _ (free : ItemsArePrefixFree) where
@@ -280,15 +280,15 @@ module _ (free : ItemsArePrefixFree) where
 
   codes_form : (m : Module) → Every Spellable m.funcs → length (vector_text entry_text m.funcs) < 2 ^ 32 → section_form false (p10 m) 10 (vector_text entry_text m.funcs) (p11 m)
   unfolding section_form
-  codes_form m fs few = (map untyped m.funcs, entries m.funcs fs few, refl)
+  codes_form m fs few = (map code_in m.funcs, entries m.funcs fs few, refl)
 
   codes_small : (m : Module) → Every Spellable m.funcs → length (vector_text entry_text m.funcs) < 2 ^ 32 → WithinLimits m → small_form false 10 (vector_text entry_text m.funcs)
   unfolding small_form
-  codes_small m fs few w = small_items (SpellsEntry false) (Few (limit Functions) SmallCode) (vector_text entry_text m.funcs) (map untyped m.funcs) (free.codes false) (entries m.funcs fs few) ((rw (length-map m.funcs untyped) w.funcs.0, every_untyped m.funcs w.funcs.1))
+  codes_small m fs few w = small_items (SpellsEntry false) (Few (limit Functions) SmallCode) (vector_text entry_text m.funcs) (map code_in m.funcs) (free.codes false) (entries m.funcs fs few) ((rw (length-map m.funcs code_in) w.funcs.0, every_code m.funcs w.funcs.1))
 
   codes_more : (m : Module) (q : Parts) (bytes : List ℕ) → Every Spellable m.funcs → length (vector_text entry_text m.funcs) < 2 ^ 32 → Rest (WithinLimits m) 11 (p11 m) bytes q → Rest (WithinLimits m) 10 (p10 m) (list_section 10 entry_text m.funcs ++ bytes) q
   codes_more m q bytes fs few rest =
-      list_more (WithinLimits m) 10 11 10 (p10 m) q (with_codes (p10 m)) untyped entry_text m.funcs bytes (λ last l. lt-ltb last 11 (omega arith)) (λ last. omega arith) refl (omega arith) (codes_form m fs) (codes_small m fs) few rest
+      list_more (WithinLimits m) 10 11 10 (p10 m) q (with_codes (p10 m)) code_in entry_text m.funcs bytes (λ last l. lt-ltb last 11 (omega arith)) (λ last. omega arith) refl (omega arith) (codes_form m fs) (codes_small m fs) few rest
 
   datas_form : (m : Module) → InRange m → length (vector_text data_text m.datas) < 2 ^ 32 → section_form false (p11 m) 11 (vector_text data_text m.datas) (p12 m)
   unfolding section_form
@@ -409,7 +409,7 @@ section_lengths m few =
 
 -- ---- the whole file
 
-typed_again : (fs : List Func) → typed (map (λ (f : Func). f.ty) fs) (map untyped fs) ≡ fs
+typed_again : (fs : List Func) → typed (map (λ (f : Func). f.ty) fs) (map untyped (map code_in fs)) ≡ fs
 typed_again [] = refl
 typed_again (f ∷ fs) = ap (λ t. f ∷ t) (typed_again fs)
 
@@ -419,7 +419,7 @@ counted_right false n p uses count = uses
 
 rules : (m : Module) → Rules (p12 m)
 rules m = record {
-  functions = length-map m.funcs (λ (f : Func). f.ty) ∙ sym (length-map m.funcs untyped);
+  functions = length-map m.funcs (λ (f : Func). f.ty) ∙ sym (length-map (map code_in m.funcs) untyped ∙ length-map m.funcs code_in);
   counted = counted_right (any_uses_data m.funcs) (length m.datas) (p12 m) (sym (funcs_use_same m.funcs)) (sym (length-map m.datas (λ (x : DataSeg). x)));
 }
 

@@ -1,5 +1,5 @@
 -- What is spelled in a file is in range.
-use Rattle.base_lists.proofs.Common.{◌≡◌, ℕ, List, [], ◌∷◌, sym, subst, arith, true, false, ◌==◌}
+use Rattle.base_lists.proofs.Common.{◌≡◌, ℕ, List, [], ◌∷◌, sym, subst, arith, true, false, ◌==◌, map}
 use Rattle.wasm_bytes.specs.Prelude.{U32, Vector, Section, Sized}
 use Rattle.wasm_tree_spec.specs.Prelude.{TableType, GlobalDef, DataSeg, LocalGroup, Func, Module}
 use Rattle.wasm_tree.specs.declared.module.ImportDesc.TheVariants as import
@@ -7,7 +7,7 @@ use Rattle.wasm_tree.specs.declared.module.ExportDesc.TheVariants as export
 use Rattle.wasm_tree.specs.declared.module.ConstExpr.TheVariants as const
 use Rattle.wasm_read_spec.specs.declared.parts.Parts.{Parts}
 use Rattle.base_lists.specs.Every.{Every}
-use Rattle.wasm_read_spec.specs.Prelude.{Made, Both, After, SpellsRef, SpellsFuncType, at_least, between, SpellsLimits, SpellsTable, SpellsGlobal, SpellsConst, SpellsImport, SpellsGlobalDef, SpellsExport, FuncItems, ConstItems, elem0, elem1, elem2, elem3, elem5, elem6, elem7, SpellsElem, data0, data1, data2, SpellsData, SpellsGroup, SpellsEntry, nothing, with_types, with_imports, with_func_types, with_tables, with_mems, with_globals, with_exports, with_start, with_elems, with_codes, with_datas, with_count, Contents, typed, tree_of, Spells}
+use Rattle.wasm_read_spec.specs.Prelude.{Made, Both, After, SpellsRef, SpellsFuncType, at_least, between, SpellsLimits, SpellsTable, SpellsGlobal, SpellsConst, SpellsImport, SpellsGlobalDef, SpellsExport, FuncItems, ConstItems, elem0, elem1, elem2, elem3, elem5, elem6, elem7, SpellsElem, data0, data1, data2, SpellsData, SpellsGroup, SpellsEntry, nothing, with_types, with_imports, with_func_types, with_tables, with_mems, with_globals, with_exports, with_start, with_elems, with_codes, with_datas, with_count, Contents, typed, tree_of, Spells, Code, code_in, untyped}
 use Rattle.wasm_read_spec.specs.SpellingForms.{S32, S64}
 use Rattle.wasm_read_spec.specs.Values.{limits_form, const_form}
 use Rattle.wasm_read_spec.specs.Sections.{import_form, export_form, elem_form, data_form}
@@ -115,14 +115,18 @@ data_in bytes s h = data_form_in h.0 h.1.1 s h.1.3
 
 -- ---- code entries
 
-abbrev CodeInRange : Func → Type 0
-CodeInRange f = Every (λ (g : LocalGroup). IsU32 g.count) f.locals × (all_in_range f.body ≡ true)
+abbrev CodeInRange : Code → Type 0
+CodeInRange c = Every (λ (g : LocalGroup). IsU32 g.count) c.locals × (all_in_range c.body ≡ true)
 
 group_in : Says (λ (g : LocalGroup). IsU32 g.count) SpellsGroup
 group_in bytes g h = u32_in h.0 g.count h.2
 
 entry_in : Says CodeInRange (SpellsEntry false)
-entry_in bytes f h = let b = h.2.0 in (says_vector (λ (g : LocalGroup). IsU32 g.count) SpellsGroup group_in b.0 f.locals b.2, body_in b.1 f.body b.3)
+entry_in bytes c h = let b = h.2 in (says_vector (λ (g : LocalGroup). IsU32 g.count) SpellsGroup group_in b.0 c.locals b.2, body_in b.1 c.body b.3)
+
+codes_in : (cs : List Code) → Every CodeInRange cs → Every (λ f. CodeInRange (code_in f)) (map untyped cs)
+codes_in [] h = tt
+codes_in (c ∷ cs) h = (h.0, codes_in cs h.1)
 
 -- ---- the parts
 
@@ -135,7 +139,7 @@ record PartsInRange (p : Parts) : Type 0 where
   exports : Every ExportInRange p.exports
   start : MaxInRange p.start
   elems : Every ElemInRange p.elems
-  codes : Every CodeInRange p.codes
+  codes : Every (λ f. CodeInRange (code_in f)) p.codes
   datas : Every DataInRange p.datas
 
 in_kept : (p : Parts) (id : ℕ) → PartsInRange p → Says PartsInRange (section_form false p id)
@@ -151,7 +155,7 @@ in_kept p id r =
     (says_when PartsInRange _ _ (id == 7) (says_made PartsInRange (with_exports p) (Vector SpellsExport) (λ c x h. record { imports = r.imports; func_types = r.func_types; tables = r.tables; mems = r.mems; globals = r.globals; exports = says_vector ExportInRange SpellsExport export_in c x h; start = r.start; elems = r.elems; codes = r.codes; datas = r.datas }))
     (says_when PartsInRange _ _ (id == 8) (says_made PartsInRange (with_start p) (U32) (λ c x h. record { imports = r.imports; func_types = r.func_types; tables = r.tables; mems = r.mems; globals = r.globals; exports = r.exports; start = u32_in c x h; elems = r.elems; codes = r.codes; datas = r.datas }))
     (says_when PartsInRange _ _ (id == 9) (says_made PartsInRange (with_elems p) (Vector SpellsElem) (λ c x h. record { imports = r.imports; func_types = r.func_types; tables = r.tables; mems = r.mems; globals = r.globals; exports = r.exports; start = r.start; elems = says_vector ElemInRange SpellsElem elem_in c x h; codes = r.codes; datas = r.datas }))
-    (says_when PartsInRange _ _ (id == 10) (says_made PartsInRange (with_codes p) (Vector (SpellsEntry false)) (λ c x h. record { imports = r.imports; func_types = r.func_types; tables = r.tables; mems = r.mems; globals = r.globals; exports = r.exports; start = r.start; elems = r.elems; codes = says_vector CodeInRange (SpellsEntry false) entry_in c x h; datas = r.datas }))
+    (says_when PartsInRange _ _ (id == 10) (says_made PartsInRange (with_codes p) (Vector (SpellsEntry false)) (λ c x h. record { imports = r.imports; func_types = r.func_types; tables = r.tables; mems = r.mems; globals = r.globals; exports = r.exports; start = r.start; elems = r.elems; codes = codes_in x (says_vector CodeInRange (SpellsEntry false) entry_in c x h); datas = r.datas }))
     (says_when PartsInRange _ _ (id == 11) (says_made PartsInRange (with_datas p) (Vector SpellsData) (λ c x h. record { imports = r.imports; func_types = r.func_types; tables = r.tables; mems = r.mems; globals = r.globals; exports = r.exports; start = r.start; elems = r.elems; codes = r.codes; datas = says_vector DataInRange SpellsData data_in c x h }))
     (says_when PartsInRange _ _ (id == 12) (says_made PartsInRange (with_count p) (U32) (λ c x h. record { imports = r.imports; func_types = r.func_types; tables = r.tables; mems = r.mems; globals = r.globals; exports = r.exports; start = r.start; elems = r.elems; codes = r.codes; datas = r.datas }))
     (says_never PartsInRange)))))))))))))
@@ -163,7 +167,7 @@ contents_in p (s ∷ ss) q r h = contents_in h.0 ss q (in_kept p s.0 r s.1 h.0 h
 nothing_in : PartsInRange nothing
 nothing_in = record { imports = tt; func_types = tt; tables = tt; mems = tt; globals = tt; exports = tt; start = tt; elems = tt; codes = tt; datas = tt }
 
-typed_in : (ts : List ℕ) (fs : List Func) → Every IsU32 ts → Every CodeInRange fs → Every FuncInRange (typed ts fs)
+typed_in : (ts : List ℕ) (fs : List Func) → Every IsU32 ts → Every (λ f. CodeInRange (code_in f)) fs → Every FuncInRange (typed ts fs)
 typed_in [] fs h k = tt
 typed_in (t ∷ ts) [] h k = tt
 typed_in (t ∷ ts) (f ∷ fs) h k = ((h.0, (k.0.0, k.0.1)), typed_in ts fs h.1 k.1)

@@ -3,13 +3,13 @@
 use Rattle.std.specs.Prelude.{◌≤◌, length}
 use Rattle.wasm_tree_spec.specs.Prelude.{Module, Imports, Exports, limit}
 use Rattle.wasm_tree.specs.declared.which.Which.TheVariants.{Types, Functions, Tables, Memories, Globals, ElementSegments, DataSegments}
-use Rattle.wasm_read_spec.specs.Prelude.{Few, SmallFuncType, SmallCode}
+use Rattle.wasm_read_spec.specs.Prelude.{Few, SmallFuncType, HasSmallCode}
 
 -- The counts, the nesting and the locals of the module are within the limits.
 pub record WithinLimits (m : Module) : Type 0 where
   pub types : Few (limit Types) SmallFuncType m.types
   pub imports : length m.imports ≤ limit Imports
-  pub funcs : Few (limit Functions) SmallCode m.funcs
+  pub funcs : Few (limit Functions) HasSmallCode m.funcs
   pub tables : length m.tables ≤ limit Tables
   pub mems : length m.mems ≤ limit Memories
   pub globals : length m.globals ≤ limit Globals
