@@ -1,11 +1,12 @@
 -- All of it together: what a world that begins well gives to the sequential run.
-use Rattle.base_lists.proofs.Common.{◌≡◌, ◌∙◌, sym, ap, ap₂, ℕ, List, [], Some, true, arith, and_then_is, same_Some, inl, inr, cond_is}
-use Rattle.wasm_tree_spec.specs.Prelude.{ValType, FuncType, Module, type_of_func}
+use Rattle.base_lists.proofs.Common.{◌≡◌, ◌∙◌, sym, ap, ap₂, ℕ, List, [], Some, true, arith, and_then_is, same_Some, inl, inr, cond_is, each_same_is}
+use Rattle.wasm_tree_spec.specs.Prelude.{ValType, FuncType, same_type, same_func_type, Module, type_of_func}
 use Rattle.wasm_valid.specs.declared.kinds.ItemKind.TheVariants as kind
 use Rattle.wasm_valid.specs.Prelude.{IsValid, start_count, ValidWhereItemsHold}
 use Rattle.wasm_meaning.specs.Prelude.{Text, Inst, Store, sites, Environment, ExternalValue, all_of, World, Begun, own_store, insts_from, stores_from, seen_as, all_there, is_matched, segments, begun, instantiate, StartDependsOnlyOnItsFrames}
 use Rattle.index_remap.specs.Prelude.{CodeIsRelatedToItself, RelatedTicksAgree, OthersStay}
-use Rattle.world_simulation.specs.Prelude.{OwnEntitiesCorrespond}
+use Rattle.world_simulation.specs.Prelude.{OwnEntitiesCorrespond, AllocatedStoresHaveDefinitions, EachPartHasAnInstance, IndicesNameImportsOrDefinitions, SpacesAreImportsAndDefinitions}
+use Rattle.wasm_meaning.specs.Counted.{EachPartAddsItsDefinitions, FoundExportsAreThere}
 use Rattle.merge_valid_proof.specs.Ended.{SitesAreImports}
 use Rattle.world_sequential_proof.specs.Laws.{SequentialInstantiationIsEquivalent}
 use Rattle.world_sequential_proof.proofs.ExtensionLaws.{ExtensionLaws}
@@ -18,8 +19,7 @@ use Rattle.world_sequential_proof.proofs.FillSegments.{FilledUpto, none_active}
 use Rattle.world_sequential_proof.proofs.FillGiven.{laid, store_same}
 use Rattle.world_sequential_proof.proofs.FillValid.{valid_constants, valid_exports}
 use Rattle.world_sequential_proof.proofs.FillWorld.{fill_laws}
-use Rattle.index_remap.proofs.SlotCalls.{func_type_is}
-use Rattle.world_simulation.proofs.Instancing.{insts_are}
+use Rattle.world_sequential_proof.proofs.PartLaws.{Instances}
 
 -- a type with nothing on either side
 plain_type : (t : FuncType) → t.params ≡ [] → t.results ≡ [] → t ≡ nothing_to_nothing
@@ -46,7 +46,8 @@ instantiated env w b h =
       | inr c ↦ let none = c.1 in cc
     ]
 
-module _ (items : ValidWhereItemsHold) (below : StartDependsOnlyOnItsFrames) (extend : ExtensionLaws) (itself : CodeIsRelatedToItself) (ticks : RelatedTicksAgree) (others : OthersStay) (own : OwnEntitiesCorrespond) (listed : SitesAreImports) where
+module _ (items : ValidWhereItemsHold) (below : StartDependsOnlyOnItsFrames) (extend : ExtensionLaws) (itself : CodeIsRelatedToItself) (ticks : RelatedTicksAgree) (others : OthersStay) (own : OwnEntitiesCorrespond) (listed : SitesAreImports)
+    (part_instances : EachPartHasAnInstance) (spaces : SpacesAreImportsAndDefinitions) (names : IndicesNameImportsOrDefinitions) (placed : AllocatedStoresHaveDefinitions) (next : EachPartAddsItsDefinitions) (exported : FoundExportsAreThere) where
   -- the start of a valid module
   start_type : (m : Module) (x : ℕ) → IsValid m → m.start ≡ Some x → type_of_func m x ≡ Some nothing_to_nothing
   start_type m x valid e =
@@ -57,15 +58,18 @@ module _ (items : ValidWhereItemsHold) (below : StartDependsOnlyOnItsFrames) (ex
   turns_not_seen w valid some earlier late env is_env begins moves n =
       let b = begins.0 in
       let k = instantiated env w b begins.1 in
-      let size = (insts_are env w.parts 0 w.parts k.insts k.are).size in
-      let exports = valid_exports items w.parts valid in
+      let each_inst = part_instances env w.parts 0 w.parts k.insts k.are in
+      let size = each_inst.size in
+      let are : Instances env w.parts k.insts = record { are = k.are; each = each_inst; spaces = spaces; names = names; placed = placed; next = next } in
+      let same_types : (s t : FuncType) → same_func_type s t ≡ true → s ≡ t = λ s t h. grind (arith, each_same_is same_type (λ a b e. grind arith)) in
+      let exports = valid_exports items exported w.parts valid in
       let there : SitesThere w.parts = λ s. (listed w.parts s).1 in
       let each = each_matches env w.parts k.allocated there k.matched in
       let fine = ap (λ b. b.trapped) k.is ∙ begins.2 in
-      let layout = laid env w.parts k.insts k.are k.allocated k.stores_are each size exports earlier in
+      let layout = laid env w.parts k.insts are k.allocated k.stores_are each size exports earlier in
       let given : IsGiven env w k.insts k.allocated = record {
         laid = layout;
-        are = k.are;
+        are = are;
         size = size;
         exports = exports;
         earlier = earlier;
@@ -74,9 +78,9 @@ module _ (items : ValidWhereItemsHold) (below : StartDependsOnlyOnItsFrames) (ex
         listed = there;
         matched = k.matched;
         starts = λ p x m i is_part at_inst e.
-            let f = func_there func_type_is itself env w.parts k.insts k.are size earlier there k.allocated layout k.matched p x m i nothing_to_nothing is_part at_inst (start_type m x (valid p m is_part) e) in
+            let f = func_there same_types itself env w.parts k.insts are size earlier there k.allocated layout k.matched p x m i nothing_to_nothing is_part at_inst (start_type m x (valid p m is_part) e) in
             (f.address, f.func, f.named, f.there, f.type);
-        store_is = λ p m i t is_part at_inst holds. store_same env w.parts k.insts k.are k.allocated k.stores_are each size exports earlier p m i t (valid_constants items m (valid p m is_part)) is_part at_inst holds;
+        store_is = λ p m i t is_part at_inst holds. store_same env w.parts k.insts are k.allocated k.stores_are each size exports earlier p m i t (valid_constants items m (valid p m is_part)) is_part at_inst holds;
         no_segments = none_active;
       } in
       let laws = fill_laws env w k.insts k.allocated given k.stores_are fine (λ p m is_part. valid_constants items m (valid p m is_part)) itself below extend ticks others k.view k.view_is in

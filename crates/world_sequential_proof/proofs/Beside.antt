@@ -7,7 +7,7 @@ use Rattle.world_sequential_proof.proofs.Reached.{is_reached, reaching, reached_
 use Rattle.world_sequential_proof.proofs.OnePart.{Sized}
 use Rattle.world_sequential_proof.proofs.Closed.{table_more, global_more, elem_more, Closed, Sound, own_func, code, func_self}
 use Rattle.world_simulation.proofs.Stored.{type_same, own_same}
-use Rattle.wasm_meaning.proofs.Counts.{defined_next}
+use Rattle.wasm_meaning.specs.Counted.{EachPartAddsItsDefinitions}
 
 -- ---- lists by place ----
 
@@ -34,6 +34,7 @@ empty_store = record { funcs = []; tables = []; mems = []; globals = []; elems =
 
 -- what the first parts have, what one part adds, and what the parts from one on have
 pub record Laid (env : Environment) (parts : List Part) (insts : List Inst) (allocated : Store) : Type 0 where
+  pub defined_next : EachPartAddsItsDefinitions
   pub first : ℕ → Store
   pub adds : ℕ → Store
   pub rest : ℕ → Store
@@ -119,7 +120,7 @@ module _ (env : Environment) (parts : List Part) where
 
 module _ (law : CodeIsRelatedToItself) (env : Environment) (parts : List Part) (insts : List Inst) (allocated : Store) (laid : Laid env parts insts allocated) (p : ℕ) (m : Module) (is_part : module_at parts p ≡ Some m) (within : suc p ≤ length parts) where
   base_more : (k : Space) → base env parts k p ≤ base env parts k (suc p)
-  base_more k = let n = defined_next k parts p m is_part in omega arith
+  base_more k = let n = laid.defined_next k parts p m is_part in omega arith
 
   pub more : (k : Space) (a b : ℕ) → is_reached env parts p k a b ≡ true → is_reached env parts (suc p) k a b ≡ true
   more k a b h = let r = reached_is env parts p k a b h in let c = base_more k in rw (← r.0) (reached_at env parts (suc p) k a (omega (arith, r.1)))

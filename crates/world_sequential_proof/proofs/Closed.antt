@@ -1,5 +1,5 @@
 -- A store that refers to nothing beyond what the environment and the first parts have, and what a part adds to it.
-use Rattle.base_lists.proofs.Common.{◌≡◌, refl, ℕ, suc, ◌<◌, List, [], ◌∷◌, Some, true, slice_get, and_then_is, same_Some, all_there_back, each_rel, copies_rel, then_same_is, opt_self, self_rel, all_rel, maps_rel}
+use Rattle.base_lists.proofs.Common.{◌≡◌, refl, ℕ, suc, ◌<◌, List, [], ◌∷◌, Some, true, slice_get, and_then_is, same_Some, all_there_back, each_rel, copies_rel, then_same_is, opt_self, self_rel, all_rel, maps_rel, arith}
 use Rattle.wasm_tree_spec.specs.Prelude.{Space, Functions, Tables, Memories, Globals, ElementSegments, DataSegments, FuncType, Instr, ConstExpr, Module}
 use Rattle.wasm_tree.specs.declared.module.ConstExpr.TheVariants as const
 use Rattle.wasm_meaning.specs.Prelude.{base, RefVal, Val, Inst, Func, Code, Own, Table, Global, Elem, Store, Part, Environment, new_func, store_with, const_value}
@@ -7,7 +7,7 @@ use Rattle.index_remap.specs.Prelude.{Pairing, OptRel, none, some, ListRel, nil,
 use Rattle.world_sequential_proof.proofs.ExternalValues.{space_in}
 use Rattle.world_sequential_proof.proofs.Reached.{count_upto, is_reached, reaching, reached_at}
 use Rattle.world_simulation.proofs.Owned.{null_rel}
-use Rattle.world_simulation.proofs.Allocated.{new_table, adds_with}
+use Rattle.world_simulation.specs.Prelude.{new_table, AddsWith}
 use Rattle.world_simulation.proofs.Stored.{global_rel, elem_rel}
 
 -- ---- more is reached later ----
@@ -87,13 +87,14 @@ module _ (law : CodeIsRelatedToItself) (env : Environment) (parts : List Part) (
   -- what a part adds refers to nothing beyond
   pub added_sound : (t : Store) → store_with (const_value globals i) m i ≡ Some t → (n : ℕ) (f : Func) → slice_get t.funcs n ≡ Some f → Sound env parts p f
   added_sound t h n f e =
-      let x = all_there_back (new_func i) m.funcs t.funcs (adds_with (const_value globals i) m i t h).funcs n f e in
+      let adds : AddsWith (const_value globals i) m i t = search (arith, h) in
+      let x = all_there_back (new_func i) m.funcs t.funcs adds.funcs n f e in
       let t = and_then_is (slice_get i.types x.0.ty) _ f x.2 in
       rw (← same_Some _ _ t.2) (code reaches)
 
   pub added_closed : (t : Store) → store_with (const_value globals i) m i ≡ Some t → Closed R t
   added_closed t h =
-      let a = adds_with (const_value globals i) m i t h in
+      let a : AddsWith (const_value globals i) m i t = search (arith, h) in
       record {
         funcs = self_by t.funcs (λ n f e. func_self law env parts p f (added_sound t h n f e));
         tables = rw a.tables (maps_rel new_table new_table (self_rel m.tables (λ t. record { type = refl; most = refl; slots = copies_rel _ _ t.limits.min (null_rel R t.ty) })));

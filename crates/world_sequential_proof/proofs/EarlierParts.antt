@@ -1,13 +1,13 @@
 -- A part's instance has addresses of the environment's entities and of what parts up to it define, where each joined import leads to an earlier part.
+use Rattle.world_sequential_proof.proofs.PartLaws.{Instances}
 use Rattle.base_lists.proofs.Common.{◌≡◌, ◌∙◌, refl, sym, subst, ℕ, zero, suc, ◌<◌, List, ◌++◌, length, Option, Some, None, ◌⊎◌, inl, inr, arith, option_and_then, slice_get, and_then_is, same_Some, append_from}
 use Rattle.wasm_tree_spec.specs.Prelude.{Space, Functions, Tables, Memories, Globals, Types, Import, Module, index_of_export, space_of_export}
-use Rattle.wasm_meaning.specs.Prelude.{Inst, Part, Entity, module_at, export_named, source_of, joined, Environment, ExternalValue, owned_of, owned_at, own_key, base, external_value_at, address_of, imported_external_value, insts_from, JoinsEarlier}
+use Rattle.wasm_meaning.specs.Prelude.{Inst, Part, Entity, module_at, export_named, source_of, joined, Environment, ExternalValue, owned_of, owned_at, own_key, base, external_value_at, address_of, imported_external_value, JoinsEarlier}
 use Rattle.world_simulation.specs.Prelude.{OwnEntitiesCorrespond}
-use Rattle.world_sequential_proof.proofs.ExternalValues.{inst_at, space_in, in_space, address_is, held_external}
+use Rattle.world_sequential_proof.proofs.ExternalValues.{space_in, in_space, address_is, held_external}
 use Rattle.world_sequential_proof.proofs.Joined.{stays_own, joins, inst_of_part}
 use Rattle.world_sequential_proof.proofs.Reached.{defined_more, own_low}
-use Rattle.world_simulation.proofs.Instancing.{imports, defines, is_space, entry_at}
-use Rattle.wasm_meaning.proofs.Counts.{defined_next}
+use Rattle.world_simulation.specs.IndexSpaces.{imports, defines}
 
 -- ---- lists ----
 
@@ -24,7 +24,7 @@ same_thing Memories Memories a b e = (refl, same_Some _ _ e)
 same_thing Globals Globals a b e = (refl, same_Some _ _ e)
 same_thing _ _ a b e = cc
 
-module _ (env : Environment) (parts : List Part) (insts : List Inst) (are : insts_from env parts 0 parts ≡ Some insts) (size : length insts ≡ length parts) (earlier : JoinsEarlier parts) (own : OwnEntitiesCorrespond) where
+module _ (env : Environment) (parts : List Part) (insts : List Inst) (are : Instances env parts insts) (size : length insts ≡ length parts) (earlier : JoinsEarlier parts) (own : OwnEntitiesCorrespond) where
   -- an import that denotes something is there
   import_there : (p n : ℕ) (m : Module) (x : ExternalValue) → module_at parts p ≡ Some m → imported_external_value env parts (record { part = p; import = n }) ≡ Some x → (i : Import) × (slice_get m.imports n ≡ Some i)
   import_there p n m x is h = elim (slice_get m.imports n) as (λ o. slice_get m.imports n ≡ o → (i : Import) × (slice_get m.imports n ≡ Some i)) [
@@ -40,9 +40,9 @@ module _ (env : Environment) (parts : List Part) (insts : List Inst) (are : inst
 
   inst_by : (p : ℕ) → LowThing p → LowInst p
   inst_by p low m i is at k n a h =
-      let s = is_space env parts k p m (space_in i k) (in_space env parts p m i (inst_of_part env parts insts are size earlier p m i is at) k (held_external i k n a h)) in
-      let next = defined_next k parts p m is in
-      elim (entry_at env parts k p m (space_in i k) s n a h) [
+      let s = are.spaces env parts k p m (space_in i k) (in_space env parts p m i (inst_of_part env parts insts are size earlier p m i is at) k (held_external i k n a h)) in
+      let next = are.next k parts p m is in
+      elim (are.names env parts k p m (space_in i k) s n a h) [
         | imports j at e ↦ let x = and_then_is (imported_external_value env parts (record { part = p; import = j })) (address_of k) a e in omega (arith, low j m x.0 is x.1 k a x.2, next)
         | defines j place l e ↦ omega (arith, next)
       ]
@@ -60,7 +60,7 @@ module _ (env : Environment) (parts : List Part) (insts : List Inst) (are : inst
           let b = and_then_is (module_at parts s.0) _ e s.2 in
           let c = and_then_is (export_named b.0.exports i.field) _ e b.2 in
           let part = and_then_is (slice_get parts s.0) (λ part. Some part.«module») b.0 b.1 in
-          let inst = inst_at env parts 0 parts insts are s.0 b.0 b.1 in
+          let inst = are.each.each s.0 b.0 b.1 in
           let j' : joined parts i ≡ Some (record { part = s.0; what = c.0 }) = j ∙ sym c.2 in
           let low : s.0 < p = earlier p n m i (record { part = s.0; what = c.0 }) is at j' in
           let address = joins env parts insts are size earlier p n m i is at x s.0 part.0 inst.0 c.0 j' part.1 inst.1 h in

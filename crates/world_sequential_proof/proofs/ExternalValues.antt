@@ -5,22 +5,20 @@ use Rattle.base_lists.proofs.Options.{then_none}
 use Rattle.wasm_tree_spec.specs.Prelude.{Space, Functions, Tables, Memories, Globals, DataSegments, ElementSegments, Types, same_space, Import, ImportDesc, ExportDesc, Module, index_of_export, space_of_export, space_of_import}
 use Rattle.wasm_tree.specs.declared.module.ImportDesc.TheVariants as im
 use Rattle.wasm_tree.specs.declared.module.ExportDesc.TheVariants as ex
-use Rattle.wasm_meaning.specs.Prelude.{Inst, PathStep, EndsWith, LeadsTo, walk, walk_on, Part, Site, Entity, End, places, has_kind, imports_of, module_at, imported_as, import_step, sites, end_of, Environment, ExternalValue, FuncAt, TableAt, MemoryAt, GlobalAt, defined_count, base, external_value_at, address_of, defined_external_value, imported_external_value, all_there, numbers, space, inst_of, insts_from, address_in, addresses_of}
+use Rattle.wasm_meaning.specs.Prelude.{Inst, PathStep, EndsWith, LeadsTo, walk, walk_on, Part, Site, Entity, End, places, has_kind, imports_of, module_at, imported_as, import_step, sites, end_of, Environment, ExternalValue, FuncAt, TableAt, MemoryAt, GlobalAt, defined_count, base, external_value_at, address_of, defined_external_value, imported_external_value, all_there, numbers, space, inst_of, address_in, addresses_of}
 use Rattle.merge_valid_proof.specs.Ended.{is_external}
-use Rattle.world_simulation.proofs.Instancing.{import_address, IsSpace, is_space, IsInst, insts_are}
+use Rattle.world_simulation.specs.Prelude.{import_address, IsInst}
+use Rattle.world_sequential_proof.proofs.PartLaws.{Instances}
 
-pub inst_at : (env : Environment) (all : List Part) (p : ℕ) (ps : List Part) (is : List Inst) → insts_from env all p ps ≡ Some is → (q : ℕ) (m : Module) → module_at ps q ≡ Some m → (i : Inst) × (slice_get is q ≡ Some i) × (inst_of env all (p + q) m ≡ Some i)
-inst_at env all p ps is h = (insts_are env all p ps is h).each
-
-pub part_inst : (env : Environment) (parts : List Part) (insts : List Inst) → insts_from env parts 0 parts ≡ Some insts → (q : ℕ) (m : Module) (i : Inst) → module_at parts q ≡ Some m → slice_get insts q ≡ Some i → IsInst env parts q m i
+pub part_inst : (env : Environment) (parts : List Part) (insts : List Inst) → Instances env parts insts → (q : ℕ) (m : Module) (i : Inst) → module_at parts q ≡ Some m → slice_get insts q ≡ Some i → IsInst env parts q m i
 part_inst env parts insts are q m i e h =
-    let r = inst_at env parts 0 parts insts are q m e in
+    let r = are.each.each q m e in
     let is : inst_of env parts q m ≡ Some i = rw (zero-add, same_Some _ _ (sym r.1 ∙ h)) at r.2 in
     search (arith, is)
 
 pub space_is : (env : Environment) (parts : List Part) (k : Space) (p : ℕ) (m : Module) (xs : List ℕ) → space env parts k p m ≡ Some xs →
     (l : List ℕ) × (all_there (λ n. option_and_then (address_of k) (imported_external_value env parts (record { part = p; import = n }))) (imports_of k m) ≡ Some l) × (l ++ numbers (base env parts k p) (defined_count k m) ≡ xs)
-space_is env parts k p m xs h = let s = is_space env parts k p m xs h in (s.imported, s.are, sym s.all)
+space_is env parts k p m xs h = let x = and_then_is (all_there (import_address env parts k p) (imports_of k m)) _ xs h in (x.0, x.1, same_Some _ _ x.2)
 
 -- ---- the external values that a list of imports denotes ----
 
@@ -141,8 +139,8 @@ module _ (env : Environment) (parts : List Part) (p : ℕ) (m : Module) (is_part
   abbrev entity : Entity
   entity = record { part = p; what = d }
 
-  addresses : IsSpace env parts k p m (space_in i k)
-  addresses = is_space env parts k p m (space_in i k) (in_space env parts p m i inst k (export_external d))
+  addresses : (l : List ℕ) × (all_there (import_address env parts k p) (imports_of k m) ≡ Some l) × (l ++ numbers (base env parts k p) (defined_count k m) ≡ space_in i k)
+  addresses = space_is env parts k p m (space_in i k) (in_space env parts p m i inst k (export_external d))
 
   as_import : imported_as parts entity ≡ option_and_then (λ n. Some (record { part = p; import = n })) (slice_get (imports_of k m) (index_of_export d))
   as_import = rw is_part
@@ -152,10 +150,10 @@ module _ (env : Environment) (parts : List Part) (p : ℕ) (m : Module) (is_part
   defined_is none =
       let s = addresses in
       let high = slice_get_none (imports_of k m) (index_of_export d) (then_none _ _ (sym as_import ∙ none)) in
-      let l = all_there_length _ (imports_of k m) s.imported s.are in
+      let l = all_there_length _ (imports_of k m) s.0 s.1 in
       let y = index_of_export d - length (imports_of k m) in
-      let e : index_of_export d ≡ length s.imported + y = omega arith in
-      let at : slice_get (space_in i k) (index_of_export d) ≡ slice_get (numbers (base env parts k p) (defined_count k m)) y = cc (s.all, append_right s.imported (numbers (base env parts k p) (defined_count k m)) y) in
+      let e : index_of_export d ≡ length s.0 + y = omega arith in
+      let at : slice_get (space_in i k) (index_of_export d) ≡ slice_get (numbers (base env parts k p) (defined_count k m)) y = cc (sym s.2, append_right s.0 (numbers (base env parts k p) (defined_count k m)) y) in
       rw (address_is i d, is_part) (ap (option_and_then (external_value_at k)) at)
 
   -- what it imports
@@ -163,6 +161,6 @@ module _ (env : Environment) (parts : List Part) (p : ℕ) (m : Module) (is_part
   imported_is t x e h =
       let s = addresses in
       let n = and_then_is (slice_get (imports_of k m) (index_of_export d)) _ t (sym as_import ∙ e) in
-      let a = all_there_at (import_address env parts k p) (imports_of k m) s.imported s.are (index_of_export d) n.0 n.1 in
+      let a = all_there_at (import_address env parts k p) (imports_of k m) s.0 s.1 (index_of_export d) n.0 n.1 in
       let has : address_of k x ≡ Some a.0 = sym (ap (option_and_then (address_of k)) (ap (imported_external_value env parts) (same_Some _ _ n.2) ∙ h)) ∙ a.1 in
-      rw (address_is i d, s.all, append_at_left s.imported (numbers (base env parts k p) (defined_count k m)) (index_of_export d) a.0 a.2) (thing_has k x a.0 has)
+      rw (address_is i d, sym s.2, append_at_left s.0 (numbers (base env parts k p) (defined_count k m)) (index_of_export d) a.0 a.2) (thing_has k x a.0 has)

@@ -1,11 +1,12 @@
 -- What a part adds to the store as its turn comes is what it adds where all parts are allocated at once.
-use Rattle.base_lists.proofs.Common.{◌≡◌, refl, ℕ, suc, List, [], ◌∷◌, length, Option, Some, option_and_then, slice_get, and_then_is}
+use Rattle.world_sequential_proof.proofs.PartLaws.{Instances}
+use Rattle.base_lists.proofs.Common.{◌≡◌, refl, ℕ, suc, List, [], ◌∷◌, length, Option, Some, option_and_then, slice_get, and_then_is, arith}
 use Rattle.wasm_tree_spec.specs.Prelude.{ConstExpr, GlobalDef, ElemSeg, DataSeg, Module}
 use Rattle.wasm_tree.specs.declared.module.ElemMode.TheVariants as elem
 use Rattle.wasm_tree.specs.declared.module.DataMode.TheVariants as data'
-use Rattle.wasm_meaning.specs.Prelude.{Inst, Global, Elem, Store, ref_of, Part, module_at, Environment, all_there, insts_from, own_store, stores_from, part_store, store_with, global_with, elem_with, const_value, value_of, JoinsEarlier}
+use Rattle.wasm_meaning.specs.Prelude.{Inst, Global, Elem, Store, ref_of, Part, module_at, Environment, all_there, own_store, stores_from, part_store, store_with, global_with, elem_with, const_value, value_of, JoinsEarlier}
 use Rattle.world_sequential_proof.proofs.Joined.{ExportsThere}
-use Rattle.world_simulation.proofs.Allocated.{adds_with}
+use Rattle.world_simulation.specs.Prelude.{AddsWith}
 use Rattle.world_sequential_proof.proofs.FillJobs.{Gives, Values}
 use Rattle.world_sequential_proof.proofs.OnePart.{EachMatches}
 use Rattle.world_sequential_proof.proofs.FillValues.{Constant, HoldsFixed, value_given}
@@ -35,12 +36,12 @@ module _ (v w : Values) (m : Module) (i : Inst) where
 
   pub store_given : ((n : ℕ) (g : GlobalDef) → slice_get m.globals n ≡ Some g → Gives v w g.init) → ((n : ℕ) (s : ElemSeg) → slice_get m.elems n ≡ Some s → (l : ℕ) (e : ConstExpr) → slice_get s.items l ≡ Some e → Gives v w e) → (t : Store) → store_with v m i ≡ Some t → store_with w m i ≡ Some t
   store_given hg he t e =
-      let x = adds_with v m i t e in
+      let x : AddsWith v m i t = search arith in
       let gs = all_given _ (global_with w) m.globals t.globals (λ n g y at. global_given g y (hg n g at)) x.globals in
       let es = all_given _ (elem_with w) m.elems t.elems (λ n s y at. elem_given s y (he n s at)) x.elems in
       rw (x.funcs, gs, es, ← x.tables, ← x.mems, ← x.datas)
 
-module _ (env : Environment) (parts : List Part) (insts : List Inst) (are : insts_from env parts 0 parts ≡ Some insts) (allocated : Store) (stores_are : stores_from env parts insts (own_store env) 0 parts insts ≡ Some allocated) (matched : EachMatches env parts allocated) (size : length insts ≡ length parts) (there : ExportsThere parts) (earlier : JoinsEarlier parts) where
+module _ (env : Environment) (parts : List Part) (insts : List Inst) (are : Instances env parts insts) (allocated : Store) (stores_are : stores_from env parts insts (own_store env) 0 parts insts ≡ Some allocated) (matched : EachMatches env parts allocated) (size : length insts ≡ length parts) (there : ExportsThere parts) (earlier : JoinsEarlier parts) where
   pub added_same : (k : ℕ) (m : Module) (i : Inst) → module_at parts k ≡ Some m → slice_get insts k ≡ Some i → Constants m → (t : Store) → HoldsFixed env parts allocated k t → (a : Store) → part_store env parts insts k m i ≡ Some a → store_with (const_value t.globals i) m i ≡ Some a
   added_same k m i is_part is_inst c t holds a h =
       store_given (value_of env parts insts k) (const_value t.globals i) m i

@@ -2,7 +2,7 @@
 use Rattle.base_lists.proofs.Common.{◌≡◌, ◌∙◌, sym, ap, ℕ, suc, ◌+◌, ◌-◌, ◌<◌, List, length, Some, ◌⊎◌, inl, inr, arith, option_and_then, slice_get, true, and_then_is, all_there_at, append_at_left, place_back, number_is, numbers_at}
 use Rattle.wasm_tree_spec.specs.Prelude.{Space, Import, ImportDesc, Module, index_of_export, space_of_export, space_of_import}
 use Rattle.wasm_meaning.specs.Prelude.{Pair, Inst, walk_on, walk, Part, Site, Entity, End, Defined, Outside, imports_of, module_at, import_at, pair_of, import_step, end_of, sites, has_kind, Environment, ExternalValue, OwnKey, defined_count, own_count, base, external_value_at, address_of, own_key_of, own_key, external_value_of, imported_external_value, numbers, JoinsEarlier, defined_external_value}
-use Rattle.world_sequential_proof.proofs.ExternalValues.{space_in, in_space, held_external}
+use Rattle.world_sequential_proof.proofs.ExternalValues.{space_in, in_space, held_external, space_is}
 use Rattle.world_sequential_proof.proofs.Joined.{ExportsThere}
 use Rattle.world_sequential_proof.proofs.Reached.{defined_more}
 use Rattle.world_sequential_proof.proofs.EarlierParts.{same_thing}
@@ -10,8 +10,9 @@ use Rattle.world_sequential_proof.proofs.FillOwned.{kind_of_key, own_at}
 use Rattle.world_sequential_proof.proofs.FillPaths.{LowInside, Low, inside, outside, ends_low}
 use Rattle.merge_valid_proof.specs.Ended.{is_external}
 use Rattle.base_lists.specs.Places.{places}
-use Rattle.world_simulation.proofs.Instancing.{IsInst, is_space, entry_at, imports, defines}
-use Rattle.wasm_meaning.proofs.Counts.{defined_next}
+use Rattle.world_simulation.specs.Prelude.{IsInst, imports, defines}
+use Rattle.wasm_meaning.specs.Counted.{EachPartAddsItsDefinitions}
+use Rattle.world_sequential_proof.proofs.PartLaws.{Instances}
 
 -- what an import adds to are index spaces of entities
 pub imported_external : (k : Space) (is : List Import) (x n : ℕ) → slice_get (places (has_kind k) is 0) x ≡ Some n → is_external k ≡ true
@@ -28,8 +29,8 @@ numbers_low from count n a e = omega (arith, number_is from count n a e)
 -- ---- where an import's address comes from ----
 
 module _ (env : Environment) (parts : List Part) where
-  pub base_next : (k : Space) (p : ℕ) (m : Module) → module_at parts p ≡ Some m → base env parts k (suc p) ≡ base env parts k p + defined_count k m
-  base_next k p m e = omega (arith, defined_next k parts p m e)
+  pub base_next : EachPartAddsItsDefinitions → (k : Space) (p : ℕ) (m : Module) → module_at parts p ≡ Some m → base env parts k (suc p) ≡ base env parts k p + defined_count k m
+  base_next next k p m e = omega (arith, next k parts p m e)
 
   -- an earlier part defines it
   pub record AtDefined (k : Space) (s : Site) (a : ℕ) : Type 0 where
@@ -88,24 +89,24 @@ module _ (env : Environment) (parts : List Part) where
             })
 
     -- it is lower than what the part itself defines
-    pub imported_low : (k : Space) (s : Site) (x : ExternalValue) (a : ℕ) → imported_external_value env parts s ≡ Some x → address_of k x ≡ Some a → a < base env parts k s.part
-    imported_low k s x a h has = elim (imported_at k s x a h has) [
+    pub imported_low : EachPartAddsItsDefinitions → (k : Space) (s : Site) (x : ExternalValue) (a : ℕ) → imported_external_value env parts s ≡ Some x → address_of k x ≡ Some a → a < base env parts k s.part
+    imported_low defined_next k s x a h has = elim (imported_at k s x a h has) [
       | inl d ↦
-          let next = base_next k d.entity.part d.is.of d.is.is_part in
+          let next = base_next defined_next k d.entity.part d.is.of d.is.is_part in
           let more = defined_more k parts (suc d.entity.part) s.part (omega arith) in
           omega arith
       | inr o ↦ omega arith
     ]
 
     -- what a part's instance has is lower than what later parts define
-    pub space_low : (p : ℕ) (m : Module) (i : Inst) → module_at parts p ≡ Some m → IsInst env parts p m i → (k : Space) (x a : ℕ) → slice_get (space_in i k) x ≡ Some a → a < base env parts k (suc p)
-    space_low p m i is_part inst k x a e =
-        let s = is_space env parts k p m (space_in i k) (in_space env parts p m i inst k (held_external i k x a e)) in
-        let next = base_next k p m is_part in
-        elim (entry_at env parts k p m (space_in i k) s x a e) [
+    pub space_low : {insts : List Inst} → Instances env parts insts → (p : ℕ) (m : Module) (i : Inst) → module_at parts p ≡ Some m → IsInst env parts p m i → (k : Space) (x a : ℕ) → slice_get (space_in i k) x ≡ Some a → a < base env parts k (suc p)
+    space_low are p m i is_part inst k x a e =
+        let s = are.spaces env parts k p m (space_in i k) (in_space env parts p m i inst k (held_external i k x a e)) in
+        let next = base_next are.next k p m is_part in
+        elim (are.names env parts k p m (space_in i k) s x a e) [
           | imports n is at ↦
               let t = and_then_is (imported_external_value env parts (record { part = p; import = n })) _ a at in
-              let low = imported_low k (record { part = p; import = n }) t.0 a t.1 t.2 in
+              let low = imported_low are.next k (record { part = p; import = n }) t.0 a t.1 t.2 in
               omega arith
           | defines j is low at ↦ omega arith
         ]
@@ -120,7 +121,7 @@ module _ (env : Environment) (parts : List Part) where
 
   pub import_address : (p : ℕ) (m : Module) (i : Inst) → IsInst env parts p m i → (k : Space) (x n : ℕ) → slice_get (imports_of k m) x ≡ Some n → HasAddress k (record { part = p; import = n }) i x
   import_address p m i inst k x n e =
-      let s = is_space env parts k p m (space_in i k) (in_space env parts p m i inst k (imported_external k m.imports x n e)) in
-      let a = all_there_at _ (imports_of k m) s.imported s.are x n e in
+      let s = space_is env parts k p m (space_in i k) (in_space env parts p m i inst k (imported_external k m.imports x n e)) in
+      let a = all_there_at _ (imports_of k m) s.0 s.1 x n e in
       let t = and_then_is (imported_external_value env parts (record { part = p; import = n })) _ a.0 a.1 in
-      record { address = a.0; at = ap (λ xs. slice_get xs x) s.all ∙ append_at_left s.imported _ x a.0 a.2; thing = t.0; is = t.1; has = t.2 }
+      record { address = a.0; at = ap (λ xs. slice_get xs x) (sym s.2) ∙ append_at_left s.0 _ x a.0 a.2; thing = t.0; is = t.1; has = t.2 }

@@ -1,7 +1,8 @@
 -- The stores of parts that are instantiated sequentially where no code has run, for the sequential run: how the store at once is laid out, and what a part adds.
+use Rattle.world_sequential_proof.proofs.PartLaws.{Instances}
 use Rattle.base_lists.proofs.Common.{◌≡◌, refl, ℕ, List, length, Some, slice_get}
 use Rattle.wasm_tree_spec.specs.Prelude.{Module}
-use Rattle.wasm_meaning.specs.Prelude.{Inst, Store, Part, module_at, Environment, insts_from, own_store, stores_from, part_store, store_with, const_value, JoinsEarlier}
+use Rattle.wasm_meaning.specs.Prelude.{Inst, Store, Part, module_at, Environment, own_store, stores_from, part_store, store_with, const_value, JoinsEarlier}
 use Rattle.world_sequential_proof.proofs.Joined.{ExportsThere}
 use Rattle.world_sequential_proof.proofs.OnePart.{Sized, Holds, EachMatches}
 use Rattle.world_sequential_proof.proofs.Beside.{Laid}
@@ -11,19 +12,20 @@ use Rattle.world_sequential_proof.proofs.FillSegments.{FilledUpto}
 
 -- ---- sequential stores ----
 
-module _ (env : Environment) (parts : List Part) (insts : List Inst) (are : insts_from env parts 0 parts ≡ Some insts) (allocated : Store) (stores_are : stores_from env parts insts (own_store env) 0 parts insts ≡ Some allocated) (matched : EachMatches env parts allocated) (size : length insts ≡ length parts) (there : ExportsThere parts) (earlier : JoinsEarlier parts) where
+module _ (env : Environment) (parts : List Part) (insts : List Inst) (are : Instances env parts insts) (allocated : Store) (stores_are : stores_from env parts insts (own_store env) 0 parts insts ≡ Some allocated) (matched : EachMatches env parts allocated) (size : length insts ≡ length parts) (there : ExportsThere parts) (earlier : JoinsEarlier parts) where
   pub adds_at : (k : ℕ) (m : Module) (i : Inst) → module_at parts k ≡ Some m → slice_get insts k ≡ Some i → part_store env parts insts k m i ≡ Some (or_no_store (added_at env parts insts k))
   adds_at k m i is_part is_inst = let a = part_adds env parts insts allocated stores_are size k m i is_part is_inst in rw (added_is env parts insts k m i a.0 is_part is_inst a.1) a.1
 
   -- how the store at once is laid out
   abbrev pub laid : Laid env parts insts allocated
   laid = record {
+    defined_next = are.next;
     first = first_stores env parts insts;
     adds = λ k. or_no_store (added_at env parts insts k);
     rest = rest_from env parts insts;
     first_none = refl;
-    first_sized = λ k l. (first_parts env parts insts allocated stores_are size k l).lengths;
-    parted = λ k l. (first_parts env parts insts allocated stores_are size k l).whole;
+    first_sized = λ k l. (first_parts env parts insts allocated stores_are size are.next k l).lengths;
+    parted = λ k l. (first_parts env parts insts allocated stores_are size are.next k l).whole;
     first_next = λ k m is_part. refl;
     rest_next = rest_at env parts insts;
     rest_end = rest_last env parts insts;

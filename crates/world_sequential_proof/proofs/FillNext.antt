@@ -1,8 +1,9 @@
 -- The next part's active segments, as its turn comes: what they do at once, with those of the parts before it and none of later ones.
+use Rattle.world_sequential_proof.proofs.PartLaws.{Instances}
 use Rattle.world_sequential_proof.proofs.ExternalValues.{part_inst}
-use Rattle.base_lists.proofs.Common.{◌≡◌, ◌∙◌, refl, ℕ, suc, List, ◌++◌, length, Some, false, append_assoc, arith, slice_get}
+use Rattle.base_lists.proofs.Common.{◌≡◌, ◌∙◌, refl, ℕ, suc, List, ◌++◌, length, Some, false, append_assoc, arith, slice_get, and_then_is, slice_get_within}
 use Rattle.wasm_tree_spec.specs.Prelude.{Space, Tables, Memories, DataSegments, ElementSegments, ConstExpr, Module}
-use Rattle.wasm_meaning.specs.Prelude.{Val, numbers, defined_count, Inst, Table, Memory, Elem, Data, Store, no_items, no_bytes, Part, module_at, Environment, base, insts_from, own_store, stores_from, part_store, joined_stores, const_value, value_of, placed_elems, placed_datas, segments, defined_before, JoinsEarlier, own_segments}
+use Rattle.wasm_meaning.specs.Prelude.{Val, numbers, defined_count, Inst, Table, Memory, Elem, Data, Store, no_items, no_bytes, Part, module_at, Environment, base, own_store, stores_from, part_store, joined_stores, const_value, value_of, placed_elems, placed_datas, segments, defined_before, JoinsEarlier, own_segments}
 use Rattle.world_sequential_proof.proofs.Joined.{ExportsThere}
 use Rattle.world_sequential_proof.proofs.FillAddresses.{numbers_low, space_low}
 use Rattle.world_sequential_proof.proofs.FillStores.{rest_from, rest_next, Lengths, lengths_next}
@@ -14,10 +15,9 @@ use Rattle.world_sequential_proof.proofs.FillTurns.{table_fill, elem_jobs, elems
 use Rattle.world_sequential_proof.proofs.FillData.{memory_fill, data_jobs, datas_low, datas_kept}
 use Rattle.world_sequential_proof.proofs.FillJobs.{AllBelow}
 use Rattle.world_sequential_proof.proofs.FillSegments.{both_went, own_go, elem_jobs_of, data_jobs_of, elem_jobs_at, data_jobs_at, FilledUpto, filled_holds, all_elems, all_datas}
-use Rattle.world_simulation.proofs.Instancing.{IsInst}
-use Rattle.wasm_meaning.proofs.Counts.{defined_next, module_there}
+use Rattle.world_simulation.specs.Prelude.{IsInst}
 
-module _ (env : Environment) (parts : List Part) (insts : List Inst) (are : insts_from env parts 0 parts ≡ Some insts) (allocated : Store) (stores_are : stores_from env parts insts (own_store env) 0 parts insts ≡ Some allocated) (matched : EachMatches env parts allocated) (size : length insts ≡ length parts) (there : ExportsThere parts) (earlier : JoinsEarlier parts) where
+module _ (env : Environment) (parts : List Part) (insts : List Inst) (are : Instances env parts insts) (allocated : Store) (stores_are : stores_from env parts insts (own_store env) 0 parts insts ≡ Some allocated) (matched : EachMatches env parts allocated) (size : length insts ≡ length parts) (there : ExportsThere parts) (earlier : JoinsEarlier parts) where
   -- the store after the segments of part k, where nothing else has changed
   pub record Next (k : ℕ) (m : Module) (i : Inst) (t a : Store) : Type 0 where
     pub store : Store
@@ -34,16 +34,16 @@ module _ (env : Environment) (parts : List Part) (insts : List Inst) (are : inst
     rest = rest_next env parts insts k m i a is_part is_inst is_added
 
     lengths : Lengths env parts insts (suc k) (joined_stores t a)
-    lengths = lengths_next env parts insts k m i a is_part is_inst is_added t filled.lengths
+    lengths = lengths_next env parts insts are.next k m i a is_part is_inst is_added t filled.lengths
 
     abbrev later : Store
     later = rest_from env parts insts (suc k)
 
     -- the part's own segments are before those of later parts
     own_low : (s : Space) (ns : List ℕ) → ns ≡ numbers (defined_before s parts k) (defined_count s m) → AllBelow (defined_before s parts (suc k)) ns
-    own_low s ns are x b at =
-        let l = numbers_low (defined_before s parts k) (defined_count s m) x b (rw are at at) in
-        let n = defined_next s parts k m is_part in
+    own_low s ns ns_are x b at =
+        let l = numbers_low (defined_before s parts k) (defined_count s m) x b (rw ns_are at at) in
+        let n = are.next s parts k m is_part in
         omega arith
 
     module _ (constants : Constants m) where
@@ -54,12 +54,13 @@ module _ (env : Environment) (parts : List Part) (insts : List Inst) (are : inst
       pub filled_next : (segments env parts insts allocated).trapped ≡ false → Next k m i t a
       filled_next well =
           let all = both_went (value_of env parts insts) (placed_elems 0 parts insts) (placed_datas 0 parts insts) allocated well in
-          let l = module_there parts k m is_part in
+          let b = and_then_is (slice_get parts k) (λ part. Some part.«module») m is_part in
+          let l = slice_get_within parts k b.0 b.1 in
           let es = next_runs Table Elem table_fill no_items (elem_jobs_of env parts insts) (length parts) k l (allocated.tables, allocated.elems) _ all.0 (rw (all_elems env parts insts allocated stores_are size) at all.2) (rw (rest, ← append_assoc t.tables a.tables later.tables, ← append_assoc t.elems a.elems later.elems) at filled.tables) in
           let ds = next_runs Memory Data memory_fill no_bytes (data_jobs_of env parts insts) (length parts) k l (allocated.mems, allocated.datas) _ all.1 (rw (all_datas env parts insts allocated stores_are size) at all.3) (rw (rest, ← append_assoc t.mems a.mems later.mems, ← append_assoc t.datas a.datas later.datas) at filled.mems) in
-          let elems = elems_low (value_of env parts insts k) i (base env parts Tables (suc k)) (defined_before ElementSegments parts (suc k)) (space_low env parts there earlier k m i is_part inst Tables) i.elems m.elems (own_low ElementSegments i.elems inst.elems) in
+          let elems = elems_low (value_of env parts insts k) i (base env parts Tables (suc k)) (defined_before ElementSegments parts (suc k)) (space_low env parts there earlier are k m i is_part inst Tables) i.elems m.elems (own_low ElementSegments i.elems inst.elems) in
           let e = runs_front Table Elem table_fill no_items later.tables later.elems (elem_jobs (value_of env parts insts k) i i.elems m.elems) _ _ elems (t.tables ++ a.tables) (t.elems ++ a.elems) lengths.tables lengths.elems es.0 (rw (← elem_jobs_at env parts insts k m i is_part is_inst) es.1) in
-          let datas = datas_low (value_of env parts insts k) i (base env parts Memories (suc k)) (defined_before DataSegments parts (suc k)) (space_low env parts there earlier k m i is_part inst Memories) i.datas m.datas (own_low DataSegments i.datas inst.datas) in
+          let datas = datas_low (value_of env parts insts k) i (base env parts Memories (suc k)) (defined_before DataSegments parts (suc k)) (space_low env parts there earlier are k m i is_part inst Memories) i.datas m.datas (own_low DataSegments i.datas inst.datas) in
           let d = runs_front Memory Data memory_fill no_bytes later.mems later.datas (data_jobs (value_of env parts insts k) i i.datas m.datas) _ _ datas (t.mems ++ a.mems) (t.datas ++ a.datas) lengths.mems lengths.datas ds.0 (rw (← data_jobs_at env parts insts k m i is_part is_inst) ds.1) in
           record {
             store = record (joined_stores t a) { tables = e.targets; elems = e.segments; mems = d.targets; datas = d.segments };

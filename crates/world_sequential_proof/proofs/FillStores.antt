@@ -1,14 +1,15 @@
 -- The store of all parts at once is what the first of them add, then what the rest add.
-use Rattle.base_lists.proofs.Common.{◌≡◌, ◌∙◌, sym, ap, ℕ, zero, suc, ◌+◌, ◌-◌, ◌<◌, ◌≤◌, List, [], ◌∷◌, length, Option, Some, None, append_assoc, arith, add-zero, zero-add, slice_get, slice_get_there, append-nil, length-append, and_then_is, same_Some, add_next, all_there_length, length-map}
+use Rattle.base_lists.proofs.Common.{◌≡◌, ◌∙◌, sym, ap, ℕ, zero, suc, ◌+◌, ◌-◌, ◌<◌, ◌≤◌, List, [], ◌∷◌, length, Option, Some, None, append_assoc, arith, add-zero, zero-add, slice_get, slice_get_there, slice_get_within, refl, append-nil, length-append, and_then_is, same_Some, add_next, all_there_length, length-map}
 use Rattle.base_lists.specs.Options.{◌>>=◌}
 use Rattle.wasm_tree_spec.specs.Prelude.{Space, Functions, Tables, Memories, Globals, ElementSegments, DataSegments, Module}
-use Rattle.wasm_meaning.specs.Prelude.{Inst, Store, Part, module_at, Environment, base, part_store, joined_stores, own_store, stores_from}
-use Rattle.world_simulation.proofs.Allocated.{Allocates, adds_with, stands}
+use Rattle.wasm_meaning.specs.Prelude.{Inst, Store, Part, module_at, Environment, base, defined_before, value_of, part_store, joined_stores, own_store, stores_from}
+use Rattle.world_simulation.specs.Prelude.{AddsWith, Allocates}
+use Rattle.world_simulation.proofs.Allocated.{stands}
 use Rattle.world_sequential_proof.proofs.Joined.{module_is}
 use Rattle.world_sequential_proof.proofs.OnePart.{Sized}
 use Rattle.world_sequential_proof.proofs.Beside.{empty_store}
 use Rattle.world_sequential_proof.proofs.FillAddresses.{base_next}
-use Rattle.wasm_meaning.proofs.Counts.{defined_none, module_there}
+use Rattle.wasm_meaning.specs.Counted.{EachPartAddsItsDefinitions}
 
 abbrev pub or_no_store : Option Store → Store
 or_no_store None = empty_store
@@ -48,7 +49,8 @@ module _ (env : Environment) (parts : List Part) (insts : List Inst) where
 
   pub rest_at : (k : ℕ) (m : Module) → module_at parts k ≡ Some m → rest_from k ≡ joined_stores (or_no_store (added_at k)) (rest_from (suc k))
   rest_at k m is_part =
-      let l = module_there parts k m is_part in
+      let b = and_then_is (slice_get parts k) (λ part. Some part.«module») m is_part in
+      let l = slice_get_within parts k b.0 b.1 in
       let n : length parts - k ≡ suc (length parts - suc k) = omega arith in
       rw n
 
@@ -62,6 +64,7 @@ module _ (env : Environment) (parts : List Part) (insts : List Inst) where
     pub first_next : first_stores (suc k) ≡ joined_stores (first_stores k) a
     first_next = rw added_is
 
+  module _ (defined_next : EachPartAddsItsDefinitions) (k : ℕ) (m : Module) (i : Inst) (a : Store) (is_part : module_at parts k ≡ Some m) (is_inst : slice_get insts k ≡ Some i) (is_added : part_store env parts insts k m i ≡ Some a) where
     pub lengths_next : (t : Store) → Lengths k t → Lengths (suc k) (joined_stores t a)
     lengths_next t h = record {
       funcs = counted {s = Functions} {get = λ s. s.funcs} (search counts) h.funcs;
@@ -74,22 +77,25 @@ module _ (env : Environment) (parts : List Part) (insts : List Inst) where
       where
         counted : {s : Space} {A : Type 0} {get : Store → List A} → Allocates s get → length (get t) ≡ base env parts s k → length (get (joined_stores t a)) ≡ base env parts s (suc k)
         counted {s} {get = get} allocates old =
-            let added = allocates.many _ m i a (adds_with _ m i a is_added) in
-            let next = base_next env parts s k m is_part in
+            let adds : AddsWith (value_of env parts insts k) m i a = search (arith, is_added) in
+            let added = allocates.many _ m i a adds in
+            let next = base_next env parts defined_next s k m is_part in
             rw (allocates.joins t a) (simp length-append (omega arith))
 
   pub rest_last : rest_from (length parts) ≡ empty_store
   rest_last = let n : length parts - length parts ≡ 0 = omega arith in rw n
 
   pub lengths_first : Lengths 0 (own_store env)
-  lengths_first = record {
-    funcs = simp (defined_none, add-zero);
-    tables = simp (defined_none, add-zero);
-    mems = simp (defined_none, add-zero);
-    globals = simp (defined_none, add-zero);
-    elems = simp defined_none;
-    datas = simp defined_none;
-  }
+  lengths_first =
+      let none : (k : Space) → defined_before k parts 0 ≡ 0 = λ k. elim parts as (λ ps. defined_before k ps 0 ≡ 0) [ [] ↦ refl | part ∷ ps ↦ refl ] in
+      record {
+        funcs = simp (none, add-zero);
+        tables = simp (none, add-zero);
+        mems = simp (none, add-zero);
+        globals = simp (none, add-zero);
+        elems = simp none;
+        datas = simp none;
+      }
 
   -- ---- the store of all parts ----
 
@@ -132,12 +138,12 @@ module _ (env : Environment) (parts : List Part) (insts : List Inst) where
       pub whole : allocated ≡ joined_stores (first_stores k) (rest_from k)
       pub lengths : Lengths k (first_stores k)
 
-    first_lengths : (k : ℕ) → k ≤ length parts → Lengths k (first_stores k)
-    first_lengths zero l = lengths_first
-    first_lengths (suc k) l =
+    first_lengths : EachPartAddsItsDefinitions → (k : ℕ) → k ≤ length parts → Lengths k (first_stores k)
+    first_lengths next zero l = lengths_first
+    first_lengths next (suc k) l =
         let t = inst_there k (omega arith) in
         let a = part_adds k t.0 t.1 t.2 t.3 in
-        rw (first_next k t.0 t.1 a.0 t.2 t.3 a.1) (lengths_next k t.0 t.1 a.0 t.2 t.3 a.1 (first_stores k) (first_lengths k (omega arith)))
+        rw (first_next k t.0 t.1 a.0 t.2 t.3 a.1) (lengths_next next k t.0 t.1 a.0 t.2 t.3 a.1 (first_stores k) (first_lengths next k (omega arith)))
 
-    pub first_parts : (k : ℕ) → k ≤ length parts → FirstParts k
-    first_parts k l = record { whole = whole_at k l; lengths = first_lengths k l }
+    pub first_parts : EachPartAddsItsDefinitions → (k : ℕ) → k ≤ length parts → FirstParts k
+    first_parts next k l = record { whole = whole_at k l; lengths = first_lengths next k l }

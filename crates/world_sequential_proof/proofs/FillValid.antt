@@ -1,13 +1,12 @@
 -- What valid parts give: their constant expressions read imports that are not mutable, and what they export is there.
-use Rattle.base_lists.proofs.Common.{◌≡◌, ◌∙◌, sym, ap, ℕ, ◌+◌, ◌<◌, List, map, length, Some, arith, not, nat_lt, slice_get, ltb-true, and_parts, not-true, length-append, length-map, slice_get_within, same_Some, slice_get_there, append_left, place_of, and_then_is, only_true}
-use Rattle.wasm_tree_spec.specs.Prelude.{Globals, ValType, Ref, GlobalType, Import, ExportDesc, ConstExpr, GlobalDef, ElemSeg, DataSeg, Module, global_of, imported_globals, globals_of, index_of_export, space_of_export}
+use Rattle.base_lists.proofs.Common.{◌≡◌, ◌∙◌, sym, ap, ℕ, ◌+◌, ◌<◌, List, map, length, Some, arith, not, nat_lt, slice_get, ltb-true, and_parts, not-true, length-append, length-map, slice_get_within, same_Some, slice_get_there, append_left, place_of, and_then_is, only_true, places_many}
+use Rattle.wasm_tree_spec.specs.Prelude.{Functions, Tables, Memories, Globals, imported_funcs, imported_tables, imported_memories, ValType, Ref, GlobalType, Import, ExportDesc, ConstExpr, GlobalDef, ElemSeg, DataSeg, Module, global_of, imported_globals, globals_of, index_of_export, space_of_export}
 use Rattle.wasm_tree.specs.declared.module.ImportDesc.TheVariants as im
 use Rattle.wasm_tree.specs.declared.module.ExportDesc.TheVariants as ex
 use Rattle.wasm_valid.specs.declared.kinds.ItemKind.TheVariants as kind
 use Rattle.wasm_valid.specs.Prelude.{const_type, IsValid, InSpace, ElemModeHolds, DataModeHolds, ValidWhereItemsHold}
 use Rattle.wasm_meaning.specs.Prelude.{Part, has_kind, imports_of, module_at, defined_count}
-use Rattle.wasm_meaning.proofs.Exports.{exported_there}
-use Rattle.world_simulation.proofs.Alone.{funcs_counted, tables_counted, memories_counted, globals_counted}
+use Rattle.wasm_meaning.specs.Counted.{FoundExportsAreThere}
 use Rattle.world_sequential_proof.proofs.Joined.{ExportsThere}
 use Rattle.world_sequential_proof.proofs.FillValues.{Constant}
 use Rattle.world_sequential_proof.proofs.FillAdded.{Constants}
@@ -24,7 +23,8 @@ record Imported (m : Module) (x : ℕ) (type : GlobalType) : Type 0 where
 
 imported : (m : Module) (x : ℕ) (type : GlobalType) → slice_get (globals_of m) x ≡ Some type → x < length (imported_globals m.imports) → Imported m x type
 imported m x type h l =
-    let n = slice_get_there (imports_of Globals m) x (rw (globals_counted m.imports 0) l) in
+    let many : length (imports_of Globals m) ≡ length (imported_globals m.imports) = places_many _ _ m.imports (grind arith) 0 in
+    let n = slice_get_there (imports_of Globals m) x (rw many l) in
     let i = place_of (has_kind Globals) (λ i. global_of i.desc) m.imports (grind arith) 0 x n.0 n.1 in
     let is = append_left (imported_globals m.imports) (map (λ g. g.ty) m.globals) x l in
     let at : n.0 ≡ i.0 = omega (arith, i.2) in
@@ -66,13 +66,13 @@ module _ (items : ValidWhereItemsHold) where
   -- ---- exports ----
 
   in_space : (m : Module) (d : ExportDesc) → InSpace m d → index_of_export d < length (imports_of (space_of_export d) m) + defined_count (space_of_export d) m
-  in_space m (ex.Func x) h = rw (funcs_counted m.imports 0) (simp (length-append, length-map) at h)
-  in_space m (ex.Table x) h = rw (tables_counted m.imports 0) (simp length-append at h)
-  in_space m (ex.Memory x) h = rw (memories_counted m.imports 0) (simp length-append at h)
-  in_space m (ex.Global x) h = rw (globals_counted m.imports 0) (simp (length-append, length-map) at h)
+  in_space m (ex.Func x) h = let many : length (imports_of Functions m) ≡ length (imported_funcs m.imports) = places_many _ _ m.imports (grind arith) 0 in rw many (simp (length-append, length-map) at h)
+  in_space m (ex.Table x) h = let many : length (imports_of Tables m) ≡ length (imported_tables m.imports) = places_many _ _ m.imports (grind arith) 0 in rw many (simp length-append at h)
+  in_space m (ex.Memory x) h = let many : length (imports_of Memories m) ≡ length (imported_memories m.imports) = places_many _ _ m.imports (grind arith) 0 in rw many (simp length-append at h)
+  in_space m (ex.Global x) h = let many : length (imports_of Globals m) ≡ length (imported_globals m.imports) = places_many _ _ m.imports (grind arith) 0 in rw many (simp (length-append, length-map) at h)
 
-  pub valid_exports : (parts : List Part) → ((p : ℕ) (m : Module) → module_at parts p ≡ Some m → IsValid m) → ExportsThere parts
-  valid_exports parts valid p m field d is_part named =
-      let e = exported_there m.exports field d named in
+  pub valid_exports : FoundExportsAreThere → (parts : List Part) → ((p : ℕ) (m : Module) → module_at parts p ≡ Some m → IsValid m) → ExportsThere parts
+  valid_exports exported parts valid p m field d is_part named =
+      let e = exported m.exports field d named in
       let z = (items m).0 (valid p m is_part) kind.Export e.0 (slice_get_within m.exports e.0 e.1 e.2) in
       in_space m d (rw (same_Some z.0 e.1 (sym z.1 ∙ e.2), e.3) at z.2)

@@ -1,16 +1,15 @@
 -- A constant expression of a part has one value, whether it is read from the store as the part's turn comes or along its path through joined globals.
-use Rattle.base_lists.proofs.Common.{◌≡◌, ◌∙◌, refl, sym, ap, ℕ, zero, suc, ◌+◌, ◌-◌, ◌<◌, List, [], ◌∷◌, length, Some, true, false, inl, inr, arith, add-zero, zero-add, option_and_then, slice_get, right_true, same_Some, slice_get_there, and_then_is, unwrap_or_false_is, add_next, all_there_length, length-map}
+use Rattle.world_sequential_proof.proofs.PartLaws.{Instances}
+use Rattle.base_lists.proofs.Common.{◌≡◌, ◌∙◌, refl, sym, ap, ℕ, zero, suc, ◌+◌, ◌-◌, ◌<◌, List, [], ◌∷◌, length, Some, true, false, inl, inr, arith, add-zero, zero-add, option_and_then, slice_get, right_true, same_Some, slice_get_there, slice_get_within, and_then_is, unwrap_or_false_is, add_next, all_there_length, length-map}
 use Rattle.wasm_tree_spec.specs.Prelude.{Space, Globals, GlobalType, Import, ConstExpr, Module, index_of_export, space_of_import}
 use Rattle.wasm_tree.specs.declared.module.ImportDesc.TheVariants as im
 use Rattle.wasm_tree.specs.declared.module.ConstExpr.TheVariants as const
-use Rattle.wasm_meaning.specs.Prelude.{Val, Inst, Global, Store, same_type, walk, walk_on, Part, Site, End, Defined, Outside, Read, places, has_kind, space_index, imports_of, module_at, import_at, end_of, global_import, initial, outside_read, end_step, read_step, initials_from, read_of, Environment, GlobalAt, own_globals, base, imported_external_value, insts_from, own_store, stores_from, same_bool, const_value, value_of, address_of, JoinsEarlier}
+use Rattle.wasm_meaning.specs.Prelude.{Val, Inst, Global, Store, same_type, walk, walk_on, Part, Site, End, Defined, Outside, Read, places, has_kind, space_index, imports_of, module_at, import_at, end_of, global_import, initial, outside_read, end_step, read_step, initials_from, read_of, Environment, GlobalAt, own_globals, base, imported_external_value, own_store, stores_from, same_bool, const_value, value_of, address_of, JoinsEarlier}
 use Rattle.world_simulation.proofs.Allocated.{keeps}
-use Rattle.world_simulation.proofs.Stored.{global_placed}
 use Rattle.world_sequential_proof.proofs.ExternalValues.{walk_more, thing_has, part_inst}
 use Rattle.world_sequential_proof.proofs.Joined.{ExportsThere}
 use Rattle.world_sequential_proof.proofs.OnePart.{EachMatches}
 use Rattle.world_sequential_proof.proofs.FillAddresses.{AtDefined, AtOwn, HasAddress, import_address, imported_at, imported_low}
-use Rattle.wasm_meaning.proofs.Counts.{module_there}
 
 -- the place of an import among those of its kind
 index_place : (k : Space) (is : List Import) (n off : ℕ) (i : Import) → slice_get is n ≡ Some i → space_of_import i.desc ≡ k → slice_get (places (has_kind k) is off) (space_index is n k) ≡ Some (off + n)
@@ -40,17 +39,17 @@ Constant m e = (x : ℕ) → e ≡ const.Global x → ReadsImport m x
 abbrev pub HoldsFixed : Environment → List Part → (allocated : Store) → ℕ → Store → Type 0
 HoldsFixed env parts allocated k t = (a : ℕ) (g : Global) → a < base env parts Globals k → slice_get allocated.globals a ≡ Some g → g.ty.mutable ≡ false → (h : Global) × (slice_get t.globals a ≡ Some h) × (h.value ≡ g.value)
 
-module _ (env : Environment) (parts : List Part) (insts : List Inst) (are : insts_from env parts 0 parts ≡ Some insts) where
+module _ (env : Environment) (parts : List Part) (insts : List Inst) (are : Instances env parts insts) where
   module _ (allocated : Store) (stores_are : stores_from env parts insts (own_store env) 0 parts insts ≡ Some allocated) (matched : EachMatches env parts allocated) (size : length insts ≡ length parts) (there : ExportsThere parts) (earlier : JoinsEarlier parts) where
     part_there : (k : ℕ) (m : Module) → module_at parts k ≡ Some m → (i : Inst) × (slice_get insts k ≡ Some i)
-    part_there k m is_part = slice_get_there insts k (omega (arith, module_there parts k m is_part))
+    part_there k m is_part = (let b = and_then_is (slice_get parts k) (λ part. Some part.«module») m is_part in slice_get_there insts k (omega (arith, slice_get_within parts k b.0 b.1)))
 
     -- the value of a global that a part defines is its value expression's
     defined_value : (p : ℕ) (m : Module) (j : ℕ) (g : Global) → module_at parts p ≡ Some m → j < length m.globals → slice_get allocated.globals (base env parts Globals p + j) ≡ Some g → (e : ConstExpr) × (option_and_then (λ d. Some d.init) (slice_get m.globals j) ≡ Some e) × (value_of env parts insts p e ≡ Some g.value)
     defined_value p m j g is_part low at =
         let i = part_there p m is_part in
         let d = slice_get_there m.globals j low in
-        let x = global_placed env (record { parts = parts; insts = insts }) allocated stores_are (record { part = p; of = m; is_part = is_part; inst = i.0; is_inst = i.1; place = j; definition = d.0; stands = d.1; address = refl }) in
+        let x = (are.placed env (record { parts = parts; insts = insts }) allocated stores_are).globals (record { part = p; of = m; is_part = is_part; inst = i.0; is_inst = i.1; place = j; definition = d.0; stands = d.1; address = refl }) in
         let v = and_then_is (value_of env parts insts p d.0.init) _ x.0 x.2 in
         (d.0.init, rw d.1, v.1 ∙ ap (λ g. Some g.value) (same_Some _ _ (v.2 ∙ sym x.1 ∙ at)))
 
@@ -75,7 +74,7 @@ module _ (env : Environment) (parts : List Part) (insts : List Inst) (are : inst
               (g.0, g.1, grind (arith, c.fixed, right_true (same_type c.type.ty g.0.ty.ty) (same_bool c.type.mutable g.0.ty.mutable) (same_Some _ _ g.2)))
 
           from_store : const_value t.globals i (const.Global x) ≡ Some fixed.0.value
-          from_store = let h = holds d.address fixed.0 (imported_low env parts there earlier Globals s d.thing d.address d.is d.has) fixed.1 fixed.2 in rw (d.at, h.1, h.2)
+          from_store = let h = holds d.address fixed.0 (imported_low env parts there earlier are.next Globals s d.thing d.address d.is d.has) fixed.1 fixed.2 in rw (d.at, h.1, h.2)
 
           at_end : (end : End) → end_of parts s ≡ Some end → walk_on (walk (read_step parts) (length (initials_from 0 parts))) (end_step parts (Some end)) ≡ Some r
           at_end end e =

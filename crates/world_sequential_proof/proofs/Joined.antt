@@ -1,11 +1,12 @@
 -- What an import of a part is joined with among the parts before it is what it is joined with among all, where each joined import leads to an earlier part.
+use Rattle.world_sequential_proof.proofs.PartLaws.{Instances}
 use Rattle.base_lists.proofs.Common.{◌≡◌, ◌∙◌, refl, ap, ℕ, zero, suc, ◌+◌, ◌<◌, ◌≤◌, List, [], ◌∷◌, length, Option, Some, None, Bool, true, false, cond, arith, add-zero, zero-add, slice_get, and_then_is, same_Some, add_next}
 use Rattle.wasm_tree_spec.specs.Prelude.{Import, ExportDesc, Module, index_of_export, space_of_export}
-use Rattle.wasm_meaning.specs.Prelude.{Text, Inst, Part, Site, Entity, Defined, Outside, imports_of, module_at, export_named, first_place, source_of, joined, imported_as, joined_step, import_step, end_of, Environment, ExternalValue, owned_of, defined_count, external_value_of, imported_external_value, insts_from, address_in, external_value_for, JoinsEarlier}
+use Rattle.wasm_meaning.specs.Prelude.{Text, Inst, Part, Site, Entity, Defined, Outside, imports_of, module_at, export_named, first_place, source_of, joined, imported_as, joined_step, import_step, end_of, Environment, ExternalValue, owned_of, defined_count, external_value_of, imported_external_value, address_in, external_value_for, JoinsEarlier}
 use Rattle.wasm_meaning.specs.Linking.{is_named}
 use Rattle.wasm_meaning.specs.Sequential.{Made, made_named, exported_by, external_value_or_own}
 use Rattle.world_sequential_proof.proofs.ExternalValues.{goes_to, ends_at, defined_is, imported_is, part_inst}
-use Rattle.world_simulation.proofs.Instancing.{IsInst}
+use Rattle.world_simulation.specs.Prelude.{IsInst}
 
 -- the first parts, each with its instance
 abbrev pub made_upto : ℕ → List Part → List Inst → List Made
@@ -42,7 +43,7 @@ ExportsThere parts = (p : ℕ) (m : Module) (field : Text) (d : ExportDesc) → 
 pub module_is : (parts : List Part) (p : ℕ) (part : Part) → slice_get parts p ≡ Some part → module_at parts p ≡ Some part.«module»
 module_is parts p part e = rw e
 
-module _ (env : Environment) (parts : List Part) (insts : List Inst) (are : insts_from env parts 0 parts ≡ Some insts) (size : length insts ≡ length parts) (earlier : JoinsEarlier parts) where
+module _ (env : Environment) (parts : List Part) (insts : List Inst) (are : Instances env parts insts) (size : length insts ≡ length parts) (earlier : JoinsEarlier parts) where
   abbrev made : ℕ → List Made
   made p = made_upto p parts insts
 

@@ -1,3 +1,4 @@
+mod PartLaws
 mod ExternalValues
 mod Joined
 mod Reached

@@ -1,17 +1,17 @@
 -- The start of a valid part is a function that takes nothing and gives nothing.
+use Rattle.world_sequential_proof.proofs.PartLaws.{Instances}
 use Rattle.base_lists.proofs.Common.{◌≡◌, ◌∙◌, sym, ap, ap₂, ℕ, suc, ◌+◌, ◌≤◌, List, map, length, Option, Some, true, inl, inr, arith, slice_get, option_and_then, slice_get_within, same_Some, map_from, append_from, slice_get_there, append_at_left, append_right, place_of, places_many, and_then_is, all_there_at, all_there_length, numbers_at, option_map_is, is_some}
 use Rattle.wasm_tree_spec.specs.Prelude.{Functions, FuncType, Module, func_of, imported_funcs, funcs_of, type_of_func, Import}
 use Rattle.wasm_tree.specs.declared.module.Func as tree
 use Rattle.wasm_tree.specs.declared.module.ImportDesc.TheVariants as im
-use Rattle.wasm_meaning.specs.Prelude.{Inst, Func, Store, same_func_type, type_at, Part, has_kind, imports_of, module_at, sites, Environment, ExternalValue, all_of, base, address_of, import_type, imported_external_value, numbers, insts_from, new_func, value_of, is_matched, JoinsEarlier, FuncAt}
+use Rattle.wasm_meaning.specs.Prelude.{Inst, Func, Store, same_func_type, type_at, Part, has_kind, imports_of, module_at, sites, Environment, ExternalValue, all_of, base, address_of, import_type, imported_external_value, numbers, new_func, value_of, is_matched, JoinsEarlier, FuncAt}
 use Rattle.wasm_meaning.specs.Control as control
 use Rattle.index_remap.specs.Prelude.{CodeIsRelatedToItself}
 use Rattle.world_sequential_proof.proofs.ExternalValues.{space_is}
 use Rattle.world_sequential_proof.proofs.Joined.{inst_of_part}
 use Rattle.world_sequential_proof.proofs.OnePart.{SitesThere, matches}
 use Rattle.world_sequential_proof.proofs.Beside.{Laid, at_allocated_funcs}
-use Rattle.world_simulation.proofs.Instancing.{IsInst}
-use Rattle.world_simulation.proofs.Allocated.{adds_with}
+use Rattle.world_simulation.specs.Prelude.{AddsWith, IsInst}
 
 -- an import is of a function where its description is
 imports_of_functions : (i : Import) → is_some (func_of i.desc) ≡ has_kind Functions i
@@ -25,7 +25,7 @@ pub record HasFunc (i : Inst) (allocated : Store) (x : ℕ) (t : FuncType) : Typ
   pub there : slice_get allocated.funcs address ≡ Some func
   pub type : control.type_of_func func ≡ t
 
-module _ (same_types : (s t : FuncType) → same_func_type s t ≡ true → s ≡ t) (itself : CodeIsRelatedToItself) (env : Environment) (parts : List Part) (insts : List Inst) (are : insts_from env parts 0 parts ≡ Some insts) (size : length insts ≡ length parts) (earlier : JoinsEarlier parts) (listed : SitesThere parts) (allocated : Store) (laid : Laid env parts insts allocated) (matched : all_of (is_matched env parts allocated) (sites parts) ≡ true) where
+module _ (same_types : (s t : FuncType) → same_func_type s t ≡ true → s ≡ t) (itself : CodeIsRelatedToItself) (env : Environment) (parts : List Part) (insts : List Inst) (are : Instances env parts insts) (size : length insts ≡ length parts) (earlier : JoinsEarlier parts) (listed : SitesThere parts) (allocated : Store) (laid : Laid env parts insts allocated) (matched : all_of (is_matched env parts allocated) (sites parts) ≡ true) where
   module _ (p x : ℕ) (m : Module) (i : Inst) (t : FuncType) (is_part : module_at parts p ≡ Some m) (at_inst : slice_get insts p ≡ Some i) where
     abbrev imported : ℕ → Option ExternalValue
     imported n = imported_external_value env parts (record { part = p; import = n })
@@ -66,7 +66,8 @@ module _ (same_types : (s t : FuncType) → same_func_type s t ≡ true → s �
         let back = map_from (λ (f : tree.Func). f.ty) m.funcs k ty h in
         let low = slice_get_within m.funcs k back.0 back.1 in
         let number : x ≡ length s.0 + k = omega arith in
-        let adds = adds_with (value_of env parts insts p) m i (laid.adds p) (laid.part_adds p m i is_part at_inst) in
+        let part_adds = laid.part_adds p m i is_part at_inst in
+        let adds : AddsWith (value_of env parts insts p) m i (laid.adds p) = search (arith, part_adds) in
         let f = all_there_at (new_func i) m.funcs (laid.adds p).funcs adds.funcs k back.0 back.1 in
         let made = and_then_is (slice_get i.types back.0.ty) _ f.0 f.1 in
         let count = all_there_length (new_func i) m.funcs (laid.adds p).funcs adds.funcs in

@@ -13,7 +13,6 @@ use Rattle.world_sequential_proof.proofs.Beside.{Beside, beside_next, more}
 use Rattle.world_sequential_proof.proofs.ExtensionLaws.{ExtensionLaws}
 use Rattle.world_sequential_proof.proofs.Making.{Abreast}
 use Rattle.world_sequential_proof.proofs.Given.{IsGiven}
-use Rattle.wasm_meaning.proofs.Counts.{defined_next}
 
 -- ---- what is related by itself is the same ----
 
@@ -52,8 +51,8 @@ module _ (env : Environment) (w : World) (insts : List Inst) (allocated : Store)
       let is = inst_of_part env w.parts insts g.are g.size g.earlier k part.«module» i is_part at_inst in
       record {
         spaces = inst_low env w.parts insts g.are g.size g.earlier g.own k part.«module» i is_part at_inst;
-        elems = λ n a h. let r = number_is (defined_before ElementSegments w.parts k) (length part.«module».elems) n a (rw is.elems at h) in omega (arith, r.0, r.1, defined_next ElementSegments w.parts k part.«module» is_part);
-        datas = λ n a h. let r = number_is (defined_before DataSegments w.parts k) (length part.«module».datas) n a (rw is.datas at h) in omega (arith, r.0, r.1, defined_next DataSegments w.parts k part.«module» is_part);
+        elems = λ n a h. let r = number_is (defined_before ElementSegments w.parts k) (length part.«module».elems) n a (rw is.elems at h) in omega (arith, r.0, r.1, g.are.next ElementSegments w.parts k part.«module» is_part);
+        datas = λ n a h. let r = number_is (defined_before DataSegments w.parts k) (length part.«module».datas) n a (rw is.datas at h) in omega (arith, r.0, r.1, g.are.next DataSegments w.parts k part.«module» is_part);
       }
 
   pub within : suc k ≤ length w.parts

@@ -6,10 +6,15 @@ ghost use Rattle.world_sequential_proof.specs.Laws.{SequentialInstantiationIsEqu
 
 use index_remap::{related_runs_have_equal_traces, steps_agree};
 use merge_valid_proof::linked_imports_have_ends;
-use wasm_meaning::start_depends_only_on_its_frames;
+use wasm_meaning::{
+    definitions_are_counted_by_part, found_exports_are_there, start_depends_only_on_its_frames,
+};
 use wasm_valid::valid_where_items_hold;
 use world_extension_proof::{store_extension_is_a_preorder, stores_are_extended};
-use world_simulation::own_entities_correspond;
+use world_simulation::{
+    allocated_stores_have_what_parts_define, index_spaces_list_imports_and_definitions,
+    own_entities_correspond,
+};
 
 /// For a world of at least one part, all valid, sequential instantiation, in which each part has
 /// its segments and its start before the next (WebAssembly Core 2.0, section 4.5.4), is
@@ -26,5 +31,9 @@ pub fn sequential_instantiation_equivalent()
     steps_agree();
     related_runs_have_equal_traces();
     own_entities_correspond();
+    index_spaces_list_imports_and_definitions();
+    allocated_stores_have_what_parts_define();
+    definitions_are_counted_by_part();
+    found_exports_are_there();
     linked_imports_have_ends();
 }
