@@ -1,45 +1,16 @@
 -- What a part adds to the store stands there at the addresses of the part.
-use Rattle.base_lists.proofs.Common.{◌≡◌, ℕ, zero, suc, ◌+◌, false, List, ◌∷◌, ◌++◌, map, length, Option, Some, arith, add-zero, slice_get, same_Some, length-append, length-map, append_at_left, append_right, and_then_is, is_some_there, all_there_length, all_there_from, add_next}
+use Rattle.base_lists.proofs.Common.{◌≡◌, ℕ, zero, suc, ◌+◌, List, ◌∷◌, length, Option, Some, arith, add-zero, slice_get, same_Some, length-append, length-map, append_at_left, append_right, and_then_is, is_some_there, all_there_length, all_there_from, add_next}
 use native.Mathlib.Nat.{add_assoc}
-use Rattle.wasm_tree_spec.specs.Prelude.{Space, Functions, Tables, Memories, Globals, ElementSegments, DataSegments, ConstExpr, DataSeg, GlobalDef, ElemSeg, Module}
+use Rattle.wasm_tree_spec.specs.Prelude.{Space, Functions, Tables, Memories, Globals, ElementSegments, DataSegments, ConstExpr, GlobalDef, ElemSeg, Module}
 use Rattle.wasm_tree.specs.declared.module.Func as tree
-use Rattle.wasm_meaning.specs.Prelude.{Val, Inst, Func, Global, Elem, Data, Store, Part, module_at, Environment, own_count, own_store, defined_count, defined_before, all_there, new_func, new_global, global_with, elem_of, elem_with, value_of, store_with, part_store, joined_stores, stores_from}
-pub use Rattle.world_simulation.specs.NewContents.{new_table, new_memory}
+use Rattle.wasm_meaning.specs.Prelude.{Val, Inst, Func, Global, Elem, Store, Part, module_at, Environment, defined_before, new_func, new_global, elem_of, value_of, store_with, part_store, stores_from}
+pub use Rattle.world_simulation.specs.NewContents.{new_data, new_memory, new_table}
+pub use Rattle.world_simulation.specs.Allocated.{Adds, AddsWith, Allocates, with_elems}
 
 -- ---- what one part adds ----
 
-abbrev pub new_data : DataSeg → Data
-new_data d = record { bytes = d.bytes; dropped = false }
-
-pub record AddsWith (value : ConstExpr → Option Val) (m : Module) (i : Inst) (t : Store) : Type 0 where
-  pub funcs : all_there (new_func i) m.funcs ≡ Some t.funcs
-  pub tables : t.tables ≡ map new_table m.tables
-  pub mems : t.mems ≡ map new_memory m.mems
-  pub globals : all_there (global_with value) m.globals ≡ Some t.globals
-  pub elems : all_there (elem_with value) m.elems ≡ Some t.elems
-  pub datas : t.datas ≡ map new_data m.datas
-
-abbrev pub with_elems : Module → List Func → List Global → List Elem → Store
-with_elems m funcs globals elems = record {
-  funcs = funcs;
-  globals = globals;
-  elems = elems;
-  tables = map new_table m.tables;
-  mems = map new_memory m.mems;
-  datas = map new_data m.datas;
-}
-
 pub adds_with : (value : ConstExpr → Option Val) (m : Module) (i : Inst) (t : Store) → store_with value m i ≡ Some t → AddsWith value m i t
 adds_with value m i t h = search arith
-
-abbrev pub Adds : Environment → List Part → List Inst → ℕ → Module → Inst → Store → Type 0
-Adds env all insts p = AddsWith (value_of env all insts p)
-
--- the entities of a space, which come after those that are in the store: what a part adds of them
-pub record Allocates (k : Space) {A : Type 0} (get : Store → List A) : Type 0 where
-  pub joins : (s t : Store) → get (joined_stores s t) ≡ get s ++ get t
-  pub own : (env : Environment) → length (get (own_store env)) ≡ own_count k env
-  pub many : (value : ConstExpr → Option Val) (m : Module) (i : Inst) (t : Store) → AddsWith value m i t → length (get t) ≡ defined_count k m
 
 -- how many entities a part adds
 ruleset counts = (arith, all_there_length, length-map)

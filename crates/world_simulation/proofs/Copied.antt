@@ -5,6 +5,7 @@ use Rattle.wasm_tree_spec.specs.Prelude.{Space, Tables, Memories, ElementSegment
 use Rattle.wasm_meaning.specs.Prelude.{Store, Environment, Filled, or_trapped}
 use Rattle.base_lists.proofs.Related.{at_put_here}
 use Rattle.world_simulation.specs.Prelude.{Instantiated, DefinedAt}
+pub use Rattle.world_simulation.specs.Segments.{Kept}
 
 -- ---- lists ----
 
@@ -33,15 +34,6 @@ pub then_holds : {A : Type 0} (Q : Filled → Type 0) (s : Store) (o : Option A)
 then_holds Q s o f t h = grind arith
 
 -- ---- a segment without partner ----
-
--- the store is as it was where it is related
-pub record Kept (related : Space → ℕ → Type 0) (s t : Store) : Type 0 where
-  pub funcs : t.funcs ≡ s.funcs
-  pub globals : t.globals ≡ s.globals
-  pub tables : (a : ℕ) → related Tables a → slice_get t.tables a ≡ slice_get s.tables a
-  pub mems : (a : ℕ) → related Memories a → slice_get t.mems a ≡ slice_get s.mems a
-  pub elems : (a : ℕ) → related ElementSegments a → slice_get t.elems a ≡ slice_get s.elems a
-  pub datas : (a : ℕ) → related DataSegments a → slice_get t.datas a ≡ slice_get s.datas a
 
 pub nothing_kept : (related : Space → ℕ → Type 0) (s : Store) → Kept related s s
 nothing_kept related s = assumption

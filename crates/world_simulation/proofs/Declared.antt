@@ -1,30 +1,12 @@
 -- A module with its references declared: it has perhaps one more element segment, which is declarative and is allocated wherever the module is.
-use Rattle.base_lists.proofs.Common.{◌≡◌, ℕ, zero, suc, ◌+◌, ◌<◌, List, [], ◌∷◌, ◌++◌, map, length, Some, refl, sym, arith, append-nil, slice_get, same_Some, range_with_len, kept_is, map_from, slice_get_there, all_there_from, is_some_there}
+use Rattle.base_lists.proofs.Common.{◌≡◌, ℕ, zero, suc, ◌+◌, ◌<◌, List, [], ◌∷◌, map, length, Some, refl, sym, arith, append-nil, slice_get, same_Some, range_with_len, kept_is, map_from, slice_get_there, all_there_from, is_some_there}
 use Rattle.wasm_tree.specs.declared.module.ConstExpr.TheVariants as const
-use Rattle.wasm_tree_spec.specs.Prelude.{ElemSeg, Module, funcs_of}
+use Rattle.wasm_tree_spec.specs.Prelude.{Module, funcs_of}
 use Rattle.wasm_meaning.specs.Prelude.{Inst, Elem, Environment, all_there, elem_of}
 use Rattle.wasm_meaning.specs.World.{ref_value}
-use Rattle.index_remap.specs.Prelude.{declared_refs, with_declared, declaring}
+use Rattle.index_remap.specs.Prelude.{declared_refs, with_declared}
 use Rattle.world_simulation.specs.Prelude.{one}
-
--- the segment that declares references, if there are any
-abbrev pub last_segments : List ℕ → List ElemSeg
-last_segments [] = []
-last_segments (f ∷ fs) = declaring (f ∷ fs) ∷ []
-
--- the second is the first with the segment that declares these functions
-pub record IsWithDeclared (m n : Module) (fs : List ℕ) : Type 0 where
-  pub types : n.types ≡ m.types
-  pub imports : n.imports ≡ m.imports
-  pub funcs : n.funcs ≡ m.funcs
-  pub tables : n.tables ≡ m.tables
-  pub mems : n.mems ≡ m.mems
-  pub globals : n.globals ≡ m.globals
-  pub exports : n.exports ≡ m.exports
-  pub start : n.start ≡ m.start
-  pub elems : n.elems ≡ m.elems ++ last_segments fs
-  pub datas : n.datas ≡ m.datas
-  pub func_space : funcs_of n ≡ funcs_of m
+pub use Rattle.world_simulation.specs.Declared.{IsWithDeclared, last_segments}
 
 pub is_with_declared : (m : Module) (fs : List ℕ) → IsWithDeclared m (with_declared m fs) fs
 is_with_declared m [] = assumption (sym (append-nil m.elems))

@@ -1,5 +1,5 @@
 -- Segments of two worlds, partners in the same order, are copied to related stores, and trap in both or neither.
-use Rattle.base_lists.proofs.Common.{◌≡◌, ℕ, suc, List, [], ◌∷◌, ◌++◌, length, Option, Some, None, Bool, false, refl, arith, slice_get, append_from, set_other, overwrite_rel, there, cond_two, then_rel, then_same_is, number_is, overwritten_length, overwrite_fits}
+use Rattle.base_lists.proofs.Common.{◌≡◌, ℕ, suc, List, ◌∷◌, length, Option, Some, None, Bool, false, refl, arith, slice_get, append_from, set_other, overwrite_rel, there, cond_two, then_rel, then_same_is, number_is, overwritten_length, overwrite_fits}
 use Rattle.wasm_tree_spec.specs.Prelude.{Space, ElementSegments, DataSegments, ConstExpr, ElemSeg, DataSeg, Module}
 use Rattle.wasm_meaning.specs.Prelude.{overwrite, no_items, no_bytes, RefVal, Val, Table, Memory, Inst, Store, Part, module_at, Environment, Filled, PlacedSegment, numbers, own_count, defined_before, insts_from, segments_in, placed_elems, placed_datas, or_trapped, copy_slots, run_elem_with, run_elem, copy_bytes, run_data_with, run_data, and_then, one_by_one}
 use Rattle.index_remap.specs.Prelude.{Pairing, OneToOne, OptRel, none, some, StoreRel, set_table, set_memory, drop_elem, drop_data, turned, HasNoPartner}
@@ -7,6 +7,8 @@ use Rattle.index_remap.proofs.Rel.{written}
 use Rattle.index_remap.proofs.StepsAgree.{changed_rel}
 use Rattle.world_simulation.specs.Prelude.{Instantiated, DefinedAt, values_in, InOrder, both, ends, only_second, ElemsPartner, ElemAlone, DatasPartner, DataAlone, offset_in}
 use Rattle.world_simulation.specs.Segments as segments
+pub use Rattle.world_simulation.specs.Segments.{in_first, in_second}
+pub use Rattle.world_simulation.specs.ByPart.{tasks_by}
 use Rattle.world_simulation.proofs.Instancing.{IsInst, inst_in}
 use Rattle.world_simulation.proofs.Copied.{set_holds, HasRoom, Kept, nothing_kept}
 
@@ -25,11 +27,6 @@ module _ {A : Type 0} (p : ℕ) (i : Inst) where
   pub task_at : (ns : List ℕ) (xs : List A) (n : ℕ) (x : PlacedSegment A) → slice_get (segments_in p i ns xs) n ≡ Some x → (slice_get ns n ≡ Some x.address) × (slice_get xs n ≡ Some x.segment)
   task_at (a ∷ ns) (y ∷ xs) (suc n) x h = task_at ns xs n x h
   task_at _ _ n x h = grind arith
-
--- the segments of one kind, by part
-abbrev pub tasks_by : {A : Type 0} → (Module → List A) → (Inst → List ℕ) → ℕ → List Part → List Inst → List (PlacedSegment A)
-tasks_by segs adds p (part ∷ parts) (i ∷ is) = segments_in p i (adds i) (segs part.«module») ++ tasks_by segs adds (suc p) parts is
-tasks_by segs adds p _ _ = []
 
 -- what holds of each segment of each module, with the address that stands at its place in the module's instance, holds of every segment of the list by part
 each_task : {A : Type 0} {P : PlacedSegment A → Type 0} (segs : Module → List A) (adds : Inst → List ℕ) (p : ℕ) (parts : List Part) (is : List Inst) →
@@ -66,14 +63,7 @@ module _ (env : Environment) (w : Instantiated) (are : insts_from env w.parts 0 
 -- ---- what is kept where it is related ----
 
 module _ (R : Pairing) where
-  -- the addresses of the first store, and of the second, that are related
-  abbrev pub in_first : Space → ℕ → Type 0
-  in_first k a = (b : ℕ) × R.of k a b
-
-  abbrev pub in_second : Space → ℕ → Type 0
-  in_second k b = (a : ℕ) × R.of k a b
-
-  pub kept_rel : {s t z y : Store} → StoreRel R s z → Kept in_first s t → Kept in_second z y → StoreRel R t y
+  pub kept_rel : {s t z y : Store} → StoreRel R s z → Kept (in_first R) s t → Kept (in_second R) z y → StoreRel R t y
   kept_rel like f g = grind (arith, both)
 
 -- ---- the segments of one world ----

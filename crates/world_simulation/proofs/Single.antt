@@ -2,9 +2,9 @@
 use Rattle.base_lists.proofs.Common.{◌≡◌, arith, ℕ, zero, suc, List, [], ◌∷◌, ◌++◌, length, Option, Some, false, refl, sym, ap, ◌∙◌, slice_get, unwrap_or, and_then_is, all_there_length, fun_ext, length_rel, same_there, there, then_rel, then_same_is, then_eq, opt_self, self_rel, all_rel}
 use Rattle.wasm_tree_spec.specs.Prelude.{Space, FuncType, Import, ImportDesc, Module}
 use Rattle.wasm_tree.specs.declared.module.ImportDesc.TheVariants as im
-use Rattle.wasm_meaning.specs.Prelude.{Inst, Store, Site, has_kind, places, sites, imports_of, Environment, ExternalValue, all_of, numbers, own_count, defined_count, space, sites_in, is_match, is_matched, insts_from}
-use Rattle.index_remap.specs.Prelude.{Pairing, OptRel, ListRel, StoreRel, ExternalValueRel, a_func, a_table, a_memory, a_global}
-use Rattle.world_simulation.specs.Prelude.{one, external_value_in, addresses, SharesOwn}
+use Rattle.wasm_meaning.specs.Prelude.{Inst, Store, Site, has_kind, places, sites, Environment, ExternalValue, all_of, space, sites_in, is_match, is_matched, insts_from}
+use Rattle.index_remap.specs.Prelude.{Pairing, OptRel, StoreRel, ExternalValueRel, a_func, a_table, a_memory, a_global}
+use Rattle.world_simulation.specs.Prelude.{one, external_value_in, addresses, SharesOwn, SpaceAt}
 use Rattle.world_simulation.proofs.Alone.{space_is, thing_is, on_some}
 use Rattle.world_simulation.proofs.Owned.{owned_rel, look_rel}
 pub use Rattle.world_simulation.proofs.Owned.{address_rel}
@@ -14,15 +14,7 @@ module _ (R : Pairing) (env : Environment) (own : SharesOwn R env) where
   pub thing_rel : (types : List FuncType) (o : Option Import) → OptRel (ExternalValueRel R) (external_value_in env types o) (external_value_in env types o)
   thing_rel types o = search (then_same_is, look_rel, owned_rel)
 
-  -- the addresses of the imports, each related to itself, then those after all that is the environment's
-  pub record SpaceAt (t : Module) (k : Space) (xs : List ℕ) : Type 0 where
-    pub imported : List ℕ
-    pub are : addresses env t.types t.imports k ≡ Some imported
-    pub many : length imported ≡ length (imports_of k t)
-    pub all : xs ≡ imported ++ numbers (own_count k env) (defined_count k t)
-    pub shared : ListRel (R.of k) imported imported
-
-  pub space_at : (t : Module) (k : Space) (xs : List ℕ) → space env (one t) k 0 t ≡ Some xs → SpaceAt t k xs
+  pub space_at : (t : Module) (k : Space) (xs : List ℕ) → space env (one t) k 0 t ≡ Some xs → SpaceAt R env t k xs
   space_at t k xs h =
       let x = and_then_is (addresses env t.types t.imports k) _ xs (sym (space_is env t k) ∙ h) in
       record {

@@ -4,9 +4,10 @@ use Rattle.wasm_tree_spec.specs.Prelude.{Space, Functions, Tables, Memories, Glo
 use Rattle.wasm_tree.specs.declared.module.Func as tree
 use Rattle.wasm_meaning.specs.Prelude.{Val, Inst, Func, Global, Elem, Store, ref_of, type_of_func, own_of, Environment, own_memories, new_func, new_global, global_with, elem_with, elem_of, own_store, stores_from}
 use Rattle.index_remap.specs.Prelude.{Pairing, OptRel, none, some, BothRel, both, ListRel, nil, RefRel, ValRel, number, reference, FuncRel, defined, GlobalRel, ElemRel, StoreRel}
-use Rattle.world_simulation.specs.Prelude.{SharesOwn, Instantiated, DefinedAt, FuncsCorrespond, FuncsAt, GlobalsCorrespond, is_declarative, ElemsCorrespond, Partners, DefinitionsCorrespond}
+use Rattle.world_simulation.specs.Prelude.{SharesOwn, Instantiated, DefinedAt, FuncsCorrespond, FuncsAt, GlobalsCorrespond, ElemsCorrespond, Partners, DefinitionsCorrespond, HasDefinitions}
 use Rattle.world_simulation.specs.Definitions.{alike, set_apart, declared, kept}
 use Rattle.world_simulation.specs.Definitions as partners
+pub use Rattle.world_simulation.specs.Definitions.{ElemsAlike}
 use Rattle.world_simulation.proofs.Allocated.{new_table, new_memory, new_data, Adds, Allocates, funcs_allocate, tables_allocate, mems_allocate, globals_allocate, elems_allocate, datas_allocate, keeps, stands}
 use Rattle.world_simulation.proofs.Owned.{null_rel, own_funcs_rel, own_tables_rel, own_globals_rel}
 
@@ -37,6 +38,9 @@ module _ (env : Environment) (w : Instantiated) (s : Store) (made : stores_from 
 
   pub data_placed : {a : ℕ} (d : DefinedAt env w DataSegments (λ m. m.datas) a) → slice_get s.datas a ≡ Some (new_data d.definition)
   data_placed d = grind (arith, stands_for datas_allocate d, slice_get-map)
+
+  pub has_definitions : HasDefinitions env w s
+  has_definitions = record { funcs = func_placed; tables = table_placed; mems = memory_placed; globals = global_placed; elems = elem_placed; datas = data_placed }
 
 -- ---- what corresponds is related ----
 
@@ -72,15 +76,10 @@ module _ (R : Pairing) where
     pub global_rel : {g h : GlobalDef} → GlobalsCorrespond R value second_value g h → OptRel (GlobalRel R) (global_with value g) (global_with second_value h)
     global_rel k = search (then_rel, some)
 
-    -- items that are related, and both segments are declarative or neither is: so what is allocated is there in both or in neither
-    pub record ElemsAlike (d e : ElemSeg) : Type 0 where
-      pub declarative : is_declarative d.mode ≡ is_declarative e.mode
-      pub items : ListRel (λ x y. OptRel (ValRel R) (value x) (second_value y)) d.items e.items
-
-    pub elem_rel : {d e : ElemSeg} → ElemsAlike d e → OptRel (ElemRel R) (elem_with value d) (elem_with second_value e)
+    pub elem_rel : {d e : ElemSeg} → ElemsAlike R value second_value d e → OptRel (ElemRel R) (elem_with value d) (elem_with second_value e)
     elem_rel k = then_rel (all_rel (each_rel (λ _ _ p. then_rel p (λ _ _. ref_rel)) k.items)) (λ _ _ r. some (grind (arith, nil)))
 
-    pub alike_correspond : {d e : ElemSeg} → ElemsAlike d e → ElemsCorrespond R value second_value d e
+    pub alike_correspond : {d e : ElemSeg} → ElemsAlike R value second_value d e → ElemsCorrespond R value second_value d e
     alike_correspond k = grind (arith, declared, kept)
 
     -- what both are allocated to is related

@@ -60,6 +60,12 @@ pub data ElemsCorrespond (R : Pairing) (value second_value : ConstExpr → Optio
   declared : is_declarative d.mode ≡ true → is_declarative e.mode ≡ true → ElemsCorrespond R value second_value d e
   kept : is_declarative d.mode ≡ false → is_declarative e.mode ≡ false → ListRel (λ x y. OptRel (ValRel R) (value x) (second_value y)) d.items e.items → ElemsCorrespond R value second_value d e
 
+-- Items that are related, and both segments are declarative or neither is: so what is allocated is
+-- there in both or in neither.
+pub record ElemsAlike (R : Pairing) (value second_value : ConstExpr → Option Val) (d e : ElemSeg) : Type 0 where
+  pub declarative : is_declarative d.mode ≡ is_declarative e.mode
+  pub items : ListRel (λ x y. OptRel (ValRel R) (value x) (second_value y)) d.items e.items
+
 -- what is at two addresses of an index space: one entity of the environment's own, or definitions
 -- that correspond, in their parts and instances
 pub data Partners (env : Environment) (v w : Instantiated) (k : Space) {A : Type 0} (definitions : Module → List A) (correspond : ℕ → Inst → A → ℕ → Inst → A → Type 0) (a b : ℕ) : Type 0 where

@@ -7,4 +7,8 @@ pub mod Definitions
 pub mod Segments
 pub mod Simulation
 pub mod NewContents
+pub mod IndexSpaces
+pub mod Allocated
+pub mod Declared
+pub mod ByPart
 pub mod Prelude

@@ -7,7 +7,7 @@ use Rattle.wasm_tree_spec.specs.Prelude.{Space, Tables, Memories, ElementSegment
 use Rattle.wasm_tree.specs.declared.module.ElemMode.TheVariants as elem
 use Rattle.wasm_tree.specs.declared.module.DataMode.TheVariants as data'
 use Rattle.wasm_num.specs.Operations.{W32}
-use Rattle.wasm_meaning.specs.Prelude.{Val, num_of, Environment, PlacedSegment, placed_elems, placed_datas}
+use Rattle.wasm_meaning.specs.Prelude.{Val, num_of, Store, Environment, PlacedSegment, placed_elems, placed_datas}
 use Rattle.index_remap.specs.Prelude.{Pairing, OptRel, turned, HasNoPartner}
 use Rattle.world_simulation.specs.Definitions.{Instantiated, DefinedAt, values_in}
 
@@ -62,3 +62,21 @@ abbrev pub DatasInOrder : Pairing → Environment → Instantiated → Instantia
 DatasInOrder R env v w =
     InOrder (λ x y. DatasPartner R (values_in env v x.part) (values_in env w y.part) x y x.segment.mode y.segment.mode) (λ x. DataAlone (HasNoPartner (turned R)) env v x x.segment.mode) (λ y. DataAlone (HasNoPartner R) env w y y.segment.mode)
     (placed_datas 0 v.parts v.insts) (placed_datas 0 w.parts w.insts)
+
+-- ---- what is kept where a segment without a partner is copied ----
+
+-- the addresses of the first store that the relation relates, and those of the second
+abbrev pub in_first : Pairing → Space → ℕ → Type 0
+in_first R k a = (b : ℕ) × R.of k a b
+
+abbrev pub in_second : Pairing → Space → ℕ → Type 0
+in_second R k b = (a : ℕ) × R.of k a b
+
+-- the store is as it was where it is related
+pub record Kept (related : Space → ℕ → Type 0) (s t : Store) : Type 0 where
+  pub funcs : t.funcs ≡ s.funcs
+  pub globals : t.globals ≡ s.globals
+  pub tables : (a : ℕ) → related Tables a → slice_get t.tables a ≡ slice_get s.tables a
+  pub mems : (a : ℕ) → related Memories a → slice_get t.mems a ≡ slice_get s.mems a
+  pub elems : (a : ℕ) → related ElementSegments a → slice_get t.elems a ≡ slice_get s.elems a
+  pub datas : (a : ℕ) → related DataSegments a → slice_get t.datas a ≡ slice_get s.datas a

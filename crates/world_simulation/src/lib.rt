@@ -8,6 +8,17 @@ ghost use Rattle.world_simulation.specs.Alone.{
   ReadsStay,
   SpacesAreImportsAndOwn,
 };
+ghost use Rattle.world_simulation.specs.Allocated.{
+  AllocatedStoresHaveDefinitions,
+  PartsAddWhatCanBeAllocated,
+};
+ghost use Rattle.world_simulation.specs.ByPart.{DatasAreListedByPart, ElemsAreListedByPart};
+ghost use Rattle.world_simulation.specs.Declared.{DeclaringAddsASegment, DeclaringSegmentsAreAllocated};
+ghost use Rattle.world_simulation.specs.IndexSpaces.{
+  EachPartHasAnInstance,
+  IndicesNameImportsOrDefinitions,
+  SpacesAreImportsAndDefinitions,
+};
 ghost use Rattle.world_simulation.specs.Instances.{RelatedBegunHaveEqualTraces, RelatedInstancesHaveEqualTraces};
 ghost use Rattle.world_simulation.specs.Named.{FittingCodeIsNamed, KeptCodeIsNamed};
 ghost use Rattle.world_simulation.specs.Owned.{OwnEntitiesCorrespond};
@@ -34,6 +45,38 @@ pub fn imports_of_one_module_denote_the_environment()
     ensures external_values { ImportsDenoteTheEnvironment }
     ensures spaces { SpacesAreImportsAndOwn }
     ensures reads { ReadsStay }
+{}
+
+/// An index space of a part of a world has the addresses of the part's imports, then those of what
+/// the part defines (`spaces`); so each index of it names an import or a definition (`indices`).
+/// The instances of the parts of a world are one for each part (`instances`).
+pub fn index_spaces_list_imports_and_definitions()
+    ensures spaces { SpacesAreImportsAndDefinitions }
+    ensures indices { IndicesNameImportsOrDefinitions }
+    ensures instances { EachPartHasAnInstance }
+{}
+
+/// The store that is allocated for a world has at each address what a part defines there
+/// (`placed`). A part adds something to the store if each of its functions, globals and element
+/// segments can be allocated (`added`).
+pub fn allocated_stores_have_what_parts_define()
+    ensures placed { AllocatedStoresHaveDefinitions }
+    ensures added { PartsAddWhatCanBeAllocated }
+{}
+
+/// A module with references declared differs from the module by at most one more element segment,
+/// which stands last (`differs`). This segment is allocated if the instance names as many functions
+/// as the module has (`allocated`).
+pub fn declared_references_are_one_more_segment()
+    ensures differs { DeclaringAddsASegment }
+    ensures allocated { DeclaringSegmentsAreAllocated }
+{}
+
+/// The element segments of a world are listed part by part (`elems`), and so are its data segments
+/// (`datas`).
+pub fn segments_are_listed_by_part()
+    ensures elems { ElemsAreListedByPart }
+    ensures datas { DatasAreListedByPart }
 {}
 
 /// If each address of the environment's own entities is related to itself, these entities
