@@ -7,7 +7,7 @@ use Rattle.std.specs.Prelude.{ℤ}
 use Rattle.wasm_tree_spec.specs.Prelude.{Space, ValType, FuncType, Instr, Call, LocalGet, I32Const, CallIndirect}
 use Rattle.wasm_num.specs.Operations.{wrapped}
 use Rattle.base_simulation.specs.Machines.{events_of, state_after}
-use Rattle.wasm_meaning.specs.Prelude.{Outcome, Gives, FuncRef, Val, Inst, Func, Code, Table, Store, Level, Frame, Entry, Running, Next, Ran, typed, pop_typed, type_of_func, enter_at, step, Run, transition, tick}
+use Rattle.wasm_meaning.specs.Prelude.{Outcome, Gives, FuncRef, Val, Inst, Func, Code, Table, Store, Level, Frame, Entry, Running, Next, Ran, typed, pop_typed, type_of_func, enter_at, step, Run, transition, tick, Shown, Owned, received_all}
 use Rattle.index_remap.specs.Related.{Pairing, OneToOne, ResRel, ListRel, ValRel, CodeRel, StoreRel, FrameRel, EntryRel, NextRel}
 use Rattle.index_remap.specs.RelatedRuns.{turned, KeepsOthers, IsBegun, RunRel}
 use Rattle.index_remap.specs.Laws.{Test, passed_with, EntriesKnown}
@@ -84,6 +84,14 @@ go_on n o = o
 -- Each value has its type.
 abbrev pub HaveTypes : List ValType → List Val → Type 0
 HaveTypes = ListRel (λ t v. typed t v ≡ Gives v)
+
+-- The values that are popped as having these types have them.
+abbrev pub PoppedValuesHaveTypes : Type 0
+PoppedValuesHaveTypes = (ts : List ValType) (vs taken left : List Val) → pop_typed ts vs ≡ Gives (taken, left) → HaveTypes ts taken
+
+-- The values that the embedder passes for parameters of these types have them.
+abbrev pub PassedValuesHaveTypes : Type 0
+PassedValuesHaveTypes = (owned : Owned) (shown : List ℕ) (ts : List ValType) (xs : List Shown) (vs : List Val) → received_all owned shown ts xs ≡ Some vs → HaveTypes ts vs
 
 -- A trampoline that was entered has, after a step for each parameter and two more, entered the
 -- function in its slot with the same values, over a passing frame. The function may also be a

@@ -12,7 +12,9 @@ ghost use Rattle.index_remap.specs.Laws.{CodeIsRelatedToItself, NamedAreKnown, O
 ghost use Rattle.index_remap.specs.OpaqueRuns.{RunsWithOpaqueFunctionsAgree};
 ghost use Rattle.index_remap.specs.Trampolines.{
   DirectCallsAgree,
+  PassedValuesHaveTypes,
   PassingFramesStutter,
+  PoppedValuesHaveTypes,
   SlotCallsAgree,
   SlotCallsEnterSlots,
   TrampolineCallsAgree,
@@ -102,6 +104,8 @@ pub fn related_runs_have_equal_traces()
 /// - `replaced`: the result of the two instructions is related to that of such a direct call,
 ///   without a passing frame.
 /// - `direct`: the results of two direct calls are related, if the functions have related code.
+/// - `popped`: values that are popped as having some types have these.
+/// - `passed`: values that the embedder passes for parameters have the types of these.
 pub fn calls_through_slots_simulate_direct_calls()
     ensures passing_frames { PassingFramesStutter }
     ensures trampolines { TrampolinesEnterSlots }
@@ -109,6 +113,8 @@ pub fn calls_through_slots_simulate_direct_calls()
     ensures through { TrampolineCallsAgree }
     ensures replaced { SlotCallsAgree }
     ensures direct { DirectCallsAgree }
+    ensures popped { PoppedValuesHaveTypes }
+    ensures passed { PassedValuesHaveTypes }
 {}
 
 /// States that what is related stays related if more code may stand in place of calls of opaque

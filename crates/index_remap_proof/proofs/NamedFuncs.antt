@@ -3,32 +3,23 @@ use Rattle.base_lists.proofs.Common.{◌≡◌, ℕ, Bool, true, false, nat_eq, 
 use Rattle.base_lists.specs.Members.{is_among}
 use Rattle.base_lists.proofs.Members.{among_either}
 use Rattle.std.proofs.Common.{eq-eqb}
-use Rattle.wasm_tree_spec.specs.Prelude.{RefType, ValType, BlockType, Instr, fold_out-Instr, map-Instr, Row_of-Instr, items-the_row-Instr, end_of-Instr, more_of-Instr, the_lemmas, Block, Block', Loop, Loop', If, If', RefFunc, TableInit, ElemDrop}
+use Rattle.wasm_tree_spec.specs.Prelude.{RefType, ValType, BlockType, Instr, fold_out-Instr, map-Instr, Row_of-Instr, items-the_row-Instr, items_shown-the_row-Instr-0, end_of-Instr, more_of-Instr, Block', Loop', If', RefFunc, TableInit, ElemDrop}
 use Rattle.wasm_tree.specs.declared.instr.Instr.{out-Instr}
+use Rattle.wasm_tree.specs.declared.instr.Instr.TheViews.{outs-Block', outs-Loop', outs-If'}
 use Rattle.wasm_valid_bodies.specs.Typing.{Stack, Effect, Context, effect_of, Ends, Fits, Leads, LeadsAll, WellTyped, both}
 use Rattle.index_remap.specs.Prelude.{refs, refs_all, refs_step, Keeps, labelled}
-use Rattle.index_remap.proofs.Rows.{block_is, loop_is, if_is}
 
 ends_map : (f g : Stack → Stack → Type 0) (ps rs : List ValType) → ((s t : Stack) → f s t → g s t) → Ends f ps rs → Ends g ps rs
 ends_map f g ps rs k (last, l, a) = (last, k _ last l, a)
 
-of_Block : (bt : BlockType) (is : List Instr) → refs (Block bt is) ≡ refs_all is
-of_Block bt is = search (rules, the_lemmas)
-
-of_Loop : (bt : BlockType) (is : List Instr) → refs (Loop bt is) ≡ refs_all is
-of_Loop bt is = search (rules, the_lemmas)
-
-of_If : (bt : BlockType) (is os : List Instr) → refs (If bt is os) ≡ refs_all is ++ refs_all os
-of_If bt is os = search (rules, the_lemmas)
-
 block_refs : (bt : BlockType) (n : _) (row : Row_of-Instr _) → refs (Block' bt n row) ≡ refs_all (items-the_row-Instr _ row)
-block_refs bt n row = ap refs (block_is bt n row) ∙ of_Block bt (items-the_row-Instr _ row)
+block_refs bt n row = fold_out-Instr (List ℕ) refs_step (Block' bt n row) ∙ simp (outs-Block', items_shown-the_row-Instr-0)
 
 loop_refs : (bt : BlockType) (n : _) (row : Row_of-Instr _) → refs (Loop' bt n row) ≡ refs_all (items-the_row-Instr _ row)
-loop_refs bt n row = ap refs (loop_is bt n row) ∙ of_Loop bt (items-the_row-Instr _ row)
+loop_refs bt n row = fold_out-Instr (List ℕ) refs_step (Loop' bt n row) ∙ simp (outs-Loop', items_shown-the_row-Instr-0)
 
 if_refs : (bt : BlockType) (n : _) (row : Row_of-Instr _) (k : _) (other : Row_of-Instr _) → refs (If' bt n row k other) ≡ refs_all (items-the_row-Instr _ row) ++ refs_all (items-the_row-Instr _ other)
-if_refs bt n row k other = ap refs (if_is bt n row k other) ∙ of_If bt (items-the_row-Instr _ row) (items-the_row-Instr _ other)
+if_refs bt n row k other = fold_out-Instr (List ℕ) refs_step (If' bt n row k other) ∙ simp (outs-If', items_shown-the_row-Instr-0)
 
 among_refs : {xs ys : List ℕ} → xs ≡ ys → (x : ℕ) → is_among xs x ≡ true → is_among ys x ≡ true
 among_refs e x h = ap (λ zs. is_among zs x) (sym e) ∙ h

@@ -2,7 +2,8 @@
 //! constant expressions, items of a tree, whole trees, and trees whose references are declared.
 #![tactic(auto)]
 
-ghost use Rattle.std.specs.Prelude.{◌≡◌, ◌<◌, ◌+◌, ◌^◌, ℕ, List, IsTrue, length};
+ghost use Rattle.std.specs.Prelude.{◌≡◌, ◌<◌, ◌+◌, ◌^◌, ℕ, List, IsTrue, Some, length, slice_get, true};
+ghost use Rattle.base_lists.specs.Members.{is_among};
 ghost use Rattle.wasm_tree.specs.declared.types.ValType.{ValType};
 ghost use Rattle.wasm_tree.specs.declared.instr.Instr.{Instr};
 ghost use Rattle.wasm_tree.specs.declared.module.ConstExpr.{ConstExpr};
@@ -14,7 +15,7 @@ ghost use Rattle.wasm_valid.specs.Validity.{HoldsAt, IsSingle, IsValid};
 ghost use Rattle.index_remap.specs.declared.remap.Remap.{Remap};
 ghost use Rattle.index_remap.specs.Renumbered.{renumbered_all, renumbered_tree, new_const, fits_all, fits_tree};
 ghost use Rattle.wasm_tree.specs.Layers.{ListLayers};
-ghost use Rattle.index_remap.specs.References.{declared};
+ghost use Rattle.index_remap.specs.References.{declared, refs_all};
 ghost use Rattle.index_remap.specs.Agreement.{LayerAgrees, SameFrame};
 ghost use Rattle.index_remap_proof.specs.Indices.{ConstNamesOnly, Indices, LayerNamesOnly, TreeNamesOnly, with_entry};
 ghost use Rattle.index_remap_proof.specs.Along.{AgreesAlong, CoversContext};
@@ -81,3 +82,9 @@ pub fn declared_trees_are_valid()
 {
     valid_where_items_hold();
 }
+
+/// States that `ref.func` in a well-typed body names only functions that the context lets it name
+/// (WebAssembly Core 2.0, section 3.3.2.2: x is among C.refs).
+pub fn well_typed_bodies_name_declared_functions()
+    ensures { (c : Context) (is : List Instr) (ps rs : List ValType) → WellTyped c is ps rs → (x : ℕ) → is_among (refs_all is) x ≡ true → slice_get c.named x ≡ Some true }
+{}

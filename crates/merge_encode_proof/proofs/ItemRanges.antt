@@ -11,7 +11,7 @@ use Rattle.wasm_tree.specs.declared.module.DataMode.TheVariants as segment
 use Rattle.wasm_valid_bodies.specs.Typing.{only}
 use Rattle.wasm_valid.specs.declared.kinds.ItemKind.TheVariants as kind
 use Rattle.wasm_valid.specs.Prelude.{const_type, table_types, elem_types, refs_of, named_of, ImportHolds, InSpace, ElemModeHolds, DataModeHolds, IsSingle, HoldsAt, start_count, count_of, body_context, ItemsHold}
-use Rattle.wasm_tree.proofs.OperandLaws.{passes_more}
+use Rattle.index_remap.proofs.NotOpaque.{operands_follow}
 use Rattle.wasm_write_proof.specs.Ranges.{IsU32, small_operand, spelled_operand, all_numbers_in, MaxInRange, ConstInRange, ImportDescInRange, ImportInRange, ExportDescInRange, ExportInRange, ElemModeInRange, ElemInRange, DataModeInRange, FuncInRange, InRange}
 use Rattle.merge_encode_proof.specs.Numbers.{ConstNumberInRange, ImportLimitsInRange, ImportNumbersInRange, FuncNumbersInRange, ElemOffsetInRange, ElemNumbersInRange, DataOffsetInRange, NumbersInRange}
 use Rattle.merge_encode_proof.proofs.BodyRanges.{IsSmall, body_small}
@@ -153,7 +153,7 @@ module _
 
     func_in : (i : ℕ) (x : Func) → slice_get m.funcs i ≡ Some x → FuncNumbersInRange x → FuncInRange x
     func_in i x e n =
-        let k = func_names i x e in (k.0, (n.0, and_from (all_operands_pass small_operand x.body) (all_numbers_in x.body) (passes_more spelled_operand small_operand small_spelled x.body k.1) n.1))
+        let k = func_names i x e in (k.0, (n.0, and_from (all_operands_pass small_operand x.body) (all_numbers_in x.body) ((layers small_operand x.body).1 (operands_follow (λ o. spelled_operand o ≡ true) (λ o. small_operand o ≡ true) small_spelled x.body ((layers spelled_operand x.body).0 k.1))) n.1))
 
     pub tree_in : NumbersInRange m → InRange m
     tree_in n = record {

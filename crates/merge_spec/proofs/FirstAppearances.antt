@@ -1,24 +1,25 @@
 -- The types of the parts, each once, in the order of their first appearance.
-use Rattle.base_lists.proofs.Common.{◌≡◌, ◌∙◌, sym, ap, ap₂, subst, refl, ℕ, zero, suc, ◌+◌, ◌<◌, List, [], ◌∷◌, ◌++◌, length, Some, Bool, true, false, cond, ◌||◌, slice_get, arith, ◌⊎◌, inl, inr, append_assoc, append-nil, list_any, slice_get_within, list_any_there, Has, append_at_left, append_from, has_left, push_last}
-use Rattle.wasm_tree_spec.specs.Prelude.{FuncType, ValType, Module, same_func_type}
+use Rattle.base_lists.proofs.Common.{◌≡◌, ◌∙◌, sym, ap, ap₂, subst, refl, ℕ, zero, suc, ◌+◌, ◌<◌, List, [], ◌∷◌, ◌++◌, length, Some, Bool, true, false, cond, ◌||◌, slice_get, arith, ◌⊎◌, inl, inr, append_assoc, append-nil, list_any, slice_get_within, list_any_there, Has, append_at_left, append_from, has_left, push_last, each_same_is, each_same_self}
+use Rattle.wasm_tree_spec.specs.Prelude.{FuncType, ValType, Module, same_func_type, same_type}
 use Rattle.index_remap.specs.Prelude.{declared, declared_refs, with_declared}
 use Rattle.merge_names.specs.Names.{new_names}
 use Rattle.merge_spec.specs.Prelude.{with_type, with_types, export_names}
 use Rattle.merge_spec.specs.Merged.{merged, merged_types}
 use Rattle.merge_spec.specs.Joined.{joined_module}
 use Rattle.merge_spec.specs.Types.{AreFirstAppearances, MergedTypesAreDistinct, part_types}
-use Rattle.index_remap.proofs.SlotCalls.{func_type_is, func_type_self}
 
 -- ---- what is among types ----
 
 found : (types : List FuncType) (u : FuncType) → list_any (same_func_type u) types ≡ true → Has types u
 found types u h =
     let w = list_any_there (same_func_type u) types h in
-    subst (Has types) (sym (func_type_is u w.0 w.2)) w.1
+    let same : same_func_type u w.0 ≡ true = w.2 in
+    let is : u ≡ w.0 = grind (arith, each_same_is same_type (λ a b e. grind arith)) in
+    subst (Has types) (sym is) w.1
 
 is_among : (types : List FuncType) (u : FuncType) (n : ℕ) → slice_get types n ≡ Some u → list_any (same_func_type u) types ≡ true
 is_among [] u n h = cc
-is_among (t ∷ types) u zero h = let e : t ≡ u = cc in ap (λ b. b || list_any (same_func_type u) types) (ap (same_func_type u) e ∙ func_type_self u)
+is_among (t ∷ types) u zero h = let e : t ≡ u = cc in let self : same_func_type u u ≡ true = simp (each_same_self same_type (λ a. grind arith)) in ap (λ b. b || list_any (same_func_type u) types) (ap (same_func_type u) e ∙ self)
 is_among (t ∷ types) u (suc n) h = by (same_func_type u t) (is_among types u n h)
   where
     by : (b : Bool) → list_any (same_func_type u) types ≡ true → b || list_any (same_func_type u) types ≡ true

@@ -1,11 +1,10 @@
 -- The index spaces of entities at once: what an entry of one is, and its type, with the limits of tables and memories left aside. Types and segments are no entities.
-use Rattle.base_lists.proofs.Common.{◌≡◌, ◌∙◌, ap, ap₂, sym, refl, ℕ, List, ◌++◌, map, length, Option, Some, None, true, is_some, [], slice_get, option_and_then, filter_map, length-map, and_then_is, and_parts}
-use Rattle.wasm_tree_spec.specs.Prelude.{Space, Types, Functions, Tables, Memories, Globals, ElementSegments, DataSegments, RefType, FuncType, Limits, TableType, GlobalType, Import, ImportDesc, ExportDesc, Module, func_of, table_of, memory_of, global_of, funcs_of, tables_of, memories_of, globals_of, type_of_func, index_of_export, space_of_export, space_of_import}
+use Rattle.base_lists.proofs.Common.{◌≡◌, ◌∙◌, ap, ap₂, sym, refl, ℕ, List, ◌++◌, map, length, Option, Some, None, true, is_some, [], slice_get, option_and_then, filter_map, length-map, and_then_is, and_parts, each_same_is, arith}
+use Rattle.wasm_tree_spec.specs.Prelude.{Space, Types, Functions, Tables, Memories, Globals, ElementSegments, DataSegments, RefType, FuncType, Limits, TableType, GlobalType, Import, ImportDesc, ExportDesc, Module, func_of, table_of, memory_of, global_of, funcs_of, tables_of, memories_of, globals_of, type_of_func, index_of_export, space_of_export, space_of_import, same_type}
 use Rattle.wasm_tree.specs.declared.module.ImportDesc.TheVariants as im
 use Rattle.wasm_tree.specs.declared.module.ExportDesc.TheVariants as ex
 use Rattle.wasm_meaning.specs.Prelude.{same_type, same_bool, defined_count, has_kind}
 use Rattle.merge_spec.specs.Prelude.{External, FuncOf, TableOf, MemoryOf, GlobalOf, asked, external_of, same_but_limits}
-use Rattle.index_remap.proofs.SlotCalls.{func_type_is}
 use Rattle.merge_valid_proof.specs.Ended.{is_external}
 use Rattle.merge_valid_proof.proofs.Same.{ref_is, type_is, bool_is}
 
@@ -139,7 +138,7 @@ pub typed_external : (m : Module) (k : Space) (i : ℕ) (y : Ty) → type_at m k
 typed_external m k i y h = entry_external k (and_then_is (slice_get (space k m) i) (type_of m k) y h).0
 
 pub bare_is : (x y : External) → same_but_limits x y ≡ true → bare x ≡ bare y
-bare_is (FuncOf t) (FuncOf u) h = ap FuncTy (func_type_is t u h)
+bare_is (FuncOf t) (FuncOf u) h = let is : t ≡ u = grind (arith, each_same_is same_type (λ a b e. grind arith)) in ap FuncTy is
 bare_is (TableOf t) (TableOf u) h = ap TableTy (ref_is t.ty u.ty h)
 bare_is (MemoryOf l) (MemoryOf k) h = refl
 bare_is (GlobalOf t) (GlobalOf u) h =

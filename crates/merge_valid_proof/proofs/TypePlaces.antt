@@ -1,10 +1,9 @@
 -- Each type of a part stands among the merged types, at the entry that the part's map has for it.
-use Rattle.base_lists.proofs.Common.{◌≡◌, ◌∙◌, ap, sym, subst, refl, ℕ, zero, suc, ◌+◌, List, [], ◌∷◌, ◌++◌, map, Some, Bool, true, false, cond, arith, unwrap_or, slice_get, slice_index, flat_map, list_any, slice_index_is, map_at, has_left, has_right, Has, first_at, list_any_there}
-use Rattle.wasm_tree_spec.specs.Prelude.{FuncType, Module}
+use Rattle.base_lists.proofs.Common.{◌≡◌, ◌∙◌, ap, sym, subst, refl, ℕ, zero, suc, ◌+◌, List, [], ◌∷◌, ◌++◌, map, Some, Bool, true, false, cond, arith, unwrap_or, slice_get, slice_index, flat_map, list_any, slice_index_is, map_at, has_left, has_right, Has, first_at, list_any_there, each_same_is, each_same_self}
+use Rattle.wasm_tree_spec.specs.Prelude.{FuncType, Module, same_type}
 use Rattle.wasm_meaning.specs.Prelude.{same_func_type, Part, module_at, first_place}
 use Rattle.merge_spec.specs.Prelude.{with_type, with_types}
 use Rattle.merge_spec.specs.Merged.{merged_types, place_of_type, map_of}
-use Rattle.index_remap.proofs.SlotCalls.{func_type_is, func_type_self}
 
 type_kept : (ts : List FuncType) (t x : FuncType) → Has ts x → Has (with_type ts t) x
 type_kept ts t x h = by (list_any (same_func_type t) ts)
@@ -17,7 +16,7 @@ type_there : (ts : List FuncType) (t : FuncType) → Has (with_type ts t) t
 type_there ts t = by (list_any (same_func_type t) ts) refl
   where
     by : (b : Bool) → list_any (same_func_type t) ts ≡ b → Has (cond b ts (ts ++ t ∷ [])) t
-    by true e = let r = list_any_there (same_func_type t) ts e in subst (Has ts) (sym (func_type_is t r.0 r.2)) r.1
+    by true e = let r = list_any_there (same_func_type t) ts e in let same : same_func_type t r.0 ≡ true = r.2 in let is : t ≡ r.0 = grind (arith, each_same_is same_type (λ a b e. grind arith)) in subst (Has ts) (sym is) r.1
     by false e = has_right ts (t ∷ []) t (0, refl)
 
 types_kept : (ts us : List FuncType) (x : FuncType) → Has ts x → Has (with_types ts us) x
@@ -42,11 +41,12 @@ pub type_placed : (parts : List Part) (p : ℕ) (m : Module) (t : FuncType) → 
 unfolding place_of_type
 type_placed parts p m t e h =
     let r = merged_has parts p m t e h in
-    let f = first_at (same_func_type t) (merged_types parts) 0 r.0 t r.1 (func_type_self t) in
+    let f = first_at (same_func_type t) (merged_types parts) 0 r.0 t r.1 (simp (each_same_self same_type (λ a. grind arith))) in
     let from_0 : 0 + f.at ≡ f.at = omega arith in
-    let same : f.item ≡ t = sym (func_type_is t f.item f.yes) in
+    let yes : same_func_type t f.item ≡ true = f.yes in
+    let is : t ≡ f.item = grind (arith, each_same_is same_type (λ a b e. grind arith)) in
     let place : first_place (same_func_type t) (merged_types parts) 0 ≡ Some f.at = f.is ∙ ap Some from_0 in
-    ap (λ o. slice_get (merged_types parts) (unwrap_or o 0)) place ∙ f.got ∙ ap Some same
+    ap (λ o. slice_get (merged_types parts) (unwrap_or o 0)) place ∙ f.got ∙ ap Some (sym is)
 
 pub types_map : (parts : List Part) (p : ℕ) (m : Module) → (map_of parts p m).types ≡ map (place_of_type parts) m.types
 unfolding map_of

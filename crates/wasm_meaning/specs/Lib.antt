@@ -16,4 +16,5 @@ pub mod Sequential
 pub mod Loader
 pub mod StartFrames
 pub mod Laws
+pub mod Counted
 pub mod Prelude

@@ -7,6 +7,7 @@
 
 ghost use Rattle.wasm_meaning.specs.StartFrames.{StartDependsOnlyOnItsFrames};
 ghost use Rattle.wasm_meaning.specs.Touched.{StepsWriteWhatTheyTouch};
+ghost use Rattle.wasm_meaning.specs.Counted.{EachPartAddsItsDefinitions, FoundExportsAreThere, NoPartDefinesMoreThanAll, NothingIsDefinedBeforeTheFirst};
 ghost use Rattle.wasm_meaning.specs.Laws.{EndsArePaths, LoadedRunsAreDetermined, ReadsArePaths, RunsAreDetermined, SequentialRunsAreDetermined, ShorterLoadedRunsArePrefixes, ShorterRunsArePrefixes, ShorterSequentialRunsArePrefixes};
 
 /// States that a run is determined by its world, its environment, the embedder's moves and the
@@ -47,4 +48,21 @@ pub fn start_depends_only_on_its_frames()
 /// count) from what is on top of the stack before the step (WebAssembly Core 2.0, section 4.4).
 pub fn steps_write_only_touched_places()
     ensures writes { StepsWriteWhatTheyTouch }
+{}
+
+/// States how many entities of a kind parts define.
+///
+/// - `none`: the parts before the first one define nothing.
+/// - `next`: the parts before the next one define what those before this one do, and what this one
+///   does.
+/// - `all`: the parts up to one define no more than all parts do.
+pub fn definitions_are_counted_by_part()
+    ensures none { NothingIsDefinedBeforeTheFirst }
+    ensures next { EachPartAddsItsDefinitions }
+    ensures all { NoPartDefinesMoreThanAll }
+{}
+
+/// States that what is found under a name is what an export of the module has (`there`).
+pub fn found_exports_are_there()
+    ensures there { FoundExportsAreThere }
 {}

@@ -1,6 +1,10 @@
+use Rattle.base_lists.proofs.Related.{if_there_at}
+use Rattle.wasm_meaning.proofs.Outcomes.{all_at}
 use Rattle.index_remap.specs.Laws.{passed_with}
 use Rattle.index_remap.proofs.FramesBetween.{not_seen}
 use Rattle.index_remap.proofs.SlotCalls.{trampolines_enter, slot_calls_enter, trampoline_calls, calls_agree, direct_calls_agree}
+use Rattle.index_remap.proofs.ValueSteps.{pop_typed_all}
+use Rattle.index_remap.proofs.Received.{fits_received}
 use Rattle.index_remap.proofs.calls_through_slots_simulate_direct_calls.Goals as goal
 
 pub returns : goal.returns
@@ -11,4 +15,6 @@ returns c = record {
   through = λ of named l stands. trampoline_calls (passed_with of named l stands);
   replaced = λ of named l stands. calls_agree (passed_with of named l stands);
   direct = λ of named l stands. direct_calls_agree (passed_with of named l stands);
+  popped = λ ts vs taken left e. all_at (pop_typed_all ts vs) e;
+  passed = λ o ms ts xs vs e. if_there_at (fits_received o ms ts xs) e;
 }
