@@ -1,19 +1,18 @@
 -- An environment that links a module links what is left of it.
-use Rattle.base_lists.proofs.Common.{◌≡◌, ◌∙◌, ap, ap₂, sym, subst, refl, ℕ, zero, suc, ◌+◌, ◌<◌, ◌⊎◌, inl, inr, List, [], ◌∷◌, ◌++◌, map, length, Some, true, false, arith, option_and_then, slice_get, unwrap_or, length-append, length-map, slice_get_within, and_then_is, all_there_at, all_there_from, append_from, map_at, map_from, slice_get_there, list_all_each, all_rel, right_there, then_eq, then_rel}
+use Rattle.base_lists.proofs.Common.{◌≡◌, ◌∙◌, ap, ap₂, sym, subst, refl, ℕ, zero, suc, ◌+◌, ◌<◌, ◌⊎◌, inl, inr, List, [], ◌∷◌, ◌++◌, map, length, Some, true, false, arith, option_and_then, slice_get, unwrap_or, length-append, length-map, slice_get_within, and_then_is, is_some_there, all_there_at, all_there_from, all_there_length, length-numbers, append_from, map_at, map_from, slice_get_there, list_all_each, places_many, all_rel, right_there, then_eq, then_rel}
 use Rattle.wasm_tree_spec.specs.Prelude.{Functions, ConstExpr, ElemSeg, GlobalDef, Import, ImportDesc, Module, imported_funcs, funcs_of}
 use Rattle.wasm_tree.specs.declared.module.Func as tree
 use Rattle.wasm_tree.specs.declared.module.ImportDesc.TheVariants as im
-use Rattle.wasm_meaning.specs.Prelude.{Text, Inst, Func, Global, Elem, Store, RefVal, Environment, ExternalValue, all_of, sites, own_store, joined_stores, part_store, stores_from, insts_from, is_match, is_matched, all_there, seen_as, links, alone, Begun}
+use Rattle.wasm_meaning.specs.Prelude.{Text, Inst, Func, Global, Elem, Store, RefVal, Environment, ExternalValue, imported_external_value, imports_of, all_of, sites, own_store, joined_stores, part_store, stores_from, insts_from, is_match, is_matched, all_there, seen_as, links, alone, Begun}
 use Rattle.wasm_meaning.specs.Linking as linking
 use Rattle.wasm_meaning.specs.World as world
 use Rattle.index_remap.specs.declared.remap.Remap.{Remap}
 use Rattle.index_remap.specs.Prelude.{declared_refs, new_func, new_global, new_const, Pairing, StoreRel, OptRel, RefRel, RenumberedCodeIsRelated}
 use Rattle.index_remap_proof.specs.Indices.{TreeNamesOnly}
 use Rattle.world_simulation.specs.Prelude.{one, site, external_value_in, Instantiated, values_in, IsInstantiated}
-use Rattle.world_simulation.proofs.Alone.{thing_is, funcs_counted}
-use Rattle.world_simulation.proofs.Allocated.{Adds, adds, part_there}
+use Rattle.world_simulation.proofs.Allocated.{Adds}
 use Rattle.world_simulation.proofs.Declared.{last_segments, last_elems}
-use Rattle.world_simulation.proofs.Instancing.{IsInst, is_space}
+use Rattle.world_simulation.proofs.Instancing.{IsInst}
 use Rattle.world_simulation.proofs.Renamed.{funcs_correspond}
 use Rattle.world_simulation.proofs.Single.{thing_rel, match_same}
 use Rattle.world_simulation.proofs.Stored.{func_rel, global_rel, ref_rel, stores_rel}
@@ -55,7 +54,7 @@ module _ (k : Marks) (t : Module) (c : AreClosed k t) (env : Environment) (impor
 
   module _ (added : Store) (made : part_store env (one t) (i ∷ []) 0 t i ≡ Some added) where
     first : Adds env (one t) (i ∷ []) 0 t i added
-    first = adds env (one t) (i ∷ []) 0 t i added made
+    first = search (arith, made)
 
     func_there : (y : ℕ) (f : tree.Func) → slice_get u.funcs y ≡ Some f → (x : Func) × (world.new_func j f ≡ Some x)
     func_there y f h =
@@ -92,8 +91,8 @@ module _ (k : Marks) (t : Module) (c : AreClosed k t) (env : Environment) (impor
 
     func_space : length j.funcs ≡ length (funcs_of u)
     func_space =
-        let s = (is_space env (one u) Functions 0 u j.funcs b.funcs).size in
-        let e = funcs_counted u.imports 0 in
+        let s : length j.funcs ≡ length (imports_of Functions u) + length u.funcs = search (arith, b.funcs, length-append, length-numbers, all_there_length) in
+        let e : length (imports_of Functions u) ≡ length (imported_funcs u.imports) = places_many _ _ u.imports (grind arith) 0 in
         let f = length-append (imported_funcs u.imports) (map (λ f. f.ty) u.funcs) in
         let g = length-map u.funcs (λ f. f.ty) in
         omega (arith, s, e, f, g)
@@ -112,7 +111,7 @@ module _ (k : Marks) (t : Module) (c : AreClosed k t) (env : Environment) (impor
             (x.0, x.1)
 
     store_there : (z : Store) × (part_store env (one u) (j ∷ []) 0 u j ≡ Some z)
-    store_there = part_there env (one u) (j ∷ []) 0 u j func_there global_there elem_there
+    store_there = is_some_there (part_store env (one u) (j ∷ []) 0 u j) (rw ((all_there_from _ u.funcs func_there).are, (all_there_from _ u.globals global_there).are, (all_there_from _ u.elems elem_there).are))
 
   -- ---- its imports match ----
 
@@ -127,10 +126,12 @@ module _ (k : Marks) (t : Module) (c : AreClosed k t) (env : Environment) (impor
     one_matched n x h =
         let p = kept_from k.imports t.imports n x (subst (λ xs. slice_get xs n ≡ Some x) imports h) in
         let lt = slice_get_within t.imports p.place x p.is in
+        let denoted : imported_external_value env (one u) (site n) ≡ external_value_in env u.types (slice_get u.imports n) = grind arith in
+        let denoted_before : imported_external_value env (one t) (site p.place) ≡ external_value_in env t.types (slice_get t.imports p.place) = grind arith in
         let old = list_all_each (is_matched env (one t) s) (sites (one t)) matched p.place (site p.place) (sites_at (length t.imports) 0 p.place lt ∙ ap (λ m. Some (site m)) (let z : 0 + p.place ≡ p.place = omega arith in z)) in
-        ap (λ o. unwrap_or o false) (ap₂ (λ o y. option_and_then (λ i. option_and_then (is_match z u i.desc) y) o) h (thing_is env u n ∙ ap₂ (external_value_in env) (same k t c).types h)
+        ap (λ o. unwrap_or o false) (ap₂ (λ o y. option_and_then (λ i. option_and_then (is_match z u i.desc) y) o) h (denoted ∙ ap₂ (external_value_in env) (same k t c).types h)
         ∙ sym (then_eq (thing_rel Q env (own k t c env) t.types (Some x)) (λ _ y q. match_same Q env (own k t c env) s z like t t refl refl x.desc q ∙ types_only z x.desc y))
-        ∙ sym (ap₂ (λ o y. option_and_then (λ i. option_and_then (is_match s t i.desc) y) o) p.is (thing_is env t p.place ∙ ap (external_value_in env t.types) p.is)))
+        ∙ sym (ap₂ (λ o y. option_and_then (λ i. option_and_then (is_match s t i.desc) y) o) p.is (denoted_before ∙ ap (external_value_in env t.types) p.is)))
         ∙ old
       where
         sites_at : (count from n : ℕ) → n < count → slice_get (linking.sites_in 0 count from ++ []) n ≡ Some (site (from + n))

@@ -1,5 +1,6 @@
 -- What is kept names only indices that are kept and have an entry; and so the imports that are kept are those of the module.
-use Rattle.base_lists.proofs.Common.{◌≡◌, ◌∙◌, ap, ap₂, refl, ℕ, suc, List, [], ◌∷◌, map, length, Some, ◌&&◌, slice_get, and_from}
+use Rattle.base_lists.proofs.Common.{◌≡◌, ◌∙◌, ap, ap₂, refl, ℕ, suc, List, [], ◌∷◌, map, length, Some, ◌&&◌, slice_get, and_from, arith, ltb-true, length-numbers, numbers_index}
+use Rattle.base_lists.specs.Places.{numbers}
 use Rattle.wasm_tree_spec.specs.Prelude.{Instr, ConstExpr, DataMode, ElemMode, ExportDesc, Import, ImportDesc, Module, ListLayers, PassesLayerByLayer}
 use Rattle.wasm_tree.specs.declared.module.ConstExpr.TheVariants as const
 use Rattle.wasm_tree.specs.declared.module.DataMode.TheVariants as «data»
@@ -9,7 +10,6 @@ use Rattle.wasm_tree.specs.declared.module.ImportDesc.TheVariants as im
 use Rattle.wasm_tree.proofs.OperandLaws.{passes_both}
 use Rattle.index_remap.specs.Prelude.{new_import, new_import_desc}
 use Rattle.index_remap_proof.specs.Indices.{Indices, with_entry, LayerNamesOnly, ConstNamesOnly, ImportNamesOnly, ExportNamesOnly, ElemModeNamesOnly, DataModeNamesOnly, TreeNamesOnly}
-use Rattle.world_contents_proof.proofs.Grown.{stays_at}
 use Rattle.base_kept.specs.Kept.{kept}
 use Rattle.dce_sweep_spec.specs.Marks.{Marks, stays}
 use Rattle.dce_sweep_spec.specs.Closed.{AreClosed}
@@ -73,7 +73,7 @@ module _ (k : Marks) (t : Module) where
   tree_imports c named = (same k t c).imports ∙ all_stay (kept k.imports t.imports) named.imports
     where
       one_stays : (d : ImportDesc) → ImportNamesOnly (kept_indices k t) d → new_import_desc (sweep_map k t) d ≡ d
-      one_stays (im.Func ty) h = ap im.Func (stays_at (length t.types) ty h).0
+      one_stays (im.Func ty) h = ap im.Func (numbers_index (length t.types) ty (omega (arith, ltb-true ty (length (numbers 0 (length t.types))) h, length-numbers 0 (length t.types))))
       one_stays (im.Table l) h = refl
       one_stays (im.Memory l) h = refl
       one_stays (im.Global l) h = refl

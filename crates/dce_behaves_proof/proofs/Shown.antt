@@ -1,14 +1,13 @@
 -- What is left of a module by closed marks shows what the module shows.
-use Rattle.base_lists.proofs.Common.{◌≡◌, ◌∙◌, ap, sym, ℕ, List, [], ◌∷◌, Some, true, option_and_then, is_some_there}
+use Rattle.base_lists.proofs.Common.{◌≡◌, ◌∙◌, ap, sym, ℕ, List, [], ◌∷◌, Some, true, option_and_then, is_some_there, arith}
 use Rattle.wasm_tree_spec.specs.Prelude.{Functions, Tables, Memories, Globals, Module}
-use Rattle.wasm_meaning.specs.Prelude.{Inst, Environment, insts_from, starts_of, instantiate, links, alone, Move, events}
+use Rattle.wasm_meaning.specs.Prelude.{Inst, Environment, insts_from, inst_of, starts_of, instantiate, links, alone, Move, events}
 use Rattle.index_remap.specs.Prelude.{ListRel, RenumberedCodeIsRelated}
 use Rattle.index_remap_proof.specs.Indices.{TreeNamesOnly}
 use Rattle.world_simulation.specs.Prelude.{one, AreSimilar, StartsCorrespond, WorldsCorrespond}
-use Rattle.world_simulation.specs.Instances.{RelatedInstancesHaveEqualTraces}
-use Rattle.world_simulation.proofs.Instancing.{IsInst, inst_is, inst_there}
-use Rattle.world_simulation.proofs.Simulated.{what_is_made, instances_rel}
-use Rattle.world_simulation.proofs.Single.{one_inst}
+use Rattle.world_simulation.specs.Alone.{SpacesAreImportsAndOwn}
+use Rattle.world_simulation.specs.Simulation.{CorrespondingWorldsHaveEqualTraces, WhatIsInstantiated}
+use Rattle.world_simulation.proofs.Instancing.{IsInst}
 use Rattle.base_kept.specs.Kept.{kept}
 use Rattle.dce_sweep_spec.specs.Marks.{Marks}
 use Rattle.dce_sweep_spec.specs.Closed.{AreClosed}
@@ -17,6 +16,12 @@ use Rattle.dce_sweep_spec.specs.Unswept.{unswept}
 use Rattle.dce_behaves_proof.proofs.Swept.{kept_indices, R, of, one_to_one, space_there, worlds, starts}
 use Rattle.dce_behaves_proof.proofs.Linked.{linked_with}
 
+-- what the laws of world_simulation say
+pub record Laws : Type 0 where
+  pub spaces : SpacesAreImportsAndOwn
+  pub made : WhatIsInstantiated
+  pub equal_traces : CorrespondingWorldsHaveEqualTraces
+
 module _ (k : Marks) (t : Module) (c : AreClosed k t) (imports : (swept k t).imports ≡ kept k.imports t.imports) (named : TreeNamesOnly (kept_indices k t) (kept_tree k t)) (code : RenumberedCodeIsRelated) where
   abbrev u : Module
   u = swept k t
@@ -24,7 +29,10 @@ module _ (k : Marks) (t : Module) (c : AreClosed k t) (imports : (swept k t).imp
   module _ (env : Environment) where
     -- of the instances of both
     for_instances : (P : List Inst → List Inst → Type 0) → ((i j : Inst) → IsInst env (one t) 0 t i → IsInst env (one u) 0 u j → P (i ∷ []) (j ∷ [])) → (is js : List Inst) → insts_from env (one t) 0 (one t) ≡ Some is → insts_from env (one u) 0 (one u) ≡ Some js → P is js
-    for_instances P h is js f g = let i = one_inst env t is f in let j = one_inst env u js g in rw (i.1, j.1) (h i.0 j.0 i.2 j.2)
+    for_instances P h is js f g =
+        let i : (i : Inst) × (is ≡ i ∷ []) × IsInst env (one t) 0 t i = search (arith, f) in
+        let j : (i : Inst) × (js ≡ i ∷ []) × IsInst env (one u) 0 u i = search (arith, g) in
+        rw (i.1, j.1) (h i.0 j.0 i.2 j.2)
 
     similar : AreSimilar (R k t c env) env (unswept k t) (alone u)
     similar = for_instances (WorldsCorrespond (R k t c env) env (unswept k t) (alone u)) (λ i j a b. worlds k t c env imports i j a b named code)
@@ -32,20 +40,20 @@ module _ (k : Marks) (t : Module) (c : AreClosed k t) (imports : (swept k t).imp
     start_alike : StartsCorrespond (R k t c env) env (unswept k t) (alone u)
     start_alike = for_instances (λ is js. ListRel ((R k t c env).of Functions) (starts_of (one t) is) (starts_of (one u) js)) (λ i j a b. starts k t c env imports i j a b named)
 
-    linked : links env (unswept k t) ≡ true → links env (alone u) ≡ true
-    linked h =
+    linked : Laws → links env (unswept k t) ≡ true → links env (alone u) ≡ true
+    linked laws h =
         let o = is_some_there (instantiate env (unswept k t)) h in
-        let x = what_is_made env (unswept k t) o.0 o.1 in
-        let i = one_inst env t x.insts x.are_insts in
+        let x = laws.made env (unswept k t) o.0 o.1 in
+        let i : (i : Inst) × (x.insts ≡ i ∷ []) × IsInst env (one t) 0 t i = search (arith, x.are_insts) in
         let a = i.2 in
-        let f = space_there k t c env imports Functions i.0.funcs a.funcs in
-        let ts = space_there k t c env imports Tables i.0.tables a.tables in
-        let ms = space_there k t c env imports Memories i.0.mems a.mems in
-        let gs = space_there k t c env imports Globals i.0.globals a.globals in
-        let j = inst_there env (one u) 0 u f.0 ts.0 ms.0 gs.0 f.1 ts.1 ms.1 gs.1 in
-        let b = inst_is env (one u) 0 u j.0 j.1 in
+        let f = space_there k t c env imports laws.spaces Functions i.0.funcs a.funcs in
+        let ts = space_there k t c env imports laws.spaces Tables i.0.tables a.tables in
+        let ms = space_there k t c env imports laws.spaces Memories i.0.mems a.mems in
+        let gs = space_there k t c env imports laws.spaces Globals i.0.globals a.globals in
+        let j = is_some_there (inst_of env (one u) 0 u) (rw (f.1, ts.1, ms.1, gs.1)) in
+        let made : (v : Module) (j : Inst) → inst_of env (one v) 0 v ≡ Some j → IsInst env (one v) 0 v j = λ v j e. search arith in
+        let b = made u j.0 j.1 in
         linked_with k t c env imports i.0 j.0 a b named code o.0 x i.1 (ap (option_and_then (λ i. option_and_then (λ is. Some (i ∷ is)) (Some []))) j.1)
 
-    pub shows_the_same : RelatedInstancesHaveEqualTraces → links env (unswept k t) ≡ true → (moves : List Move) (n : ℕ) → events (unswept k t) env moves n ≡ events (alone u) env moves n
-    shows_the_same law h moves n =
-        law (of k t c env) (one_to_one k t c env) (unswept k t) (alone u) env (instances_rel (R k t c env) (one_to_one k t c env) env (unswept k t) (alone u) similar start_alike (h ∙ sym (linked h))) moves n
+    pub shows_the_same : Laws → links env (unswept k t) ≡ true → (moves : List Move) (n : ℕ) → events (unswept k t) env moves n ≡ events (alone u) env moves n
+    shows_the_same laws h = laws.equal_traces (of k t c env) (one_to_one k t c env) env (unswept k t) (alone u) (h ∙ sym (linked laws h)) similar start_alike

@@ -1,5 +1,5 @@
 -- A module and what is left of it by closed marks: its records of the law for two worlds.
-use Rattle.base_lists.proofs.Common.{◌≡◌, ◌∙◌, ap, ap₂, sym, subst, refl, ℕ, suc, ◌+◌, ◌<◌, ◌≤◌, ◌&&◌, List, [], ◌∷◌, ◌++◌, map, length, drop, replicate, Option, Some, None, Bool, true, arith, option_and_then, append-nil, slice_get, slice_index, IsTrue, ltb-true, length-append, length-map, length-replicate, length-drop, map-id, slice_get_within, same_Some, left_true, right_true, length-numbers, numbers_at, append_at_left, map_at, map_twice, slice_get_there, append_rel, get_rel, opt_at, then_rel}
+use Rattle.base_lists.proofs.Common.{◌≡◌, ◌∙◌, ap, ap₂, sym, subst, refl, ℕ, suc, ◌+◌, ◌<◌, ◌≤◌, ◌&&◌, List, [], ◌∷◌, ◌++◌, map, length, drop, replicate, Option, Some, None, Bool, true, arith, option_and_then, append-nil, slice_get, slice_index, IsTrue, ltb-true, length-append, length-map, length-replicate, length-drop, map-id, slice_get_within, same_Some, left_true, right_true, length-numbers, numbers_at, numbers_index, places_many, append_at_left, map_at, map_twice, slice_get_there, append_rel, get_rel, opt_at, then_rel}
 use Rattle.base_lists.specs.Places.{numbers}
 use Rattle.wasm_tree_spec.specs.Prelude.{Space, Types, Functions, Tables, Memories, Globals, ElementSegments, DataSegments, ConstExpr, ElemMode, ElemSeg, Export, GlobalDef, Module, imported_funcs, imported_tables, imported_memories, imported_globals}
 use Rattle.wasm_tree.specs.declared.module.ConstExpr.TheVariants as const
@@ -8,13 +8,13 @@ use Rattle.wasm_tree.specs.declared.module.Func as tree
 use Rattle.wasm_meaning.specs.Prelude.{Inst, Text, Val, Environment, own_globals, Entity, imports_of, own_count, defined_count, starts_of, seen_as, alone}
 use Rattle.wasm_meaning.specs.World as world
 use Rattle.index_remap.specs.declared.remap.Remap.{Remap}
-use Rattle.index_remap.specs.Prelude.{declared_refs, entries, has, new_func, new_elem, new_elem_mode, new_data, new_global, new_const, new_export, Pairing, OneToOne, OptRel, none, some, ListRel, cons, nil, ValRel, number, reference, func, KeyRel, passed, RenumberedCodeIsRelated}
+use Rattle.index_remap.specs.Prelude.{declared_refs, with_declared, entries, has, new_func, new_elem, new_elem_mode, new_data, new_global, new_const, new_export, Pairing, OneToOne, OptRel, none, some, ListRel, cons, nil, ValRel, number, reference, func, KeyRel, passed, RenumberedCodeIsRelated}
 use Rattle.index_remap_proof.specs.Indices.{Indices, with_entry, ConstNamesOnly, ExportNamesOnly, FuncNamesOnly, TreeNamesOnly}
 use Rattle.world_simulation.specs.Prelude.{one, addresses, FuncsAt, GlobalsCorrespond, ElemsCorrespond, Partners, DefinitionsCorrespond, Instantiated, values_in, is_declarative, EntriesName, SharesOwn, ElemsInOrder, DatasInOrder, WorldsCorrespond}
 use Rattle.world_simulation.specs.Definitions as partners
-use Rattle.world_simulation.proofs.Alone.{space_is, funcs_counted, tables_counted, memories_counted, globals_counted}
-use Rattle.world_simulation.proofs.Declared.{IsWithDeclared, is_with_declared, last_segments}
-use Rattle.world_contents_proof.proofs.Grown.{stays_at, no_more, declared_alone, all_in_step}
+use Rattle.world_simulation.specs.Alone.{SpacesAreImportsAndOwn}
+use Rattle.world_simulation.proofs.Declared.{IsWithDeclared, last_segments}
+use Rattle.world_contents_proof.proofs.Grown.{no_more, declared_alone, all_in_step}
 use Rattle.world_simulation.proofs.Instancing.{IsInst}
 use Rattle.world_contents_proof.proofs.OwnValues.{const_same}
 use Rattle.world_simulation.proofs.Owned.{null_rel, own_globals_rel}
@@ -53,7 +53,7 @@ module _ (k : Marks) (t : Module) (c : AreClosed k t) where
       let a = c.funcs_many in
       let b = length-append (imported_funcs t.imports) (map (λ f. f.ty) t.funcs) in
       let d = length-map t.funcs (λ f. f.ty) in
-      let e = funcs_counted t.imports 0 in
+      let e : length (imports_of Functions t) ≡ length (imported_funcs t.imports) = places_many _ _ t.imports (grind arith) 0 in
       omega (arith, a, b, d, e)
 
   globals_many : length k.globals ≡ length (imports_of Globals t) + length t.globals
@@ -61,7 +61,7 @@ module _ (k : Marks) (t : Module) (c : AreClosed k t) where
       let a = c.globals_many in
       let b = length-append (imported_globals t.imports) (map (λ g. g.ty) t.globals) in
       let d = length-map t.globals (λ g. g.ty) in
-      let e = globals_counted t.imports 0 in
+      let e : length (imports_of Globals t) ≡ length (imported_globals t.imports) = places_many _ _ t.imports (grind arith) 0 in
       omega (arith, a, b, d, e)
 
   pub marks_many : (space : Space) → length (all_marks k t space) ≡ length (imports_of space t) + defined_count space t
@@ -102,7 +102,10 @@ module _ (k : Marks) (t : Module) (c : AreClosed k t) where
 
   all_entries : (space : Space) (size x : ℕ) → size ≤ length (imports_of space t) + defined_count space t → has (numbers 0 size) x ≡ true →
       (x < length (imports_of space t) + defined_count space t) × (slice_index (numbers 0 size) x ≡ kept_before (replicate (length (imports_of space t) + defined_count space t) true) x)
-  all_entries space size x e h = let s = stays_at size x h in (let l = s.1 in omega (arith, l, e), s.0 ∙ sym (all_before _ x (let l = s.1 in omega (arith, l, e))))
+  all_entries space size x e h =
+      let l = ltb-true x (length (numbers 0 size)) h in
+      let many = length-numbers 0 size in
+      (omega (arith, l, many, e), numbers_index size x (omega (arith, l, many)) ∙ sym (all_before _ x (omega (arith, l, many, e))))
 
   new_entries : (bs : List Bool) (size x : ℕ) → length bs ≡ size → has (new_places bs) x ≡ true → (x < size) × (slice_index (new_places bs) x ≡ kept_before bs x)
   new_entries bs size x e h =
@@ -115,8 +118,8 @@ module _ (k : Marks) (t : Module) (c : AreClosed k t) where
   entry_of Functions x h = new_entries k.funcs _ x funcs_many h
   entry_of Globals x h = new_entries k.globals _ x globals_many h
   entry_of Types x h = all_entries Types _ x (omega arith) h
-  entry_of Tables x h = all_entries Tables _ x (let a = length-append (imported_tables t.imports) t.tables in let b = tables_counted t.imports 0 in omega (arith, a, b)) h
-  entry_of Memories x h = all_entries Memories _ x (let a = length-append (imported_memories t.imports) t.mems in let b = memories_counted t.imports 0 in omega (arith, a, b)) h
+  entry_of Tables x h = all_entries Tables _ x (let a = length-append (imported_tables t.imports) t.tables in let b : length (imports_of Tables t) ≡ length (imported_tables t.imports) = places_many _ _ t.imports (grind arith) 0 in omega (arith, a, b)) h
+  entry_of Memories x h = all_entries Memories _ x (let a = length-append (imported_memories t.imports) t.mems in let b : length (imports_of Memories t) ≡ length (imported_memories t.imports) = places_many _ _ t.imports (grind arith) 0 in omega (arith, a, b)) h
   entry_of ElementSegments x h = all_entries ElementSegments _ x (omega arith) h
   entry_of DataSegments x h = all_entries DataSegments _ x (omega arith) h
 
@@ -133,17 +136,21 @@ module _ (k : Marks) (t : Module) (c : AreClosed k t) where
 
   pub same : IsWithDeclared plain u fs
   unfolding swept
-  same = is_with_declared plain fs
+  same = by fs
+    where
+      by : (fs : List ℕ) → IsWithDeclared plain (with_declared plain fs) fs
+      by [] = assumption (sym (append-nil plain.elems))
+      by (f ∷ fs) = assumption
 
   -- all of a list is kept where all is marked
   pub whole : {A : Type 0} (n d : ℕ) (xs : List A) → length xs ≡ d → kept (drop n (replicate (n + d) true)) xs ≡ xs
   whole n d xs e = ap (λ bs. kept bs xs) (drop_all n d) ∙ kept_all d xs (omega (arith, e))
 
   own_funcs_marks : defined_funcs k t ≡ own_marks k t Functions
-  own_funcs_marks = ap (λ n. drop n k.funcs) (sym (funcs_counted t.imports 0))
+  own_funcs_marks = let e : length (imports_of Functions t) ≡ length (imported_funcs t.imports) = places_many _ _ t.imports (grind arith) 0 in ap (λ n. drop n k.funcs) (sym e)
 
   own_globals_marks : defined_globals k t ≡ own_marks k t Globals
-  own_globals_marks = ap (λ n. drop n k.globals) (sym (globals_counted t.imports 0))
+  own_globals_marks = let e : length (imports_of Globals t) ≡ length (imported_globals t.imports) = places_many _ _ t.imports (grind arith) 0 in ap (λ n. drop n k.globals) (sym e)
 
   pub funcs_are : u.funcs ≡ map (new_func r) (kept (own_marks k t Functions) t.funcs) ++ []
   funcs_are = same.funcs ∙ ap (λ bs. map (new_func r) (kept bs t.funcs)) own_funcs_marks ∙ sym (append-nil _)
@@ -221,10 +228,10 @@ module _ (k : Marks) (t : Module) (c : AreClosed k t) where
         ∙ kept_addresses env t.types space k.imports (all_marks k t space) t.imports all h c.imports_many (omega (arith, many)) (alike space)
 
     module _ (imports : u.imports ≡ kept k.imports t.imports) where
-      pub space_there : (space : Space) (xs : List ℕ) → world.space env (one t) space 0 t ≡ Some xs → (ys : List ℕ) × (world.space env (one u) space 0 u ≡ Some ys)
-      space_there space xs h =
+      pub space_there : SpacesAreImportsAndOwn → (space : Space) (xs : List ℕ) → world.space env (one t) space 0 t ≡ Some xs → (ys : List ℕ) × (world.space env (one u) space 0 u ≡ Some ys)
+      space_there spaces space xs h =
           let sx = space_at R env own t space xs h in
-          (_, space_is env u space ∙ ap (λ o. option_and_then (λ l. Some (l ++ world.numbers (own_count space env) (defined_count space u))) o) (addresses_kept space sx.imported imports sx.are))
+          (_, spaces env u space ∙ ap (λ o. option_and_then (λ l. Some (l ++ world.numbers (own_count space env) (defined_count space u))) o) (addresses_kept space sx.imported imports sx.are))
 
       module _ (i j : Inst) (a : IsInst env (one t) 0 t i) (b : IsInst env (one u) 0 u j) where
         -- an index that is kept names what its entry names
@@ -253,13 +260,14 @@ module _ (k : Marks) (t : Module) (c : AreClosed k t) where
         segments_rel : (space : Space) (xs ys : List ℕ) (count more : ℕ) → own_count space env ≡ 0 → count ≤ more → xs ≡ numbers 0 count → ys ≡ numbers 0 more → own_marks k t space ≡ replicate count true →
             (x : ℕ) → has (numbers 0 count) x ≡ true → OptRel (R.of space) (slice_get xs x) (slice_get ys (slice_index (numbers 0 count) x))
         segments_rel space xs ys count more zeroed few hx hy marks x h =
-            let s = stays_at count x h in
-            let l = s.1 in
-            opt_at (ap (λ l. slice_get l x) hx ∙ numbers_at 0 count x l) (ap₂ (λ l y. slice_get l y) hy s.0 ∙ numbers_at 0 more x (omega (arith, l, few)))
+            let below = ltb-true x (length (numbers 0 count)) h in
+            let many = length-numbers 0 count in
+            let l : x < count = omega (arith, below, many) in
+            opt_at (ap (λ l. slice_get l x) hx ∙ numbers_at 0 count x l) (ap₂ (λ l y. slice_get l y) hy (numbers_index count x l) ∙ numbers_at 0 more x (omega (arith, l, few)))
             (some (subst (λ y. R.of space y y) (let z : x ≡ 0 + x = omega arith in z) (segment_stays space count x zeroed marks l)))
 
         pub names : EntriesName R r (kept_indices k t) i j
-        names Types x h = ap (λ ts. slice_get ts x) (a.types ∙ sym same.types ∙ sym b.types) ∙ ap (slice_get j.types) (sym (stays_at (length t.types) x (right_true true _ h)).0)
+        names Types x h = ap (λ ts. slice_get ts x) (a.types ∙ sym same.types ∙ sym b.types) ∙ ap (slice_get j.types) (sym (numbers_index (length t.types) x (omega (arith, ltb-true x (length (numbers 0 (length t.types))) (right_true true _ h), length-numbers 0 (length t.types)))))
         names Functions x h = space_rel Functions i.funcs j.funcs a.funcs b.funcs x h
         names Tables x h = space_rel Tables i.tables j.tables a.tables b.tables x h
         names Memories x h = space_rel Memories i.mems j.mems a.mems b.mems x h

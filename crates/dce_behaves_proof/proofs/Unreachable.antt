@@ -1,10 +1,9 @@
 -- A module without one function that nothing else names: the marks that keep everything else are closed, and all exports stay in view.
-use Rattle.base_lists.proofs.Common.{◌≡◌, ◌∙◌, ap, sym, refl, ℕ, suc, ◌-◌, ◌<◌, ◌∷◌, map, length, replicate, Some, true, false, arith, slice_get, length-append, length-map, slice_get_within}
+use Rattle.base_lists.proofs.Common.{◌≡◌, ◌∙◌, ap, sym, refl, ℕ, suc, ◌-◌, ◌<◌, ◌∷◌, map, length, replicate, Some, true, false, arith, slice_get, length-append, length-map, slice_get_within, places_many}
 use Rattle.base_lists.proofs.Filtered.{place_back}
 use Rattle.std.proofs.lemmas.List.{length-replicate, get_or_append_left}
 use Rattle.wasm_tree_spec.specs.Prelude.{Space, Types, Functions, Tables, Memories, Globals, ElementSegments, DataSegments, Module, imported_funcs, imported_globals, funcs_of, globals_of}
 use Rattle.wasm_meaning.specs.Prelude.{imports_of, has_kind, alone, Text, Entity}
-use Rattle.world_simulation.proofs.Alone.{funcs_counted, globals_counted}
 use Rattle.base_kept.specs.Kept.{is_marked}
 use Rattle.base_kept.proofs.Laws.{kept_all}
 use Rattle.dce_sweep_spec.specs.Marks.{Marks, stays}
@@ -20,11 +19,11 @@ module _ (t : Module) (n : ℕ) where
   -- an entry of an index space that is an import is kept
   stays_there : (space : Space) (i : ℕ) → i < length (imports_of space t) → stays k space i ≡ true
   stays_there Functions i l =
-      let counted = funcs_counted t.imports 0 in
+      let counted : length (imports_of Functions t) ≡ length (imported_funcs t.imports) = places_many _ _ t.imports (grind arith) 0 in
       let many = length-replicate (function_index n t) true in
       get_or_append_left (replicate (function_index n t) true) _ false i (omega (arith, l, counted, many)) ∙ all_marked (function_index n t) i (omega (arith, l, counted))
   stays_there Globals i l =
-      let counted = globals_counted t.imports 0 in
+      let counted : length (imports_of Globals t) ≡ length (imported_globals t.imports) = places_many _ _ t.imports (grind arith) 0 in
       let many = length-append (imported_globals t.imports) (map (λ g. g.ty) t.globals) in
       all_marked (length (globals_of t)) i (omega (arith, l, counted, many))
   stays_there Types i l = refl

@@ -11,7 +11,7 @@ use index_remap::steps_agree;
 use index_remap_proof::renumbering_keeps_typing;
 use wasm_tree::operands_pass_layer_by_layer;
 use world_simulation::{
-    corresponding_worlds_have_equal_traces, related_instances_have_equal_traces,
+    corresponding_worlds_have_equal_traces, imports_of_one_module_denote_the_environment,
 };
 
 /// What closed marks leave of a valid module is observationally equivalent, step by step, to the
@@ -24,7 +24,7 @@ pub fn swept_module_equivalent()
     renumbering_keeps_typing();
     operands_pass_layer_by_layer();
     steps_agree();
-    related_instances_have_equal_traces();
+    imports_of_one_module_denote_the_environment();
     corresponding_worlds_have_equal_traces();
 }
 
@@ -37,5 +37,6 @@ pub fn unreachable_function_removal_equivalent()
 {
     operands_pass_layer_by_layer();
     steps_agree();
-    related_instances_have_equal_traces();
+    imports_of_one_module_denote_the_environment();
+    corresponding_worlds_have_equal_traces();
 }

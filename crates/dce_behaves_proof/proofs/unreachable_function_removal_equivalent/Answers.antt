@@ -14,6 +14,6 @@ returns c = record {
       let named = named_both k t c.operands_pass_layer_by_layer.ensures.layers unreachable.not_named unreachable.all_exist in
       subst (λ w. Same (λ env. IsTrue (links env w)) (events w) (events (alone (removed n t))) (λ n. n) (λ n. n)) (all_in_view t n)
       (λ env offers linked moves m.
-      let e = shows_the_same k t marks (tree_imports k t marks named) named c.steps_agree.ensures.code env c.related_instances_have_equal_traces.ensures.equal_traces linked moves m in
+      let e = shows_the_same k t marks (tree_imports k t marks named) named c.steps_agree.ensures.code env (record { spaces = c.imports_of_one_module_denote_the_environment.ensures.spaces; made = c.corresponding_worlds_have_equal_traces.ensures.made; equal_traces = c.corresponding_worlds_have_equal_traces.ensures.equal_traces }) linked moves m in
       (([], append-nil _ ∙ e), ([], append-nil _ ∙ sym e)));
 }
