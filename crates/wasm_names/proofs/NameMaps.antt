@@ -7,8 +7,8 @@ use Rattle.wasm_read_spec.specs.declared.fault.Fault.{Fault}
 use Rattle.wasm_read_spec.specs.declared.fault.Fault.TheVariants.{Malformed}
 use Rattle.wasm_read_spec.specs.Prelude.{Any, u32_at, name_at, sized_at}
 use Rattle.wasm_read_spec.specs.Reading.{whole_at}
-use Rattle.wasm_read_spec.specs.Exact.{Exact}
-use Rattle.wasm_read_spec.proofs.Exact.{took_then, split, Along, each_sound, each_complete}
+use Rattle.wasm_read_spec.specs.Exact.{Exact, Along}
+use Rattle.wasm_read_spec.proofs.Exact.{took_then, split, each_sound, each_complete}
 use Rattle.wasm_names.specs.declared.func_name.FuncName.{FuncName}
 use Rattle.wasm_names.specs.NameList.{SpellsFuncName, SpellsNameMap, indices}
 use Rattle.wasm_names.specs.Reading.{func_name_at, func_names_at, least_after}

@@ -1,8 +1,7 @@
 -- What is known of a token that was told, and which code names data segments.
 use Rattle.base_lists.proofs.Common.{◌≡◌, ℕ, Bool, ◌||◌, List, [], ◌++◌, Option, Some, None, Result, Ok, Err, sym, ap, ◌∙◌, or-false, or_assoc, list_any-append}
-use Rattle.wasm_tree_spec.specs.Prelude.{BlockType, Instr, out-Instr, Block, Loop, If, outs-Block, outs-Loop, outs-If, names_data, uses_data_in, uses_data, operands, operands_of, block_operands, held}
+use Rattle.wasm_tree_spec.specs.Prelude.{BlockType, Instr, out-Instr, Block, Loop, If, outs-Block, outs-Loop, outs-If, names_data, uses_data_in, uses_data, operands, operands_of, block_operands, held, AnyInside}
 use Rattle.wasm_tree.specs.declared.types.BlockType.TheVariants as block
-use Rattle.wasm_tree.proofs.OperandLaws.{any_inside}
 use Rattle.wasm_read_spec.specs.declared.fault.Fault.{Fault}
 use Rattle.wasm_read_spec.specs.declared.token.Opener.{Opener}
 use Rattle.wasm_read_spec.specs.declared.token.Token.{Token}
@@ -43,21 +42,21 @@ told_open_fails k e bs r h bad = rw h (fails_through e (block_type_at bs) _ bad)
 -- ---- whether one names a data segment, of those before and of these
 
 -- an instruction with the operands of a block's type names one where what it holds does
-enclosing : (ty : BlockType) (i : Instr) (is : List Instr) → operands_of i ≡ block_operands ty → held (out-Instr i) ≡ is → uses_data_in i ≡ uses_data is
-enclosing block.Empty i is own inner = any_inside names_data i ∙ rw (own, inner)
-enclosing (block.Value t) i is own inner = any_inside names_data i ∙ rw (own, inner)
-enclosing (block.Index ty) i is own inner = any_inside names_data i ∙ rw (own, inner)
+enclosing : AnyInside → (ty : BlockType) (i : Instr) (is : List Instr) → operands_of i ≡ block_operands ty → held (out-Instr i) ≡ is → uses_data_in i ≡ uses_data is
+enclosing any block.Empty i is own inner = any names_data i ∙ rw (own, inner)
+enclosing any (block.Value t) i is own inner = any names_data i ∙ rw (own, inner)
+enclosing any (block.Index ty) i is own inner = any names_data i ∙ rw (own, inner)
 
-module _ (before after : Bool) (ty : BlockType) (body : List Instr) (h : after ≡ (before || uses_data body)) where
+module _ (any : AnyInside) (before after : Bool) (ty : BlockType) (body : List Instr) (h : after ≡ (before || uses_data body)) where
   pub uses_in_block : after ≡ (before || uses_data_in (Block ty body))
-  uses_in_block = h ∙ ap (λ b. before || b) (sym (enclosing ty (Block ty body) body (ap operands (outs-Block ty body)) (ap held (outs-Block ty body))))
+  uses_in_block = h ∙ ap (λ b. before || b) (sym (enclosing any ty (Block ty body) body (ap operands (outs-Block ty body)) (ap held (outs-Block ty body))))
 
   pub uses_in_loop : after ≡ (before || uses_data_in (Loop ty body))
-  uses_in_loop = h ∙ ap (λ b. before || b) (sym (enclosing ty (Loop ty body) body (ap operands (outs-Loop ty body)) (ap held (outs-Loop ty body))))
+  uses_in_loop = h ∙ ap (λ b. before || b) (sym (enclosing any ty (Loop ty body) body (ap operands (outs-Loop ty body)) (ap held (outs-Loop ty body))))
 
   pub uses_in_if : (last : Bool) (other : List Instr) → last ≡ (after || uses_data other) → last ≡ (before || uses_data_in (If ty body other))
   uses_in_if last other g =
-      let inner : uses_data_in (If ty body other) ≡ uses_data (body ++ other) = enclosing ty (If ty body other) (body ++ other) (ap operands (outs-If ty body other)) (ap held (outs-If ty body other)) in
+      let inner : uses_data_in (If ty body other) ≡ uses_data (body ++ other) = enclosing any ty (If ty body other) (body ++ other) (ap operands (outs-If ty body other)) (ap held (outs-If ty body other)) in
       g ∙ ap (λ b. b || uses_data other) h ∙ or_assoc before (uses_data body) (uses_data other) ∙ ap (λ b. before || b) (sym (inner ∙ list_any-append uses_data_in body other))
 
   pub uses_in_if_alone : after ≡ (before || uses_data_in (If ty body []))

@@ -8,8 +8,8 @@ use crate::tokens::read_token;
 use crate::types::read_block_type;
 use std::alloc::Global;
 use wasm_bytes::{Cursor, Items};
-use wasm_read_spec::{Fault, Opener, Sequence};
-use wasm_tree::{BlockType, Instr, MOST_NESTING, Which};
+use wasm_read_spec::{Fault, Opener, Sequence, sequences_are_read_token_by_token};
+use wasm_tree::{BlockType, Instr, MOST_NESTING, Which, operands_pass_layer_by_layer};
 
 /// Reads a sequence up to the `end` or `else` that ends it; at most `deeper` blocks can be open at
 /// once in it. Its instructions are on the pile until it ends.
@@ -26,6 +26,7 @@ fn read_sequence(
     ensures pile { OnOk result (pile.new.instrs ≡ pile.old.instrs) }
     ensures uses { IfOk result (λ s. pile.new.uses_data ≡ (pile.old.uses_data || uses_data s.items)) }
 {
+    sequences_are_read_token_by_token();
     let start = pile.instrs.len();
     'tokens: loop {
         match read_token(alloc, cursor, many, pile)? {
@@ -73,6 +74,7 @@ fn read_block(
         });
     }
     let first = read_sequence(alloc, cursor, many, deeper - 1, pile)?;
+    operands_pass_layer_by_layer();
     match opener {
         Opener::If => {
             if first.by_else {

@@ -5,7 +5,13 @@ use Rattle.wasm_read_spec.specs.declared.token.Opener.{Opener}
 use Rattle.wasm_read_spec.specs.declared.token.Token.TheVariants.{Open, Else, End, Plain}
 use Rattle.wasm_read_spec.specs.declared.token.Sequence.{Sequence}
 use Rattle.wasm_read_spec.specs.Prelude.{ReadResult, behind}
-use Rattle.wasm_read_spec.specs.BodyReading.{block_at, token_at, sequence_at}
+use Rattle.wasm_read_spec.specs.BodyReading.{block_at, token_at, sequence_at, TokenByToken}
+
+pub token_by_token : TokenByToken
+unfolding sequence_at token_at
+token_by_token many zero deeper [] enough = (zero, omega arith, refl)
+token_by_token many zero deeper (b ∷ bs) enough = absurd (omega arith)
+token_by_token many (suc fuel) deeper bytes enough = (fuel, omega arith, refl)
 
 pub behind_none : (r : ReadResult Sequence) → behind [] r ≡ r
 behind_none (Ok r) = refl

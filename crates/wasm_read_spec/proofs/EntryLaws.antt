@@ -12,8 +12,8 @@ use Rattle.wasm_read_spec.specs.Prelude.{Any, Few, Code, SpellsGroup, SpellsCode
 use Rattle.wasm_read_spec.specs.BodyReading.{code_at}
 use Rattle.wasm_read_spec.specs.Contents.{entry_at, codes_at}
 use Rattle.wasm_read_spec.specs.Unambiguous.{IsPrefixFree}
-use Rattle.wasm_read_spec.specs.Exact.{Exact}
-use Rattle.wasm_read_spec.proofs.Exact.{took_then, split, u32_exact, sized_exact, both_exact, mapped_exact, one_value, Along, each_sound, each_complete}
+use Rattle.wasm_read_spec.specs.Exact.{Exact, Along}
+use Rattle.wasm_read_spec.proofs.Exact.{took_then, split, u32_exact, sized_exact, both_exact, mapped_exact, one_value, each_sound, each_complete}
 use Rattle.wasm_read_spec.proofs.ItemLaws.{val_exact, locals_exact}
 use Rattle.wasm_read_spec.proofs.NestLaws.{body_found, body_read, body_prefix_free}
 

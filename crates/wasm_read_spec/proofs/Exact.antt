@@ -13,7 +13,7 @@ use Rattle.wasm_read_spec.specs.declared.fault.Fault.{Fault}
 use Rattle.wasm_read_spec.specs.declared.fault.Fault.TheVariants.{Malformed, Limit}
 use Rattle.base_lists.specs.Every.{Every}
 use Rattle.wasm_read_spec.specs.Prelude.{Byte, Never, Both, Made, When, After, Any, Few, Reader, or_malformed, byte_at, u32_at, name_at, sized_at, fault_at, pair_at, mapped_at, chosen_at, when_at, tagged_at, each_at}
-use Rattle.wasm_read_spec.specs.Exact.{Exact}
+use Rattle.wasm_read_spec.specs.Exact.{Exact, Along}
 use Rattle.wasm_read_spec.specs.SpellingForms.{S32, S64, Coded, Just, Chosen, Closed}
 use Rattle.wasm_read_spec.specs.Reading.{s32_at, s64_at, just_at, coded_at, tag_at, closed_at, each_from, list_at, vector_at}
 
@@ -226,11 +226,6 @@ closed_exact {A} {P} {r} tag exact = record {
 }
 
 -- ---- so many items
-
--- each item is small in the state that those before it lead to
-abbrev pub Along : {A : Type 0} → (ℕ → A → Type 0) → (ℕ → A → ℕ) → ℕ → List A → Type 0
-Along S next state [] = Unit {0}
-Along S next state (x ∷ xs) = S state x × Along S next (next state x) xs
 
 module _ {A E : Type 0} (P : List ℕ → A → Type 0) (S : ℕ → A → Type 0) (item : ℕ → List ℕ → Result (A × List ℕ) E) (next : ℕ → A → ℕ) (exact : (state : ℕ) → Exact P (S state) (item state)) where
   pub each_sound : (n state : ℕ) (bytes : List ℕ) (xs : List A) (rest : List ℕ) → IsBytes bytes → each_from item next n state bytes ≡ Ok (xs, rest) → Took (λ b. Each P b xs) bytes rest × (n ≡ length xs) × Along S next state xs

@@ -9,8 +9,8 @@ use Rattle.wasm_read_spec.specs.declared.fault.Fault.TheVariants.{Malformed, Uns
 use Rattle.wasm_read_spec.specs.Prelude.{Any, Stop, NotSupported, Over, NoStop, Reader, or_malformed, u32_at, fault_at, pair_at, mapped_at, chosen_at, when_at, tagged_at, each_at}
 use Rattle.wasm_read_spec.specs.Stops.{AfterStops, ChosenStops, BothStops, WhenStops, EachStops, ListStops, CountedStops, VectorStops}
 use Rattle.wasm_read_spec.specs.Reading.{just_at, tag_at, closed_at, each_from, list_at, vector_at}
-use Rattle.wasm_read_spec.specs.Exact.{Exact}
-use Rattle.wasm_read_spec.proofs.Exact.{u32_exact, took_then, split, Along, along_every, every_along}
+use Rattle.wasm_read_spec.specs.Exact.{Exact, Along}
+use Rattle.wasm_read_spec.proofs.Exact.{u32_exact, took_then, split, along_every, every_along}
 
 pub bind_err : {A B E : Type 0} (r : Result A E) (f : A → Result B E) (e : E) → (r >>= f) ≡ Err e → (r ≡ Err e) ⊎ ((x : A) × (r ≡ Ok x) × (f x ≡ Err e))
 bind_err (Ok x) f e h = inr (x, refl, h)

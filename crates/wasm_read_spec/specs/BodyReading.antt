@@ -1,5 +1,5 @@
 -- Reading functions for tokens and their nesting, in the order of the bytes.
-use Rattle.std.specs.Prelude.{ℕ, zero, suc, length, List, [], ◌∷◌, ◌++◌, Bool, true, false, Result, Ok, Err, nat_lt, ◌==◌, if◌then◌else◌}
+use Rattle.std.specs.Prelude.{◌≡◌, ◌≤◌, ℕ, zero, suc, ◌+◌, length, List, [], ◌∷◌, ◌++◌, Bool, true, false, Result, Ok, Err, nat_lt, ◌==◌, if◌then◌else◌}
 use Rattle.wasm_bytes.specs.Prelude.{◌>>=◌}
 use Rattle.wasm_tree_spec.specs.Prelude.{Nesting, BlockType, MemArg, Instr, Block, Loop, If, BrTable, SelectTyped, I32Const, I64Const, RefNull, LocalGroup, limit}
 use Rattle.wasm_read_spec.specs.declared.fault.Fault.{Fault}
@@ -96,6 +96,12 @@ after_token next deeper (Open k ty) rest = block_at next deeper k ty rest >>= (�
 unfoldable pub sequence_at : Bool → ℕ → ℕ → List ℕ → ReadResult Sequence
 sequence_at many zero deeper bs = Err Malformed
 sequence_at many (suc fuel) deeper bs = token_at many bs >>= (λ t. after_token (sequence_at many fuel) deeper t.0 t.1)
+
+-- With at least as much fuel as there are bytes, a sequence is read token by token. What follows the
+-- token is read with fuel of which there is still enough.
+abbrev pub TokenByToken : Type 0
+TokenByToken = (many : Bool) (fuel deeper : ℕ) (bytes : List ℕ) → length bytes ≤ fuel →
+    (left : ℕ) × (length bytes ≤ left + 1) × (sequence_at many fuel deeper bytes ≡ (token_at many bytes >>= (λ t. after_token (sequence_at many left) deeper t.0 t.1)))
 
 -- The instructions of the sequence, if it is all of the bytes and an `end` ended it.
 abbrev pub whole : Sequence × List ℕ → Result (List Instr) Fault

@@ -15,6 +15,7 @@ ghost use Rattle.wasm_read_spec.specs.Bodies.{SpellsBody};
 ghost use Rattle.wasm_read_spec.specs.Files.{Spells, Within};
 ghost use Rattle.wasm_read_spec.specs.Contents.{AreBytes, framed_at, read_at, read_fault};
 ghost use Rattle.wasm_read_spec.specs.Reading.{u32_at, name_at, sized_at};
+ghost use Rattle.wasm_read_spec.specs.BodyReading.{TokenByToken};
 ghost use Rattle.wasm_read_spec.specs.SpellingForms.{Any};
 ghost use Rattle.wasm_read_spec.specs.Exact.{Exact};
 ghost use Rattle.wasm_read_spec.specs.Stops.{Stop as SomeStop};
@@ -73,6 +74,11 @@ pub fn reading_is_exact()
 {
     frames_are_read();
 }
+
+/// A sequence of instructions is read token by token, with as much fuel as there are bytes or more.
+pub fn sequences_are_read_token_by_token()
+    ensures { TokenByToken }
+{}
 
 /// A file has no fault exactly if it encodes a tree and is within the limits.
 pub fn no_fault_where_encoded()

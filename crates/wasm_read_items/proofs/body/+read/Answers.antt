@@ -1,12 +1,12 @@
-use Rattle.base_lists.proofs.Common.{◌≡◌, ◌||◌, [], ◌∷◌, ◌++◌, Err, sym, ap, ◌∙◌, arith, append-nil, or-false}
+use Rattle.base_lists.proofs.Common.{◌≡◌, ◌||◌, [], ◌∷◌, ◌++◌, Ok, Err, refl, sym, ap, ◌∙◌, arith, append-nil, or-false}
 use Rattle.std.proofs.Math.Seq.{drop-append_seam, take-append_seam}
 use Rattle.std.proofs.lemmas.List.{append_assoc}
 use Rattle.wasm_tree_spec.specs.Prelude.{uses_data_in}
-use Rattle.wasm_read_spec.specs.Prelude.{sequence_at, behind}
+use Rattle.wasm_read_spec.specs.declared.token.Sequence.{Sequence}
+use Rattle.wasm_read_spec.specs.Prelude.{ReadResult, sequence_at, behind}
 use Rattle.wasm_read_spec.proofs.Loops.{fails_through}
 use Rattle.base_lists.proofs.Each.{any_more}
-use Rattle.wasm_read_spec.proofs.Blocks.{behind_none, behind_behind, seq_end, seq_else, seq_plain, seq_open}
-use Rattle.wasm_read_items.proofs.BlockSteps.{behind_fails, block_none, block_some, seq_err, seq_open_err}
+use Rattle.wasm_read_items.proofs.BlockSteps.{behind_fails, block_none, block_some, seq_err, seq_open_err, plain_step, open_step}
 use Rattle.wasm_read_items.proofs.Piles.{told_plain, told_open, told_open_fails, uses_in_block, uses_in_loop, uses_in_if, uses_in_if_alone}
 use Rattle.wasm_read_items.proofs.body.+read.Goals as goal
 
@@ -54,19 +54,19 @@ read_block-returns-else-first-3-clause-reads t c = λ fuel enough.
     rw (block_some (sequence_at c.args.many fuel) c.args.deeper c.args.opener c.args.ty c.args.cursor.now (omega arith), c.in_ok-first.ensures.reads fuel enough, c.in-Loop.is, c.if-first-3.false)
 
 pub read_block-returns-then-first-clause-uses : goal.read_block-returns-then-first-clause-uses
-read_block-returns-then-first-clause-uses t c = uses_in_if c.args.pile.now.uses_data _ c.args.ty _ c.in_ok-first.ensures.uses _ _ c.in_ok-other-in-If.ensures.uses
+read_block-returns-then-first-clause-uses t c = uses_in_if c.operands_pass_layer_by_layer.ensures.any c.args.pile.now.uses_data _ c.args.ty _ c.in_ok-first.ensures.uses _ _ c.in_ok-other-in-If.ensures.uses
 
 pub read_block-returns-else-first-clause-uses : goal.read_block-returns-else-first-clause-uses
-read_block-returns-else-first-clause-uses t c = rw c.new.ensures (uses_in_if_alone c.args.pile.now.uses_data _ c.args.ty _ c.in_ok-first.ensures.uses)
+read_block-returns-else-first-clause-uses t c = rw c.new.ensures (uses_in_if_alone c.operands_pass_layer_by_layer.ensures.any c.args.pile.now.uses_data _ c.args.ty _ c.in_ok-first.ensures.uses)
 
 pub read_block-returns-else-first-2-clause-uses : goal.read_block-returns-else-first-2-clause-uses
-read_block-returns-else-first-2-clause-uses t c = uses_in_block c.args.pile.now.uses_data _ c.args.ty _ c.in_ok-first.ensures.uses
+read_block-returns-else-first-2-clause-uses t c = uses_in_block c.operands_pass_layer_by_layer.ensures.any c.args.pile.now.uses_data _ c.args.ty _ c.in_ok-first.ensures.uses
 
 pub read_block-returns-else-first-3-clause-uses : goal.read_block-returns-else-first-3-clause-uses
-read_block-returns-else-first-3-clause-uses t c = uses_in_loop c.args.pile.now.uses_data _ c.args.ty _ c.in_ok-first.ensures.uses
+read_block-returns-else-first-3-clause-uses t c = uses_in_loop c.operands_pass_layer_by_layer.ensures.any c.args.pile.now.uses_data _ c.args.ty _ c.in_ok-first.ensures.uses
 
 pub read_sequence-tokens-init : goal.read_sequence-tokens-init
-read_sequence-tokens-init t c = ([], rw append-nil, c.len-start.ensures, (λ n enough. (n, enough, sym (behind_none _))), omega arith, sym (or-false _))
+read_sequence-tokens-init t c = let none : (r : ReadResult Sequence) → r ≡ behind [] r = elim [ Ok r ↦ refl | Err e ↦ refl ] in ([], rw append-nil, c.len-start.ensures, (λ n enough. (n, enough, none _)), omega arith, sym (or-false _))
 
 pub read_sequence-returns-in_err-read_token-clause-reads : goal.read_sequence-returns-in_err-read_token-clause-reads
 read_sequence-returns-in_err-read_token-clause-reads t c = λ fuel enough.
@@ -80,7 +80,8 @@ read_sequence-returns-in-End-clause-reads t c = λ fuel enough.
     let so = c.tokens.invariant.3 fuel enough in
     let token = rw c.in-End.is at c.in_ok-read_token.ensures.gives in
     let back : c.in_ok-split_off-in-End.field-0 ≡ items = c.in_ok-split_off-in-End.ensures.back ∙ rw (token.1, c.tokens.invariant.2, c.tokens.invariant.1) (drop-append_seam c.args.pile.now.instrs items) in
-    so.2 ∙ ap (behind items) (seq_end c.args.many c.args.deeper so.0 c.tokens.cursor _ so.1 token.0) ∙ rw (append-nil, back)
+    let step = c.sequences_are_read_token_by_token.ensures c.args.many so.0 c.args.deeper c.tokens.cursor so.1 in
+    so.2 ∙ rw (step.2, token.0, append-nil, back)
 
 pub read_sequence-returns-in-End-clause-pile : goal.read_sequence-returns-in-End-clause-pile
 read_sequence-returns-in-End-clause-pile t c =
@@ -100,7 +101,8 @@ read_sequence-returns-in-Else-clause-reads t c = λ fuel enough.
     let so = c.tokens.invariant.3 fuel enough in
     let token = rw c.in-Else.is at c.in_ok-read_token.ensures.gives in
     let back : c.in_ok-split_off-in-Else.field-0 ≡ items = c.in_ok-split_off-in-Else.ensures.back ∙ rw (token.1, c.tokens.invariant.2, c.tokens.invariant.1) (drop-append_seam c.args.pile.now.instrs items) in
-    so.2 ∙ ap (behind items) (seq_else c.args.many c.args.deeper so.0 c.tokens.cursor _ so.1 token.0) ∙ rw (append-nil, back)
+    let step = c.sequences_are_read_token_by_token.ensures c.args.many so.0 c.args.deeper c.tokens.cursor so.1 in
+    so.2 ∙ rw (step.2, token.0, append-nil, back)
 
 pub read_sequence-returns-in-Else-clause-pile : goal.read_sequence-returns-in-Else-clause-pile
 read_sequence-returns-in-Else-clause-pile t c =
@@ -124,8 +126,8 @@ read_sequence-tokens-preserved-in-Plain t c =
       c.tokens.invariant.2,
       (λ n enough.
           let so = c.tokens.invariant.3 n enough in
-          let step = seq_plain c.args.many c.args.deeper so.0 c.tokens.cursor _ i so.1 token.1 c.in_ok-read_token.ensures.shorter in
-          (step.0, step.1, so.2 ∙ ap (behind items) step.2 ∙ behind_behind items (i ∷ []) _)),
+          let step = c.sequences_are_read_token_by_token.ensures c.args.many so.0 c.args.deeper c.tokens.cursor so.1 in
+          (step.0, omega (arith, step.1, c.in_ok-read_token.ensures.shorter), so.2 ∙ plain_step c.args.many c.args.deeper step.0 items i c.tokens.cursor _ _ step.2 token.1)),
       omega (arith, c.tokens.invariant.4, c.in_ok-read_token.ensures.shorter),
       any_more uses_data_in c.args.pile.now.uses_data c.tokens.pile.uses_data _ items i c.tokens.invariant.5 (ap (λ p. p.uses_data) token.2),
     )
@@ -158,8 +160,9 @@ read_sequence-tokens-preserved t c =
       c.tokens.invariant.2,
       (λ n enough.
           let so = c.tokens.invariant.3 n enough in
-          let step = seq_open c.args.many c.args.deeper so.0 c.tokens.cursor _ _ c.in-Open.opener c.in_ok-ty-in-Open.ty i so.1 token (omega (arith, c.in_ok-read_token.ensures.shorter, c.in_ok-ty-in-Open.ensures.shorter)) c.in_ok-block-in-Open.ensures.reads (omega (arith, c.in_ok-block-in-Open.ensures.shorter)) in
-          (step.0, step.1, so.2 ∙ ap (behind items) step.2 ∙ behind_behind items (i ∷ []) _)),
+          let step = c.sequences_are_read_token_by_token.ensures c.args.many so.0 c.args.deeper c.tokens.cursor so.1 in
+          let block = c.in_ok-block-in-Open.ensures.reads step.0 (omega (arith, step.1, c.in_ok-read_token.ensures.shorter, c.in_ok-ty-in-Open.ensures.shorter)) in
+          (step.0, omega (arith, step.1, c.in_ok-read_token.ensures.shorter, c.in_ok-ty-in-Open.ensures.shorter, c.in_ok-block-in-Open.ensures.shorter), so.2 ∙ open_step c.args.many c.args.deeper step.0 items i c.tokens.cursor _ _ step.2 c.in-Open.opener c.in_ok-ty-in-Open.ty _ token block)),
       omega (arith, c.tokens.invariant.4, c.in_ok-read_token.ensures.shorter, c.in_ok-ty-in-Open.ensures.shorter, c.in_ok-block-in-Open.ensures.shorter),
       any_more uses_data_in c.args.pile.now.uses_data c.tokens.pile.uses_data _ items i c.tokens.invariant.5 (c.in_ok-block-in-Open.ensures.uses ∙ ap (λ p. p.uses_data || uses_data_in i) told.1),
     )
