@@ -10,15 +10,9 @@ use Rattle.index_remap.proofs.Rel.{bind_rel}
 use Rattle.index_remap.proofs.ValueSteps.{pop_typed_rel, zeros_rel}
 use Rattle.index_remap.proofs.FramesBetween.{pop_pushed, frames, again}
 
-pub func_type_self : (t : FuncType) → same_func_type t t ≡ true
+func_type_self : (t : FuncType) → same_func_type t t ≡ true
 func_type_self t =
     let self = each_same_self same_type (λ a. grind arith) in and_from (same_types t.params t.params) (same_types t.results t.results) (self t.params) (self t.results)
-
-pub func_type_is : (s t : FuncType) → same_func_type s t ≡ true → s ≡ t
-func_type_is s t h =
-    let b = and_parts (same_types s.params t.params) (same_types s.results t.results) h in
-    let is = each_same_is same_type (λ a b e. grind arith) in
-    ap₂ {A = List ValType} {B = List ValType} {C = FuncType} (λ x y. record { params = x; results = y }) (is s.params t.params b.0) (is s.results t.results b.1)
 
 -- ---- the two instructions ----
 

@@ -3,11 +3,6 @@ use Rattle.base_lists.proofs.Common.{◌≡◌, ap, refl, ℕ, zero, suc, ◌+�
 use Rattle.wasm_tree_spec.specs.Prelude.{Space, Module}
 use Rattle.wasm_meaning.specs.Prelude.{Part, module_at, defined_count, defined_before}
 
-pub module_there : (parts : List Part) (p : ℕ) (m : Module) → module_at parts p ≡ Some m → p < length parts
-module_there [] p m e = cc
-module_there (part ∷ parts) zero m e = omega arith
-module_there (part ∷ parts) (suc p) m e = omega (arith, module_there parts p m e)
-
 pub defined_none : (k : Space) (parts : List Part) → defined_before k parts 0 ≡ 0
 defined_none k [] = refl
 defined_none k (part ∷ parts) = refl
