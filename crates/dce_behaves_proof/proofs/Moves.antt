@@ -12,31 +12,31 @@ use Rattle.dce_behaves_proof.proofs.Marked.{kept_length, before_sum, before_less
 abbrev pub goes_to : (own : ℕ) → List Bool → (a b : ℕ) → Bool
 goes_to own bs a b = cond (nat_lt a own) (nat_eq a b) (is_marked bs (a - own) && nat_eq b (own + kept_before bs (a - own)))
 
-pub data Goes (own : ℕ) (bs : List Bool) (a b : ℕ) : Type 0 where
-  own_stays : a < own → a ≡ b → Goes own bs a b
-  is_kept : (x : ℕ) → a ≡ own + x → is_marked bs x ≡ true → b ≡ own + kept_before bs x → Goes own bs a b
+pub data MovesTo (own : ℕ) (bs : List Bool) (a b : ℕ) : Type 0 where
+  own_stays : a < own → a ≡ b → MovesTo own bs a b
+  is_kept : (x : ℕ) → a ≡ own + x → is_marked bs x ≡ true → b ≡ own + kept_before bs x → MovesTo own bs a b
 
-pub goes_is : (own : ℕ) (bs : List Bool) (a b : ℕ) → goes_to own bs a b ≡ true → Goes own bs a b
+pub goes_is : (own : ℕ) (bs : List Bool) (a b : ℕ) → goes_to own bs a b ≡ true → MovesTo own bs a b
 goes_is own bs a b h = by (nat_lt a own) refl h
   where
-    by : (c : Bool) → nat_lt a own ≡ c → cond c (nat_eq a b) (is_marked bs (a - own) && nat_eq b (own + kept_before bs (a - own))) ≡ true → Goes own bs a b
+    by : (c : Bool) → nat_lt a own ≡ c → cond c (nat_eq a b) (is_marked bs (a - own) && nat_eq b (own + kept_before bs (a - own))) ≡ true → MovesTo own bs a b
     by true e k = own_stays (ltb-true a own e) (eqb-true a b k)
     by false e k = let l : own ≤ a = grind (arith, nat_tests, e) in is_kept (a - own) (omega (arith, l)) (left_true _ _ k) (eqb-true b _ (right_true (is_marked bs (a - own)) _ k))
 
-pub is_goes : (own : ℕ) (bs : List Bool) (a b : ℕ) → Goes own bs a b → goes_to own bs a b ≡ true
+pub is_goes : (own : ℕ) (bs : List Bool) (a b : ℕ) → MovesTo own bs a b → goes_to own bs a b ≡ true
 is_goes own bs a b (own_stays l e) = grind (arith, nat_tests)
 is_goes own bs a b (is_kept x e h f) =
     let z : a - own ≡ x = omega arith in
     let high : nat_lt a own ≡ false = grind (arith, nat_tests) in
     rw (high, z, h) (eq-eqb b (own + kept_before bs x) f)
 
-pub goes_right : {own : ℕ} {bs : List Bool} {a b c : ℕ} → Goes own bs a b → Goes own bs a c → b ≡ c
+pub goes_right : {own : ℕ} {bs : List Bool} {a b c : ℕ} → MovesTo own bs a b → MovesTo own bs a c → b ≡ c
 goes_right (own_stays l e) (own_stays m f) = sym e ∙ f
 goes_right (own_stays l e) (is_kept x p q r) = absurd (omega arith)
 goes_right (is_kept x p q r) (own_stays l e) = absurd (omega arith)
 goes_right {own} {bs} (is_kept x p m e) (is_kept y q n f) = let same : x ≡ y = omega arith in e ∙ ap (λ z. own + kept_before bs z) same ∙ sym f
 
-pub goes_left : {own : ℕ} {bs : List Bool} {a b c : ℕ} → Goes own bs a c → Goes own bs b c → a ≡ b
+pub goes_left : {own : ℕ} {bs : List Bool} {a b c : ℕ} → MovesTo own bs a c → MovesTo own bs b c → a ≡ b
 goes_left (own_stays l e) (own_stays m f) = e ∙ sym f
 goes_left (own_stays l e) (is_kept x p q r) = absurd (omega arith)
 goes_left (is_kept x p q r) (own_stays l e) = absurd (omega arith)

@@ -28,7 +28,7 @@ use Rattle.dce_sweep_spec.specs.Closed.{AreClosed}
 use Rattle.dce_sweep_spec.specs.Swept.{defined_funcs, defined_globals, kept_elem, kept_items, kept_tree, renumbered_kept, sweep_map, swept}
 use Rattle.dce_sweep_spec.specs.Unswept.{unswept}
 use Rattle.dce_behaves_proof.proofs.Marked.{kept_length, marked_within, all_marked, all_before, drop_all}
-use Rattle.dce_behaves_proof.proofs.Moves.{goes_to, Goes, own_stays, is_kept, goes_is, is_goes, goes_right, goes_left, space_moves}
+use Rattle.dce_behaves_proof.proofs.Moves.{goes_to, MovesTo, own_stays, is_kept, goes_is, is_goes, goes_right, goes_left, space_moves}
 use Rattle.dce_behaves_proof.proofs.Imports.{kept_addresses}
 
 -- ---- marks of each space ----
@@ -303,7 +303,7 @@ module _ (k : Marks) (t : Module) (c : AreClosed k t) where
             look : (a b : ℕ) → R.of Globals a b → OptRel (ValRel R) (value a) (value b)
             look a b q = by (goes_is (own_count Globals env) (own_marks k t Globals) a b q)
               where
-                by : Goes (own_count Globals env) (own_marks k t Globals) a b → OptRel (ValRel R) (value a) (value b)
+                by : MovesTo (own_count Globals env) (own_marks k t Globals) a b → OptRel (ValRel R) (value a) (value b)
                 by (own_stays l e) = opt_at refl (ap value (sym e)) (then_rel (get_rel (own_globals_rel R env own) a) (λ _ _ g. some g.value))
                 by (is_kept x e m f) = opt_at (past a (omega (arith, e))) (past b (omega (arith, f))) none
 
@@ -315,7 +315,7 @@ module _ (k : Marks) (t : Module) (c : AreClosed k t) where
               (correspond : ℕ → Inst → A → ℕ → Inst → A → Type 0) → ((x : ℕ) (d : A) → slice_get (definitions t) x ≡ Some d → is_marked (own_marks k t space) x ≡ true → correspond 0 i d 0 j (new d)) → (p q : ℕ) → R.of space p q → Partners env v w space definitions correspond p q
           placed space definitions new more counts are correspond each p q related = by (goes_is (own_count space env) (own_marks k t space) p q related)
             where
-              by : Goes (own_count space env) (own_marks k t space) p q → Partners env v w space definitions correspond p q
+              by : MovesTo (own_count space env) (own_marks k t space) p q → Partners env v w space definitions correspond p q
               by (own_stays l e) = partners.own e l
               by (is_kept x e m f) =
                   let l = marked_within (own_marks k t space) x m in

@@ -124,8 +124,8 @@ module _ (env : Environment) (m : Module) (s : State) (name : Text) (names kept 
     all_is = (shape m s name names kept).datas
 
     -- it copies nothing, or to the defined memory
-    abbrev Goes : Copy ℕ → Type 0
-    Goes c = (c ≡ nothing) ⊎ ((offset : Option ℕ) × (copied : Option (List ℕ)) × (c ≡ contents (slice_get j.mems place) offset copied) × (0 < length m.mems))
+    abbrev CopiesContents : Copy ℕ → Type 0
+    CopiesContents c = (c ≡ nothing) ⊎ ((offset : Option ℕ) × (copied : Option (List ℕ)) × (c ≡ contents (slice_get j.mems place) offset copied) × (0 < length m.mems))
 
     stretched : (n : ℕ) (x : Stretch) → slice_get (stretches bytes) n ≡ Some x → 0 < length m.mems
     stretched n x h = elim (cases_lt 0 (length m.mems)) [
@@ -133,7 +133,7 @@ module _ (env : Environment) (m : Module) (s : State) (name : Text) (names kept 
       | inr le ↦ absurd (let none : Some x ≡ None = sym (ap (λ bs. slice_get (stretches bs) n) (sym (are.none (let z : length m.mems ≡ 0 = omega (arith, le) in z))) ∙ h) in cc)
     ]
 
-    goes : (n : ℕ) (c : Copy ℕ) → slice_get (data_copies second j all) n ≡ Some c → Goes c
+    goes : (n : ℕ) (c : Copy ℕ) → slice_get (data_copies second j all) n ≡ Some c → CopiesContents c
     goes n c h =
         let d = map_from (λ d. data_copy second j d d.mode) all n c h in
         ⊎_elim
@@ -144,7 +144,7 @@ module _ (env : Environment) (m : Module) (s : State) (name : Text) (names kept 
     zero_place : (0 < length m.mems) → slice_get j.mems place ≡ Some own
     zero_place lt = let at = memory_at 0 lt in let z : place + 0 ≡ place = omega arith in let w : own + 0 ≡ own = omega arith in ap (slice_get j.mems) (sym z) ∙ at.1 ∙ ap Some w
 
-    goes_elsewhere : (address : ℕ) → address < own → (c : Copy ℕ) → Goes c → Elsewhere address c
+    goes_elsewhere : (address : ℕ) → address < own → (c : Copy ℕ) → CopiesContents c → Elsewhere address c
     goes_elsewhere address low c (inl e) = subst (Elsewhere address) (sym e) tt
     goes_elsewhere address low c (inr g) = subst (Elsewhere address) (sym g.2) (ap (λ o. is_address o address) (zero_place g.3) ∙ ne_eqb own address (λ e. omega (arith, e, low)))
 
@@ -165,7 +165,7 @@ module _ (env : Environment) (m : Module) (s : State) (name : Text) (names kept 
       pub second_goes : (n : ℕ) (c : Copy ℕ) → slice_get (data_copies second j all) n ≡ Some c → GoesSomewhere memories half c
       second_goes n c h = by (goes n c h)
         where
-          by : Goes c → GoesSomewhere memories half c
+          by : CopiesContents c → GoesSomewhere memories half c
           by (inl e) = subst (GoesSomewhere memories half) (sym e) tt
           by (inr g) =
               let size = ap length mems_are ∙ length-append (own_memories env) _ in

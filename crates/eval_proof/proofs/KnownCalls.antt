@@ -10,17 +10,17 @@ use Rattle.eval_proof.proofs.Quiet.{goes_on_quietly, finishes_quietly}
 use Rattle.eval_proof.proofs.KnownSteps as steps
 
 module _ (m : Module) (of named : Space → ℕ → ℕ → Bool) (all : RelatesAllButImports m of named) where
-  abbrev Ends : State → List Entry → State → Type 0
-  Ends s es t = FuncsOf (own_inst m) s.store.funcs → FramesOf (own_inst m) es → EndsAsTheMachine (steps.R m of named all) s es t
+  abbrev EndsAlike : State → List Entry → State → Type 0
+  EndsAlike s es t = FuncsOf (own_inst m) s.store.funcs → FramesOf (own_inst m) es → EndsAsTheMachine (steps.R m of named all) s es t
 
   abbrev Between : Stage → Stage → Type 0
-  Between (Going s es) (Finished t) = Ends s es t
+  Between (Going s es) (Finished t) = EndsAlike s es t
   Between (Going s es) _ = Unit {0}
   Between (Stopped x left) y = y ≡ Stopped x left
   Between (Finished s) y = y ≡ Finished s
 
   -- the step that ends it
-  last_step : (s t : State) (es : List Entry) → quiet_step m s es ≡ Finished t → Ends s es t
+  last_step : (s t : State) (es : List Entry) → quiet_step m s es ≡ Finished t → EndsAlike s es t
   last_step s t es e = λ funcs frames.
       let f = finishes_quietly m s es t e in
       let uses = steps.top_uses m of named all s es f.none_held in
@@ -38,7 +38,7 @@ module _ (m : Module) (of named : Space → ℕ → ℕ → Bool) (all : Relates
         unknown = f.unknown;
       }
 
-  one_more : (s t : State) (es : List Entry) (q : Stage) → quiet_step m s es ≡ q → Between q (Finished t) → Ends s es t
+  one_more : (s t : State) (es : List Entry) (q : Stage) → quiet_step m s es ≡ q → Between q (Finished t) → EndsAlike s es t
   one_more s t es (Stopped x left) e b = absurd (let h = b in cc)
   one_more s t es (Finished r) e b = last_step s t es (let same : Finished r ≡ Finished t = sym b in e ∙ same)
   one_more s t es (Going r gs) e b = λ funcs frames.

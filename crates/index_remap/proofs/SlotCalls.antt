@@ -1,5 +1,5 @@
 -- Calls through a slot of a table, by a trampoline and by two instructions in place of a direct call.
-use Rattle.base_lists.proofs.Common.{◌≡◌, true, ℕ, suc, ◌+◌, List, [], ◌∷◌, ◌++◌, length, Some, option_and_then, refl, ap, ap₂, subst, ◌∙◌, arith, append-nil, slice_get, ℤ, and_from, and_parts, each_same_is, each_same_self, append_rel}
+use Rattle.base_lists.proofs.Common.{◌≡◌, true, ℕ, suc, ◌+◌, List, [], ◌∷◌, ◌++◌, length, Some, option_and_then, refl, ap, subst, ◌∙◌, arith, append-nil, slice_get, ℤ, and_from, each_same_self, append_rel}
 use Rattle.wasm_tree_spec.specs.Prelude.{ValType, FuncType, Instr, Call, CallIndirect, same_type, same_types, same_func_type}
 use Rattle.wasm_tree.specs.declared.instr.Instr.{out-Instr}
 use Rattle.wasm_meaning.specs.Prelude.{Gives, bind, or_ill_typed, onto, Val, Num, Calls, Inst, Code, Store, Level, Frame, Entry, Running, Ran, pop_typed, zeros, type_of_func, type_at, act, perform, enter_at, step}

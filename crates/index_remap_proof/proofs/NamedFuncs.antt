@@ -1,5 +1,5 @@
 -- What `ref.func` names in well typed code, and code that stays well typed where other functions may be named and there are more element segments.
-use Rattle.base_lists.proofs.Common.{◌≡◌, ℕ, Bool, true, false, nat_eq, List, [], ◌∷◌, ◌++◌, Option, Some, None, refl, sym, ap, ◌∙◌, ◌⊎◌, inl, inr, ⊎_elim, rules, slice_get, and_then_is, either_true, left_either, same_number, among_left, among_right, keeps_map, keeps_only, only_true, flat_map-append}
+use Rattle.base_lists.proofs.Common.{◌≡◌, ℕ, Bool, true, false, nat_eq, List, [], ◌∷◌, ◌++◌, Option, Some, None, refl, sym, ap, ◌∙◌, ◌⊎◌, inl, inr, ⊎_elim, slice_get, and_then_is, either_true, left_either, same_number, among_left, among_right, keeps_map, keeps_only, only_true, flat_map-append}
 use Rattle.base_lists.specs.Members.{is_among}
 use Rattle.base_lists.proofs.Members.{among_either}
 use Rattle.std.proofs.Common.{eq-eqb}

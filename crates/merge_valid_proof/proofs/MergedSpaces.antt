@@ -52,8 +52,8 @@ own_funcs parts =
     ∙ ap (λ z. z ++ extra parts Functions) (by_part_map (λ f. f.ty) (λ p m. map (new_func (map_of parts p m)) m.funcs) 0 parts
     ∙ by_part_same (λ p m. map (λ f. f.ty) (map (new_func (map_of parts p m)) m.funcs)) (moved_own parts Functions) (λ p m. map_twice (λ f. f.ty) (new_func (map_of parts p m)) m.funcs ∙ sym (map_twice (moved parts Functions p m) (λ f. f.ty) m.funcs)) 0 parts)
 
-own_globals : (parts : List Part) → map (λ g. g.ty) (by_part (λ p m. map (merged_global parts p) m.globals) parts) ≡ by_part (moved_own parts Globals) parts ++ []
-own_globals parts =
+own_global_types : (parts : List Part) → map (λ g. g.ty) (by_part (λ p m. map (merged_global parts p) m.globals) parts) ≡ by_part (moved_own parts Globals) parts ++ []
+own_global_types parts =
     by_part_map (λ g. g.ty) (λ p m. map (merged_global parts p) m.globals) 0 parts
     ∙ by_part_same (λ p m. map (λ g. g.ty) (map (merged_global parts p) m.globals)) (moved_own parts Globals) (λ p m. map_twice (λ g. g.ty) (merged_global parts p) m.globals ∙ sym (map-id (map (λ g. g.ty) m.globals))) 0 parts
     ∙ sym (append-nil (by_part (moved_own parts Globals) parts))
@@ -65,7 +65,7 @@ own_is parts names Tables e =
     by_part_flat (λ m. m.tables) 0 parts ∙ by_part_same (λ p m. m.tables) (moved_own parts Tables) (λ p m. sym (map-id m.tables)) 0 parts ∙ sym (append-nil (by_part (moved_own parts Tables) parts))
 own_is parts names Memories e =
     by_part_flat (λ m. m.mems) 0 parts ∙ by_part_same (λ p m. m.mems) (moved_own parts Memories) (λ p m. sym (map-id m.mems)) 0 parts ∙ sym (append-nil (by_part (moved_own parts Memories) parts))
-own_is parts names Globals e = own_globals parts
+own_is parts names Globals e = own_global_types parts
 own_is parts names Types e = cc
 own_is parts names ElementSegments e = cc
 own_is parts names DataSegments e = cc

@@ -8,7 +8,7 @@ use Rattle.wasm_names.specs.Reading.{or_else}
 use Rattle.split_plan.specs.declared.fault.PlanFault.{PlanFault}
 use Rattle.split_plan.specs.declared.fault.PlanFault.TheVariants.{NoSuchFunction, AmbiguousFunction, KeptAndSplit, NoMemory}
 use Rattle.split_plan.specs.declared.plans.Plan.{Plan}
-use Rattle.split_plan.specs.Words.{entries_with_name, exported_among, function_of, word_fault, names_func}
+use Rattle.split_plan.specs.NamedFunctions.{entries_with_name, exported_among, function_of, word_fault, names_func}
 use Rattle.split_plan.specs.Plans.{first_given, kept_fault, words_of, plan_fault}
 use Rattle.split_plan.specs.Causes.{Names, NamesNone, IsShared, IsKept, Cause, FaultsHaveCauses, Told}
 

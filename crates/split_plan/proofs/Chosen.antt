@@ -7,7 +7,7 @@ use Rattle.base_lists.specs.Every.{Every}
 use Rattle.wasm_tree_spec.specs.Prelude.{Func, Module, imported_funcs, funcs_of}
 use Rattle.split_plan.specs.Segments.{uses_segment}
 use Rattle.split_plan.specs.declared.plans.Plan.{Plan}
-use Rattle.split_plan.specs.Words.{is_defined}
+use Rattle.split_plan.specs.NamedFunctions.{is_defined}
 use Rattle.split_plan.specs.Plans.{body_uses_segment, defined_funcs, plan_for, IsPlan, WhatIsPlannedIsAPlan}
 
 -- one more number is tested

@@ -5,7 +5,7 @@ use Rattle.wasm_tree.specs.declared.module.ExportDesc.TheVariants as export
 use Rattle.wasm_tree_spec.specs.Prelude.{Func, Module, Instr}
 use Rattle.wasm_names.specs.declared.func_name.FuncName.{FuncName}
 use Rattle.split_plan.specs.declared.fault.PlanFault.TheVariants.{NoSuchFunction, AmbiguousFunction, KeptAndSplit}
-use Rattle.split_plan.specs.Words.{function_of}
+use Rattle.split_plan.specs.NamedFunctions.{function_of}
 use Rattle.split_plan.specs.Plans.{plan_fault, plan_of}
 
 abbrev func : List Instr → Func

@@ -6,7 +6,7 @@ use Rattle.wasm_tree_spec.specs.Prelude.{Export, Module, index_of_export}
 use Rattle.wasm_names.specs.declared.func_name.FuncName.{FuncName}
 use Rattle.split_plan.specs.declared.named.Named.{Named}
 use Rattle.split_plan.specs.declared.named.Named.TheVariants.{Exported}
-use Rattle.split_plan.specs.Words.{is_defined, is_defined_export, exported_among, entries_with_name, one_of, fault_of}
+use Rattle.split_plan.specs.NamedFunctions.{is_defined, is_defined_export, exported_among, entries_with_name, one_of, fault_of}
 use Rattle.split_plan.specs.Looking.{entered, once_more, func_in, fault_in}
 
 -- a function of what is behind a place, one step towards the front

@@ -8,7 +8,7 @@ use Rattle.wasm_names.specs.declared.func_name.FuncName.{FuncName}
 use Rattle.split_plan.specs.declared.fault.PlanFault.{PlanFault}
 use Rattle.split_plan.specs.declared.fault.PlanFault.TheVariants.{NoSuchFunction, AmbiguousFunction, KeptAndSplit, NoMemory}
 use Rattle.split_plan.specs.declared.plans.Plan.{Plan}
-use Rattle.split_plan.specs.Words.{entries_with_name, exported_among, function_of, names_func}
+use Rattle.split_plan.specs.NamedFunctions.{entries_with_name, exported_among, function_of, names_func}
 use Rattle.split_plan.specs.Plans.{words_of, plan_fault}
 
 -- the word is in the list and is faulty, and all words before it are right

@@ -1,5 +1,5 @@
 pub mod Segments
-pub mod Words
+pub mod NamedFunctions
 pub mod Plans
 pub mod Looking
 pub mod Causes

@@ -11,7 +11,7 @@ use Rattle.split_plan.specs.declared.fault.PlanFault.{PlanFault}
 use Rattle.split_plan.specs.declared.fault.PlanFault.TheVariants.{NoSuchFunction, AmbiguousFunction}
 use Rattle.split_plan.specs.declared.named.Named.{Named}
 use Rattle.split_plan.specs.declared.named.Named.TheVariants.{InNameList, Shared, Exported}
-use Rattle.split_plan.specs.Words.{entries_with_name, exported_among}
+use Rattle.split_plan.specs.NamedFunctions.{entries_with_name, exported_among}
 
 -- the entry of a word, from the functions with this name and the one that is exported under it
 abbrev pub entered : List ℕ → Option ℕ → Option Named

@@ -13,7 +13,7 @@ use Rattle.split_plan.specs.declared.fault.PlanFault.{PlanFault}
 use Rattle.split_plan.specs.declared.fault.PlanFault.TheVariants.{KeptAndSplit}
 use Rattle.split_plan.specs.declared.plans.Plan.{Plan}
 use Rattle.split_plan.specs.Segments.{uses_segment}
-use Rattle.split_plan.specs.Words.{is_defined, function_of, word_fault, names_func}
+use Rattle.split_plan.specs.NamedFunctions.{is_defined, function_of, word_fault, names_func}
 
 -- ---- faults
 

@@ -5,7 +5,7 @@ ghost use Rattle.std.specs.Str.{bytes_eq};
 ghost use Rattle.wasm_tree.specs.Spaces.{imported_funcs, funcs_of, index_of_export, space_of_export};
 ghost use Rattle.wasm_tree.specs.Operands.{same_space};
 ghost use Rattle.wasm_tree.specs.declared.space.Space.TheVariants.{Functions};
-ghost use Rattle.split_plan.specs.Words.{exported_among};
+ghost use Rattle.split_plan.specs.NamedFunctions.{exported_among};
 ghost use Rattle.split_plan.specs.Looking.{entry_of, held_of, func_in, once_more};
 ghost use Rattle.split_plan.specs.declared.named.Named.TheVariants.{Exported as IsExported};
 

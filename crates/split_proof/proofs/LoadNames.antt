@@ -16,7 +16,7 @@ use Rattle.index_remap.specs.declared.remap.Remap.{Remap}
 use Rattle.index_remap.specs.Prelude.{new_func, new_import, declared_refs}
 use Rattle.world_simulation.proofs.Declared.{IsWithDeclared}
 use Rattle.world_extension_proof.specs.Typed.{IsTyped}
-use Rattle.split_plan.specs.Words.{is_defined}
+use Rattle.split_plan.specs.NamedFunctions.{is_defined}
 use Rattle.split_plan.specs.Plans.{body_uses_segment}
 use Rattle.split_spec.specs.declared.names.SplitNames.{SplitNames}
 use Rattle.split_spec.specs.Prelude.{defined_at, slot_table, entities, from_primary, imports_from_primary, is_from_primary, marks_from_primary, name_from_primary, primary_map, primary_with, HasSlots, secondary_func, secondary_imports, secondary_map}

@@ -15,7 +15,7 @@ use Rattle.index_remap.specs.declared.remap.Remap.{Remap}
 use Rattle.index_remap.specs.Prelude.{new_data, new_elem, new_func, new_global, new_import, new_import_desc, renumbered_tree}
 use Rattle.index_remap_proof.specs.Indices.{Indices}
 use Rattle.index_remap_proof.specs.Trees.{TreesAgree}
-use Rattle.split_plan.specs.Words.{is_defined}
+use Rattle.split_plan.specs.NamedFunctions.{is_defined}
 use Rattle.split_plan.specs.Plans.{body_uses_segment}
 use Rattle.split_spec.specs.Prelude.{in_slots, place_among, slot_segment, slot_table, slot_table_type, type_index, is_needed, is_left, left_marks, placeholder_imports, primary_func, primary_funcs, primary_map, primary_tree}
 use Rattle.split_proof.specs.Premises.{CanMove}

@@ -22,7 +22,7 @@ use Rattle.world_simulation.proofs.Alone.{tables_counted}
 use Rattle.world_simulation.proofs.Instancing.{IsInst}
 use Rattle.world_simulation.proofs.Single.{space_at}
 use Rattle.split_plan.specs.Plans.{body_uses_segment}
-use Rattle.split_plan.specs.Words.{is_defined}
+use Rattle.split_plan.specs.NamedFunctions.{is_defined}
 use Rattle.split_spec.specs.declared.names.SplitNames.{SplitNames}
 use Rattle.split_spec.specs.Prelude.{with_calls, is_named_from_primary, is_needed, primary_func, call_by_slot, call_through_slot, place_among, slot_table, slot_table_type, type_index}
 use Rattle.split_proof.specs.Calls.{renumbered_codes}

@@ -170,8 +170,8 @@ module _ (laws : SettleLaws) (answered : PlaceholdersAreAnswered) (namespace : �
           ap (transition_at r) e.top.1 ∙ ap (Steps r) (e.step ∙ direct_call r.store e.frame e.level e.outer u e.index e.address e.rest e.level.values e.below e.names typed)
 
       -- and then it enters the function
-      abbrev Goes : (n c : ℕ) (k : Frame) → Type 0
-      Goes n c k =
+      abbrev EntersCallee : (n c : ℕ) (k : Frame) → Type 0
+      EntersCallee n c k =
           (vs ws left right : List Val) → ListRel (ValRel R) vs ws → WithPassing R (first_below left) (second_below right) → transition r ≡ Steps r (enter_at r.store e.address vs (first_below left)) → step q.run.store (Running k ∷ e.second_below) ≡ enter_at q.run.store c ws (second_below right) →
           StepAnswered env m moved w first second most r q
 
@@ -187,7 +187,7 @@ module _ (laws : SettleLaws) (answered : PlaceholdersAreAnswered) (namespace : �
       marks : ResRel (PairRel (◌≡◌ {A = Caller}) (WithPassing R)) (to_mark r.entries) (to_mark e.second_below)
       marks = subst (λ es. ResRel (PairRel (◌≡◌ {A = Caller}) (WithPassing R)) (to_mark es) (to_mark e.second_below)) (sym e.top.1) ((between R (apart loaded)).marks e.stacks)
 
-      popped : (n c : ℕ) → n ≤ most + 2 → (k : Frame) → StutteringSteps (tick_loader w) n q (reached (Running k ∷ e.second_below)) → step q.run.store (Running k ∷ e.second_below) ≡ bind (pop_typed u.params e.second_level.values) (λ p. enter_at q.run.store c p.0 (second_below p.1)) → Goes n c k → StepAnswered env m moved w first second most r q
+      popped : (n c : ℕ) → n ≤ most + 2 → (k : Frame) → StutteringSteps (tick_loader w) n q (reached (Running k ∷ e.second_below)) → step q.run.store (Running k ∷ e.second_below) ≡ bind (pop_typed u.params e.second_level.values) (λ p. enter_at q.run.store c p.0 (second_below p.1)) → EntersCallee n c k → StepAnswered env m moved w first second most r q
       popped n c le k silent calls goes = by (pop_typed u.params e.level.values) (pop_typed u.params e.second_level.values) refl refl (pop_typed_rel R u.params levels.0.values)
         where
           by : (o p : Outcome (List Val × List Val)) → pop_typed u.params e.level.values ≡ o → pop_typed u.params e.second_level.values ≡ p → ResRel (PairRel (ListRel (ValRel R)) (ListRel (ValRel R))) o p → StepAnswered env m moved w first second most r q
@@ -209,7 +209,7 @@ module _ (laws : SettleLaws) (answered : PlaceholdersAreAnswered) (namespace : �
           CodeAt R r.store q.run.store u e.address c → StepAnswered env m moved w first second most r q
       arrives n c le k silent calls code = popped n c le k silent calls goes
         where
-          goes : Goes n c k
+          goes : EntersCallee n c k
           goes vs ws left right v stacks first_is second_is =
               let x = record q.run { moves = r.moves } in
               let gs = Running k ∷ e.second_below in
@@ -268,7 +268,7 @@ module _ (laws : SettleLaws) (answered : PlaceholdersAreAnswered) (namespace : �
           typed : type_at r.store e.address ≡ Some u
           typed = ap (type_at r.store) x.address_is ∙ ap (λ o. o >>= λ f. Some (type_of_func f)) (in_place laws answered namespace names m moved owns g env first second alike most loaded r q h x.place x.func x.is z not_loaded r.moves [] [] [] [] nil).code.first
 
-          goes : Goes e u typed 1 (own_count Functions env + x.place) after_it
+          goes : EntersCallee e u typed 1 (own_count Functions env + x.place) after_it
           goes vs ws left right v stacks first_is second_is =
               loaded_first laws answered namespace names m moved owns g env first second alike most loaded r q h x.place x.func x.is z not_loaded r.moves vs ws (first_below e u typed left) (second_below e u typed right) v
               (direct (stack_still laws answered namespace names m moved owns g env first second alike most loaded r q h x.place x.func x.is z not_loaded r.moves vs ws (first_below e u typed left) (second_below e u typed right) v stacks))

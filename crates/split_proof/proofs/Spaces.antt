@@ -9,7 +9,7 @@ use Rattle.wasm_valid.specs.Prelude.{ImportHolds, LimitsHold, ItemsHold}
 use Rattle.wasm_valid.specs.Validity.{PagesHold}
 use Rattle.split_spec.specs.Prelude.{entities}
 use Rattle.split_plan.specs.Segments.{names_segment, uses_segment}
-use Rattle.split_plan.specs.Words.{is_defined}
+use Rattle.split_plan.specs.NamedFunctions.{is_defined}
 use Rattle.split_plan.specs.Plans.{body_uses_segment}
 
 -- a function that can move is defined, and its body names no segment

@@ -43,12 +43,12 @@ module _ (laws : Laws) (steps : StepLaws) (alike : InstancesOfSplitsAreRelated) 
       over : IsOver r → RunsRelated (split_pairing env m moved []) r q.run → Place r q
       going : (i j : Inst) → InstancesAreRelated env m moved i j → (loaded : List (ℕ × ℕ)) → Corresponds env m moved w i j loaded r q → Place r q
 
-    abbrev Next : Run → LoaderRun → Type 0
-    Next = LeadsSome tick (tick_loader w) (most + 3) Place
+    abbrev LeadsToPlace : Run → LoaderRun → Type 0
+    LeadsToPlace = LeadsSome tick (tick_loader w) (most + 3) Place
 
     -- ---- runs that are over ----
 
-    from_one : (r : Run) (q : LoaderRun) → IsOver r → q.run ≡ r → Next r q
+    from_one : (r : Run) (q : LoaderRun) → IsOver r → q.run ≡ r → LeadsToPlace r q
     from_one r q h e =
         let o = steps.over r h in
         let first : tick r ≡ o.0 = ap made o.1 in
@@ -60,7 +60,7 @@ module _ (laws : Laws) (steps : StepLaws) (alike : InstancesOfSplitsAreRelated) 
           states = subst (λ (x : Out). Place x.0 (tick_loader w q).0) (sym first) (subst (λ x. Place o.0.0 x.0) (sym second) (as_one o.2 refl));
         }
 
-    from_over : (r : Run) (q : LoaderRun) → IsOver r → RunsRelated (split_pairing env m moved []) r q.run → Next r q
+    from_over : (r : Run) (q : LoaderRun) → IsOver r → RunsRelated (split_pairing env m moved []) r q.run → LeadsToPlace r q
     from_over r q h related =
         let o = steps.over r h in
         let apart = one_to_one namespace names.export_prefix m valid moved g.can_move env in
@@ -78,7 +78,7 @@ module _ (laws : Laws) (steps : StepLaws) (alike : InstancesOfSplitsAreRelated) 
 
     -- ---- the first step ----
 
-    begins : (o p : Option Begun) → instantiate env (alone m) ≡ o → begun_under env w ≡ p → OptRel (BegunRel (split_pairing env m moved []) (FramesBetween (split_pairing env m moved []))) o p → Next (fresh_run env (instantiate env (alone m)) moves) (fresh_loader env w moves)
+    begins : (o p : Option Begun) → instantiate env (alone m) ≡ o → begun_under env w ≡ p → OptRel (BegunRel (split_pairing env m moved []) (FramesBetween (split_pairing env m moved []))) o p → LeadsToPlace (fresh_run env (instantiate env (alone m)) moves) (fresh_loader env w moves)
     begins None None e f none = rw (e, f) (record { further = 0; bound = omega arith; shown = refl; states = as_one (record { phase = refl; entries = refl }) refl })
     begins None (Some c) e f h = elim h [ ]
     begins (Some b) None e f h = elim h [ ]
@@ -88,7 +88,7 @@ module _ (laws : Laws) (steps : StepLaws) (alike : InstancesOfSplitsAreRelated) 
         shown true x y = rw (e, f, x, y) refl
         shown false x y = rw (e, f, x, y) refl
 
-        by : (t u : Bool) → b.trapped ≡ t → c.trapped ≡ u → Next (fresh_run env (instantiate env (alone m)) moves) (fresh_loader env w moves)
+        by : (t u : Bool) → b.trapped ≡ t → c.trapped ≡ u → LeadsToPlace (fresh_run env (instantiate env (alone m)) moves) (fresh_loader env w moves)
         by true true x y = record {
           further = 0;
           bound = omega arith;
@@ -109,8 +109,8 @@ module _ (laws : Laws) (steps : StepLaws) (alike : InstancesOfSplitsAreRelated) 
 
     -- ---- each step ----
 
-    next : (r : Run) (q : LoaderRun) → Place r q → Next r q
-    next r q (fresh e f) = subst (λ r. Next r q) (sym e) (subst (Next (fresh_run env (instantiate env (alone m)) moves)) (sym f) (begins (instantiate env (alone m)) (begun_under env w) refl refl (begin_alike laws namespace names m moved owns g env)))
+    next : (r : Run) (q : LoaderRun) → Place r q → LeadsToPlace r q
+    next r q (fresh e f) = subst (λ r. LeadsToPlace r q) (sym e) (subst (LeadsToPlace (fresh_run env (instantiate env (alone m)) moves)) (sym f) (begins (instantiate env (alone m)) (begun_under env w) refl refl (begin_alike laws namespace names m moved owns g env)))
     next r q (as_one h e) = from_one r q h e
     next r q (over h e) = from_over r q h e
     next r q (going i j a loaded h) =

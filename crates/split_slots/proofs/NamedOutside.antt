@@ -11,7 +11,7 @@ use Rattle.wasm_valid.specs.declared.kinds.ItemKind.TheVariants as kind
 use Rattle.wasm_valid.specs.Prelude.{named_of, refs_of, HoldsAt, body_context}
 use Rattle.wasm_valid.specs.Named.{marked_at}
 use Rattle.index_remap.specs.Prelude.{body_refs, refs_all}
-use Rattle.split_plan.specs.Words.{is_defined}
+use Rattle.split_plan.specs.NamedFunctions.{is_defined}
 use Rattle.split_plan.specs.Plans.{body_uses_segment}
 use Rattle.index_remap_proof.proofs.NamedFuncs.{typed_named}
 use Rattle.split_spec.specs.Prelude.{is_needed}

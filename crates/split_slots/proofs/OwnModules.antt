@@ -7,7 +7,7 @@ use Rattle.wasm_tree.specs.declared.module.ImportDesc.TheVariants as im
 use Rattle.split_spec.specs.declared.names.SplitNames.{SplitNames}
 use Rattle.split_spec.specs.Prelude.{secondary_func, secondary_imports, secondary_tree, defined_at, slot_segment, slot_table}
 use Rattle.split_plan.specs.Plans.{body_uses_segment}
-use Rattle.split_plan.specs.Words.{is_defined}
+use Rattle.split_plan.specs.NamedFunctions.{is_defined}
 use Rattle.split_proof.specs.Premises.{CanMove}
 use Rattle.split_proof.proofs.Spaces.{moves}
 use Rattle.split_slots.specs.declared.calls.Calls.{Calls}

@@ -9,7 +9,7 @@ use Rattle.wasm_read_spec.specs.declared.token.Opener.TheVariants as opener
 use Rattle.wasm_read_spec.specs.declared.token.Token.{Token}
 use Rattle.wasm_read_spec.specs.declared.token.Token.TheVariants.{Open, Else, End, Plain}
 use Rattle.wasm_read_spec.specs.declared.token.Sequence.{Sequence}
-use Rattle.wasm_read_spec.specs.Prelude.{Code, Any, Both, After, SpellsVal, SpellsFuncType, SpellsGroup, SpellsBody, SpellsCode, Reader, tag_at, u32_at, val_at, pair_at, mapped_at, tagged_at, func_type_of, with_group, ReadResult, behind, token_at, after_token, whole, enclosed, code_of}
+use Rattle.wasm_read_spec.specs.Prelude.{Code, Any, Both, After, SpellsVal, SpellsFuncType, SpellsGroup, SpellsBody, SpellsCode, Reader, tag_at, u32_at, val_at, pair_at, mapped_at, tagged_at, func_type_of, with_group, ReadResult, behind, token_at, after_token, whole, enclosed}
 use Rattle.wasm_read_spec.specs.Bodies.{depth}
 use Rattle.wasm_read_spec.specs.Reading.{each_from, vector_at, func_type_at, local_at, locals_at}
 use Rattle.wasm_read_spec.specs.BodyReading.{block_at, sequence_at, body_at, closed, code_at}

@@ -119,8 +119,8 @@ module _ (env : Environment) (w : World) (insts : List Inst) (allocated : Store)
   abbrev at_once : List Move → Run
   at_once moves = record { store = after; entries = Opening (starts_of w.parts insts) ∷ []; phase = Pending view; shown = []; view = []; owned = owned_of env; moves = moves }
 
-  abbrev in_turn : ℕ → Store → List Move → Run
-  in_turn k t moves = record { store = t; entries = Opening [] ∷ []; phase = Pending (view_over (made_upto k w.parts insts) w.view); shown = []; view = []; owned = owned_of env; moves = moves }
+  abbrev opened_run : ℕ → Store → List Move → Run
+  opened_run k t moves = record { store = t; entries = Opening [] ∷ []; phase = Pending (view_over (made_upto k w.parts insts) w.view); shown = []; view = []; owned = owned_of env; moves = moves }
 
   module _ (laws : FillLaws) (moves : List Move) where
     -- the first parts are there, and none of them has a start
@@ -128,7 +128,7 @@ module _ (env : Environment) (w : World) (insts : List Inst) (allocated : Store)
       pub filled : IsFilled k q.run.store
       pub of_first : OfFirst env w insts allocated g k q.run.store
       pub first : r ≡ at_once moves
-      pub second_run : q.run ≡ in_turn k q.run.store moves
+      pub second_run : q.run ≡ opened_run k q.run.store moves
       pub turn : IsTurn w insts k q
       pub none_before : starts_from w insts k ≡ starts_of w.parts insts
       pub most : k < length w.parts

@@ -19,7 +19,7 @@ use Rattle.world_simulation.specs.Prelude.{IsInst}
 
 module _ (env : Environment) (parts : List Part) (insts : List Inst) (are : Instances env parts insts) (allocated : Store) (stores_are : stores_from env parts insts (own_store env) 0 parts insts ≡ Some allocated) (matched : EachMatches env parts allocated) (size : length insts ≡ length parts) (there : ExportsThere parts) (earlier : JoinsEarlier parts) where
   -- the store after the segments of part k, where nothing else has changed
-  pub record Next (k : ℕ) (m : Module) (i : Inst) (t a : Store) : Type 0 where
+  pub record StoreFilled (k : ℕ) (m : Module) (i : Inst) (t a : Store) : Type 0 where
     pub store : Store
     pub is : own_segments (const_value t.globals i) m i (joined_stores t a) ≡ record { store = store; trapped = false }
     pub filled : FilledUpto env parts insts allocated (suc k) store
@@ -51,7 +51,7 @@ module _ (env : Environment) (parts : List Part) (insts : List Inst) (are : Inst
       given : (e : ConstExpr) → Constant m e → (v : Val) → value_of env parts insts k e ≡ Some v → const_value t.globals i e ≡ Some v
       given = value_given env parts insts are allocated stores_are matched size there earlier k m i is_part is_inst t (filled_holds env parts insts allocated k t filled)
 
-      pub filled_next : (segments env parts insts allocated).trapped ≡ false → Next k m i t a
+      pub filled_next : (segments env parts insts allocated).trapped ≡ false → StoreFilled k m i t a
       filled_next well =
           let all = both_went (value_of env parts insts) (placed_elems 0 parts insts) (placed_datas 0 parts insts) allocated well in
           let b = and_then_is (slice_get parts k) (λ part. Some part.«module») m is_part in

@@ -66,11 +66,11 @@ module _ (env : Environment) (w : World) (insts : List Inst) (allocated : Store)
     shut : (k : ℕ) → Same k q.run r → r.entries ≡ [] → r.phase ≡ Closed → q.run.entries ≡ [] → q.run.phase ≡ Closed → Stage d r q
     seen : (k : ℕ) → Same k q.run r → q.rest ≡ [] → Stage d r q
 
-  abbrev pub Next : ℕ → Run → SequentialRun → Type 0
-  Next d r q = Leads tick tick_sequential (λ d e r q. Stage d r q) d 0 r q
+  abbrev pub LeadsToStage : ℕ → Run → SequentialRun → Type 0
+  LeadsToStage d r q = Leads tick tick_sequential (λ d e r q. Stage d r q) d 0 r q
 
   -- a step of both, where the turn is the run's
-  in_step : (d : ℕ) (r : Run) (q : SequentialRun) → tick_sequential q ≡ with_run q (tick q.run) → (tick r).1 ≡ (tick q.run).1 → Stage d (tick r).0 (record q { run = (tick q.run).0 }) → Next d r q
+  in_step : (d : ℕ) (r : Run) (q : SequentialRun) → tick_sequential q ≡ with_run q (tick q.run) → (tick r).1 ≡ (tick q.run).1 → Stage d (tick r).0 (record q { run = (tick q.run).0 }) → LeadsToStage d r q
   in_step d r q e same stage = both (rw e same) (rw e stage)
 
   -- ---- the turn of the next part ----
@@ -91,7 +91,7 @@ module _ (env : Environment) (w : World) (insts : List Inst) (allocated : Store)
 
   module _ (k d : ℕ) (r : Run) (q : SequentialRun) (h : Waits k [] r q) where
     -- the next part is added, in a step of the second alone
-    add_part : (part : Part) (i : Inst) → slice_get w.parts k ≡ Some part → slice_get insts k ≡ Some i → length w.parts ≤ k + suc d → Next (suc d) r q
+    add_part : (part : Part) (i : Inst) → slice_get w.parts k ≡ Some part → slice_get insts k ≡ Some i → length w.parts ≤ k + suc d → LeadsToStage (suc d) r q
     add_part part i at_part at_inst l =
         let t = q.run.store in
         let next = joined_stores t (g.laid.adds k) in
@@ -123,7 +123,7 @@ module _ (env : Environment) (w : World) (insts : List Inst) (allocated : Store)
   opened_run : (r : Run) (view : List (Text × ExternalValue)) → r.entries ≡ Opening [] ∷ [] → r.phase ≡ Pending view → tick r ≡ (record r { entries = []; phase = Opened; view = view }, Some Linked)
   opened_run r view e f = rw (e, f)
 
-  open_view : (k d : ℕ) (r : Run) (q : SequentialRun) → k ≡ length w.parts → Waits k [] r q → Next d r q
+  open_view : (k d : ℕ) (r : Run) (q : SequentialRun) → k ≡ length w.parts → Waits k [] r q → LeadsToStage d r q
   open_view k d r q all h =
       let none : starts_from w insts k ≡ [] = rw (all, drop-length w.parts) in
       let rest : q.rest ≡ [] = rw (h.turn.rest, all, drop-length w.parts) in
@@ -145,17 +145,17 @@ module _ (env : Environment) (w : World) (insts : List Inst) (allocated : Store)
 
   -- ---- every stage has a next ----
 
-  pub next : (d : ℕ) (r : Run) (q : SequentialRun) → Stage d r q → Next d r q
+  pub next : (d : ℕ) (r : Run) (q : SequentialRun) → Stage d r q → LeadsToStage d r q
   next d r q (waits {k = k} l h) = go (cases_lt k (length w.parts))
     where
-      add : (d : ℕ) → length w.parts ≤ k + d → k < length w.parts → Next d r q
+      add : (d : ℕ) → length w.parts ≤ k + d → k < length w.parts → LeadsToStage d r q
       add zero l low = absurd (omega arith)
       add (suc d) l low =
           let part = slice_get_there w.parts k low in
           let i = slice_get_there insts k (rw g.size low) in
           add_part k d r q h part.0 i.0 part.1 i.1 l
 
-      go : (k < length w.parts) ⊎ (length w.parts ≤ k) → Next d r q
+      go : (k < length w.parts) ⊎ (length w.parts ≤ k) → LeadsToStage d r q
       go (inl low) = add d l low
       go (inr high) = open_view k d r q (omega (arith, h.most)) h
   next d r q (opens {k = k} {a = a} l s h) =

@@ -112,8 +112,8 @@ module _ (env : Environment) (w : World) (insts : List Inst) (allocated : Store)
         go None e (inl less) = fills_on (ap (start_in i) e) less
         go None e (inr all) = stage_now (λ p m less is. let part = and_then_is (slice_get w.parts p) _ m is in absurd (omega (arith, slice_get_within w.parts p part.0 part.1)))
 
-  abbrev Next : ℕ → ℕ → Run → SequentialRun → Type 0
-  Next d e r q = Leads tick tick_sequential (λ d e r q. Early d r q) d e r q
+  abbrev LeadsToEarly : ℕ → ℕ → Run → SequentialRun → Type 0
+  LeadsToEarly d e r q = Leads tick tick_sequential (λ d e r q. Early d r q) d e r q
 
   -- ---- the first step ----
 
@@ -145,18 +145,18 @@ module _ (env : Environment) (w : World) (insts : List Inst) (allocated : Store)
       let a = advances env w insts allocated g itself below extend ticks others view view_is IsFilled laws moves k part.0 i.0 r q part.1 i.1 h in
       (goes_on q part.0 (drop (suc k) w.parts) i.0 a.next_store, a.is, after_turn k d part.0 i.0 r q part.1 i.1 h a l)
 
-  next : (d e : ℕ) (r : Run) (q : SequentialRun) → Early d r q → Next d e r q
+  next : (d e : ℕ) (r : Run) (q : SequentialRun) → Early d r q → LeadsToEarly d e r q
   next d e r q (fresh at_start before some l) =
       let s = step_of 0 d at_once (before_parts env w moves) (nothing_yet some) (omega arith) in
       both (rw (at_start, before, first_tick, s.1)) (rw (at_start, before, first_tick, s.1) s.2)
   next d e r q (fills k l h) = go d l
     where
-      go : (d : ℕ) → length w.parts ≤ k + d → Next d e r q
+      go : (d : ℕ) → length w.parts ≤ k + d → LeadsToEarly d e r q
       go zero l = absurd (omega (arith, h.most))
       go (suc d) l = let s = step_of k d r q h (omega arith) in second (rw s.1) (rw s.1 s.2)
   next d e r q (later_on h) = on (stages.next env w insts allocated g itself below extend ticks others view view_is d r q h)
     where
-      on : {d : ℕ} → Leads tick tick_sequential (λ d e r q. TheStage d r q) d 0 r q → Next d e r q
+      on : {d : ℕ} → Leads tick tick_sequential (λ d e r q. TheStage d r q) d 0 r q → LeadsToEarly d e r q
       on (both p i) = both p (later_on i)
       on (second p i) = second p (later_on i)
 

@@ -1,7 +1,7 @@
 use Rattle.base_lists.proofs.Common.{List, sym, ◌∙◌, arith, option_map, hash_map_updates_str}
 use Rattle.wasm_tree_spec.specs.Prelude.{Export}
 use Rattle.split_plan.specs.declared.named.Named.TheVariants.{Exported}
-use Rattle.split_plan.specs.Words.{exported_among}
+use Rattle.split_plan.specs.NamedFunctions.{exported_among}
 use Rattle.split_plan.proofs.Tables.{at_one_before, export_enters, export_passes}
 use Rattle.split_plan.proofs.named.exported.Goals as goal
 

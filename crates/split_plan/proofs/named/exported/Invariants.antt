@@ -1,6 +1,6 @@
 use Rattle.base_lists.proofs.Common.{◌≡◌, drop, ℕ, List, option_map}
 use Rattle.split_plan.specs.declared.named.Named.TheVariants.{Exported}
-use Rattle.split_plan.specs.Words.{exported_among}
+use Rattle.split_plan.specs.NamedFunctions.{exported_among}
 use Rattle.split_plan.specs.Looking.{held_of}
 use Rattle.split_plan.proofs.named.exported.Given as goal
 
