@@ -5,7 +5,6 @@ use Rattle.wasm_meaning.specs.Prelude.{Inst, Store, ExternalValue, Filled, Place
 use Rattle.index_remap.specs.Prelude.{Pairing, BothRel, both, StoreRel, turned, HasNoPartner}
 use Rattle.world_contents_proof.specs.Added.{WritesAlone}
 use Rattle.world_simulation.specs.Prelude.{Kept, in_first, in_second}
-use Rattle.world_simulation.proofs.Copied.{nothing_kept}
 use Rattle.world_simulation.proofs.Ordered.{kept_rel}
 
 -- ---- what is added comes behind ----
@@ -70,7 +69,7 @@ module _ (related alone : Space → ℕ → Type 0) (never : (k : Space) (a : �
   turn_kept : {A : Type 0} (run : Store → PlacedSegment A → Filled) (i : Inst) (ns : List ℕ) (xs : List A) →
       ((n a : ℕ) (x : A) → slice_get ns n ≡ Some a → slice_get xs n ≡ Some x → (s : Store) → Kept related s (run s (record { part = 0; inst = i; address = a; segment = x })).store) → (s : Store) → Kept related s (one_by_one run s (segments_in 0 i ns xs)).store
   turn_kept run i (a ∷ ns) (x ∷ xs) h s = then_kept s _ (λ s. one_by_one run s (segments_in 0 i ns xs)) (h 0 a x refl refl s) (turn_kept run i ns xs (λ n. h (suc n)))
-  turn_kept run i _ _ h s = nothing_kept related s
+  turn_kept run i _ _ h s = assumption
 
   -- If all related segments were there before, and those of the added module write only what is alone, then what is related is kept.
   added_kept : (s : Store) (m : Module) (things : List ExternalValue) (a : Added) → added s m things ≡ Some a →
@@ -98,10 +97,10 @@ module _ (R : Pairing) (s z : Store) (m : Module) (things : List ExternalValue) 
   added_second h writes =
       let k = added_kept (in_second R) (HasNoPartner R) (second_apart R) z m things a h
       (λ n r. let b = right_is (like.elems r.1) in slice_get_within z.elems n b.0 b.1) (λ n r. let b = right_is (like.datas r.1) in slice_get_within z.datas n b.0 b.1) writes in
-      kept_rel R (joined_right R k.0 like) (nothing_kept (in_first R) s) k.1
+      kept_rel R (joined_right R k.0 like) (assumption) k.1
 
   pub added_first : added s m things ≡ Some a → WritesAlone (HasNoPartner (turned R)) m a.inst → StoreRel R a.filled.store z
   added_first h writes =
       let k = added_kept (in_first R) (HasNoPartner (turned R)) (first_apart R) s m things a h
       (λ n r. let b = left_is (like.elems r.1) in slice_get_within s.elems n b.0 b.1) (λ n r. let b = left_is (like.datas r.1) in slice_get_within s.datas n b.0 b.1) writes in
-      kept_rel R (joined_left R k.0 like) k.1 (nothing_kept (in_second R) z)
+      kept_rel R (joined_left R k.0 like) k.1 (assumption)

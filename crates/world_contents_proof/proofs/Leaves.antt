@@ -4,12 +4,12 @@ use Rattle.base_lists.specs.Options.{◌>>=◌}
 use Rattle.wasm_tree_spec.specs.Prelude.{ConstExpr, ElemMode, ElemSeg, DataMode, DataSeg, Module}
 use Rattle.wasm_tree.specs.declared.module.ElemMode.TheVariants as elem
 use Rattle.wasm_tree.specs.declared.module.DataMode.TheVariants as data'
-use Rattle.wasm_meaning.specs.Prelude.{Text, Entity, Val, Inst, Elem, Store, ref_of, Begun, Filled, PlacedSegment, address_in, all_there, const_value, value_of, elem_with, store_with, part_store, joined_stores, numbers, segments_in, run_elem_with, run_elem, run_data_with, run_data, and_then, one_by_one, segments, insts_from, stores_from, begun, own_store, alone, Added, added, next_inst, LoaderWorld, store_under, supplied, primary_added, begun_under, Environment, ExternalValue, World}
+use Rattle.wasm_meaning.specs.Prelude.{Text, Entity, Val, Inst, Elem, Store, ref_of, Begun, Filled, PlacedSegment, address_in, all_there, const_value, value_of, elem_with, store_with, part_store, joined_stores, numbers, segments_in, run_elem_with, run_elem, run_data_with, run_data, and_then, one_by_one, segments, insts_from, stores_from, begun, own_store, alone, Added, added, next_inst, LoaderWorld, store_under, supplied, primary_added, begun_under, Environment, ExternalValue}
 pub use Rattle.world_contents_proof.specs.Copies.{memories, tables}
 use Rattle.world_contents_proof.specs.Copies.{OwnSegmentsLeave, OwnSegmentsRunAsCopies, SegmentsAloneRunAsCopies}
 use Rattle.world_contents_proof.specs.Leaves.{Copy, all_over, elem_copy, elem_copies, data_copy, data_copies, Stands, elem_left, data_left, Leaves, ModulesAloneLeave, WorldsOfOneModuleLeave}
 use Rattle.world_simulation.proofs.Simulated.{what_is_made}
-use Rattle.world_simulation.specs.Prelude.{one, WhatIsInstantiated, AddsWith, IsInst, new_data, new_memory, new_table}
+use Rattle.world_simulation.specs.Prelude.{one, WhatIsInstantiated, AddsWith, IsInst, IsInstantiated, new_data, new_memory, new_table}
 use Rattle.world_contents_proof.proofs.Added.{added_is}
 use Rattle.world_contents_proof.proofs.Copies.{Kind, run, runs, left, IsOf, all_ran, all_stay, then_went}
 
@@ -149,18 +149,18 @@ world_left env m view b i s names made is inst good =
     rw (ap (λ (b : Begun). b.store) is) at (left_in_turn _ m i (own_store env) t.0 t.1 (run_elem env (one m) (i ∷ [])) (run_data env (one m) (i ∷ [])) (λ s n e. elem_runs _ i s n e e.mode) (λ s n d. data_runs _ i s n d d.mode) inst.elems inst.datas
     (segments env (one m) (i ∷ []) s) (rw (same, append-nil, append-nil)) (rw (← is) at good))
 
-one_inst : (env : Environment) (m : Module) (is : List Inst) → insts_from env (one m) 0 (one m) ≡ Some is → (i : Inst) × (is ≡ i ∷ []) × IsInst env (one m) 0 m i
-one_inst env m is h = search arith
-
 module _ (made : WhatIsInstantiated) where
   pub world_leaves_by : WorldsOfOneModuleLeave
-  world_leaves_by env m view b h good =
-      let world : World = record { parts = one m; view = view } in
-      let w = made env world b h in
-      let x = one_inst env m w.insts w.are_insts in
-      let s = subst (λ is. stores_from env (one m) is (own_store env) 0 (one m) is ≡ Some w.allocated) x.1 w.is_allocated in
-      let is = subst (λ is. begun env world is w.view (segments env (one m) is w.allocated) ≡ b) x.1 w.is in
-      (x.0, subst (λ is. insts_from env (one m) 0 (one m) ≡ Some is) x.1 w.are_insts, world_left env m view b x.0 w.allocated w.view s is x.2 good)
+  world_leaves_by env m view b h good = by (let are = w.are_insts in search arith)
+    where
+      w : IsInstantiated env (record { parts = one m; view = view }) b
+      w = made env (record { parts = one m; view = view }) b h
+
+      by : (i : Inst) × (w.insts ≡ i ∷ []) × IsInst env (one m) 0 m i → (i : Inst) × (insts_from env (one m) 0 (one m) ≡ Some (i ∷ [])) × Leaves (value_of env (one m) (i ∷ []) 0) m i (own_store env) b.store
+      by x =
+          let s = subst (λ is. stores_from env (one m) is (own_store env) 0 (one m) is ≡ Some w.allocated) x.1 w.is_allocated in
+          let is = subst (λ is. begun env (record { parts = one m; view = view }) is w.view (segments env (one m) is w.allocated) ≡ b) x.1 w.is in
+          (x.0, subst (λ is. insts_from env (one m) 0 (one m) ≡ Some is) x.1 w.are_insts, world_left env m view b x.0 w.allocated w.view s is x.2 good)
 
   pub alone_leaves : ModulesAloneLeave
   alone_leaves env m = world_leaves_by env m (alone m).view

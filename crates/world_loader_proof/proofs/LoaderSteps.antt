@@ -1,8 +1,8 @@
 -- A step under a loader that calls no placeholder is a step of the run, and one that calls a placeholder goes on in the function in its slot.
-use Rattle.base_lists.proofs.Common.{◌≡◌, zero, suc, false, refl, arith}
+use Rattle.base_lists.proofs.Common.{◌≡◌, zero, suc, true, false, refl, arith, each_same_self}
+use Rattle.wasm_tree_spec.specs.Prelude.{same_type, same_func_type}
 use Rattle.wasm_meaning.specs.Prelude.{Transition, made, transition, tick, LoaderWorld, LoaderRun, loader_made}
 use Rattle.index_remap.specs.Prelude.{calls_placeholder}
-use Rattle.index_remap.proofs.SlotCalls.{func_type_self}
 use Rattle.world_loader_proof.specs.LoaderSteps.{LoadersStepAsTheirRun, LoadersGoAsTheirRun, PlaceholdersAreAnswered}
 
 -- what a loader makes of a step that calls no placeholder is what the run makes of it
@@ -21,4 +21,5 @@ goes_as_run w q (suc n) none =
 
 pub answered : PlaceholdersAreAnswered
 answered w q r slot vs s es is a =
-    rw (is, a.is_inst, a.is_place, a.is_secondary, a.loaded, a.fills, a.is_placeholder, a.names, a.stands, a.refers, a.typed, func_type_self)
+    let self : same_func_type a.placeholder.1 a.placeholder.1 ≡ true = simp (each_same_self same_type (λ a. grind arith)) in
+    rw (is, a.is_inst, a.is_place, a.is_secondary, a.loaded, a.fills, a.is_placeholder, a.names, a.stands, a.refers, a.typed, self)
