@@ -3,7 +3,7 @@ use Rattle.base_lists.proofs.Common.{◌≡◌, ◌∙◌, ap, ap₂, sym, subst
 use Rattle.base_lists.proofs.Filtered.{places_apart}
 use Rattle.std.proofs.Common.{filter_map}
 use Rattle.base_lists.specs.Places.{numbers, places}
-use Rattle.wasm_tree_spec.specs.Prelude.{Space, Types, Functions, Tables, Memories, Globals, ElementSegments, DataSegments, Instr, ConstExpr, DataMode, ElemMode, ElemSeg, ExportDesc, GlobalDef, ImportDesc, Module, same_space, all_operands_pass, PassesLayerByLayer, ListLayers, func_of, global_of, space_of_import, imported_funcs, imported_globals, funcs_of, tables_of, memories_of, globals_of}
+use Rattle.wasm_tree_spec.specs.Prelude.{Space, Types, Functions, Tables, Memories, Globals, ElementSegments, DataSegments, Instr, ConstExpr, DataMode, ElemMode, ElemSeg, ExportDesc, GlobalDef, ImportDesc, Module, same_space, PassesInside, PassesLayerByLayer, ListLayers, func_of, global_of, space_of_import, imported_funcs, imported_globals, funcs_of, tables_of, memories_of, globals_of}
 use Rattle.wasm_tree.specs.declared.module.ConstExpr.TheVariants as const
 use Rattle.wasm_tree.specs.declared.module.DataMode.TheVariants as «data»
 use Rattle.wasm_tree.specs.declared.module.ElemMode.TheVariants as elem
@@ -12,9 +12,9 @@ use Rattle.wasm_tree.specs.declared.module.ExportDesc.TheVariants as ex
 use Rattle.wasm_tree.specs.declared.module.Func.{Func as Function}
 use Rattle.wasm_tree.specs.declared.module.Import.{Import as ModuleImport}
 use Rattle.wasm_tree.specs.declared.module.ImportDesc.TheVariants as im
-use Rattle.wasm_tree.proofs.OperandLaws.{passes_more}
 use Rattle.wasm_meaning.specs.Prelude.{has_kind, imports_of}
 use Rattle.index_remap.specs.declared.remap.Remap.{Remap}
+use Rattle.index_remap.proofs.NotOpaque.{operands_follow}
 use Rattle.index_remap_proof.specs.Indices.{ConstNamesOnly, DataModeNamesOnly, ElemModeNamesOnly, ExportNamesOnly, ImportNamesOnly, LayerNamesOnly, TreeNamesOnly, with_entry}
 use Rattle.index_remap_proof.specs.Trees.{Covers}
 use Rattle.base_kept.specs.Kept.{is_marked}
@@ -43,12 +43,6 @@ no_other d s h k = grind arith
 
 stays_too : (d : ImportDesc) (s : Space) → same_space s (space_of_import d) ≡ true → stays_imported s ≡ true → stays_imported (space_of_import d) ≡ true
 stays_too d s h k = grind arith
-
-never_import : (d : ImportDesc) → (same_space Types (space_of_import d) ≡ false) × (same_space ElementSegments (space_of_import d) ≡ false) × (same_space DataSegments (space_of_import d) ≡ false)
-never_import (im.Func ty) = (refl, refl, refl)
-never_import (im.Table ty) = (refl, refl, refl)
-never_import (im.Memory l) = (refl, refl, refl)
-never_import (im.Global g) = (refl, refl, refl)
 
 -- whether a point is no import
 abbrev no_import : Point → Bool
@@ -101,7 +95,7 @@ module _ (m : Module) where
   globals_before : length (import_edges Globals) ≡ length (imported_globals m.imports)
   globals_before = length-map (imports_into Globals m.imports) (λ place. Import place ∷ []) ∙ places_many (has_kind Globals) (λ i. global_of i.desc) m.imports (λ i. grind arith) 0
 
-module _ (g : Graph) (m : Module) (r : Reached) (exact : AreExact g m r) (law : PassesLayerByLayer) (N : TreeNamesOnly (with_entry (spaces m)) m) where
+module _ (g : Graph) (m : Module) (r : Reached) (exact : AreExact g m r) (inside : PassesInside) (law : PassesLayerByLayer) (N : TreeNamesOnly (with_entry (spaces m)) m) where
   abbrev k : Marks
   k = marks_of r
 
@@ -182,14 +176,19 @@ module _ (g : Graph) (m : Module) (r : Reached) (exact : AreExact g m r) (law : 
   marked_stays ElementSegments i h = refl
   marked_stays DataSegments i h = refl
 
-  passes_there : (body : List Instr) → ListLayers (LayerNamesOnly (with_entry (spaces m))) body → all_operands_pass (λ o. with_entry (spaces m) o.space o.index) body ≡ true
-  passes_there body h = (law (λ o. with_entry (spaces m) o.space o.index) body).1 h
+  -- the points that a body names pass where the operands that are there do
+  all_pass : (test : Point → Bool) → ((s : Space) (i : ℕ) → with_entry (spaces m) s i ≡ true → point_passes test (point_of s i) ≡ true) →
+      (body : List Instr) → ListLayers (LayerNamesOnly (with_entry (spaces m))) body → list_all test (body_points body) ≡ true
+  all_pass test follows body h =
+      body_passes test inside body
+      ∙ (law (passes test) body).1 (operands_follow (λ o. with_entry (spaces m) o.space o.index ≡ true) (λ o. passes test o ≡ true) (λ o. follows o.space o.index) body h)
 
   body_marked : (body : List Instr) → ListLayers (LayerNamesOnly (with_entry (spaces m))) body → ((q : Point) → There q → Contains (body_points body) q → marked r q ≡ true) → ListLayers (LayerNamesOnly (stays k)) body
   body_marked body h c =
-      let all_there : list_all is_there (body_points body) ≡ true = body_passes is_there body ∙ passes_more (λ o. with_entry (spaces m) o.space o.index) (passes is_there) (λ o p. there_passes o.space o.index p) body (passes_there body h) in
+      let all_there : list_all is_there (body_points body) ≡ true = all_pass is_there there_passes body h in
       let all_marked : list_all (marked r) (body_points body) ≡ true = list_all_from (marked r) (body_points body) (λ n q at. c q (ltb-true _ _ (list_all_each is_there (body_points body) all_there n q at)) (there_contains (body_points body) n q at)) in
-      (law (λ o. stays k o.space o.index) body).0 (passes_more (passes (marked r)) (λ o. stays k o.space o.index) (λ o p. marked_stays o.space o.index p) body (sym (body_passes (marked r) body) ∙ all_marked))
+      operands_follow (λ o. passes (marked r) o ≡ true) (λ o. stays k o.space o.index ≡ true) (λ o. marked_stays o.space o.index) body
+      ((law (passes (marked r)) body).0 (sym (body_passes (marked r) inside body) ∙ all_marked))
 
   export_marked : (d : ExportDesc) → ExportNamesOnly (with_entry (spaces m)) d → ((q : Point) → There q → Contains (from_export d) q → marked r q ≡ true) → ExportNamesOnly (stays k) d
   export_marked (ex.Func f) h c = c (Func f) (in_funcs m f h) (there_contains (Func f ∷ []) 0 (Func f) refl)
@@ -264,8 +263,7 @@ module _ (g : Graph) (m : Module) (r : Reached) (exact : AreExact g m r) (law : 
   passes_no_import DataSegments i = refl
 
   body_no_import : (n : ℕ) (f : Function) → slice_get m.funcs n ≡ Some f → list_all no_import (body_points f.body) ≡ true
-  body_no_import n f e =
-      body_passes no_import f.body ∙ passes_more (λ o. with_entry (spaces m) o.space o.index) (passes no_import) (λ o h. passes_no_import o.space o.index) f.body (passes_there f.body (N.funcs n f e).1)
+  body_no_import n f e = all_pass no_import (λ s i h. passes_no_import s i) f.body (N.funcs n f e).1
 
   items_no_import : (items : List ConstExpr) → list_all no_import (filter_map const_point items) ≡ true
   items_no_import items = all_chosen no_import const_point items const_no_import
@@ -438,9 +436,9 @@ module _ (g : Graph) (m : Module) (r : Reached) (exact : AreExact g m r) (law : 
   imported Globals i n h = global_imported i n h
   imported Tables i n h = always_imported Tables i n h refl
   imported Memories i n h = always_imported Memories i n h refl
-  imported Types i n h = let p = placed Types i n h in absurd (true≢false (sym p.is ∙ (never_import p.import.desc).0))
-  imported ElementSegments i n h = let p = placed ElementSegments i n h in absurd (true≢false (sym p.is ∙ (never_import p.import.desc).1))
-  imported DataSegments i n h = let p = placed DataSegments i n h in absurd (true≢false (sym p.is ∙ (never_import p.import.desc).2))
+  imported Types i n h = let p = placed Types i n h in let is : same_space Types (space_of_import p.import.desc) ≡ true = p.is in absurd (grind arith)
+  imported ElementSegments i n h = let p = placed ElementSegments i n h in let is : same_space ElementSegments (space_of_import p.import.desc) ≡ true = p.is in absurd (grind arith)
+  imported DataSegments i n h = let p = placed DataSegments i n h in let is : same_space DataSegments (space_of_import p.import.desc) ≡ true = p.is in absurd (grind arith)
 
   pub closed : AreClosed k m
   closed = record {

@@ -1,13 +1,12 @@
 -- What lists of points have in them, and the points that a body names.
-use Rattle.base_lists.proofs.Common.{◌≡◌, ◌∙◌, ap, ap₂, sym, refl, ℕ, zero, suc, List, [], ◌∷◌, Option, Some, None, Bool, true, ◌&&◌, slice_get, map, Contains, cons_option, flat_map, list_all, list_all-append, Contains-append_left, Contains-append_right, filter_map-append, slice_get-get_or, left_true, list_all_each, Has, there_contains}
+use Rattle.base_lists.proofs.Common.{◌≡◌, ◌∙◌, ap, ap₂, sym, refl, ℕ, zero, suc, List, [], ◌∷◌, ◌++◌, Option, Some, None, Bool, true, ◌&&◌, slice_get, map, Contains, cons_option, flat_map, list_all, list_all-append, Contains-append_left, Contains-append_right, slice_get-get_or, left_true, list_all_each, Has, there_contains}
 use Rattle.std.proofs.Common.{filter_map}
 use Rattle.base_lists.specs.Every.{Every}
-use Rattle.wasm_tree_spec.specs.Prelude.{Operand, Instr, out-Instr, operands_of, held, operands_pass, all_operands_pass}
-use Rattle.wasm_tree.proofs.OperandLaws.{by_held, passes_inside}
+use Rattle.wasm_tree_spec.specs.Prelude.{Operand, PassesInside, Instr, out-Instr, fold_out-Instr, operands_of, held, operands_pass, all_operands_pass}
+use Rattle.wasm_tree.proofs.OperandLaws.{by_held, operands_map, held_map}
 use Rattle.dce_graph.specs.declared.point.Point.{Point}
-use Rattle.dce_graph.specs.Prelude.{operand_point, body_operands, named_points, body_points}
-use Rattle.dce_graph.specs.Reach.{all_operands}
-use Rattle.dce_graph.proofs.Walking.{named_inside}
+use Rattle.dce_graph.specs.Prelude.{operand_point, body_operands, body_points}
+use Rattle.dce_graph.specs.Reach.{all_operands, operands_step}
 
 -- ---- lists ----
 
@@ -68,21 +67,23 @@ module _ (test : Point → Bool) where
   passes o = point_passes test (operand_point o)
 
   abbrev Alike : Instr → Type 0
-  Alike i = list_all test (named_points i) ≡ operands_pass passes i
+  Alike i = list_all passes (all_operands i) ≡ operands_pass passes i
 
-  lists : (is : List Instr) → Every Alike is → list_all test (body_points is) ≡ all_operands_pass passes is
+  lists : (is : List Instr) → Every Alike is → list_all passes (body_operands is) ≡ all_operands_pass passes is
   lists [] h = refl
-  lists (i ∷ is) h = ap (list_all test) (filter_map-append operand_point (all_operands i) (body_operands is)) ∙ list_all-append test (named_points i) (body_points is) ∙ ap₂ (λ a b. a && b) h.0 (lists is h.1)
+  lists (i ∷ is) h = list_all-append passes (all_operands i) (body_operands is) ∙ ap₂ (λ a b. a && b) h.0 (lists is h.1)
 
-  inside : (i : Instr) → Every Alike (held (out-Instr i)) → Alike i
-  inside i h =
-      ap (list_all test) (named_inside i) ∙ list_all-append test (filter_map operand_point (operands_of i)) (body_points (held (out-Instr i)))
-      ∙ ap₂ (λ a b. a && b) (operands_chosen test (operands_of i)) (lists (held (out-Instr i)) h) ∙ sym (passes_inside passes i)
+  module _ (passes_inside : PassesInside) where
+    inside : (i : Instr) → Every Alike (held (out-Instr i)) → Alike i
+    inside i h =
+        let own_first : all_operands i ≡ operands_of i ++ body_operands (held (out-Instr i)) = fold_out-Instr (List Operand) operands_step i ∙ simp (operands_map, held_map) in
+        ap (list_all passes) own_first ∙ list_all-append passes (operands_of i) (body_operands (held (out-Instr i)))
+        ∙ ap (λ b. list_all passes (operands_of i) && b) (lists (held (out-Instr i)) h) ∙ sym (passes_inside passes i)
 
-  every : (is : List Instr) → Every Alike is
-  every [] = tt
-  every (i ∷ is) = (by_held Alike inside i, every is)
+    every : (is : List Instr) → Every Alike is
+    every [] = tt
+    every (i ∷ is) = (by_held Alike inside i, every is)
 
-  -- all points that a body names pass where its operands do
-  pub body_passes : (is : List Instr) → list_all test (body_points is) ≡ all_operands_pass passes is
-  body_passes is = lists is (every is)
+    -- all points that a body names pass where its operands do
+    pub body_passes : (is : List Instr) → list_all test (body_points is) ≡ all_operands_pass passes is
+    body_passes is = operands_chosen test (body_operands is) ∙ lists is (every is)

@@ -5,10 +5,8 @@ use Rattle.wasm_tree.specs.declared.module.ImportDesc.TheVariants as imported
 use Rattle.wasm_valid.specs.declared.kinds.ItemKind.TheVariants as kind
 use Rattle.wasm_valid.specs.Prelude.{ImportHolds, ItemsHold}
 use Rattle.eval_spec.specs.Prelude.{imported_func}
-
--- the types of imported functions are there
-abbrev pub ImportsTyped : Module → List Import → Type 0
-ImportsTyped m is = (n : ℕ) (i : Import) → slice_get is n ≡ Some i → (ty : ℕ) → func_of i.desc ≡ Some ty → ty < length m.types
+use Rattle.eval_references_proof.specs.Imports.{ImportsAreTyped}
+pub use Rattle.eval_references_proof.specs.Imports.{ImportsTyped}
 
 module _ (m : Module) where
   -- of each imported function there is one
@@ -35,3 +33,6 @@ typed_desc m (imported.Global t) ty h e = absurd (let k = e in cc)
 pub imports_typed : (m : Module) → ItemsHold m → ImportsTyped m m.imports
 imports_typed m v n i e ty f =
     let h = v kind.Import n (slice_get_within m.imports n i e) in let same : h.0 ≡ i = same_Some h.0 i (sym h.1 ∙ e) in typed_desc m i.desc ty (subst (λ x. ImportHolds m x.desc) same h.2) f
+
+pub imports_are_typed : (m : Module) → ItemsHold m → ImportsAreTyped m
+imports_are_typed m v = let typed = imports_typed m v in record { typed = typed; many = imports_many m m.imports typed }

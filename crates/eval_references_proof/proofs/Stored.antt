@@ -12,7 +12,7 @@ use Rattle.wasm_meaning.specs.Prelude.{Gives, copies, overwrite, RefVal, Val, Nu
 use Rattle.index_remap.specs.Prelude.{ListRel, nil, cons, OptRel, none, some, RefRel, ValRel, number, reference, FuncRel, own, defined, TableRel, GlobalRel, ElemRel, func, CodeIsRelatedToItself}
 use Rattle.eval_spec.specs.Prelude.{State, Stage, Going, Stopped, Finished, Test, first_held, stopped_or, written_after, copied_slots, data_tests, elem_tests, place_in, filled_from, imported_func, imported_store, in_order, instantiated, own_inst, state_at_first, value_in, with_data, with_data_mode, with_elem, with_elem_mode, with_segments}
 use Rattle.eval_references_proof.specs.References.{GlobalsAreTyped}
-use Rattle.eval_references_proof.proofs.Imports.{imports_many, imports_typed}
+use Rattle.eval_references_proof.proofs.Imports.{imports_are_typed}
 use Rattle.eval_references_proof.proofs.Typed.{first_typed}
 use Rattle.eval_references_proof.proofs.Itself.{IsStored, R, count_in, itself, names_itself, null_itself, to_itself, zero_itself}
 
@@ -104,7 +104,7 @@ module _ (m : Module) (coded : CodeIsRelatedToItself) where
 
     first_stored : IsStored m first
     first_stored =
-        let imports = imports_many m m.imports (imports_typed m v) in
+        let imports = (imports_are_typed m v).many in
         let defs = all_there_length (new_func (own_inst m)) m.funcs fs ef in
         let globals = all_there_length (global_with (value_in m)) m.globals gs eg in
         let elems = all_there_length (elem_with (value_in m)) m.elems es ee in

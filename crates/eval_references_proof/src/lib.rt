@@ -1,7 +1,8 @@
 //! Laws that, in the states of an evaluation, the values of globals have their types and refer to
-//! no functions but those of the module.
+//! no functions but those of the module; and that imported functions have their types.
 #![tactic(auto)]
 
+ghost use Rattle.eval_references_proof.specs.Imports.{ImportedFunctionsAreTyped};
 ghost use Rattle.eval_references_proof.specs.References.{CallsKeepRefs, CallsKeepTypes, EvaluatedGlobalsAreTyped, EvaluatedRefsAreThere};
 
 use index_remap::steps_agree;
@@ -37,5 +38,13 @@ pub fn calls_keep_values_of_globals()
 {
     steps_agree();
     steps_write_only_touched_places();
+    valid_where_items_hold();
+}
+
+/// States that the types of the functions that a valid module imports are there, so that the store
+/// has a function for each (WebAssembly Core 2.0, section 3.4.9).
+pub fn imported_functions_are_typed()
+    ensures { ImportedFunctionsAreTyped }
+{
     valid_where_items_hold();
 }

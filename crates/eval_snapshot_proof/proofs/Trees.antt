@@ -7,7 +7,7 @@ use Rattle.std.specs.List.{take-map}
 use Rattle.base_kept.specs.Kept.{kept as keeping, kept_before, is_marked}
 use Rattle.base_kept.proofs.Laws.{kept_from, kept_map, kept_take, kept_contained}
 use Rattle.base_kept.proofs.Marks.{named_within}
-use Rattle.wasm_tree_spec.specs.Prelude.{FuncType, Limits, RefType, ValType, Ref, ConstExpr, DataMode, DataSeg, ElemMode, Export, ExportDesc, Func, GlobalDef, ImportDesc, Module, any_uses_data, uses_data, AnyInside, PassesInside, PassesLayerByLayer, funcs_of, globals_of, memories_of, imported_funcs, imported_globals, imported_memories}
+use Rattle.wasm_tree_spec.specs.Prelude.{FuncType, Limits, RefType, ValType, Ref, ConstExpr, DataMode, DataSeg, ElemMode, Export, ExportDesc, Func, GlobalDef, ImportDesc, Module, any_uses_data, uses_data, funcs_of, globals_of, memories_of, imported_funcs, imported_globals, imported_memories}
 use Rattle.wasm_tree.specs.declared.types.RefType.TheVariants.{Func as func_ref}
 use Rattle.wasm_tree.specs.declared.module.ConstExpr.TheVariants as const
 use Rattle.wasm_tree.specs.declared.module.DataMode.TheVariants as data'
@@ -23,14 +23,9 @@ use Rattle.index_remap_proof.specs.ButForReferences.{HoldsButForReferences, any_
 use Rattle.eval_spec.specs.Prelude.{State, takes_and_gives_nothing, value_of_global, memory_bytes, is_dropped}
 use Rattle.eval_snapshot_spec.specs.Contents.{contents, stretches, stretch_segment}
 use Rattle.eval_snapshot_spec.specs.Snapshot.{added_funcs, empty_func, empty_type, export_left, global_left, globals_left, is_among_names, is_kept, is_passive, emptied, memory_segments, old_segments, segment_left, segments_left, snapshot_tree}
+pub use Rattle.eval_snapshot_proof.specs.Left.{CodeLaws}
 use Rattle.eval_snapshot_proof.specs.Suits.{HasEmptyType, Suits}
 use Rattle.eval_snapshot_proof.proofs.Typed.{typed_wider}
-
--- what the laws on what code names say
-pub record CodeLaws : Type 0 where
-  pub inside : PassesInside
-  pub any : AnyInside
-  pub layers : PassesLayerByLayer
 
 -- ---- lists ----
 

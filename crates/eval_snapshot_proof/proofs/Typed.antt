@@ -1,18 +1,15 @@
 -- Code that stays well typed where there are more functions, others may be named, and there are other data segments, as many as before if it names one.
-use Rattle.base_lists.proofs.Common.{◌≡◌, ◌∙◌, ap, refl, ℕ, Bool, true, false, not, ◌&&◌, ◌||◌, List, [], ◌∷◌, ◌++◌, Some, slice_get, arith, nat_lt, nat_le, list_all, list_any, append_at_left, and_from, left_either, right_either, keeps_map, keeps_only, keeps_then, and_then_is, only_true, Option, None}
+use Rattle.base_lists.proofs.Common.{◌≡◌, ◌∙◌, ap, refl, ℕ, Bool, true, false, not, ◌&&◌, ◌||◌, List, [], ◌∷◌, ◌++◌, Some, slice_get, arith, nat_lt, nat_le, list_all, list_any, append_at_left, and_from, left_either, right_either, keeps_only, keeps_then, and_then_is, only_true, Option, None}
 use Rattle.base_lists.specs.Every.{Every}
 use Rattle.wasm_tree_spec.specs.Prelude.{Operand, ValType, FuncType, Instr, Row_of-Instr, end_of-Instr, more_of-Instr, Block', Loop', If', Call, RefFunc, MemoryInit, DataDrop, names_data, uses_data, uses_data_in, Layers, RowLayers, ListLayers, all_operands_pass, held, operands, operands_of, operands_pass, AnyInside, PassesInside, PassesLayerByLayer}
 use Rattle.wasm_tree.specs.declared.instr.Instr.{out-Instr}
 use Rattle.wasm_tree.specs.declared.instr.Instr.TheOpen.{Instr-F}
 use Rattle.wasm_tree.proofs.OperandLaws.{by_held}
-use Rattle.wasm_valid_bodies.specs.Typing.{Context, Effect, Fits, Leads, LeadsAll, Stack, WellTyped, effect_of, signature_in}
+use Rattle.wasm_valid_bodies.specs.Typing.{Context, Effect, Fits, Leads, LeadsAll, Stack, WellTyped, effect_of, gives_of, signature_in}
 use Rattle.index_remap.specs.Prelude.{Keeps, labelled}
+pub use Rattle.eval_snapshot_proof.specs.Left.{no_data_or}
 
 -- ---- code that names a data segment only where there are as many ----
-
--- the operand is no data segment, or this is so
-abbrev pub no_data_or : Bool → Operand → Bool
-no_data_or so o = not (names_data o) || so
 
 either_so : (b so : Bool) → (b ≡ true → so ≡ true) → (not b || so) ≡ true
 either_so true so h = h refl
@@ -56,9 +53,10 @@ left_keeps : (a b r : Bool) → (a ≡ true → b ≡ true) → a && r ≡ true 
 left_keeps true b r k h = ap (λ z. z && r) (k refl) ∙ h
 left_keeps false b r k h = cc
 
-keeps_type : (m n : Option FuncType) → Keeps m n → Keeps (signature_in m) (signature_in n)
-keeps_type None n k y h = cc
-keeps_type (Some t) n k y h = ap signature_in (k t refl) ∙ h
+-- a call of a function whose type is still there has the effect that it had
+call_keeps : (o p : Option FuncType) (e : Effect) → Keeps o p → gives_of (signature_in o) ≡ Some e → gives_of (signature_in p) ≡ Some e
+call_keeps None p e k h = cc
+call_keeps (Some t) p e k h = ap (λ q. gives_of (signature_in q)) (k t refl) ∙ h
 
 module _ (c : Context) (more : List ℕ) (count : ℕ) (marks : List Bool) (marked : (x : ℕ) → slice_get c.named x ≡ Some true → slice_get marks x ≡ Some true) where
   abbrev wider : List (List ValType) → Context
@@ -73,7 +71,7 @@ module _ (c : Context) (more : List ℕ) (count : ℕ) (marks : List Bool) (mark
   effect_wider : (ls : List (List ValType)) (i : Instr) (e : Effect) → DatasAreThere (out-Instr i) → effect_of (labelled c ls) i ≡ Some e → effect_of (wider ls) i ≡ Some e
   unfolding out-Instr denote.Hole.Carrier.out
   effect_wider ls (Call f) e q h =
-      keeps_map _ _ _ (keeps_type _ _ (keeps_then (slice_get c.funcs f) (slice_get (c.funcs ++ more) f) (slice_get c.types) (slice_get c.types) (append_at_left c.funcs more f) types_keep)) e h
+      call_keeps _ _ e (keeps_then (slice_get c.funcs f) (slice_get (c.funcs ++ more) f) (slice_get c.types) (slice_get c.types) (append_at_left c.funcs more f) types_keep) h
   effect_wider ls (RefFunc x) e q h =
       let b = and_then_is (slice_get c.named x) _ e h in
       let may : slice_get c.named x ≡ Some true = b.1 ∙ ap Some (only_true b.0 _ e b.2) in

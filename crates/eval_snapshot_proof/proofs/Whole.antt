@@ -8,8 +8,9 @@ use Rattle.index_remap.specs.Prelude.{declared, declared_refs, declaring, with_d
 use Rattle.index_remap_proof.specs.ButForReferences.{IsValidButForReferences}
 use Rattle.eval_spec.specs.Prelude.{State, takes_and_gives_nothing}
 use Rattle.eval_snapshot_spec.specs.Snapshot.{declared_snapshot, empty_func, export_left, snapshot, snapshot_tree, too_much}
+use Rattle.eval_snapshot_proof.specs.Left.{CodeLaws}
 use Rattle.eval_snapshot_proof.specs.Suits.{HasEmptyType, HasEmptyTypeFor, Suits}
-use Rattle.eval_snapshot_proof.proofs.Trees.{CodeLaws, added_type, func_from, globals_are, items_hold}
+use Rattle.eval_snapshot_proof.proofs.Trees.{added_type, func_from, globals_are, items_hold}
 
 -- what the laws below say
 pub record Laws : Type 0 where

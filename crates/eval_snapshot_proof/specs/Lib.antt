@@ -1,1 +1,2 @@
 pub mod Suits
+pub mod Left

@@ -1,4 +1,4 @@
-//! The law that the snapshot of a valid module is valid.
+//! Laws of snapshots: that of a valid module is valid, and what it has of the module.
 #![tactic(auto)]
 
 ghost use Rattle.std.specs.Prelude.{◌≡◌, List, None};
@@ -8,6 +8,7 @@ ghost use Rattle.wasm_valid.specs.Validity.{IsSingle, IsValid};
 ghost use Rattle.wasm_meaning.specs.State.{Text};
 ghost use Rattle.eval_spec.specs.State.{State};
 ghost use Rattle.eval_snapshot_spec.specs.Snapshot.{snapshot, too_much};
+ghost use Rattle.eval_snapshot_proof.specs.Left.{DataOperandsPass, EachGlobalIsLeft, NoSegmentIsLost};
 ghost use Rattle.eval_snapshot_proof.specs.Suits.{HasEmptyTypeFor, Suits};
 
 use index_remap_proof::declared_trees_are_valid;
@@ -28,4 +29,18 @@ pub fn snapshots_are_valid()
     valid_where_items_hold();
     declared_trees_are_valid();
     counts_are_within_where_none_is_over();
+}
+
+/// States what a snapshot has of its module.
+///
+/// - `globals`: each of its globals is what is left of the global at its place.
+/// - `segments`: of each data segment something is left, if not only its place.
+/// - `code`: if something is so wherever code names a data segment, it is so for each operand of
+///   the code that names one.
+pub fn snapshots_have_what_is_left()
+    ensures globals { EachGlobalIsLeft }
+    ensures segments { NoSegmentIsLost }
+    ensures code { DataOperandsPass }
+{
+    operands_pass_layer_by_layer();
 }

@@ -1,5 +1,5 @@
 -- Lists that are joined by part, read at a place and made one part after the other.
-use Rattle.base_lists.proofs.Common.{◌≡◌, ◌∙◌, sym, ap, refl, ℕ, zero, suc, ◌+◌, ◌<◌, ◌≤◌, List, [], ◌∷◌, ◌++◌, length, map, take, arith, slice_get, slice_index, Some, append_assoc, append-nil, length-map, length-append, take_all, flat_map, slice_get-map, slice_get_within, get_or_from_slice_get}
+use Rattle.base_lists.proofs.Common.{◌≡◌, ◌∙◌, sym, ap, refl, ℕ, zero, suc, ◌+◌, ◌<◌, ◌≤◌, List, [], ◌∷◌, ◌++◌, length, map, take, arith, slice_get, slice_index, Some, append_assoc, append-nil, length-map, length-append, take_all, flat_map, slice_get-map, slice_get_within, get_or_from_slice_get, and_then_is}
 use Rattle.std.specs.Option.{option_map}
 use Rattle.wasm_tree_spec.specs.Prelude.{Module}
 use Rattle.wasm_meaning.specs.Prelude.{Part, Site, module_at, sites_in}
@@ -7,14 +7,15 @@ use Rattle.merge_spec.specs.declared.parts.Part as declared
 use Rattle.merge_spec.specs.Prelude.{named_module, named_modules, by_import, by_part_from, by_part}
 use Rattle.merge_spec.specs.Linked.{by_import_from}
 use Rattle.merge_join.specs.LinkedParts.{site, each_part}
-use Rattle.wasm_meaning.proofs.Counts.{module_there}
 use Rattle.merge_valid_proof.proofs.ByPart.{by_part_flat}
 
 pub named_length : (parts : List declared.Part) → length (named_modules parts) ≡ length parts
 named_length parts = length-map parts named_module
 
 pub part_there : (parts : List declared.Part) (p : ℕ) (m : Module) → module_at (named_modules parts) p ≡ Some m → p < length parts
-part_there parts p m h = omega (arith, module_there (named_modules parts) p m h, named_length parts)
+part_there parts p m h =
+    let part = and_then_is (slice_get (named_modules parts) p) (λ part. Some part.«module») m h in
+    omega (arith, slice_get_within (named_modules parts) p part.0 part.1, named_length parts)
 
 module_is : (ps : List Part) (p : ℕ) → p < length ps → (m : Module) × (module_at ps p ≡ Some m)
 module_is [] p h = absurd (omega arith)

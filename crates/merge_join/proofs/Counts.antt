@@ -2,6 +2,7 @@
 use Rattle.base_lists.proofs.Common.{◌≡◌, ◌∙◌, sym, ap, refl, ℕ, suc, ◌+◌, ◌<◌, ◌≤◌, List, [], ◌∷◌, ◌++◌, length, take, arith, Bool, true, false, cond, Some, append_assoc, append-nil, flat_map, length-append, take_all, filter-append}
 use Rattle.wasm_tree_spec.specs.Prelude.{Space, Types, Module}
 use Rattle.std.specs.Prelude.{filter}
+use Rattle.wasm_meaning.specs.Counted.{EachPartAddsItsDefinitions}
 use Rattle.wasm_meaning.specs.Prelude.{defined_count, defined_before, Part, Site, module_at, sites_in, sites_from, sites}
 use Rattle.merge_spec.specs.declared.parts.Part as declared
 use Rattle.merge_spec.specs.Prelude.{named_modules, stays, imports_kind}
@@ -11,7 +12,6 @@ use Rattle.merge_join.specs.LinkedParts.{site}
 use Rattle.merge_join.specs.Spaces.{picked, sites_before, count_before}
 use Rattle.merge_join.proofs.ByPart.{named_length, part_more}
 use Rattle.merge_join.proofs.Sites.{sites_in_more, sites_split, staying_is}
-pub use Rattle.wasm_meaning.proofs.Counts.{defined_none, defined_next}
 use Rattle.merge_valid_proof.proofs.ByPart.{by_part_is}
 
 -- ---- imports ----
@@ -82,8 +82,8 @@ staying_few ps k = both_few (imports_kind ps k) (stays ps) (sites ps)
 
 -- ---- what is defined ----
 
-pub defined_more : (k : Space) (ps : List Part) (p : ℕ) (m : Module) → module_at ps p ≡ Some m → defined_before k ps (p + 1) ≡ defined_before k ps p + defined_count k m
-defined_more k ps p m h = let e : p + 1 ≡ suc p = omega arith in ap (defined_before k ps) e ∙ defined_next k ps p m h
+pub defined_more : EachPartAddsItsDefinitions → (k : Space) (ps : List Part) (p : ℕ) (m : Module) → module_at ps p ≡ Some m → defined_before k ps (p + 1) ≡ defined_before k ps p + defined_count k m
+defined_more next k ps p m h = let e : p + 1 ≡ suc p = omega arith in ap (defined_before k ps) e ∙ next k ps p m h
 
 pub count_none : (ps : List Part) (k : Space) → count_before ps k 0 0 ≡ 0
 unfolding count_before

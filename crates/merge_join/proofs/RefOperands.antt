@@ -4,8 +4,8 @@ use Rattle.base_lists.specs.Every.{Every}
 use Rattle.wasm_tree_spec.specs.Prelude.{Space, Functions, Operand, BlockType, Instr, fold_out-Instr, map-Instr, out-Instr, same_space, operands, operands_of, block_operands, held, operands_pass, all_operands_pass}
 use Rattle.wasm_tree.specs.declared.types.BlockType.TheVariants as block
 use Rattle.wasm_tree.specs.declared.instr.Instr.TheOpen.{Instr-F}
-use Rattle.wasm_tree.specs.OperandLaws.{moved}
-use Rattle.wasm_tree.proofs.OperandLaws.{operands_map, held_map, passes_inside, by_held, mapped_code_passes}
+use Rattle.wasm_tree.specs.OperandLaws.{moved, MappedCodePasses, PassesInside}
+use Rattle.wasm_tree.proofs.OperandLaws.{operands_map, held_map, by_held}
 use Rattle.index_remap.specs.declared.remap.Remap.{Remap}
 use Rattle.index_remap.specs.Prelude.{entry, entries, has, has_entry, fits_all, renumbered_all, refs, refs_all, refs_step}
 
@@ -13,7 +13,7 @@ use Rattle.index_remap.specs.Prelude.{entry, entries, has, has_entry, fits_all, 
 abbrev ref_passes : (ℕ → Bool) → Operand → Bool
 ref_passes test o = o.called || (not (same_space o.space Functions) || test o.index)
 
-module _ (test : ℕ → Bool) where
+module _ (passes_inside : PassesInside) (test : ℕ → Bool) where
   no_refs : (ty : BlockType) → list_all (ref_passes test) (block_operands ty) ≡ true
   no_refs block.Empty = refl
   no_refs (block.Value t) = refl
@@ -61,7 +61,7 @@ module _ (test : ℕ → Bool) where
   refs_pass is = all_joined (map refs is) ∙ all_same is (each_same is)
 
 -- code passes a test of operands where two others, which it passes, imply it
-module _ (p q r : Operand → Bool) (then : (o : Operand) → p o ≡ true → q o ≡ true → r o ≡ true) where
+module _ (passes_inside : PassesInside) (p q r : Operand → Bool) (then : (o : Operand) → p o ≡ true → q o ≡ true → r o ≡ true) where
   abbrev Follows : Instr → Type 0
   Follows i = operands_pass p i ≡ true → operands_pass q i ≡ true → operands_pass r i ≡ true
 
@@ -92,7 +92,7 @@ module _ (p q r : Operand → Bool) (then : (o : Operand) → p o ≡ true → q
   all_follow is = code_follows is (each_follows is)
 
 -- what `ref.func` names in code with other indices passes where what it names in the code does
-module _ (m : Remap) (old new : ℕ → Bool) (kept : (f : ℕ) → has m.funcs f ≡ true → old f ≡ true → new (slice_index m.funcs f) ≡ true) where
+module _ (passes_inside : PassesInside) (mapped_code_passes : MappedCodePasses) (m : Remap) (old new : ℕ → Bool) (kept : (f : ℕ) → has m.funcs f ≡ true → old f ≡ true → new (slice_index m.funcs f) ≡ true) where
   operand_kept : (s : Space) (x : ℕ) (called : Bool) → has (entries m s) x ≡ true → (called || (not (same_space s Functions) || old x)) ≡ true → (called || (not (same_space s Functions) || new (entry m s x))) ≡ true
   operand_kept s x true h k = refl
   operand_kept Functions x false h k = kept x h k
@@ -100,5 +100,5 @@ module _ (m : Remap) (old new : ℕ → Bool) (kept : (f : ℕ) → has m.funcs 
 
   pub refs_kept : (is : List Instr) → fits_all m is ≡ true → list_all old (refs_all is) ≡ true → list_all new (refs_all (renumbered_all m is)) ≡ true
   refs_kept is fits h =
-      refs_pass new (renumbered_all m is) ∙ mapped_code_passes (entry m) (ref_passes new) is
-      ∙ all_follow (has_entry m) (ref_passes old) (λ o. ref_passes new (moved (entry m) o)) (λ o. operand_kept o.space o.index o.called) is fits (sym (refs_pass old is) ∙ h)
+      refs_pass passes_inside new (renumbered_all m is) ∙ mapped_code_passes (entry m) (ref_passes new) is
+      ∙ all_follow passes_inside (has_entry m) (ref_passes old) (λ o. ref_passes new (moved (entry m) o)) (λ o. operand_kept o.space o.index o.called) is fits (sym (refs_pass passes_inside old is) ∙ h)

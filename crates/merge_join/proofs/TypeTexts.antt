@@ -1,10 +1,9 @@
 -- Two function types are equal exactly where their texts are.
-use Rattle.base_lists.proofs.Common.{◌≡◌, ◌∙◌, sym, ap, refl, List, [], ◌∷◌, ◌++◌, map, arith, bytes_eq, bytes_eq-Decides, same_tests}
+use Rattle.base_lists.proofs.Common.{◌≡◌, ◌∙◌, sym, ap, refl, List, [], ◌∷◌, ◌++◌, map, arith, bytes_eq, bytes_eq-Decides, same_tests, each_same_is, each_same_self}
 use Rattle.wasm_tree.specs.declared.types.RefType.TheVariants as reft
-use Rattle.wasm_tree_spec.specs.Prelude.{ValType, FuncType, same_func_type}
+use Rattle.wasm_tree_spec.specs.Prelude.{ValType, FuncType, same_func_type, same_type}
 use Rattle.wasm_tree.specs.declared.types.ValType.TheVariants as valt
 use Rattle.merge_join.specs.Texts.{letter_of, text_of_type}
-use Rattle.index_remap.proofs.SlotCalls.{func_type_is, func_type_self}
 
 letters_differ : (s t : ValType) → letter_of s ≡ letter_of t → s ≡ t
 letters_differ valt.I32 valt.I32 e = refl
@@ -66,5 +65,5 @@ texts_differ t u e = let s = split t.params u.params t.results u.results e in ap
 -- types are the same exactly where their texts are
 pub same_by_text : (t u : FuncType) → same_func_type t u ≡ bytes_eq (text_of_type t) (text_of_type u)
 same_by_text t u = same_tests (same_func_type t u) (bytes_eq (text_of_type t) (text_of_type u))
-    (λ e. (bytes_eq-Decides (text_of_type t) (text_of_type u)).1 (ap text_of_type (func_type_is t u e)))
-    (λ e. ap (same_func_type t) (sym (texts_differ t u ((bytes_eq-Decides (text_of_type t) (text_of_type u)).0 e))) ∙ func_type_self t)
+    (λ e. (bytes_eq-Decides (text_of_type t) (text_of_type u)).1 (let is : t ≡ u = grind (arith, each_same_is same_type (λ a b e. grind arith)) in ap text_of_type is))
+    (λ e. ap (same_func_type t) (sym (texts_differ t u ((bytes_eq-Decides (text_of_type t) (text_of_type u)).0 e))) ∙ simp (each_same_self same_type (λ a. grind arith)))

@@ -18,6 +18,7 @@ use Rattle.merge_spec.specs.Prelude.{by_part, by_part_from, new_index, merged_el
 use Rattle.merge_spec.specs.Merged.{map_of, defined_funcs, all_exports, merged}
 use Rattle.merge_join.specs.LinkedParts.{PartsHold}
 use Rattle.merge_join.proofs.Reading.{becomes_new}
+use Rattle.wasm_tree.specs.OperandLaws.{MappedCodePasses, PassesInside}
 use Rattle.merge_join.proofs.RefOperands.{refs_kept}
 use Rattle.base_lists.proofs.Bools.{and_not}
 use Rattle.merge_valid_proof.proofs.ByPart.{by_part_has}
@@ -126,7 +127,7 @@ named_keeps (x ∷ es) (None ∷ names) e many all h = absurd (omega (arith, all
 named_keeps (x ∷ es) (Some t ∷ names) e many all (zero, h) = let same : x ≡ e = cc in (record x { name = t }, (0, refl), ap (λ (z : Export). z.desc) same)
 named_keeps (x ∷ es) (Some t ∷ names) e many all (suc n, h) = let r = named_keeps es names e (omega (arith, many)) (omega (arith, all)) (n, h) in (r.0, (suc r.1.0, r.1.1), r.2)
 
-module _ (ps : List Part) (names : List (Option Text)) (many : length names ≡ length (all_exports ps)) (all : length names ≤ length (named_exports (all_exports ps) names)) where
+module _ (inside : PassesInside) (mapped : MappedCodePasses) (ps : List Part) (names : List (Option Text)) (many : length names ≡ length (all_exports ps)) (all : length names ≤ length (named_exports (all_exports ps) names)) where
   abbrev Whole : Module
   Whole = merged ps names
 
@@ -229,7 +230,7 @@ module _ (ps : List Part) (names : List (Option Text)) (many : length names ≡ 
 
       body_named : list_all (is_among (outside_refs Whole)) (refs_all (renumbered_all (map_of ps p m) g.body)) ≡ true
       body_named =
-          refs_kept (map_of ps p m) old (is_among (outside_refs Whole)) new_kept g.body body_fits
+          refs_kept inside mapped (map_of ps p m) old (is_among (outside_refs Whole)) new_kept g.body body_fits
           (list_all_from old (refs_all g.body) (λ n f e. old_at f (has_among (body_refs m.funcs) f (flat_has (λ (x : Func). refs_all x.body) m.funcs g f (k, here) (n, e)))))
 
   no_call : (f : ℕ) → refs (Call f) ≡ []
@@ -284,9 +285,9 @@ abbrev pub ValidHasEntries : Type 0
 ValidHasEntries = (ps : List Part) (p : ℕ) (m : Module) → IsValid m → fits_tree (map_of ps p m) m ≡ true
 
 -- where no export is dropped, the merged module has no function to be declared
-pub none_undeclared : (ps : List Part) (names : List (Option Text)) (tree : Module) → ValidIsDeclared → ValidHasEntries → PartsHold ps → tree ≡ merged ps names → length names ≡ length (all_exports ps) → length names ≤ length tree.exports → declared tree ≡ tree
+pub none_undeclared : PassesInside → MappedCodePasses → (ps : List Part) (names : List (Option Text)) (tree : Module) → ValidIsDeclared → ValidHasEntries → PartsHold ps → tree ≡ merged ps names → length names ≡ length (all_exports ps) → length names ≤ length tree.exports → declared tree ≡ tree
 unfolding merged
-none_undeclared ps names tree stays entries hold is many all =
+none_undeclared inside mapped ps names tree stays entries hold is many all =
     let same : length tree.exports ≡ length (named_exports (all_exports ps) names) = ap (λ (t : Module). length t.exports) is in
     subst (λ t. declared t ≡ t) (sym is)
-    (all_declared ps names many (omega (arith, all, same)) (λ p m at. stays m (hold p m at).0) (λ p m at. entries ps p m (hold p m at).0))
+    (all_declared inside mapped ps names many (omega (arith, all, same)) (λ p m at. stays m (hold p m at).0) (λ p m at. entries ps p m (hold p m at).0))

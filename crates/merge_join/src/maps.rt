@@ -23,6 +23,7 @@ use index_remap::Remap;
 use merge_spec::{Links, Part};
 use std::alloc::Global;
 use wasm_bytes::{Items, NoMemory};
+use wasm_meaning::definitions_are_counted_by_part;
 use wasm_tree::FuncType;
 
 // Returns `count` consecutive numbers from `first` on.
@@ -80,6 +81,7 @@ fn space_map(
     requires there { part < length into.now.parts.now }
     ensures { IfOk result (λ new. (m : Tree) → module_at (named_modules into.now.parts.now) part ≡ Some m → new ≡ each (new_index (named_modules into.now.parts.now) part into.now.space) (world.numbers 0 (space_size into.now.space m))) }
 {
+    definitions_are_counted_by_part();
     let mut map = imported_map(alloc, links, part, into)?;
     let first = number_at(&into.firsts, part);
     let defined = defined_count(into.space, module_of(into.parts, part));
@@ -112,6 +114,7 @@ fn map_of(
     requires data { first.data ≡ defined_before DataSegments (named_modules parts.now) part }
     ensures { IfOk result (λ map. (m : Tree) → module_at (named_modules parts.now) part ≡ Some m → map ≡ merged.map_of (named_modules parts.now) part m) }
 {
+    definitions_are_counted_by_part();
     let module = module_of(parts, part);
     Ok(Remap {
         types: type_map(alloc, module.types.as_slice(), types)?,
@@ -137,6 +140,7 @@ pub(crate) fn all_maps(
     requires types { types.now.list ≡ merged_types (named_modules parts.now) }
     ensures { IfOk result (λ maps. AreMaps (named_modules parts.now) maps) }
 {
+    definitions_are_counted_by_part();
     let mut maps = Items::new(alloc);
     let mut first = Segments { elem: 0, data: 0 };
     for part in 0..parts.len() {

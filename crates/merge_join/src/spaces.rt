@@ -17,6 +17,7 @@ use crate::numbers::number_at;
 use merge_spec::{End, Links, Part};
 use std::alloc::Global;
 use wasm_bytes::{Items, NoMemory};
+use wasm_meaning::definitions_are_counted_by_part;
 use wasm_tree::{Import, Space};
 
 /// A merged index space, with the places that the parts' imports and definitions have in it.
@@ -50,6 +51,7 @@ impl<'a> MergedSpace<'a> {
         requires { IsEnd (named_modules self.now.parts.now) self.now.space (Defined part index) }
         ensures { result ≡ place_at (named_modules self.now.parts.now) self.now.space (Defined part index) }
     {
+        definitions_are_counted_by_part();
         let imported = number_at(&self.imported, part);
         number_at(&self.firsts, part) + index.saturating_sub(imported)
     }
@@ -185,6 +187,7 @@ fn firsts_of(
     ensures firsts { IfOk result (λ r. r.0 ≡ each_part (λ p m. staying + defined_before space (named_modules parts.now) p) (named_modules parts.now)) }
     ensures count { IfOk result (λ r. r.1 ≡ staying + defined_before space (named_modules parts.now) (length parts.now)) }
 {
+    definitions_are_counted_by_part();
     let mut firsts = Items::new(alloc);
     let mut first = staying;
     for part in 0..parts.len() {

@@ -27,7 +27,7 @@ use merge_valid_proof::maps_have_entries;
 use module_limits::over_limit;
 use std::alloc::Global;
 use wasm_bytes::{Items, Name, NoMemory};
-use wasm_tree::{ConstExpr, Module};
+use wasm_tree::{ConstExpr, Module, operands_are_mapped, operands_pass_layer_by_layer};
 
 /// What the merged module is made from. `frame` has its types, imports, exports and start, with the
 /// function that calls several starts; `maps` and `values` have for each part the map of its
@@ -238,6 +238,8 @@ pub(crate) fn joined_tree(
 {
     declared_trees_are_valid();
     maps_have_entries();
+    operands_are_mapped();
+    operands_pass_layer_by_layer();
     let names = new_names(alloc, parts.as_slice(), mode)?;
     let mut module = merged(alloc, parts, links, names.as_slice())?;
     declare_references(alloc, &mut module, names.len())?;

@@ -4,19 +4,18 @@ use Rattle.wasm_meaning.specs.Prelude.{numbers, first_place}
 use Rattle.merge_spec.specs.Prelude.{named_modules}
 use Rattle.merge_join.proofs.MapParts.{space_is, map_built}
 use Rattle.merge_join.proofs.maps.map_of.Goals as goal
-use Rattle.merge_behaves_proof.proofs.Counterparts.{defined_low}
 
 pub numbers-requires : goal.numbers-requires
 numbers-requires c =
     let ps = named_modules c.args.parts.now in
     let m = c.module_of-module.result.now in
-    omega (arith, c.requires.elem, c.len.ensures, defined_low ElementSegments ps c.args.part m c.module_of-module.ensures.at, c.requires.linked.few.entries ElementSegments)
+    omega (arith, c.requires.elem, c.len.ensures, c.definitions_are_counted_by_part.ensures.all ElementSegments ps c.args.part m c.module_of-module.ensures.at, c.requires.linked.few.entries ElementSegments)
 
 pub numbers-requires-2 : goal.numbers-requires-2
 numbers-requires-2 c =
     let ps = named_modules c.args.parts.now in
     let m = c.module_of-module.result.now in
-    omega (arith, c.requires.data, c.len-2.ensures, defined_low DataSegments ps c.args.part m c.module_of-module.ensures.at, c.requires.linked.few.entries DataSegments)
+    omega (arith, c.requires.data, c.len-2.ensures, c.definitions_are_counted_by_part.ensures.all DataSegments ps c.args.part m c.module_of-module.ensures.at, c.requires.linked.few.entries DataSegments)
 
 pub returns : goal.returns
 returns c = λ m at.

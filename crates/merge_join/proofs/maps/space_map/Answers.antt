@@ -6,7 +6,6 @@ use Rattle.merge_join.proofs.ByPart.{each_within, each_index, module_exists}
 use Rattle.merge_join.proofs.Counts.{staying_few}
 use Rattle.merge_join.proofs.NewIndex.{all_indices}
 use Rattle.merge_join.proofs.maps.space_map.Goals as goal
-use Rattle.merge_behaves_proof.proofs.Counterparts.{defined_low}
 
 pub number_at-first-requires : goal.number_at-first-requires
 number_at-first-requires c =
@@ -22,7 +21,7 @@ add_numbers-requires c =
     let k = s.space in
     let m = c.module_of.result.now in
     let at = c.module_of.ensures.at in
-    omega (arith, c.number_at-first.ensures, each_index (first_of ps k) ps s.firsts c.args.part m s.is.firsts_are at, c.defined_count-defined.ensures, defined_low k ps c.args.part m at, staying_few ps k, c.requires.linked.few.entries k)
+    omega (arith, c.number_at-first.ensures, each_index (first_of ps k) ps s.firsts c.args.part m s.is.firsts_are at, c.defined_count-defined.ensures, c.definitions_are_counted_by_part.ensures.all k ps c.args.part m at, staying_few ps k, c.requires.linked.few.entries k)
 
 pub returns : goal.returns
 returns c = λ m at.

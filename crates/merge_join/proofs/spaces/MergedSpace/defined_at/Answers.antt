@@ -5,7 +5,6 @@ use Rattle.merge_join.specs.LinkedParts.{place_at}
 use Rattle.merge_join.specs.Spaces.{first_of, imported_in}
 use Rattle.merge_join.proofs.ByPart.{each_within, each_index}
 use Rattle.merge_join.proofs.spaces.MergedSpace.defined_at.Goals as goal
-use Rattle.merge_behaves_proof.proofs.Counterparts.{defined_low}
 
 pub number_at-imported-requires : goal.number_at-imported-requires
 number_at-imported-requires c =
@@ -32,7 +31,7 @@ overflow_add-result c =
       arith,
       s.few,
       s.is.count_is,
-      defined_low k ps c.args.part m at,
+      c.definitions_are_counted_by_part.ensures.all k ps c.args.part m at,
       many,
       within,
       c.number_at.ensures,
