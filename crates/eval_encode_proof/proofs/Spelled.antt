@@ -2,6 +2,7 @@
 use Rattle.base_lists.proofs.Common.{ℕ, zero, suc, ◌^◌, ◌<◌, List, [], ◌∷◌, Bool, true, false, sym, subst, arith, ◌==◌}
 use Rattle.base_lists.specs.Every.{Every}
 use Rattle.wasm_bytes.specs.Prelude.{Section, Each, Sized, U32, Vector, IsBytes, Framed}
+use Rattle.wasm_bytes.specs.Numbers.{Unsigned}
 use Rattle.wasm_tree_spec.specs.Prelude.{Limits, TableType, DataSeg, Module}
 use Rattle.wasm_read_spec.specs.declared.parts.Parts.{Parts}
 use Rattle.wasm_read_spec.specs.Prelude.{Both, Made, Never, When, SpellsConst, SpellsFuncType, SpellsLimits, SpellsTable, at_least, between, SpellsData, SpellsElem, SpellsExport, SpellsGlobalDef, SpellsImport, data0, data1, data2, SpellsEntry, Contents, Spells, nothing, tree_of, with_codes, with_count, with_datas, with_elems, with_exports, with_func_types, with_globals, with_imports, with_mems, with_start, with_tables, with_types}
@@ -11,7 +12,8 @@ use Rattle.wasm_read_spec.specs.Files.{section_form}
 use Rattle.wasm_read_spec.specs.Contents.{AreBytes}
 use Rattle.wasm_read_spec.proofs.FileLaws.{front_holds}
 use Rattle.wasm_bytes.proofs.Lists.{rest_holds}
-use Rattle.wasm_write_proof.proofs.NumberRanges.{says_made, says_never, says_vector, says_when, Says, u32_in}
+use Rattle.wasm_write_proof.proofs.NumberRanges.{says_made, says_never, says_vector, says_when}
+use Rattle.wasm_write_proof.specs.Ranges.{Says}
 use Rattle.eval_numbers_proof.specs.Ranges.{BeginsInRange, IsByte}
 
 -- ---- tables ----
@@ -19,18 +21,22 @@ use Rattle.eval_numbers_proof.specs.Ranges.{BeginsInRange, IsByte}
 abbrev FewSlots : Limits → Type 0
 FewSlots l = l.min < 2 ^ 32
 
-limits_few : Says FewSlots SpellsLimits
+-- what the law says of numbers that bytes encode
+abbrev NumbersAreInRange : Type 0
+NumbersAreInRange = (bits : ℕ) (text : List ℕ) (n : ℕ) → Unsigned bits text n → n < 2 ^ bits
+
+limits_few : NumbersAreInRange → Says FewSlots SpellsLimits
 unfolding limits_form
-limits_few bytes l h =
-    says_when FewSlots _ _ (h.0 == 0x00) (says_made FewSlots at_least U32 (λ b n u. u32_in b n u))
-    (says_when FewSlots _ _ (h.0 == 0x01) (says_made FewSlots between (Both U32 U32) (λ b p u. u32_in u.0 p.0 u.2))
+limits_few numbers bytes l h =
+    says_when FewSlots _ _ (h.0 == 0x00) (says_made FewSlots at_least U32 (λ b n u. numbers 32 b n u))
+    (says_when FewSlots _ _ (h.0 == 0x01) (says_made FewSlots between (Both U32 U32) (λ b p u. numbers 32 u.0 p.0 u.2))
     (says_never FewSlots)) h.1.1 l h.1.3
 
 abbrev FewInTable : TableType → Type 0
 FewInTable t = FewSlots t.limits
 
-table_few : Says FewInTable SpellsTable
-table_few bytes t h = limits_few h.1 t.limits h.3
+table_few : NumbersAreInRange → Says FewInTable SpellsTable
+table_few numbers bytes t h = limits_few numbers h.1 t.limits h.3
 
 -- ---- what spellings by bytes say of their values ----
 
@@ -84,7 +90,7 @@ record PartsBegin (p : Parts) : Type 0 where
   tables : Every FewInTable p.tables
   datas : Every HoldsBytes p.datas
 
-module _ (many : Bool) where
+module _ (numbers : NumbersAreInRange) (many : Bool) where
   section_begins : (p : Parts) (id : ℕ) → PartsBegin p → SaysOfBytes PartsBegin (section_form many p id)
   unfolding section_form
   section_begins p id r =
@@ -93,7 +99,7 @@ module _ (many : Bool) where
       (of_bytes_when PartsBegin _ _ (id == 2) (of_bytes_made PartsBegin (with_imports p) (Vector SpellsImport) (λ c x small h. record { tables = r.tables; datas = r.datas }))
       (of_bytes_when PartsBegin _ _ (id == 3) (of_bytes_made PartsBegin (with_func_types p) (Vector U32) (λ c x small h. record { tables = r.tables; datas = r.datas }))
       (of_bytes_when PartsBegin _ _ (id == 4) (of_bytes_made PartsBegin (with_tables p) (Vector SpellsTable) (λ c x small h.
-      record { tables = says_vector FewInTable SpellsTable table_few c x h; datas = r.datas }))
+      record { tables = says_vector FewInTable SpellsTable (table_few numbers) c x h; datas = r.datas }))
       (of_bytes_when PartsBegin _ _ (id == 5) (of_bytes_made PartsBegin (with_mems p) (Vector SpellsLimits) (λ c x small h. record { tables = r.tables; datas = r.datas }))
       (of_bytes_when PartsBegin _ _ (id == 6) (of_bytes_made PartsBegin (with_globals p) (Vector SpellsGlobalDef) (λ c x small h. record { tables = r.tables; datas = r.datas }))
       (of_bytes_when PartsBegin _ _ (id == 7) (of_bytes_made PartsBegin (with_exports p) (Vector SpellsExport) (λ c x small h. record { tables = r.tables; datas = r.datas }))
@@ -113,5 +119,5 @@ parts_begin : (p : Parts) → PartsBegin p → BeginsInRange (tree_of p)
 parts_begin p r = record { tables = r.tables; datas = r.datas }
 
 -- the contents of frames of bytes are bytes
-pub spelled_begin : ((bytes : List ℕ) (ss : List Section) → IsBytes bytes → Framed bytes ss → AreBytes ss) → (bytes : List ℕ) (m : Module) (many : Bool) → IsBytes bytes → Spells bytes m many → BeginsInRange m
-spelled_begin contents bytes m many small h = subst BeginsInRange (sym h.5) (parts_begin h.1 (contents_begin many nothing h.0 h.1 (contents bytes h.0 small h.2) (record { tables = tt; datas = tt }) h.3))
+pub spelled_begin : NumbersAreInRange → ((bytes : List ℕ) (ss : List Section) → IsBytes bytes → Framed bytes ss → AreBytes ss) → (bytes : List ℕ) (m : Module) (many : Bool) → IsBytes bytes → Spells bytes m many → BeginsInRange m
+spelled_begin numbers contents bytes m many small h = subst BeginsInRange (sym h.5) (parts_begin h.1 (contents_begin numbers many nothing h.0 h.1 (contents bytes h.0 small h.2) (record { tables = tt; datas = tt }) h.3))

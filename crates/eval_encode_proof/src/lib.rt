@@ -18,6 +18,7 @@ ghost use Rattle.eval_snapshot_spec.specs.Snapshot.{snapshot};
 
 use eval_numbers_proof::evaluated_numbers_are_in_range;
 use merge_encode_proof::{numbers_stay_in_range, valid_modules_are_in_range};
+use wasm_bytes::encoded_numbers_are_in_range;
 use wasm_read_spec::framing_is_decided;
 use wasm_valid::valid_code_names_memory_zero;
 
@@ -45,4 +46,5 @@ pub fn encoded_trees_begin_in_range()
     ensures { (bytes : List ℕ) (m : Module) (many : Bool) → IsBytes bytes → Spells bytes m many → BeginsInRange m }
 {
     framing_is_decided();
+    encoded_numbers_are_in_range();
 }

@@ -1,4 +1,5 @@
 pub mod Backwards
+pub mod HeldUses
 pub mod InRange
 pub mod Loops
 pub mod Parts

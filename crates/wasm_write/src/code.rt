@@ -14,7 +14,8 @@ use crate::numbers::{spell_number, spell_s32, spell_s64, spell_u32};
 use crate::plain::{Plain, spell_vector};
 use crate::target::Target;
 use crate::types::ref_code;
-use wasm_tree::{BlockType, Instr, MemArg, RefType, ValType};
+use wasm_tree::{BlockType, Instr, MemArg, RefType, ValType, operands_pass_layer_by_layer};
+use wasm_write_proof::numbers_are_in_range_layer_by_layer;
 
 /// Writes a memory argument (WebAssembly Core 2.0, section 5.4.6). The index of memory 0 is
 /// omitted.
@@ -189,7 +190,6 @@ fn spell_block<T: Target>(
 }
 
 /// Writes an instruction. `uses` becomes true if it names a data segment.
-#[tactic(auto, using(wasm_tree::proofs::DataUse::uses_block, wasm_tree::proofs::DataUse::uses_loop, wasm_tree::proofs::DataUse::uses_if))]
 #[cycle(spell)]
 fn spell_instr<T: Target>(target: &mut T, instr: &Instr, uses: &mut bool) -> Result<(), T::Refusal>
     ensures text { OnOk result (target.new ≡ T.preceded target.old (instr_text instr.now)) }
@@ -197,9 +197,19 @@ fn spell_instr<T: Target>(target: &mut T, instr: &Instr, uses: &mut bool) -> Res
     ensures range { OnOk result (IsTrue (in_range instr.now)) }
 {
     match form_of(instr) {
-        Form::Block(ty, body) => spell_block(target, 0x02, ty, body, uses),
-        Form::Loop(ty, body) => spell_block(target, 0x03, ty, body, uses),
+        Form::Block(ty, body) => {
+            operands_pass_layer_by_layer();
+            numbers_are_in_range_layer_by_layer();
+            spell_block(target, 0x02, ty, body, uses)
+        }
+        Form::Loop(ty, body) => {
+            operands_pass_layer_by_layer();
+            numbers_are_in_range_layer_by_layer();
+            spell_block(target, 0x03, ty, body, uses)
+        }
         Form::If(ty, body, other) => {
+            operands_pass_layer_by_layer();
+            numbers_are_in_range_layer_by_layer();
             spell_else(target, other, uses)?;
             spell_body(target, 0x04, ty, body, uses)
         }

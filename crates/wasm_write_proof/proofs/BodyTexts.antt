@@ -24,7 +24,7 @@ use Rattle.wasm_write_spec.specs.PlainValues.{vector_text, ref_text, val_text, b
 use Rattle.wasm_write_spec.specs.PlainCode.{un_code, bin_code, load_code, store_code, mem_arg_text, instr_step, instr_text, instrs_text, body_text}
 use Rattle.wasm_write_proof.specs.Ranges.{small, spellable, all_spellable}
 use Rattle.wasm_write_proof.proofs.Inside.{LayerInRange, layer_of, first_in, rest_in, front_in, back_in}
-use Rattle.wasm_write_proof.proofs.Parts.{below, u32_some, u32_spells, s32_spells, s64_spells, within_32, within_64, flag_spells, vector_spells, each_join}
+use Rattle.wasm_write_proof.proofs.Parts.{TextLaws, below, u32_some, u32_spells, s32_spells, s64_spells, within_32, within_64, flag_spells, vector_spells, each_join}
 use Rattle.wasm_write_proof.proofs.ItemTexts.{ref_spells, vals_spell, block_type_spells}
 
 -- ---- opcodes
@@ -135,20 +135,20 @@ zero_text = refl
 memory_spells : (m : ℕ) → nat_eq m 0 ≡ true → SpellsMemory false (u32_text m) m
 memory_spells m h = let e : m ≡ 0 = eqb-true m 0 h in rw e ([], (refl, refl), zero_text)
 
-arg_spells : (a o m : ℕ) → small a ≡ true → small o ≡ true → nat_eq m 0 ≡ true →
+arg_spells : TextLaws → (a o m : ℕ) → small a ≡ true → small o ≡ true → nat_eq m 0 ≡ true →
     SpellsMemArg false (mem_arg_text (record { align = a; offset = o; memory = m })) (record { align = a; offset = o; memory = m })
 unfolding arg_form
-arg_spells a o m h k e = let z : m ≡ 0 = eqb-true m 0 e in rw z (a, (u32_text a, u32_text o, u32_spells a (below a h), (o, u32_spells o (below o k), refl), refl))
+arg_spells laws a o m h k e = let z : m ≡ 0 = eqb-true m 0 e in rw z (a, (u32_text a, u32_text o, u32_spells laws a (below a h), (o, u32_spells laws o (below o k), refl), refl))
 
-mem_arg_spells : (a : MemArg) → nat_eq a.memory 0 ≡ true → small a.align && small a.offset ≡ true → SpellsMemArg false (mem_arg_text a) a
-mem_arg_spells a z h = arg_spells a.align a.offset a.memory (left_true (small a.align) _ h) (right_true (small a.align) _ h) z
+mem_arg_spells : TextLaws → (a : MemArg) → nat_eq a.memory 0 ≡ true → small a.align && small a.offset ≡ true → SpellsMemArg false (mem_arg_text a) a
+mem_arg_spells laws a z h = arg_spells laws a.align a.offset a.memory (left_true (small a.align) _ h) (right_true (small a.align) _ h) z
 
-labels_each : (xs : List ℕ) → list_all small xs ≡ true → Every (λ x. U32 (u32_text x) x) xs
-labels_each [] h = tt
-labels_each (x ∷ xs) h = (u32_spells x (below x (left_true (small x) _ h)), labels_each xs (right_true (small x) _ h))
+labels_each : TextLaws → (xs : List ℕ) → list_all small xs ≡ true → Every (λ x. U32 (u32_text x) x) xs
+labels_each laws [] h = tt
+labels_each laws (x ∷ xs) h = (u32_spells laws x (below x (left_true (small x) _ h)), labels_each laws xs (right_true (small x) _ h))
 
-labels_spell : (xs : List ℕ) → list_all small xs ≡ true → length (vector_text u32_text xs) < 2 ^ 32 → Vector U32 (vector_text u32_text xs) xs
-labels_spell xs h few = vector_spells U32 u32_text xs u32_some few (labels_each xs h)
+labels_spell : TextLaws → (xs : List ℕ) → list_all small xs ≡ true → length (vector_text u32_text xs) < 2 ^ 32 → Vector U32 (vector_text u32_text xs) xs
+labels_spell laws xs h few = vector_spells laws U32 u32_text xs u32_some few (labels_each laws xs h)
 
 -- ---- instructions
 
@@ -187,13 +187,13 @@ unfolding the_form un_of bin_of load_of store_of rest_form
 end_spells = (0x0B ∷ [], [], (0x0B, (0x0B ∷ [], [], refl, (refl, refl), refl)), refl, refl)
 
 -- one level, where each instruction inside is good
-node : (y : Instr-F Such) → LayerInRange (map-Instr Such Instr (λ e. e.0) y) →
+node : TextLaws → (y : Instr-F Such) → LayerInRange (map-Instr Such Instr (λ e. e.0) y) →
     length (instr_step (map-Instr Instr (List ℕ) instr_text (map-Instr Such Instr (λ e. e.0) y))) < 2 ^ 32 →
     One (roll-Instr (map-Instr Such Instr (λ e. e.0) y)) (instr_step (map-Instr Instr (List ℕ) instr_text (map-Instr Such Instr (λ e. e.0) y)))
 unfolding the_form un_of bin_of load_of store_of rest_form sub_form
-node Instr-F.Unreachable h k = rw rolls-Unreachable (leaf Unreachable 0x00 [] (refl, refl))
-node Instr-F.Nop h k = rw rolls-Nop (leaf Nop 0x01 [] (refl, refl))
-node (Instr-F.Block ty body) h k =
+node laws Instr-F.Unreachable h k = rw rolls-Unreachable (leaf Unreachable 0x00 [] (refl, refl))
+node laws Instr-F.Nop h k = rw rolls-Nop (leaf Nop 0x01 [] (refl, refl))
+node laws (Instr-F.Block ty body) h k =
     let inner = instrs_text (trees body) in
     let begin = 0x02 ∷ block_type_text ty in
     let b = body_of body h.2 (omega (arith, k, length-append (begin ++ inner) (0x0B ∷ []), length-append begin inner)) in
@@ -203,12 +203,12 @@ node (Instr-F.Block ty body) h k =
       (
         begin,
         inner ++ 0x0B ∷ [],
-        (0x02, (0x02 ∷ [], block_type_text ty, refl, (ty, block_type_spells ty h.0, refl), refl)),
+        (0x02, (0x02 ∷ [], block_type_text ty, refl, (ty, block_type_spells laws ty h.0, refl), refl)),
         tokens_join b.0 (End ∷ []) inner (0x0B ∷ []) b.2 end_spells,
         append_assoc begin inner (0x0B ∷ []),
       ),
     )
-node (Instr-F.Loop ty body) h k =
+node laws (Instr-F.Loop ty body) h k =
     let inner = instrs_text (trees body) in
     let begin = 0x03 ∷ block_type_text ty in
     let b = body_of body h.2 (omega (arith, k, length-append (begin ++ inner) (0x0B ∷ []), length-append begin inner)) in
@@ -218,12 +218,12 @@ node (Instr-F.Loop ty body) h k =
       (
         begin,
         inner ++ 0x0B ∷ [],
-        (0x03, (0x03 ∷ [], block_type_text ty, refl, (ty, block_type_spells ty h.0, refl), refl)),
+        (0x03, (0x03 ∷ [], block_type_text ty, refl, (ty, block_type_spells laws ty h.0, refl), refl)),
         tokens_join b.0 (End ∷ []) inner (0x0B ∷ []) b.2 end_spells,
         append_assoc begin inner (0x0B ∷ []),
       ),
     )
-node (Instr-F.If ty body []) h k =
+node laws (Instr-F.If ty body []) h k =
     let inner = instrs_text (trees body) in
     let begin = 0x04 ∷ block_type_text ty in
     let none : (begin ++ inner ++ []) ++ 0x0B ∷ [] ≡ (begin ++ inner) ++ 0x0B ∷ [] = ap (λ x. x ++ 0x0B ∷ []) (append-nil (begin ++ inner)) in
@@ -234,12 +234,12 @@ node (Instr-F.If ty body []) h k =
       (
         begin,
         inner ++ 0x0B ∷ [],
-        (0x04, (0x04 ∷ [], block_type_text ty, refl, (ty, block_type_spells ty h.0, refl), refl)),
+        (0x04, (0x04 ∷ [], block_type_text ty, refl, (ty, block_type_spells laws ty h.0, refl), refl)),
         tokens_join b.0 (End ∷ []) inner (0x0B ∷ []) b.2 end_spells,
         none ∙ append_assoc begin inner (0x0B ∷ []),
       ),
     )
-node (Instr-F.If ty body (e ∷ es)) h k =
+node laws (Instr-F.If ty body (e ∷ es)) h k =
     let inner = instrs_text (trees body) in
     let other = instrs_text (trees (e ∷ es)) in
     let begin = 0x04 ∷ block_type_text ty in
@@ -254,67 +254,67 @@ node (Instr-F.If ty body (e ∷ es)) h k =
       (
         begin,
         inner ++ 0x05 ∷ (other ++ 0x0B ∷ []),
-        (0x04, (0x04 ∷ [], block_type_text ty, refl, (ty, block_type_spells ty h.0, refl), refl)),
+        (0x04, (0x04 ∷ [], block_type_text ty, refl, (ty, block_type_spells laws ty h.0, refl), refl)),
         tokens_join b.0 (Else ∷ (o.0 ++ End ∷ [])) inner (0x05 ∷ (other ++ 0x0B ∷ [])) b.2
             (0x05 ∷ [], other ++ 0x0B ∷ [], (0x05, (0x05 ∷ [], [], refl, (refl, refl), refl)), tokens_join o.0 (End ∷ []) other (0x0B ∷ []) o.2 end_spells, refl),
         append_assoc (begin ++ inner) (0x05 ∷ other) (0x0B ∷ []) ∙ append_assoc begin inner (0x05 ∷ (other ++ 0x0B ∷ [])),
       ),
     )
-node (Instr-F.Br x) h k = rw rolls-Br (leaf (Br x) 0x0C (u32_text x) (x, u32_spells x (below x h.1), refl))
-node (Instr-F.BrIf x) h k = rw rolls-BrIf (leaf (BrIf x) 0x0D (u32_text x) (x, u32_spells x (below x h.1), refl))
-node (Instr-F.BrTable xs y) h k =
+node laws (Instr-F.Br x) h k = rw rolls-Br (leaf (Br x) 0x0C (u32_text x) (x, u32_spells laws x (below x h.1), refl))
+node laws (Instr-F.BrIf x) h k = rw rolls-BrIf (leaf (BrIf x) 0x0D (u32_text x) (x, u32_spells laws x (below x h.1), refl))
+node laws (Instr-F.BrTable xs y) h k =
     let labels = vector_text u32_text xs in
     rw rolls-BrTable (leaf (BrTable xs y) 0x0E (labels ++ u32_text y)
-    ((xs, y), (labels, u32_text y, labels_spell xs (left_true (list_all small xs) _ h.1) (omega (arith, k, length-append labels (u32_text y))), u32_spells y (below y (right_true (list_all small xs) _ h.1)), refl), refl))
-node Instr-F.Return h k = rw rolls-Return (leaf Return 0x0F [] (refl, refl))
-node (Instr-F.Call x) h k = rw rolls-Call (leaf (Call x) 0x10 (u32_text x) (x, u32_spells x (below x h.0.0), refl))
-node (Instr-F.CallIndirect x y) h k = rw rolls-CallIndirect (leaf (CallIndirect x y) 0x11 (u32_text x ++ u32_text y) ((x, y), (u32_text x, u32_text y, u32_spells x (below x h.0.0), u32_spells y (below y h.0.1.0), refl), refl))
-node Instr-F.Drop h k = rw rolls-Drop (leaf Drop 0x1A [] (refl, refl))
-node Instr-F.Select h k = rw rolls-Select (leaf Select 0x1B [] (refl, refl))
-node (Instr-F.SelectTyped ts) h k = rw rolls-SelectTyped (leaf (SelectTyped ts) 0x1C (vector_text val_text ts) (ts, vals_spell ts (omega (arith, k)), refl))
-node (Instr-F.LocalGet x) h k = rw rolls-LocalGet (leaf (LocalGet x) 0x20 (u32_text x) (x, u32_spells x (below x h.1), refl))
-node (Instr-F.LocalSet x) h k = rw rolls-LocalSet (leaf (LocalSet x) 0x21 (u32_text x) (x, u32_spells x (below x h.1), refl))
-node (Instr-F.LocalTee x) h k = rw rolls-LocalTee (leaf (LocalTee x) 0x22 (u32_text x) (x, u32_spells x (below x h.1), refl))
-node (Instr-F.GlobalGet x) h k = rw rolls-GlobalGet (leaf (GlobalGet x) 0x23 (u32_text x) (x, u32_spells x (below x h.0.0), refl))
-node (Instr-F.GlobalSet x) h k = rw rolls-GlobalSet (leaf (GlobalSet x) 0x24 (u32_text x) (x, u32_spells x (below x h.0.0), refl))
-node (Instr-F.TableGet x) h k = rw rolls-TableGet (leaf (TableGet x) 0x25 (u32_text x) (x, u32_spells x (below x h.0.0), refl))
-node (Instr-F.TableSet x) h k = rw rolls-TableSet (leaf (TableSet x) 0x26 (u32_text x) (x, u32_spells x (below x h.0.0), refl))
-node (Instr-F.Load op a) h k = rw rolls-Load (leaf (Load op a) (load_code op) (mem_arg_text a) (rw (load_code_form op) (a, mem_arg_spells a h.0.0 h.1, refl)))
-node (Instr-F.Store op a) h k = rw rolls-Store (leaf (Store op a) (store_code op) (mem_arg_text a) (rw (store_code_form op) (a, mem_arg_spells a h.0.0 h.1, refl)))
-node (Instr-F.MemorySize m) h k = rw rolls-MemorySize (leaf (MemorySize m) 0x3F (u32_text m) (m, memory_spells m h.0.0, refl))
-node (Instr-F.MemoryGrow m) h k = rw rolls-MemoryGrow (leaf (MemoryGrow m) 0x40 (u32_text m) (m, memory_spells m h.0.0, refl))
-node (Instr-F.I32Const z) h k = rw rolls-I32Const (leaf (I32Const z) 0x41 (s32_text z) (z, s32_spells z (within_32 z h.1), refl))
-node (Instr-F.I64Const z) h k = rw rolls-I64Const (leaf (I64Const z) 0x42 (s64_text z) (z, s64_spells z (within_64 z h.1), refl))
-node (Instr-F.Un op) h k = rw rolls-Un (leaf (Un op) (un_code op) [] (rw (un_code_form op) (refl, refl)))
-node (Instr-F.Bin op) h k = rw rolls-Bin (leaf (Bin op) (bin_code op) [] (rw (bin_code_form op) (refl, refl)))
-node (Instr-F.RefNull t) h k = rw rolls-RefNull (leaf (RefNull t) 0xD0 (ref_text t) (t, ref_spells t, refl))
-node Instr-F.RefIsNull h k = rw rolls-RefIsNull (leaf RefIsNull 0xD1 [] (refl, refl))
-node (Instr-F.RefFunc x) h k = rw rolls-RefFunc (leaf (RefFunc x) 0xD2 (u32_text x) (x, u32_spells x (below x h.0.0), refl))
-node (Instr-F.MemoryInit x m) h k = rw rolls-MemoryInit (leaf (MemoryInit x m) 0xFC (8 ∷ u32_text x ++ u32_text m) (8, (8 ∷ [], u32_text x ++ u32_text m, flag_spells 8 (omega arith), ((x, m), (u32_text x, u32_text m, u32_spells x (below x h.0.0), memory_spells m h.0.1.0, refl), refl), refl)))
-node (Instr-F.DataDrop x) h k = rw rolls-DataDrop (leaf (DataDrop x) 0xFC (9 ∷ u32_text x) (9, (9 ∷ [], u32_text x, flag_spells 9 (omega arith), (x, u32_spells x (below x h.0.0), refl), refl)))
-node (Instr-F.MemoryCopy x y) h k = rw rolls-MemoryCopy (leaf (MemoryCopy x y) 0xFC (10 ∷ u32_text x ++ u32_text y) (10, (10 ∷ [], u32_text x ++ u32_text y, flag_spells 10 (omega arith), ((x, y), (u32_text x, u32_text y, memory_spells x h.0.0, memory_spells y h.0.1.0, refl), refl), refl)))
-node (Instr-F.MemoryFill m) h k = rw rolls-MemoryFill (leaf (MemoryFill m) 0xFC (11 ∷ u32_text m) (11, (11 ∷ [], u32_text m, flag_spells 11 (omega arith), (m, memory_spells m h.0.0, refl), refl)))
-node (Instr-F.TableInit x y) h k = rw rolls-TableInit (leaf (TableInit x y) 0xFC (12 ∷ u32_text x ++ u32_text y) (12, (12 ∷ [], u32_text x ++ u32_text y, flag_spells 12 (omega arith), ((x, y), (u32_text x, u32_text y, u32_spells x (below x h.0.0), u32_spells y (below y h.0.1.0), refl), refl), refl)))
-node (Instr-F.ElemDrop x) h k = rw rolls-ElemDrop (leaf (ElemDrop x) 0xFC (13 ∷ u32_text x) (13, (13 ∷ [], u32_text x, flag_spells 13 (omega arith), (x, u32_spells x (below x h.0.0), refl), refl)))
-node (Instr-F.TableCopy x y) h k = rw rolls-TableCopy (leaf (TableCopy x y) 0xFC (14 ∷ u32_text x ++ u32_text y) (14, (14 ∷ [], u32_text x ++ u32_text y, flag_spells 14 (omega arith), ((x, y), (u32_text x, u32_text y, u32_spells x (below x h.0.0), u32_spells y (below y h.0.1.0), refl), refl), refl)))
-node (Instr-F.TableGrow x) h k = rw rolls-TableGrow (leaf (TableGrow x) 0xFC (15 ∷ u32_text x) (15, (15 ∷ [], u32_text x, flag_spells 15 (omega arith), (x, u32_spells x (below x h.0.0), refl), refl)))
-node (Instr-F.TableSize x) h k = rw rolls-TableSize (leaf (TableSize x) 0xFC (16 ∷ u32_text x) (16, (16 ∷ [], u32_text x, flag_spells 16 (omega arith), (x, u32_spells x (below x h.0.0), refl), refl)))
-node (Instr-F.TableFill x) h k = rw rolls-TableFill (leaf (TableFill x) 0xFC (17 ∷ u32_text x) (17, (17 ∷ [], u32_text x, flag_spells 17 (omega arith), (x, u32_spells x (below x h.0.0), refl), refl)))
+    ((xs, y), (labels, u32_text y, labels_spell laws xs (left_true (list_all small xs) _ h.1) (omega (arith, k, length-append labels (u32_text y))), u32_spells laws y (below y (right_true (list_all small xs) _ h.1)), refl), refl))
+node laws Instr-F.Return h k = rw rolls-Return (leaf Return 0x0F [] (refl, refl))
+node laws (Instr-F.Call x) h k = rw rolls-Call (leaf (Call x) 0x10 (u32_text x) (x, u32_spells laws x (below x h.0.0), refl))
+node laws (Instr-F.CallIndirect x y) h k = rw rolls-CallIndirect (leaf (CallIndirect x y) 0x11 (u32_text x ++ u32_text y) ((x, y), (u32_text x, u32_text y, u32_spells laws x (below x h.0.0), u32_spells laws y (below y h.0.1.0), refl), refl))
+node laws Instr-F.Drop h k = rw rolls-Drop (leaf Drop 0x1A [] (refl, refl))
+node laws Instr-F.Select h k = rw rolls-Select (leaf Select 0x1B [] (refl, refl))
+node laws (Instr-F.SelectTyped ts) h k = rw rolls-SelectTyped (leaf (SelectTyped ts) 0x1C (vector_text val_text ts) (ts, vals_spell laws ts (omega (arith, k)), refl))
+node laws (Instr-F.LocalGet x) h k = rw rolls-LocalGet (leaf (LocalGet x) 0x20 (u32_text x) (x, u32_spells laws x (below x h.1), refl))
+node laws (Instr-F.LocalSet x) h k = rw rolls-LocalSet (leaf (LocalSet x) 0x21 (u32_text x) (x, u32_spells laws x (below x h.1), refl))
+node laws (Instr-F.LocalTee x) h k = rw rolls-LocalTee (leaf (LocalTee x) 0x22 (u32_text x) (x, u32_spells laws x (below x h.1), refl))
+node laws (Instr-F.GlobalGet x) h k = rw rolls-GlobalGet (leaf (GlobalGet x) 0x23 (u32_text x) (x, u32_spells laws x (below x h.0.0), refl))
+node laws (Instr-F.GlobalSet x) h k = rw rolls-GlobalSet (leaf (GlobalSet x) 0x24 (u32_text x) (x, u32_spells laws x (below x h.0.0), refl))
+node laws (Instr-F.TableGet x) h k = rw rolls-TableGet (leaf (TableGet x) 0x25 (u32_text x) (x, u32_spells laws x (below x h.0.0), refl))
+node laws (Instr-F.TableSet x) h k = rw rolls-TableSet (leaf (TableSet x) 0x26 (u32_text x) (x, u32_spells laws x (below x h.0.0), refl))
+node laws (Instr-F.Load op a) h k = rw rolls-Load (leaf (Load op a) (load_code op) (mem_arg_text a) (rw (load_code_form op) (a, mem_arg_spells laws a h.0.0 h.1, refl)))
+node laws (Instr-F.Store op a) h k = rw rolls-Store (leaf (Store op a) (store_code op) (mem_arg_text a) (rw (store_code_form op) (a, mem_arg_spells laws a h.0.0 h.1, refl)))
+node laws (Instr-F.MemorySize m) h k = rw rolls-MemorySize (leaf (MemorySize m) 0x3F (u32_text m) (m, memory_spells m h.0.0, refl))
+node laws (Instr-F.MemoryGrow m) h k = rw rolls-MemoryGrow (leaf (MemoryGrow m) 0x40 (u32_text m) (m, memory_spells m h.0.0, refl))
+node laws (Instr-F.I32Const z) h k = rw rolls-I32Const (leaf (I32Const z) 0x41 (s32_text z) (z, s32_spells laws z (within_32 z h.1), refl))
+node laws (Instr-F.I64Const z) h k = rw rolls-I64Const (leaf (I64Const z) 0x42 (s64_text z) (z, s64_spells laws z (within_64 z h.1), refl))
+node laws (Instr-F.Un op) h k = rw rolls-Un (leaf (Un op) (un_code op) [] (rw (un_code_form op) (refl, refl)))
+node laws (Instr-F.Bin op) h k = rw rolls-Bin (leaf (Bin op) (bin_code op) [] (rw (bin_code_form op) (refl, refl)))
+node laws (Instr-F.RefNull t) h k = rw rolls-RefNull (leaf (RefNull t) 0xD0 (ref_text t) (t, ref_spells t, refl))
+node laws Instr-F.RefIsNull h k = rw rolls-RefIsNull (leaf RefIsNull 0xD1 [] (refl, refl))
+node laws (Instr-F.RefFunc x) h k = rw rolls-RefFunc (leaf (RefFunc x) 0xD2 (u32_text x) (x, u32_spells laws x (below x h.0.0), refl))
+node laws (Instr-F.MemoryInit x m) h k = rw rolls-MemoryInit (leaf (MemoryInit x m) 0xFC (8 ∷ u32_text x ++ u32_text m) (8, (8 ∷ [], u32_text x ++ u32_text m, flag_spells 8 (omega arith), ((x, m), (u32_text x, u32_text m, u32_spells laws x (below x h.0.0), memory_spells m h.0.1.0, refl), refl), refl)))
+node laws (Instr-F.DataDrop x) h k = rw rolls-DataDrop (leaf (DataDrop x) 0xFC (9 ∷ u32_text x) (9, (9 ∷ [], u32_text x, flag_spells 9 (omega arith), (x, u32_spells laws x (below x h.0.0), refl), refl)))
+node laws (Instr-F.MemoryCopy x y) h k = rw rolls-MemoryCopy (leaf (MemoryCopy x y) 0xFC (10 ∷ u32_text x ++ u32_text y) (10, (10 ∷ [], u32_text x ++ u32_text y, flag_spells 10 (omega arith), ((x, y), (u32_text x, u32_text y, memory_spells x h.0.0, memory_spells y h.0.1.0, refl), refl), refl)))
+node laws (Instr-F.MemoryFill m) h k = rw rolls-MemoryFill (leaf (MemoryFill m) 0xFC (11 ∷ u32_text m) (11, (11 ∷ [], u32_text m, flag_spells 11 (omega arith), (m, memory_spells m h.0.0, refl), refl)))
+node laws (Instr-F.TableInit x y) h k = rw rolls-TableInit (leaf (TableInit x y) 0xFC (12 ∷ u32_text x ++ u32_text y) (12, (12 ∷ [], u32_text x ++ u32_text y, flag_spells 12 (omega arith), ((x, y), (u32_text x, u32_text y, u32_spells laws x (below x h.0.0), u32_spells laws y (below y h.0.1.0), refl), refl), refl)))
+node laws (Instr-F.ElemDrop x) h k = rw rolls-ElemDrop (leaf (ElemDrop x) 0xFC (13 ∷ u32_text x) (13, (13 ∷ [], u32_text x, flag_spells 13 (omega arith), (x, u32_spells laws x (below x h.0.0), refl), refl)))
+node laws (Instr-F.TableCopy x y) h k = rw rolls-TableCopy (leaf (TableCopy x y) 0xFC (14 ∷ u32_text x ++ u32_text y) (14, (14 ∷ [], u32_text x ++ u32_text y, flag_spells 14 (omega arith), ((x, y), (u32_text x, u32_text y, u32_spells laws x (below x h.0.0), u32_spells laws y (below y h.0.1.0), refl), refl), refl)))
+node laws (Instr-F.TableGrow x) h k = rw rolls-TableGrow (leaf (TableGrow x) 0xFC (15 ∷ u32_text x) (15, (15 ∷ [], u32_text x, flag_spells 15 (omega arith), (x, u32_spells laws x (below x h.0.0), refl), refl)))
+node laws (Instr-F.TableSize x) h k = rw rolls-TableSize (leaf (TableSize x) 0xFC (16 ∷ u32_text x) (16, (16 ∷ [], u32_text x, flag_spells 16 (omega arith), (x, u32_spells laws x (below x h.0.0), refl), refl)))
+node laws (Instr-F.TableFill x) h k = rw rolls-TableFill (leaf (TableFill x) 0xFC (17 ∷ u32_text x) (17, (17 ∷ [], u32_text x, flag_spells 17 (omega arith), (x, u32_spells laws x (below x h.0.0), refl), refl)))
 
-good : (i : Instr) → Good i
-good = ind-Instr Good (λ x y is. subst (λ z. Good (roll-Instr z)) is (λ h k.
+good : TextLaws → (i : Instr) → Good i
+good laws = ind-Instr Good (λ x y is. subst (λ z. Good (roll-Instr z)) is (λ h k.
     let z = map-Instr Such Instr (λ e. e.0) y in
-    rw (fold-roll-Instr (List ℕ) instr_step z) (node y (subst LayerInRange (out-roll-Instr z) (layer_of (roll-Instr z) h)) (subst (λ t. length t < 2 ^ 32) (fold-roll-Instr (List ℕ) instr_step z) k))))
+    rw (fold-roll-Instr (List ℕ) instr_step z) (node laws y (subst LayerInRange (out-roll-Instr z) (layer_of laws.inside (roll-Instr z) h)) (subst (λ t. length t < 2 ^ 32) (fold-roll-Instr (List ℕ) instr_step z) k))))
 
-all_spelled : (is : List Instr) → all_spellable is ≡ true → length (instrs_text is) < 2 ^ 32 → Body is
-all_spelled [] h few = ([], no_more, refl)
-all_spelled (i ∷ is) h few =
+all_spelled : TextLaws → (is : List Instr) → all_spellable is ≡ true → length (instrs_text is) < 2 ^ 32 → Body is
+all_spelled laws [] h few = ([], no_more, refl)
+all_spelled laws (i ∷ is) h few =
     let both = length-append (instr_text i) (instrs_text is) in
-    let o = good i (first_in i is h) (omega (arith, few, both)) in
-    let r = all_spelled is (rest_in i is h) (omega (arith, few, both)) in
+    let o = good laws i (first_in i is h) (omega (arith, few, both)) in
+    let r = all_spelled laws is (rest_in i is h) (omega (arith, few, both)) in
     (o.0 ++ r.0, o.1 r.0 is r.1, tokens_join o.0 r.0 (instr_text i) (instrs_text is) o.2 r.2)
 
-pub body_spells : (is : List Instr) → all_spellable is ≡ true → length (body_text is) < 2 ^ 32 → SpellsBody false (body_text is) is
-body_spells is h few =
-    let b = all_spelled is h (omega (arith, few, length-append (instrs_text is) (0x0B ∷ []))) in
+pub body_spells : TextLaws → (is : List Instr) → all_spellable is ≡ true → length (body_text is) < 2 ^ 32 → SpellsBody false (body_text is) is
+body_spells laws is h few =
+    let b = all_spelled laws is h (omega (arith, few, length-append (instrs_text is) (0x0B ∷ []))) in
     (b.0, b.1, tokens_join b.0 (End ∷ []) (instrs_text is) (0x0B ∷ []) b.2 end_spells)

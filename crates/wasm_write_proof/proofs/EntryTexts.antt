@@ -9,28 +9,28 @@ use Rattle.wasm_read_spec.specs.Prelude.{SpellsGroup, SpellsCode, SpellsEntry, c
 use Rattle.wasm_write_spec.specs.PlainValues.{vector_text, val_text}
 use Rattle.wasm_write_spec.specs.PlainCode.{group_text, body_text, code_text, entry_text}
 use Rattle.wasm_write_proof.specs.Ranges.{IsU32, FuncInRange}
-use Rattle.wasm_write_proof.proofs.Parts.{u32_some, u32_spells, sized_spells, vector_spells}
+use Rattle.wasm_write_proof.proofs.Parts.{TextLaws, u32_some, u32_spells, sized_spells, vector_spells}
 use Rattle.wasm_write_proof.proofs.ItemTexts.{val_spells}
 use Rattle.wasm_write_proof.proofs.BodyTexts.{body_spells}
 use Rattle.wasm_write_proof.proofs.Inside.{spellable_of}
 
-group_spells : (g : LocalGroup) → IsU32 g.count → SpellsGroup (group_text g) g
+group_spells : TextLaws → (g : LocalGroup) → IsU32 g.count → SpellsGroup (group_text g) g
 unfolding group_text
-group_spells g h = (u32_text g.count, val_text g.ty, u32_spells g.count h, val_spells g.ty, refl)
+group_spells laws g h = (u32_text g.count, val_text g.ty, u32_spells laws g.count h, val_spells g.ty, refl)
 
 pub group_some : (g : LocalGroup) → 0 < length (group_text g)
 unfolding group_text
 group_some g = omega (arith, u32_some g.count, length-append (u32_text g.count) (val_text g.ty))
 
-code_spells : (f : Func) → FuncInRange f → memory_zero_all f.body ≡ true → length (code_text f) < 2 ^ 32 → SpellsCode false (code_text f) (code_in f)
-code_spells f h zero few =
+code_spells : TextLaws → (f : Func) → FuncInRange f → memory_zero_all f.body ≡ true → length (code_text f) < 2 ^ 32 → SpellsCode false (code_text f) (code_in f)
+code_spells laws f h zero few =
     let groups = vector_text group_text f.locals in
     let body = body_text f.body in
     let both = length-append groups body in (
       groups,
       body,
-      vector_spells SpellsGroup group_text f.locals group_some (omega (arith, few, both)) (every_with (λ (g : LocalGroup). IsU32 g.count) (λ g. SpellsGroup (group_text g) g) f.locals group_spells h.1.0),
-      body_spells f.body (spellable_of f.body h.1.1 zero) (omega (arith, few, both)),
+      vector_spells laws SpellsGroup group_text f.locals group_some (omega (arith, few, both)) (every_with (λ (g : LocalGroup). IsU32 g.count) (λ g. SpellsGroup (group_text g) g) f.locals (group_spells laws) h.1.0),
+      body_spells laws f.body (spellable_of f.body h.1.1 zero) (omega (arith, few, both)),
       refl,
     )
 
@@ -38,11 +38,11 @@ code_spells f h zero few =
 abbrev pub Spellable : Func → Type 0
 Spellable f = FuncInRange f × (memory_zero_all f.body ≡ true)
 
-pub entry_spells : (f : Func) → Spellable f → length (entry_text f) < 2 ^ 32 → SpellsEntry false (entry_text f) (code_in f)
+pub entry_spells : TextLaws → (f : Func) → Spellable f → length (entry_text f) < 2 ^ 32 → SpellsEntry false (entry_text f) (code_in f)
 unfolding entry_text
-entry_spells f h few =
+entry_spells laws f h few =
     let short : length (code_text f) < 2 ^ 32 = omega (arith, few, length-append (u32_text (length (code_text f))) (code_text f)) in
-    (code_text f, sized_spells (code_text f) short, code_spells f h.0 h.1 short)
+    (code_text f, sized_spells laws (code_text f) short, code_spells laws f h.0 h.1 short)
 
 pub entry_some : (f : Func) → 0 < length (entry_text f)
 unfolding entry_text

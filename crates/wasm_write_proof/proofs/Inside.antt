@@ -1,18 +1,18 @@
 -- What is in range in an instruction: its operands, its other numbers, and what it holds.
-use Rattle.base_lists.proofs.Common.{◌≡◌, arith, ℕ, Bool, true, false, ◌&&◌, ◌||◌, not, nat_eq, List, [], ◌∷◌, ◌++◌, refl, sym, ap, ◌∙◌, subst, list_all, if◌then◌else◌, nat_tests, and_from, left_true, right_true}
+use Rattle.base_lists.proofs.Common.{◌≡◌, arith, ℕ, Bool, true, false, ◌||◌, not, nat_eq, List, [], ◌∷◌, ◌++◌, refl, sym, ap, ◌∙◌, subst, list_all, if◌then◌else◌, nat_tests, and_from, left_true, right_true}
 use Rattle.base_lists.specs.Every.{Every}
-use Rattle.wasm_tree_spec.specs.Prelude.{Space, Memories, Operand, BlockType, Instr, fold_out-Instr, map-Instr, Block, Loop, If, outs-Block, outs-Loop, outs-If, same_space, operands, operands_of, block_operands, held, map_operands, operands_pass, all_operands_pass, is_memory_zero, memory_zero_all}
+use Rattle.wasm_tree_spec.specs.Prelude.{Space, Memories, Operand, BlockType, Instr, fold_out-Instr, map-Instr, Block, Loop, If, outs-Block, outs-Loop, outs-If, same_space, operands, operands_of, block_operands, held, map_operands, operands_pass, all_operands_pass, is_memory_zero, memory_zero_all, PassesInside}
 use Rattle.wasm_tree.specs.declared.instr.Instr.{out-Instr}
 use Rattle.wasm_tree.specs.declared.instr.Instr.TheOpen.{Instr-F}
 use Rattle.wasm_tree.specs.Operands.{map_block, mapped}
-use Rattle.wasm_tree.proofs.OperandLaws.{tested_inside, passes_inside, mapped_all_same, passes_both, passes_more}
-use Rattle.wasm_write_proof.specs.Ranges.{small, small_operand, spelled_operand, small_numbers, numbers_in, all_numbers_in, spellable, all_spellable, all_in_range, NumbersStay}
+use Rattle.wasm_tree.proofs.OperandLaws.{tested_inside, mapped_all_same, passes_both, passes_more}
+use Rattle.wasm_write_proof.specs.Ranges.{small, small_operand, spelled_operand, small_numbers, numbers_in, all_numbers_in, spellable, all_spellable, all_in_range, NumbersStay, NumbersInside}
 
 numbers_map : {X Y : Type 0} (g : X → Y) (layer : Instr-F X) → small_numbers (map-Instr X Y g layer) ≡ small_numbers layer
 numbers_map g (Instr-F.Block ty body) = refl
 numbers_map g layer = refl
 
-pub numbers_inside : (i : Instr) → numbers_in i ≡ small_numbers (out-Instr i) && all_numbers_in (held (out-Instr i))
+pub numbers_inside : NumbersInside
 numbers_inside i = tested_inside small_numbers small_numbers (λ g l. numbers_map g l) i
 
 numbers_moved : (f : Space → ℕ → ℕ) (layer : Instr-F Instr) → small_numbers (out-Instr (map_operands f layer)) ≡ small_numbers layer
@@ -79,31 +79,31 @@ joined_in (i ∷ is) js h k = more_in i (is ++ js) (first_in i is h) (joined_in 
 abbrev pub LayerInRange : Instr-F Instr → Type 0
 LayerInRange l = Small (operands l) × (small_numbers l ≡ true) × (all_spellable (held l) ≡ true)
 
-pub layer_of : (i : Instr) → spellable i ≡ true → LayerInRange (out-Instr i)
-layer_of i h =
+pub layer_of : PassesInside → (i : Instr) → spellable i ≡ true → LayerInRange (out-Instr i)
+layer_of inside i h =
     let xs = held (out-Instr i) in
-    let o = sym (passes_inside spelled_operand i) ∙ left_true (operands_pass spelled_operand i) _ h in
+    let o = sym (inside spelled_operand i) ∙ left_true (operands_pass spelled_operand i) _ h in
     let n = sym (numbers_inside i) ∙ right_true (operands_pass spelled_operand i) _ h in (
       each_small (operands_of i) (left_true (list_all spelled_operand (operands_of i)) _ o),
       left_true (small_numbers (out-Instr i)) _ n,
       and_from (all_operands_pass spelled_operand xs) (all_numbers_in xs) (right_true (list_all spelled_operand (operands_of i)) _ o) (right_true (small_numbers (out-Instr i)) _ n),
     )
 
-pub of_layer : (i : Instr) → LayerInRange (out-Instr i) → spellable i ≡ true
-of_layer i (o, n, h) =
+pub of_layer : PassesInside → (i : Instr) → LayerInRange (out-Instr i) → spellable i ≡ true
+of_layer inside i (o, n, h) =
     let xs = held (out-Instr i) in
     and_from (operands_pass spelled_operand i) (numbers_in i)
-    (passes_inside spelled_operand i ∙ and_from (list_all spelled_operand (operands_of i)) (all_operands_pass spelled_operand xs) (all_small (operands_of i) o) (left_true (all_operands_pass spelled_operand xs) _ h))
+    (inside spelled_operand i ∙ and_from (list_all spelled_operand (operands_of i)) (all_operands_pass spelled_operand xs) (all_small (operands_of i) o) (left_true (all_operands_pass spelled_operand xs) _ h))
     (numbers_inside i ∙ and_from (small_numbers (out-Instr i)) (all_numbers_in xs) n (right_true (all_operands_pass spelled_operand xs) _ h))
 
-pub block_in : (ty : BlockType) (body : List Instr) → Small (block_operands ty) → all_spellable body ≡ true → spellable (Block ty body) ≡ true
-block_in ty body h k = of_layer (Block ty body) (subst LayerInRange (sym (outs-Block ty body)) (h, refl, k))
+pub block_in : PassesInside → (ty : BlockType) (body : List Instr) → Small (block_operands ty) → all_spellable body ≡ true → spellable (Block ty body) ≡ true
+block_in inside ty body h k = of_layer inside (Block ty body) (subst LayerInRange (sym (outs-Block ty body)) (h, refl, k))
 
-pub loop_in : (ty : BlockType) (body : List Instr) → Small (block_operands ty) → all_spellable body ≡ true → spellable (Loop ty body) ≡ true
-loop_in ty body h k = of_layer (Loop ty body) (subst LayerInRange (sym (outs-Loop ty body)) (h, refl, k))
+pub loop_in : PassesInside → (ty : BlockType) (body : List Instr) → Small (block_operands ty) → all_spellable body ≡ true → spellable (Loop ty body) ≡ true
+loop_in inside ty body h k = of_layer inside (Loop ty body) (subst LayerInRange (sym (outs-Loop ty body)) (h, refl, k))
 
-pub if_in : (ty : BlockType) (body other : List Instr) → Small (block_operands ty) → all_spellable body ≡ true → all_spellable other ≡ true → spellable (If ty body other) ≡ true
-if_in ty body other h k l = of_layer (If ty body other) (subst LayerInRange (sym (outs-If ty body other)) (h, refl, joined_in body other k l))
+pub if_in : PassesInside → (ty : BlockType) (body other : List Instr) → Small (block_operands ty) → all_spellable body ≡ true → all_spellable other ≡ true → spellable (If ty body other) ≡ true
+if_in inside ty body other h k l = of_layer inside (If ty body other) (subst LayerInRange (sym (outs-If ty body other)) (h, refl, joined_in body other k l))
 
 -- ---- code in range that names memory 0 alone has a canonical encoding, and what is spelled is in range ----
 

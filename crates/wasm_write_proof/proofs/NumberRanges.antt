@@ -1,13 +1,20 @@
 -- Each number that is spelled is in the range of its type.
 use Rattle.base_lists.proofs.Common.{◌≡◌, ℕ, ◌<◌, ◌^◌, List, [], ◌∷◌, Bool, true, false, ℤ, pos, negsuc, sym, subst, arith, lt-ltb, ints}
 use Rattle.wasm_bytes.specs.Prelude.{Signed, IsWithin, U32, Each, Vector}
-use Rattle.wasm_bytes.proofs.NumberRanges.{unsigned_in, signed_in}
+use Rattle.wasm_bytes.specs.Numbers.{Unsigned}
+use Rattle.wasm_tree_spec.specs.Prelude.{PassesInside}
 use Rattle.base_lists.specs.Every.{Every}
 use Rattle.wasm_read_spec.specs.Prelude.{Made, When, Never}
-use Rattle.wasm_write_proof.specs.Ranges.{small, small_signed, IsU32}
+use Rattle.wasm_write_proof.specs.Ranges.{small, small_signed, IsU32, Says}
 
-pub u32_in : (text : List ℕ) (n : ℕ) → U32 text n → IsU32 n
-u32_in text n h = unsigned_in 32 text n h
+-- what laws of wasm_bytes and wasm_tree say of numbers that bytes encode, and of operands
+pub record RangeLaws : Type 0 where
+  pub unsigned : (bits : ℕ) (text : List ℕ) (n : ℕ) → Unsigned bits text n → n < 2 ^ bits
+  pub signed : (bits : ℕ) (text : List ℕ) (z : ℤ) → Signed bits text z → IsWithin bits z
+  pub inside : PassesInside
+
+pub u32_in : RangeLaws → (text : List ℕ) (n : ℕ) → U32 text n → IsU32 n
+u32_in laws text n h = laws.unsigned 32 text n h
 
 -- ---- as tests
 
@@ -22,13 +29,10 @@ pub is_small_64 : (z : ℤ) → IsWithin 64 z → small_signed 63 z ≡ true
 is_small_64 (pos n) h = let k = h.1 in let lt : n < 2 ^ 63 = omega (arith, ints) in lt-ltb n (2 ^ 63) lt
 is_small_64 (negsuc n) h = let k = h.0 in let lt : n < 2 ^ 63 = omega (arith, ints) in lt-ltb n (2 ^ 63) lt
 
-pub is_index : (text : List ℕ) (n : ℕ) → Signed 33 text (pos n) → small n ≡ true
-is_index text n h = let k = (signed_in 33 text (pos n) h).1 in let lt : n < 2 ^ 32 = omega (arith, ints) in lt-ltb n (2 ^ 32) lt
+pub is_index : RangeLaws → (text : List ℕ) (n : ℕ) → Signed 33 text (pos n) → small n ≡ true
+is_index laws text n h = let k = (laws.signed 33 text (pos n) h).1 in let lt : n < 2 ^ 32 = omega (arith, ints) in lt-ltb n (2 ^ 32) lt
 
 -- ---- what spellings say of their values
-
-abbrev pub Says : {A : Type 0} → (A → Type 0) → (List ℕ → A → Type 0) → Type 0
-Says {A} K P = (bytes : List ℕ) (x : A) → P bytes x → K x
 
 pub says_when : {A : Type 0} (K : A → Type 0) (P Q : List ℕ → A → Type 0) (test : Bool) → Says K P → Says K Q → Says K (When test P Q)
 says_when K P Q true a b = a

@@ -4,6 +4,7 @@ use Rattle.std.specs.Prelude.{◌≡◌, ℕ, ◌^◌, ◌<◌, List, Bool, true
 use Rattle.std.specs.List.{list_all}
 use Rattle.wasm_bytes.specs.Prelude.{IsWithin}
 use Rattle.wasm_tree_spec.specs.Prelude.{Limits, TableType, Space, Memories, Operand, Instr, fold-Instr, ImportDesc, Import, ExportDesc, Export, ConstExpr, GlobalDef, ElemMode, ElemSeg, DataMode, DataSeg, LocalGroup, Func, Module, same_space, held, mapped_all, operands_pass, all_operands_pass}
+use Rattle.wasm_tree.specs.declared.instr.Instr.{out-Instr}
 use Rattle.wasm_tree.specs.declared.instr.Instr.TheOpen.{Instr-F}
 use Rattle.wasm_tree.specs.declared.module.ImportDesc.TheVariants as import
 use Rattle.wasm_tree.specs.declared.module.ExportDesc.TheVariants as export
@@ -81,6 +82,11 @@ numbers_in = fold-Instr Bool number_step
 abbrev pub all_numbers_in : List Instr → Bool
 all_numbers_in = list_all numbers_in
 
+-- The numbers of an instruction that are no operands are in range exactly if its own are and those
+-- of the instructions inside it.
+abbrev pub NumbersInside : Type 0
+NumbersInside = (i : Instr) → numbers_in i ≡ small_numbers (out-Instr i) && all_numbers_in (held (out-Instr i))
+
 -- Other indices do not change whether the numbers of code that are no operands are in range.
 abbrev pub NumbersStay : Type 0
 NumbersStay = (f : Space → ℕ → ℕ) (code : List Instr) → all_numbers_in (mapped_all f code) ≡ all_numbers_in code
@@ -103,6 +109,10 @@ abbrev pub all_spellable : List Instr → Bool
 all_spellable is = all_operands_pass spelled_operand is && all_numbers_in is
 
 -- ---- the contents of sections
+
+-- Each value that bytes encode by `P` has the property `K`.
+abbrev pub Says : {A : Type 0} → (A → Type 0) → (List ℕ → A → Type 0) → Type 0
+Says {A} K P = (bytes : List ℕ) (x : A) → P bytes x → K x
 
 abbrev pub IsU32 : ℕ → Type 0
 IsU32 n = n < 2 ^ 32

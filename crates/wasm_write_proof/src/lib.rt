@@ -7,11 +7,13 @@ ghost use Rattle.wasm_tree.specs.declared.space.Operand.{Operand as Named};
 ghost use Rattle.wasm_tree.specs.MemoryZero.{is_memory_zero, memory_zero_funcs};
 ghost use Rattle.wasm_read_spec.specs.Files.{Spells, Within};
 ghost use Rattle.wasm_write_spec.specs.Plain.{plain};
-ghost use Rattle.wasm_write_proof.specs.Ranges.{InRange, NumbersStay, small_operand, spelled_operand};
+ghost use Rattle.wasm_write_proof.specs.Ranges.{InRange, NumbersInside, NumbersStay, small_operand, spelled_operand};
 ghost use Rattle.wasm_write_proof.specs.SmallSizes.{SmallSizes};
 ghost use Rattle.wasm_write_proof.specs.TreeLimits.{WithinLimits};
 
+use wasm_bytes::{encoded_numbers_are_in_range, shortest_encodings};
 use wasm_read_spec::section_encodings_are_unambiguous;
+use wasm_tree::operands_pass_layer_by_layer;
 
 /// The canonical encoding of a tree encodes the tree if each number is in the range of its type,
 /// each name is UTF-8, its bodies name no memory except memory 0, and its vectors and the encoded
@@ -23,13 +25,18 @@ pub fn canonical_encoding_encodes()
     ensures within { (m : Tree) → InRange m → IsTrue (memory_zero_funcs m.funcs) → SmallSizes m → WithinLimits m → Within (plain m) false }
 {
     section_encodings_are_unambiguous();
+    shortest_encodings();
+    operands_pass_layer_by_layer();
 }
 
 /// In a tree that bytes encode, each number is in the range of its type, and each name is UTF-8.
 /// (That its bodies name no memory except memory 0 is a law of wasm_read_spec.)
 pub fn encoded_trees_are_in_range()
     ensures { (bytes : List ℕ) (m : Tree) → Spells bytes m false → InRange m }
-{}
+{
+    encoded_numbers_are_in_range();
+    operands_pass_layer_by_layer();
+}
 
 /// If the canonical encoding of a tree has fewer than 2^32 bytes, as it has if `fits` returns true,
 /// each vector of the tree and each encoded size is below 2^32.
@@ -42,6 +49,12 @@ pub fn trees_that_fit_have_small_sizes()
 pub fn encoded_operands_are_in_range()
     ensures range { (o : Named) → spelled_operand o ≡ true → small_operand o ≡ true }
     ensures memory { (o : Named) → spelled_operand o ≡ true → is_memory_zero o ≡ true }
+{}
+
+/// The numbers of an instruction that are no operands (labels, locals, constants, alignments and
+/// offsets) are in range exactly if its own are and those of the instructions inside it.
+pub fn numbers_are_in_range_layer_by_layer()
+    ensures { NumbersInside }
 {}
 
 /// Renumbering code does not change whether its numbers that are no operands (labels, locals,

@@ -1,8 +1,10 @@
-use Rattle.wasm_tree_spec.specs.Prelude.{uses_data_in}
+use Rattle.wasm_tree_spec.specs.Prelude.{out-Instr, outs-Block, outs-Loop, outs-If, uses_data_in}
+use Rattle.wasm_tree.specs.declared.instr.Instr.TheOpen.{Instr-F}
 use Rattle.wasm_write_spec.specs.PlainCode.{instr_text}
-use Rattle.base_lists.proofs.Common.{ap, ◌∙◌}
+use Rattle.base_lists.proofs.Common.{ap, ◌∙◌, refl}
 use Rattle.wasm_write_proof.specs.Ranges.{in_range}
 use Rattle.wasm_write.proofs.InRange.{on_ok, both_ok, block_in_range, loop_in_range, if_in_range, table_in_range}
+use Rattle.wasm_write.proofs.HeldUses.{held_uses, both_use}
 use Rattle.wasm_write.proofs.Loops.{any_next, code_next, spelled_next}
 use Rattle.wasm_write.proofs.Spelled.{spelled_text, spelled_uses, spelled_range}
 use Rattle.wasm_write.proofs.code.+spell.Goals as goal
@@ -15,13 +17,30 @@ spell_instrs-loop-instr-preserved g t c = record {
 }
 
 pub spell_instr-returns-in-Block-clause-range : goal.spell_instr-returns-in-Block-clause-range
-spell_instr-returns-in-Block-clause-range g t c = both_ok c.spell_block.result (λ body ty. ap in_range c.in-Block.ensures ∙ block_in_range c.in-Block.ty.now c.in-Block.body.now body ty) c.spell_block.ensures.body c.spell_block.ensures.ty
+spell_instr-returns-in-Block-clause-range g t c = both_ok c.spell_block.result (λ body ty. ap in_range c.in-Block.ensures ∙ block_in_range c.operands_pass_layer_by_layer.ensures.blocks c.numbers_are_in_range_layer_by_layer.ensures c.in-Block.ty.now c.in-Block.body.now body ty) c.spell_block.ensures.body c.spell_block.ensures.ty
+
+pub spell_instr-returns-in-Block-clause-uses : goal.spell_instr-returns-in-Block-clause-uses
+spell_instr-returns-in-Block-clause-uses g t c =
+    let layer = ap out-Instr c.in-Block.ensures ∙ outs-Block c.in-Block.ty.now c.in-Block.body.now in
+    held_uses c.operands_pass_layer_by_layer.ensures.any c.args.instr.now (Instr-F.Block c.in-Block.ty.now c.in-Block.body.now) layer c.in-Block.ty.now _ _ c.spell_block.result refl c.spell_block.ensures.uses
+
+pub spell_instr-returns-in-Loop-clause-uses : goal.spell_instr-returns-in-Loop-clause-uses
+spell_instr-returns-in-Loop-clause-uses g t c =
+    let layer = ap out-Instr c.in-Loop.ensures ∙ outs-Loop c.in-Loop.ty.now c.in-Loop.body.now in
+    held_uses c.operands_pass_layer_by_layer-in-Loop.ensures.any c.args.instr.now (Instr-F.Loop c.in-Loop.ty.now c.in-Loop.body.now) layer c.in-Loop.ty.now _ _ c.spell_block-in-Loop.result refl c.spell_block-in-Loop.ensures.uses
+
+pub spell_instr-returns-in_ok-spell_else-in-If-clause-uses : goal.spell_instr-returns-in_ok-spell_else-in-If-clause-uses
+spell_instr-returns-in_ok-spell_else-in-If-clause-uses g t c =
+    let body = c.in-If.body.now in
+    let other = c.in-If.other.now in
+    let layer = ap out-Instr c.in-If.ensures ∙ outs-If c.in-If.ty.now body other in
+    held_uses c.operands_pass_layer_by_layer-in-If.ensures.any c.args.instr.now (Instr-F.If c.in-If.ty.now body other) layer c.in-If.ty.now _ _ c.spell_body.result refl (both_use c.spell_body.result body other _ _ _ c.in_ok-spell_else-in-If.ensures.uses c.spell_body.ensures.uses)
 
 pub spell_instr-returns-in-Loop-clause-range : goal.spell_instr-returns-in-Loop-clause-range
-spell_instr-returns-in-Loop-clause-range g t c = both_ok c.spell_block-in-Loop.result (λ body ty. ap in_range c.in-Loop.ensures ∙ loop_in_range c.in-Loop.ty.now c.in-Loop.body.now body ty) c.spell_block-in-Loop.ensures.body c.spell_block-in-Loop.ensures.ty
+spell_instr-returns-in-Loop-clause-range g t c = both_ok c.spell_block-in-Loop.result (λ body ty. ap in_range c.in-Loop.ensures ∙ loop_in_range c.operands_pass_layer_by_layer-in-Loop.ensures.loops c.numbers_are_in_range_layer_by_layer-in-Loop.ensures c.in-Loop.ty.now c.in-Loop.body.now body ty) c.spell_block-in-Loop.ensures.body c.spell_block-in-Loop.ensures.ty
 
 pub spell_instr-returns-in_ok-spell_else-in-If-clause-range : goal.spell_instr-returns-in_ok-spell_else-in-If-clause-range
-spell_instr-returns-in_ok-spell_else-in-If-clause-range g t c = both_ok c.spell_body.result (λ body ty. ap in_range c.in-If.ensures ∙ if_in_range c.in-If.ty.now c.in-If.body.now c.in-If.other.now body c.in_ok-spell_else-in-If.ensures.range ty) c.spell_body.ensures.body c.spell_body.ensures.ty
+spell_instr-returns-in_ok-spell_else-in-If-clause-range g t c = both_ok c.spell_body.result (λ body ty. ap in_range c.in-If.ensures ∙ if_in_range c.operands_pass_layer_by_layer-in-If.ensures.ifs c.numbers_are_in_range_layer_by_layer-in-If.ensures c.in-If.ty.now c.in-If.body.now c.in-If.other.now body c.in_ok-spell_else-in-If.ensures.range ty) c.spell_body.ensures.body c.spell_body.ensures.ty
 
 pub spell_instr-returns-in-Branches-clause-range : goal.spell_instr-returns-in-Branches-clause-range
 spell_instr-returns-in-Branches-clause-range g t c = on_ok c.spell_branches.result (λ labels. ap in_range c.in-Branches.ensures ∙ table_in_range c.in-Branches.labels.now c.in-Branches.other c.spell_branches.ensures.other labels) c.spell_branches.ensures.labels
