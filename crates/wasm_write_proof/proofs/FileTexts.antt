@@ -65,7 +65,7 @@ items laws P spells text xs some spelled h few =
     vector_mapped laws (λ x. x) spells text xs some few (every_short P (λ x. spells (text x) x) text xs spelled (each_short text xs few) h)
 
 entries : TextLaws → (fs : List Func) → Every Spellable fs → length (vector_text entry_text fs) < 2 ^ 32 → Vector (SpellsEntry false) (vector_text entry_text fs) (map code_in fs)
-entries laws fs h few = vector_mapped laws untyped (SpellsEntry false) entry_text fs entry_some few (every_short Spellable (λ f. SpellsEntry false (entry_text f) (code_in f)) entry_text fs (entry_spells laws) (each_short entry_text fs few) h)
+entries laws fs h few = vector_mapped laws code_in (SpellsEntry false) entry_text fs entry_some few (every_short Spellable (λ f. SpellsEntry false (entry_text f) (code_in f)) entry_text fs (entry_spells laws) (each_short entry_text fs few) h)
 
 func_types : TextLaws → (fs : List Func) → Every FuncInRange fs → length (vector_text (λ (f : Func). u32_text f.ty) fs) < 2 ^ 32 → Vector U32 (vector_text (λ (f : Func). u32_text f.ty) fs) (map (λ (f : Func). f.ty) fs)
 func_types laws fs h few = vector_mapped laws (λ (f : Func). f.ty) U32 (λ (f : Func). u32_text f.ty) fs (λ f. u32_some f.ty) few (every_with FuncInRange (λ f. U32 (u32_text f.ty) f.ty) fs (λ f g. u32_spells laws f.ty g.0) h)

@@ -137,10 +137,10 @@ module _ (laws : RangeLaws) where
   entry_in bytes c h = let b = h.2 in (says_vector (λ (g : LocalGroup). IsU32 g.count) SpellsGroup group_in b.0 c.locals b.2, body_in laws b.1 c.body b.3)
 
   codes_in : (cs : List Code) → Every CodeInRange cs → Every (λ f. CodeInRange (code_in f)) (map untyped cs)
-codes_in [] h = tt
-codes_in (c ∷ cs) h = (h.0, codes_in cs h.1)
+  codes_in [] h = tt
+  codes_in (c ∷ cs) h = (h.0, codes_in cs h.1)
 
--- ---- the parts
+  -- ---- the parts
 
   in_kept : (p : Parts) (id : ℕ) → PartsInRange p → Says PartsInRange (section_form false p id)
   unfolding section_form
