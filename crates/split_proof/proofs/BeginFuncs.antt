@@ -2,16 +2,13 @@
 use Rattle.base_lists.proofs.Common.{◌≡◌, ◌∙◌, ap, ap₂, sym, subst, refl, ℕ, zero, suc, ◌+◌, ◌-◌, ◌⊎◌, inl, inr, List, [], ◌∷◌, ◌++◌, map, length, Option, Some, None, true, arith, append-nil, option_and_then, slice_get, slice_index, pos, option_map_or, length-append, same_Some, numbers_index, and_then_is, all_there_at, append_at_left, append_from, append_right, map_from, map_twice, slice_get_there, slice_index_is, all_there_back, there_among, place_is, no_place}
 use Rattle.wasm_tree_spec.specs.Prelude.{FuncType, Module, funcs_of, tables_of, type_of_func, Functions}
 use Rattle.wasm_tree.specs.declared.module.Func as tree
-use Rattle.wasm_meaning.specs.Prelude.{Code, Func, Own, Pair, Placeholder, Store, Environment, own_funcs, Added, added, next_inst, LoaderWorld, begun_of, begun_under, placeholders_from, placeholders_of, primary_added, store_under, supplied, Begun, all_there, alone, const_value, insts_from, instantiate, joined_stores, new_func, own_count}
+use Rattle.wasm_meaning.specs.Prelude.{Code, Func, Inst, Own, Pair, Placeholder, Store, Environment, own_funcs, Added, added, next_inst, LoaderWorld, begun_of, begun_under, placeholders_from, placeholders_of, primary_added, store_under, supplied, Begun, all_there, alone, const_value, insts_from, instantiate, joined_stores, new_func, own_count}
 use Rattle.index_remap.specs.declared.remap.Remap.{Remap}
 use Rattle.index_remap.specs.Prelude.{renumbered_all, gets, slot_call, trampoline}
 use Rattle.index_remap.specs.Renumbered as tree_with
-use Rattle.world_simulation.specs.Prelude.{one}
+use Rattle.world_simulation.specs.Prelude.{one, AddsWith, IsInst}
 use Rattle.world_contents_proof.proofs.Added.{added_is}
-use Rattle.world_simulation.proofs.Allocated.{adds_with}
 use Rattle.world_contents_proof.proofs.FuncsAside.{segments_funcs}
-use Rattle.world_simulation.proofs.Instancing.{IsInst}
-use Rattle.world_simulation.proofs.Single.{one_inst}
 use Rattle.split_spec.specs.declared.names.SplitNames.{SplitNames}
 use Rattle.split_spec.specs.Prelude.{primary_func, params_of, place_among, slot_table, trampoline_body, type_index}
 use Rattle.split_proof.proofs.PrimarySpaces as spaces
@@ -47,7 +44,7 @@ begins_with env w c h =
     let things = and_then_is (all_there (supplied env w) w.primary.imports) (added (store_under env w) w.primary) a.0 a.1 in
     let made = added_is (store_under env w) w.primary things.0 a.0 things.2 in
     let i = next_inst (store_under env w) w.primary things.0 in
-    let adds = adds_with (const_value (store_under env w).globals i) w.primary i made.0 made.1 in
+    let adds : AddsWith (const_value (store_under env w).globals i) w.primary i made.0 = search (arith, made.1) in
     let inst : i ≡ a.0.inst = ap (λ (x : Added). x.inst) made.2 in
     record {
       made = a.0;
@@ -112,7 +109,7 @@ module _ (laws : Laws) (namespace : ℕ → List ℕ) (names : SplitNames) (m : 
 
     pub first_inst : IsInst env (one m) 0 m first_begins.made.inst
     first_inst =
-        let i = one_inst env m (first_begins.made.inst ∷ []) first_insts in
+        let i : (k : Inst) × (first_begins.made.inst ∷ [] ≡ k ∷ []) × IsInst env (one m) 0 m k = search (arith, first_insts) in
         let is : first_begins.made.inst ≡ i.0 = (let e = i.1 in cc) in
         subst (IsInst env (one m) 0 m) (sym is) i.2
 
@@ -149,8 +146,10 @@ module _ (laws : Laws) (namespace : ℕ → List ℕ) (names : SplitNames) (m : 
         let same = laws.adds env w m.imports (types_moved laws namespace names m moved owns g) (imports_them_last namespace names m moved owns g valid) in
         let a = and_then_is (primary_added env stubbed) _ second_begins.made (sym same ∙ second_begins.is_made) in
         let inst : a.0.inst ≡ second_begins.made.inst = ap (λ (x : Added). x.inst) (same_Some _ _ a.2) in
-        let i = one_inst env (Q laws namespace names m moved owns g) (a.0.inst ∷ []) (laws.inst env stubbed refl a.0 a.1) in
-        let is : a.0.inst ≡ i.0 = (let e = i.1 in cc) in
+        let made = laws.inst env stubbed refl a.0 a.1 in
+        let i : (k : Inst) × (a.0.inst ∷ [] ≡ k ∷ []) × IsInst env (one (Q laws namespace names m moved owns g)) 0 (Q laws namespace names m moved owns g) k = search (arith, made) in
+        let head : (x y : Inst) → x ∷ [] ≡ y ∷ [] → x ≡ y = λ x y e. cc in
+        let is = head a.0.inst i.0 i.1 in
         subst (IsInst env (one (Q laws namespace names m moved owns g)) 0 (Q laws namespace names m moved owns g)) (sym is ∙ inst) i.2
 
     many : length (placeholders_from 0 (placeholders_of w)) ≡ length moved

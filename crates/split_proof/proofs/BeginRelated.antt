@@ -12,14 +12,12 @@ use Rattle.wasm_meaning.specs.Prelude.{Inst, Text, Val, Environment, ExternalVal
 use Rattle.index_remap.specs.declared.remap.Remap.{Remap}
 use Rattle.index_remap.specs.Prelude.{declared_refs, Pairing, OptRel, none, some, ListRel, nil, cons, ValRel, number, reference, func, extern, ExternalValueRel, a_func, a_table, a_memory, a_global, KeyRel, HasNoPartner, turned, new_const, new_data, new_elem, new_export_desc, new_func, new_global}
 use Rattle.index_remap_proof.specs.Indices.{Indices, ConstNamesOnly, ExportNamesOnly, TreeNamesOnly}
-use Rattle.world_simulation.specs.Prelude.{one, FuncsAt, GlobalsCorrespond, ElemsCorrespond, Partners, DefinitionsCorrespond, Instantiated, values_in, EntriesName, only_second, ElemsPartner, ElemAlone, DatasPartner, ElemsInOrder, DatasInOrder, WorldsCorrespond}
+use Rattle.world_simulation.specs.Prelude.{one, FuncsAt, GlobalsCorrespond, ElemsCorrespond, Partners, DefinitionsCorrespond, Instantiated, values_in, EntriesName, only_second, ElemsPartner, ElemAlone, DatasPartner, ElemsInOrder, DatasInOrder, WorldsCorrespond, IsInst, last_segments}
 use Rattle.world_simulation.specs.Definitions as partners
 use Rattle.world_loader_proof.specs.Loaded.{primary_world}
 use Rattle.world_simulation.specs.Segments as order
 use Rattle.world_loader_proof.specs.Stubbed.{stubbed}
-use Rattle.world_simulation.proofs.Declared.{last_segments}
 use Rattle.world_contents_proof.proofs.Grown.{no_more, declared_alone, all_in_step, keeps_place}
-use Rattle.world_simulation.proofs.Instancing.{IsInst}
 use Rattle.world_simulation.proofs.Renamed.{elems_alike, elem_mode_named, data_mode_named, start_named}
 use Rattle.world_simulation.proofs.Renamed as renamed
 use Rattle.world_simulation.proofs.Stored.{alike_correspond}

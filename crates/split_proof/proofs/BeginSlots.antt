@@ -1,23 +1,20 @@
 -- When a split module begins, each slot holds its placeholder.
-use Rattle.base_lists.proofs.Common.{◌≡◌, ◌∙◌, ap, ap₂, sym, refl, ℕ, zero, suc, ◌+◌, ◌-◌, ◌<◌, ◌≤◌, List, [], ◌∷◌, ◌++◌, map, length, Option, Some, None, Bool, true, false, cond, arith, append-nil, slice_get, slice_index, nat_lt, flat_map, nat_tests, length-append, length-map, map-append, slice_get_within, same_Some, length-numbers, numbers_at, numbers_index, append_right, map_at, push_last, copies_length}
+use Rattle.base_lists.proofs.Common.{◌≡◌, ◌∙◌, ap, ap₂, sym, refl, ℕ, zero, suc, ◌+◌, ◌-◌, ◌<◌, ◌≤◌, List, [], ◌∷◌, ◌++◌, map, length, Option, Some, None, Bool, true, false, cond, arith, append-nil, slice_get, slice_index, nat_lt, flat_map, nat_tests, length-append, length-map, map-append, slice_get_within, same_Some, places_many, length-numbers, numbers_at, numbers_index, append_right, map_at, push_last, copies_length}
 use Rattle.std.proofs.Common.{eq-eqb}
 use Rattle.base_lists.specs.Options.{◌>>=◌}
 use Rattle.base_lists.specs.Places.{numbers}
 use Rattle.wasm_num.specs.Operations.{wrapped}
-use Rattle.wasm_tree_spec.specs.Prelude.{Functions, Tables, ConstExpr, ElemMode, ElemSeg, Module, funcs_of, tables_of}
+use Rattle.wasm_tree_spec.specs.Prelude.{Functions, Tables, ConstExpr, ElemMode, ElemSeg, Module, imported_funcs, funcs_of, tables_of}
 use Rattle.wasm_tree.specs.declared.types.RefType.TheVariants.{Func as func_ref}
 use Rattle.wasm_tree.specs.declared.module.ConstExpr.TheVariants as const
 use Rattle.wasm_tree.specs.declared.module.ElemMode.TheVariants as elem
-use Rattle.wasm_meaning.specs.Prelude.{overwrite, split_at, FuncRef, Inst, Ref, RefVal, Table, Val, null_of, ref_of, Environment, Added, LoaderWorld, begun_under, secondary_of, store_under, Begun, all_there, alone, const_value, instantiate, own_count}
+use Rattle.wasm_meaning.specs.Prelude.{overwrite, split_at, FuncRef, Inst, Ref, RefVal, Table, Val, null_of, ref_of, Environment, Added, LoaderWorld, begun_under, secondary_of, store_under, Begun, all_there, alone, const_value, instantiate, own_count, imports_of}
 use Rattle.index_remap.specs.declared.remap.Remap.{Remap}
 use Rattle.index_remap.specs.Prelude.{declared_refs, OptRel, none, some, new_const, new_elem, new_elem_mode}
 use Rattle.index_remap_proof.specs.Indices.{ElemModeNamesOnly}
-use Rattle.world_simulation.specs.Prelude.{one, new_table, offset_in}
+use Rattle.world_simulation.specs.Prelude.{one, new_table, offset_in, IsInst, last_segments}
 use Rattle.world_contents_proof.specs.Leaves.{all_over, elem_copies, elem_copy, is_address, over, table_left}
 use Rattle.world_loader_proof.specs.Stubbed.{stub}
-use Rattle.world_simulation.proofs.Alone.{funcs_counted}
-use Rattle.world_simulation.proofs.Declared.{last_segments}
-use Rattle.world_simulation.proofs.Instancing.{IsInst}
 use Rattle.world_simulation.proofs.Single.{space_at}
 use Rattle.split_spec.specs.declared.names.SplitNames.{SplitNames}
 use Rattle.split_spec.specs.Prelude.{in_slots, slot_segment, slot_table, slot_table_type}
@@ -148,7 +145,7 @@ module _ (laws : Laws) (namespace : ℕ → List ℕ) (names : SplitNames) (m : 
       let entry = spaces.placeholder_entry namespace names.export_prefix m valid moved g.can_move n lt in
       let s = space_at (P laws namespace names m moved owns g env) env (own laws namespace names m moved owns g env) primary Functions j.funcs b.funcs in
       let many = s.many in
-      let counted = funcs_counted m.imports 0 in
+      let counted : length (imports_of Functions m) ≡ length (imported_funcs m.imports) = places_many _ _ m.imports (grind arith) 0 in
       let index : imported + n ≡ length s.imported + n = omega (arith, many, counted) in
       let size = stubs_many laws namespace names m moved owns g in
       let all = length-append (map stub (types_moved laws namespace names m moved owns g)) w.primary.funcs in

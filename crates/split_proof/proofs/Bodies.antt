@@ -1,5 +1,5 @@
 -- Bodies in which other code stands in place of calls of some functions, and then with other indices, stay well typed.
-use Rattle.base_lists.proofs.Common.{◌≡◌, subst, refl, ℕ, List, [], ◌∷◌, Bool, true, false, Some, slice_get, slice_index, length, zero, suc, arith, list_any, and_then_is, replicate_at, the_one}
+use Rattle.base_lists.proofs.Common.{◌≡◌, subst, refl, ℕ, List, [], ◌∷◌, Bool, true, false, Some, slice_get, slice_index, length, list_any, and_then_is, replicate_at, the_one}
 use Rattle.base_lists.proofs.Bools.{left_false, right_false}
 use Rattle.base_lists.specs.Members.{is_among}
 use Rattle.base_lists.specs.Every.{Every}

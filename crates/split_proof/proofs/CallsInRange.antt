@@ -1,24 +1,25 @@
 -- Code in which other code stands in place of calls has its numbers that are no operands in range where the code and what stands in it have.
-use Rattle.base_lists.proofs.Common.{◌≡◌, ◌∙◌, ap, sym, refl, ℕ, suc, ◌+◌, ◌≤◌, ◌<◌, ◌^◌, List, [], ◌∷◌, length, Option, Some, None, true, ◌&&◌, arith, pos, and_from, lt-ltb, list_all-append, slice_get_within, left_true, right_true, place_is}
-use Rattle.wasm_tree_spec.specs.Prelude.{BlockType, ValType, Instr, fold_out-Instr, Row_of-Instr, items-the_row-Instr, end_of-Instr, more_of-Instr, Block, Block', Loop, Loop', If, If', Call, CallIndirect, I32Const, LocalGet, outs-Block, outs-Loop, outs-If, Module, held}
+use Rattle.base_lists.proofs.Common.{◌≡◌, ◌∙◌, ap, ap₂, sym, refl, ℕ, suc, ◌+◌, ◌≤◌, ◌<◌, ◌^◌, List, [], ◌∷◌, length, Option, Some, None, Bool, true, ◌&&◌, list_all-map, map, arith, pos, and_from, lt-ltb, list_all-append, slice_get_within, left_true, right_true, place_is}
+use Rattle.wasm_tree_spec.specs.Prelude.{BlockType, ValType, Instr, fold_out-Instr, map-Instr, Row_of-Instr, items-the_row-Instr, end_of-Instr, more_of-Instr, Block, Block', Loop, Loop', If, If', Call, CallIndirect, I32Const, LocalGet, outs-Block, outs-Loop, outs-If, Module}
 use Rattle.wasm_tree.specs.declared.instr.Instr.{out-Instr}
-use Rattle.index_remap.proofs.Rows.{block_is, loop_is, if_is}
+use Rattle.wasm_tree.specs.declared.instr.Instr.TheOpen.{Instr-F}
 use Rattle.index_remap.specs.Prelude.{gets, slot_call}
-use Rattle.wasm_write_proof.specs.Ranges.{small, small_numbers, numbers_in, all_numbers_in}
-use Rattle.wasm_write_proof.proofs.Inside.{numbers_inside}
+use Rattle.wasm_write_proof.specs.Ranges.{small, number_step, numbers_in, all_numbers_in}
 use Rattle.split_spec.specs.Prelude.{calls_in, calls_step, with_calls, call_by_slot, call_through_slot, params_of, place_among, slot_table, trampoline_body, type_index}
-use Rattle.split_proof.proofs.Blocks.{block_calls, if_calls, loop_calls}
+use Rattle.split_proof.proofs.Blocks.{block_calls, block_layer, if_calls, if_layer, loop_calls, loop_layer}
 
 -- ---- what a block holds ----
 
-block_numbers : (ty : BlockType) (body : List Instr) → numbers_in (Block ty body) ≡ all_numbers_in body
-block_numbers ty body = numbers_inside (Block ty body) ∙ ap (λ l. small_numbers l && all_numbers_in (held l)) (outs-Block ty body)
+block_numbers : (i : Instr) (ty : BlockType) (body : List Instr) → out-Instr i ≡ Instr-F.Block ty body → numbers_in i ≡ all_numbers_in body
+block_numbers i ty body is = fold_out-Instr Bool number_step i ∙ ap (λ l. number_step (map-Instr Instr Bool numbers_in l)) is ∙ list_all-map (λ b. b) numbers_in body
 
-loop_numbers : (ty : BlockType) (body : List Instr) → numbers_in (Loop ty body) ≡ all_numbers_in body
-loop_numbers ty body = numbers_inside (Loop ty body) ∙ ap (λ l. small_numbers l && all_numbers_in (held l)) (outs-Loop ty body)
+loop_numbers : (i : Instr) (ty : BlockType) (body : List Instr) → out-Instr i ≡ Instr-F.Loop ty body → numbers_in i ≡ all_numbers_in body
+loop_numbers i ty body is = fold_out-Instr Bool number_step i ∙ ap (λ l. number_step (map-Instr Instr Bool numbers_in l)) is ∙ list_all-map (λ b. b) numbers_in body
 
-if_numbers : (ty : BlockType) (body other : List Instr) → numbers_in (If ty body other) ≡ all_numbers_in body && all_numbers_in other
-if_numbers ty body other = numbers_inside (If ty body other) ∙ ap (λ l. small_numbers l && all_numbers_in (held l)) (outs-If ty body other) ∙ list_all-append numbers_in body other
+if_numbers : (i : Instr) (ty : BlockType) (body other : List Instr) → out-Instr i ≡ Instr-F.If ty body other → numbers_in i ≡ all_numbers_in body && all_numbers_in other
+if_numbers i ty body other is =
+    fold_out-Instr Bool number_step i ∙ ap (λ l. number_step (map-Instr Instr Bool numbers_in l)) is ∙ list_all-append (λ b. b) (map numbers_in body) (map numbers_in other)
+    ∙ ap₂ (λ a b. a && b) (list_all-map (λ b. b) numbers_in body) (list_all-map (λ b. b) numbers_in other)
 
 -- ---- where other code stands in place of calls ----
 
@@ -29,19 +30,19 @@ module _ (code : ℕ → List Instr) (codes : (f : ℕ) → all_numbers_in (code
     instr_numbers : (i : Instr) → numbers_in i ≡ true → all_numbers_in (calls_in code i) ≡ true
     instr_numbers (Block' ty n row) h =
         let is = items-the_row-Instr _ row in
-        let old : all_numbers_in is ≡ true = sym (ap numbers_in (block_is ty n row) ∙ block_numbers ty is) ∙ h in
-        ap all_numbers_in (block_calls code ty n row) ∙ and_from (numbers_in (Block ty (with_calls code is))) true (block_numbers ty (with_calls code is) ∙ row_numbers row old) refl
+        let old : all_numbers_in is ≡ true = sym (block_numbers (Block' ty n row) ty is (block_layer ty n row)) ∙ h in
+        ap all_numbers_in (block_calls code ty n row) ∙ and_from (numbers_in (Block ty (with_calls code is))) true (block_numbers (Block ty (with_calls code is)) ty (with_calls code is) (outs-Block ty (with_calls code is)) ∙ row_numbers row old) refl
     instr_numbers (Loop' ty n row) h =
         let is = items-the_row-Instr _ row in
-        let old : all_numbers_in is ≡ true = sym (ap numbers_in (loop_is ty n row) ∙ loop_numbers ty is) ∙ h in
-        ap all_numbers_in (loop_calls code ty n row) ∙ and_from (numbers_in (Loop ty (with_calls code is))) true (loop_numbers ty (with_calls code is) ∙ row_numbers row old) refl
+        let old : all_numbers_in is ≡ true = sym (loop_numbers (Loop' ty n row) ty is (loop_layer ty n row)) ∙ h in
+        ap all_numbers_in (loop_calls code ty n row) ∙ and_from (numbers_in (Loop ty (with_calls code is))) true (loop_numbers (Loop ty (with_calls code is)) ty (with_calls code is) (outs-Loop ty (with_calls code is)) ∙ row_numbers row old) refl
     instr_numbers (If' ty n row k other) h =
         let is = items-the_row-Instr _ row in
         let os = items-the_row-Instr _ other in
-        let old : (all_numbers_in is && all_numbers_in os) ≡ true = sym (ap numbers_in (if_is ty n row k other) ∙ if_numbers ty is os) ∙ h in
+        let old : (all_numbers_in is && all_numbers_in os) ≡ true = sym (if_numbers (If' ty n row k other) ty is os (if_layer ty n row k other)) ∙ h in
         let one = row_numbers row (left_true (all_numbers_in is) (all_numbers_in os) old) in
         let two = row_numbers other (right_true (all_numbers_in is) (all_numbers_in os) old) in
-        let new = if_numbers ty (with_calls code is) (with_calls code os) ∙ and_from (all_numbers_in (with_calls code is)) (all_numbers_in (with_calls code os)) one two in
+        let new = if_numbers (If ty (with_calls code is) (with_calls code os)) ty (with_calls code is) (with_calls code os) (outs-If ty (with_calls code is) (with_calls code os)) ∙ and_from (all_numbers_in (with_calls code is)) (all_numbers_in (with_calls code os)) one two in
         ap all_numbers_in (if_calls code ty n row k other) ∙ and_from (numbers_in (If ty (with_calls code is) (with_calls code os))) true new refl
     instr_numbers (Call f) h = ap all_numbers_in (fold_out-Instr (List Instr) (calls_step code) (Call f)) ∙ codes f
     instr_numbers i h = ap all_numbers_in (fold_out-Instr (List Instr) (calls_step code) i) ∙ and_from (numbers_in i) true h refl
@@ -65,17 +66,17 @@ module _ (code : ℕ → List Instr) (codes : (f : ℕ) → all_numbers_in (code
 
 pub call_numbers : (f : ℕ) → all_numbers_in (Call f ∷ []) ≡ true
 unfolding out-Instr denote.Hole.Carrier.out
-call_numbers f = and_from (numbers_in (Call f)) true (numbers_inside (Call f)) refl
+call_numbers f = and_from (numbers_in (Call f)) true (fold_out-Instr Bool number_step (Call f)) refl
 
 slot_call_numbers : (ty table slot : ℕ) → slot < 2 ^ 31 → all_numbers_in (slot_call ty table (pos slot)) ≡ true
 unfolding out-Instr denote.Hole.Carrier.out
 slot_call_numbers ty table slot few =
-    and_from (numbers_in (I32Const (pos slot))) _ (numbers_inside (I32Const (pos slot)) ∙ and_from _ true (lt-ltb slot (2 ^ 31) few) refl)
-    (and_from (numbers_in (CallIndirect ty table)) true (numbers_inside (CallIndirect ty table)) refl)
+    and_from (numbers_in (I32Const (pos slot))) _ (fold_out-Instr Bool number_step (I32Const (pos slot)) ∙ and_from _ true (lt-ltb slot (2 ^ 31) few) refl)
+    (and_from (numbers_in (CallIndirect ty table)) true (fold_out-Instr Bool number_step (CallIndirect ty table)) refl)
 
 get_numbers : (n : ℕ) → n < 2 ^ 32 → numbers_in (LocalGet n) ≡ true
 unfolding out-Instr denote.Hole.Carrier.out
-get_numbers n few = numbers_inside (LocalGet n) ∙ and_from (small n) true (lt-ltb n (2 ^ 32) few) refl
+get_numbers n few = fold_out-Instr Bool number_step (LocalGet n) ∙ and_from (small n) true (lt-ltb n (2 ^ 32) few) refl
 
 gets_numbers : (n : ℕ) (ts : List ValType) → n + length ts ≤ 2 ^ 32 → all_numbers_in (gets n ts) ≡ true
 gets_numbers n [] few = refl

@@ -1,5 +1,5 @@
 -- What the indices of the module name, and what their entries name in the primary module with stubs in place of its placeholders.
-use Rattle.base_lists.proofs.Common.{◌≡◌, ◌∙◌, ap, sym, subst, refl, ℕ, zero, suc, ◌+◌, ◌-◌, ◌<◌, ◌≤◌, ◌&&◌, ◌⊎◌, inl, inr, List, [], ◌∷◌, ◌++◌, map, length, drop, Option, Some, Bool, true, arith, option_and_then, slice_get, slice_index, IsTrue, cases_lt, length-append, length-map, map-append, slice_get_within, same_Some, left_true, right_true, has_chosen, numbers_at, numbers_index, append_left, append_right, map_at, slice_get_there, and_from, get_rel, opt_at, then_rel, among_right, there_among}
+use Rattle.base_lists.proofs.Common.{◌≡◌, ◌∙◌, ap, sym, subst, refl, ℕ, zero, suc, ◌+◌, ◌-◌, ◌<◌, ◌≤◌, ◌&&◌, ◌⊎◌, inl, inr, List, [], ◌∷◌, ◌++◌, map, length, drop, Option, Some, Bool, true, arith, option_and_then, slice_get, slice_index, IsTrue, cases_lt, length-append, length-map, map-append, slice_get_within, same_Some, left_true, right_true, has_chosen, length-numbers, places_many, numbers_at, numbers_index, append_left, append_right, map_at, slice_get_there, and_from, get_rel, opt_at, then_rel, among_right, there_among}
 use Rattle.base_lists.specs.Places.{numbers}
 use Rattle.base_kept.specs.Kept.{kept}
 use Rattle.base_kept.proofs.Laws.{kept_at}
@@ -18,15 +18,12 @@ use Rattle.index_remap.specs.declared.remap.Remap.{Remap}
 use Rattle.index_remap.specs.Prelude.{declared_refs, fits_tree, has, new_const, new_data, new_elem, new_func, new_global, new_start, Pairing, OptRel, some, ValRel, number, reference, func, passed}
 use Rattle.index_remap.specs.Laws.{ReplacedCodeIsRelated}
 use Rattle.index_remap_proof.specs.Indices.{Indices, with_entry, ConstNamesOnly, ImportNamesOnly, ExportNamesOnly, ElemModeNamesOnly, DataModeNamesOnly, TreeNamesOnly}
-use Rattle.world_simulation.specs.Prelude.{one, addresses, Instantiated, values_in, EntriesName, SharesOwn}
+use Rattle.world_simulation.specs.Prelude.{one, addresses, Instantiated, values_in, EntriesName, SharesOwn, IsInst, IsWithDeclared, last_segments}
 use Rattle.world_extension_proof.specs.Typed.{AddedModulesAreTyped}
 use Rattle.world_contents_proof.specs.Leaves.{PrimaryModulesLeave}
 use Rattle.world_loader_proof.specs.Loaded.{LoadersBeginAsTheirPrimary, LoadersHaveTheirPrimarysInstance}
 use Rattle.world_loader_proof.specs.Stubbed.{stub, stubbed, LoadersAddAsStubbed, LoadersBeginAsStubbed}
-use Rattle.world_simulation.proofs.Alone.{funcs_counted, tables_counted, memories_counted, globals_counted}
-use Rattle.world_simulation.proofs.Declared.{IsWithDeclared, last_segments}
-use Rattle.world_contents_proof.proofs.Grown.{stays_at, space_grows}
-use Rattle.world_simulation.proofs.Instancing.{IsInst}
+use Rattle.world_contents_proof.proofs.Grown.{space_grows}
 use Rattle.world_contents_proof.proofs.OwnValues.{const_same}
 use Rattle.world_simulation.proofs.Owned.{null_rel, own_globals_rel}
 use Rattle.world_simulation.proofs.Renamed.{func_named}
@@ -34,7 +31,7 @@ use Rattle.world_simulation.proofs.Single.{space_at}
 use Rattle.split_spec.specs.declared.names.SplitNames.{SplitNames}
 use Rattle.split_spec.specs.Prelude.{is_left, left_marks, primary_func, primary_funcs, primary_map, in_slots, place_among, slot_segment, slot_table, slot_table_type, type_index}
 use Rattle.split_proof.proofs.Bodies.{BodyLaws}
-use Rattle.split_proof.proofs.Fits.{EntriesAreThere, exact, covers_exact}
+use Rattle.split_proof.proofs.Fits.{EntriesAreThere, below_has, exact, covers_exact}
 use Rattle.split_proof.proofs.PrimaryItems as primary
 use Rattle.split_proof.proofs.PrimarySpaces as spaces
 use Rattle.split_proof.specs.Worlds.{split_world}
@@ -234,7 +231,7 @@ module _ (laws : Laws) (namespace : ℕ → List ℕ) (names : SplitNames) (m : 
     own = let h = shares_own namespace names.export_prefix m holds moved g.can_move env [] in record { funcs = h.funcs; tables = h.tables; mems = h.mems; globals = h.globals }
 
     imported_many : length (imports_of Functions m) ≡ k
-    imported_many = funcs_counted m.imports 0
+    imported_many = places_many _ _ m.imports (grind arith) 0
 
     its_partner : (space : Space) → is_else space ≡ true → (c : ℕ) → c < own_count space env + defined_count space m → P.of space c c
     its_partner = is_its_partner namespace names.export_prefix m holds moved g.can_move env
@@ -297,7 +294,7 @@ module _ (laws : Laws) (namespace : ℕ → List ℕ) (names : SplitNames) (m : 
           by (inl lt) = imported_named x lt
           by (inr le) =
               let all = funcs_many namespace names.export_prefix m holds moved g.can_move in
-              let lt = (stays_at (length (funcs_of m)) x (left_true (with_entry old Functions x) _ h)).1 in
+              let lt = below_has (numbers 0 (length (funcs_of m))) (length (funcs_of m)) x (length-numbers 0 (length (funcs_of m))) (left_true (with_entry old Functions x) _ h) in
               let e : k + (x - k) ≡ x = omega (arith, le) in
               subst (λ x. OptRel (P.of Functions) (slice_get i.funcs x) (slice_get j.funcs (slice_index r.funcs x))) e
               (left_named (x - k) (omega (arith, le, lt, all)) (ap (is_left m moved) e ∙ right_true (with_entry old Functions x) (is_left m moved x) h))
@@ -305,7 +302,7 @@ module _ (laws : Laws) (namespace : ℕ → List ℕ) (names : SplitNames) (m : 
       -- a space of which each index stays
       stays_named : (space : Space) (xs ys : List ℕ) (size more : ℕ) → size ≤ more → ((x : ℕ) → x < size → OptRel (P.of space) (slice_get xs x) (slice_get ys x)) → (x : ℕ) → IsTrue (has (numbers 0 size) x) → OptRel (P.of space) (slice_get xs x) (slice_get ys (slice_index (numbers 0 more) x))
       stays_named space xs ys size more few each x h =
-          let lt = (stays_at size x h).1 in opt_at refl (ap (slice_get ys) (numbers_index more x (omega (arith, lt, few)))) (each x lt)
+          let lt = below_has (numbers 0 size) size x (length-numbers 0 size) h in opt_at refl (ap (slice_get ys) (numbers_index more x (omega (arith, lt, few)))) (each x lt)
 
       elems_more : length m.elems ≤ length Q.elems
       elems_more = let e = ap length elems_are ∙ length-append (map (new_elem r) m.elems) more_segments in let c = length-map m.elems (new_elem r) in omega (arith, e, c)
@@ -320,21 +317,21 @@ module _ (laws : Laws) (namespace : ℕ → List ℕ) (names : SplitNames) (m : 
       globals_many = ap length globals_are ∙ length-map m.globals (new_global r)
 
       pub entries : EntriesName P r stay i j
-      entries Types x h = ap (λ ts. slice_get ts x) (a.types ∙ sym types_are ∙ sym b.types) ∙ ap (slice_get j.types) (sym (stays_at (length m.types) x (left_true (with_entry old Types x) true h)).0)
+      entries Types x h = ap (λ ts. slice_get ts x) (a.types ∙ sym types_are ∙ sym b.types) ∙ ap (slice_get j.types) (sym (numbers_index (length m.types) x (below_has (numbers 0 (length m.types)) (length m.types) x (length-numbers 0 (length m.types)) (left_true (with_entry old Types x) true h))))
       entries Functions x h = funcs_named x h
       entries Tables x h =
           let all = length-append (imported_tables m.imports) m.tables in
-          let counted = tables_counted m.imports 0 in
+          let counted : length (imports_of Tables m) ≡ length (imported_tables m.imports) = places_many _ _ m.imports (grind arith) 0 in
           stays_named Tables i.tables j.tables (length (tables_of m)) (suc (length (tables_of m))) (omega arith) (λ x lt. grown Tables i.tables j.tables a.tables b.tables tables_more (its_partner Tables refl) x (omega (arith, lt, all, counted))) x (left_true (with_entry old Tables x) true h)
       entries Memories x h =
           let all = length-append (imported_memories m.imports) m.mems in
-          let counted = memories_counted m.imports 0 in
+          let counted : length (imports_of Memories m) ≡ length (imported_memories m.imports) = places_many _ _ m.imports (grind arith) 0 in
           let many = ap length mems_are in
           stays_named Memories i.mems j.mems (length (memories_of m)) (length (memories_of m)) (omega arith) (λ x lt. grown Memories i.mems j.mems a.mems b.mems (omega (arith, many)) (its_partner Memories refl) x (omega (arith, lt, all, counted))) x (left_true (with_entry old Memories x) true h)
       entries Globals x h =
           let all = length-append (imported_globals m.imports) (map (λ d. d.ty) m.globals) in
           let types = length-map m.globals (λ d. d.ty) in
-          let counted = globals_counted m.imports 0 in
+          let counted : length (imports_of Globals m) ≡ length (imported_globals m.imports) = places_many _ _ m.imports (grind arith) 0 in
           let many = globals_many in
           stays_named Globals i.globals j.globals (length (globals_of m)) (length (globals_of m)) (omega arith) (λ x lt. grown Globals i.globals j.globals a.globals b.globals (omega (arith, many)) (its_partner Globals refl) x (omega (arith, lt, all, types, counted))) x (left_true (with_entry old Globals x) true h)
       entries ElementSegments x h =

@@ -1,12 +1,11 @@
 -- The maps of a split have an entry for each index that is named in the trees that they renumber.
 use Rattle.base_lists.proofs.Common.{slice_get_within, ◌≡◌, ◌∙◌, ap, sym, subst, refl, ℕ, suc, ◌<◌, ◌≤◌, List, [], ◌∷◌, ◌++◌, length, Bool, true, ◌&&◌, Some, slice_get, arith, map, ◌+◌, IsTrue, ℤ, pos, list_all, lt-ltb, ltb-true, list_all-append, left_true, right_true, list_all_each, list_all_from, length-numbers, numbers_at, slice_get_there, slice_index_is, map_from, and_from}
 use Rattle.base_lists.specs.Places.{numbers}
-use Rattle.wasm_tree_spec.specs.Prelude.{Operand, Types, Tables, ValType, Call, CallIndirect, I32Const, LocalGet, Func, ImportDesc, Module, all_operands_pass, called, operands_pass, funcs_of, tables_of, memories_of, globals_of}
+use Rattle.wasm_tree_spec.specs.Prelude.{Operand, Types, Tables, ValType, Call, CallIndirect, I32Const, LocalGet, fold_out-Instr, Func, ImportDesc, Module, all_operands_pass, called, operands_pass, funcs_of, tables_of, memories_of, globals_of}
 use Rattle.wasm_tree.specs.declared.instr.Instr.{out-Instr}
 use Rattle.wasm_tree.specs.declared.module.ConstExpr.TheVariants as const
 use Rattle.wasm_tree.specs.declared.module.ImportDesc.TheVariants as im
-use Rattle.wasm_tree.specs.Operands.{named}
-use Rattle.wasm_tree.proofs.OperandLaws.{passes_inside}
+use Rattle.wasm_tree.specs.Operands.{all_pass_step, named}
 use Rattle.wasm_valid.specs.Prelude.{IsValid, ImportHolds, ItemsHold}
 use Rattle.index_remap.specs.declared.remap.Remap.{Remap}
 use Rattle.index_remap.specs.Prelude.{fits_func, fits_import, fits_tree, has, has_entry, fits_const, fits_import_desc, gets, slot_call}
@@ -50,19 +49,19 @@ slots_fit r m count all = list_all_from (fits_const r) (map const.Func (in_slots
 module _ (test : Operand → Bool) where
   pub call_passes : (f : ℕ) → test (called f) ≡ true → all_operands_pass test (Call f ∷ []) ≡ true
   unfolding out-Instr denote.Hole.Carrier.out
-  call_passes f h = and_from (operands_pass test (Call f)) true (passes_inside test (Call f) ∙ and_from (test (called f) && true) true (and_from (test (called f)) true h refl) refl) refl
+  call_passes f h = and_from (operands_pass test (Call f)) true (fold_out-Instr Bool (all_pass_step test) (Call f) ∙ and_from (test (called f) && true) true (and_from (test (called f)) true h refl) refl) refl
 
   indirect_passes : (ty table : ℕ) → test (named Types ty) ≡ true → test (named Tables table) ≡ true → operands_pass test (CallIndirect ty table) ≡ true
   unfolding out-Instr denote.Hole.Carrier.out
-  indirect_passes ty table h k = passes_inside test (CallIndirect ty table) ∙ and_from (test (named Types ty) && (test (named Tables table) && true)) true (and_from (test (named Types ty)) (test (named Tables table) && true) h (and_from (test (named Tables table)) true k refl)) refl
+  indirect_passes ty table h k = fold_out-Instr Bool (all_pass_step test) (CallIndirect ty table) ∙ and_from (test (named Types ty) && (test (named Tables table) && true)) true (and_from (test (named Types ty)) (test (named Tables table) && true) h (and_from (test (named Tables table)) true k refl)) refl
 
   const_passes : (v : ℤ) → operands_pass test (I32Const v) ≡ true
   unfolding out-Instr denote.Hole.Carrier.out
-  const_passes v = passes_inside test (I32Const v)
+  const_passes v = fold_out-Instr Bool (all_pass_step test) (I32Const v)
 
   get_passes : (n : ℕ) → operands_pass test (LocalGet n) ≡ true
   unfolding out-Instr denote.Hole.Carrier.out
-  get_passes n = passes_inside test (LocalGet n)
+  get_passes n = fold_out-Instr Bool (all_pass_step test) (LocalGet n)
 
   pub slot_call_passes : (ty table : ℕ) (slot : ℤ) → test (named Types ty) ≡ true → test (named Tables table) ≡ true → all_operands_pass test (slot_call ty table slot) ≡ true
   slot_call_passes ty table slot h k =

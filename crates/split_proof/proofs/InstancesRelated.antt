@@ -4,11 +4,9 @@ use Rattle.base_lists.specs.Places.{numbers}
 use Rattle.wasm_tree_spec.specs.Prelude.{Functions, Tables, Memories, Globals, Module, funcs_of, tables_of, memories_of, globals_of}
 use Rattle.wasm_meaning.specs.Prelude.{Inst, Environment, Added, primary_added}
 use Rattle.index_remap.specs.Prelude.{OptRel, has}
-use Rattle.world_simulation.specs.Prelude.{one}
+use Rattle.world_simulation.specs.Prelude.{one, IsInst}
 use Rattle.world_loader_proof.specs.Loaded.{LoadersHaveTheirPrimarysInstance}
 use Rattle.world_loader_proof.specs.Stubbed.{stubbed, placeholders_in, LoadersAddAsStubbed}
-use Rattle.world_simulation.proofs.Instancing.{IsInst}
-use Rattle.world_simulation.proofs.Single.{one_inst}
 use Rattle.split_spec.specs.declared.names.SplitNames.{SplitNames}
 use Rattle.split_spec.specs.Prelude.{is_left}
 use Rattle.split_proof.specs.LoadedCode.{InstancesAreRelated, Partnered, InstancesOfSplitsAreRelated}
@@ -45,11 +43,12 @@ instances_alike laws stubs has_instance namespace names m moved owns g env i is 
     let w = split laws namespace names m moved owns g in
     let types = types_moved laws namespace names m moved owns g in
     let last = imports_them_last namespace names m moved owns g (holds laws namespace names m moved owns g) in
-    let first = one_inst env m (i ∷ []) is in
+    let first : (k : Inst) × (i ∷ [] ≡ k ∷ []) × IsInst env (one m) 0 m k = search (arith, is) in
     let same_first : i ≡ first.0 = one_of i first.0 first.1 in
     let x = and_then_is (primary_added env (stubbed w m.imports types)) (λ a. Some (placeholders_in env w a)) a (sym (stubs env w m.imports types last) ∙ added) in
     let same : x.0.inst ≡ a.inst = ap (λ (a : Added). a.inst) (same_Some (placeholders_in env w x.0) a x.2) in
-    let second = one_inst env (Q laws namespace names m moved owns g) (x.0.inst ∷ []) (has_instance env (stubbed w m.imports types) refl x.0 x.1) in
+    let made = has_instance env (stubbed w m.imports types) refl x.0 x.1 in
+    let second : (k : Inst) × (x.0.inst ∷ [] ≡ k ∷ []) × IsInst env (one (Q laws namespace names m moved owns g)) 0 (Q laws namespace names m moved owns g) k = search (arith, made) in
     let same_second : x.0.inst ≡ second.0 = one_of x.0.inst second.0 second.1 in
     subst (λ i. InstancesAreRelated env m moved i a.inst) (sym same_first) (subst (InstancesAreRelated env m moved first.0) (sym same_second ∙ same) (from_insts laws namespace names m moved owns g env first.0 second.0 first.2 second.2))
   where

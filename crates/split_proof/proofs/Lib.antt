@@ -19,7 +19,7 @@ pub mod SecondaryFits
 pub mod PrimaryFits
 pub mod Whole
 mod Rows
-pub mod ImportCounts
+mod Counts
 pub mod CallsInRange
 pub mod NamesInRange
 pub mod SharedInRange

@@ -1,23 +1,20 @@
 -- An environment links a module exactly where it links the primary module of its split with stubs in place of the placeholders.
-use Rattle.base_lists.proofs.Common.{◌≡◌, ◌∙◌, ap, ap₂, sym, subst, refl, ℕ, zero, suc, ◌+◌, ◌<◌, ◌⊎◌, inl, inr, List, [], ◌∷◌, ◌++◌, map, length, Option, Some, None, Bool, true, false, cond, arith, option_and_then, slice_get, slice_index, length-append, length-map, slice_get_within, same_Some, length-numbers, numbers_at, and_then_is, all_there_at, all_there_from, append_at_left, append_from, map_at, map_from, slice_get_there, is_some, all_rel, left_there, right_there}
+use Rattle.base_lists.proofs.Common.{◌≡◌, ◌∙◌, add-zero, ap, ap₂, sym, subst, refl, ℕ, zero, suc, ◌+◌, ◌<◌, ◌⊎◌, inl, inr, List, [], ◌∷◌, ◌++◌, map, length, Option, Some, None, Bool, true, false, cond, arith, option_and_then, slice_get, slice_index, length-append, length-map, slice_get_within, same_Some, length-numbers, numbers_at, and_then_is, all_there_at, all_there_from, all_there_length, is_some_there, places_many, append_at_left, append_from, map_at, map_from, slice_get_there, is_some, all_rel, left_there, right_there}
 use Rattle.wasm_tree_spec.specs.Prelude.{Space, Functions, Tables, Memories, Globals, FuncType, ConstExpr, ElemSeg, GlobalDef, Module, imported_funcs, funcs_of}
 use Rattle.wasm_tree.specs.declared.module.ConstExpr.TheVariants as const
 use Rattle.wasm_tree.specs.declared.module.Func as tree
-use Rattle.wasm_meaning.specs.Prelude.{Code, Elem, Func, Global, Inst, RefVal, FuncRef, Store, Text, declared, Environment, ExternalValue, all_of, sites, Begun, World, alone, all_there, defined_count, insts_from, instantiate, is_matched, joined_stores, links, numbers, own_count, own_store, part_store, seen_as, starts_of, stores_from}
+use Rattle.wasm_meaning.specs.Prelude.{Code, Elem, Func, Global, Inst, RefVal, FuncRef, Store, Text, declared, Environment, ExternalValue, all_of, sites, World, alone, all_there, defined_count, imports_of, inst_of, imported_external_value, insts_from, instantiate, is_matched, joined_stores, links, numbers, own_count, own_store, part_store, seen_as, starts_of, stores_from}
 use Rattle.wasm_meaning.specs.World as world
 use Rattle.index_remap.specs.declared.remap.Remap.{Remap}
 use Rattle.index_remap.specs.Prelude.{declared_refs, Pairing, OptRel, none, some, ListRel, GlobalRel, ElemRel, KeyRel, BegunRel, new_const, new_elem, new_func, new_global, EntryByEntry}
 use Rattle.index_remap_proof.specs.Indices.{Indices, TreeNamesOnly}
-use Rattle.world_simulation.specs.Prelude.{one, addresses, Instantiated, values_in, AreSimilar, StartsCorrespond, WorldsCorrespond}
+use Rattle.world_simulation.specs.Prelude.{one, site, external_value_in, addresses, Instantiated, values_in, AreSimilar, StartsCorrespond, WorldsCorrespond, Adds, IsInst, last_segments}
 use Rattle.world_loader_proof.specs.Loaded.{primary_world}
 use Rattle.world_loader_proof.specs.Stubbed.{stub}
-use Rattle.world_simulation.proofs.Alone.{funcs_counted, space_is}
-use Rattle.world_simulation.proofs.Allocated.{Adds, adds, part_there}
-use Rattle.world_simulation.proofs.Declared.{last_elems, last_segments}
-use Rattle.world_simulation.proofs.Instancing.{IsInst, inst_there, is_space}
+use Rattle.world_simulation.proofs.Declared.{last_elems}
 use Rattle.world_simulation.proofs.Renamed.{elems_alike}
 use Rattle.world_simulation.proofs.Simulated.{instances_rel}
-use Rattle.world_simulation.proofs.Single.{all_matched, one_inst}
+use Rattle.world_simulation.proofs.Single.{all_matched}
 use Rattle.world_simulation.proofs.Stored.{elem_rel, global_rel, stores_rel}
 use Rattle.split_spec.specs.declared.names.SplitNames.{SplitNames}
 use Rattle.split_spec.specs.Prelude.{primary_func, in_slots, place_among, slot_segment, slot_table, type_index}
@@ -36,19 +33,21 @@ use Rattle.split_proof.proofs.BeginRelated.{definitions, starts, stubs, view, wo
 -- the index spaces of a module with the same types and imports are there
 space_too : (env : Environment) (t u : Module) → u.types ≡ t.types → u.imports ≡ t.imports → (space : Space) (xs : List ℕ) → world.space env (one t) space 0 t ≡ Some xs → (ys : List ℕ) × (world.space env (one u) space 0 u ≡ Some ys)
 space_too env t u types imports space xs h =
-    let x = and_then_is (addresses env t.types t.imports space) _ xs (sym (space_is env t space) ∙ h) in
-    (_, space_is env u space ∙ ap (λ o. option_and_then (λ l. Some (l ++ numbers (own_count space env) (defined_count space u))) o) (ap₂ (λ ts is. addresses env ts is space) types imports ∙ x.1))
+    let denoted : (v : Module) (n : ℕ) → imported_external_value env (one v) (site n) ≡ external_value_in env v.types (slice_get v.imports n) = λ v n. grind arith in
+    let is : (v : Module) → world.space env (one v) space 0 v ≡ option_and_then (λ l. Some (l ++ numbers (own_count space env) (defined_count space v))) (addresses env v.types v.imports space) = λ v. simp (denoted v, add-zero) in
+    let x = and_then_is (addresses env t.types t.imports space) _ xs (sym (is t) ∙ h) in
+    (_, is u ∙ ap (λ o. option_and_then (λ l. Some (l ++ numbers (own_count space env) (defined_count space u))) o) (ap₂ (λ ts is. addresses env ts is space) types imports ∙ x.1))
 
 -- and so is its instance
 inst_too : (env : Environment) (t u : Module) → u.types ≡ t.types → u.imports ≡ t.imports → (is : List Inst) → insts_from env (one t) 0 (one t) ≡ Some is → (js : List Inst) × (insts_from env (one u) 0 (one u) ≡ Some js)
 inst_too env t u types imports is h =
-    let i = one_inst env t is h in
+    let i : (i : Inst) × (is ≡ i ∷ []) × IsInst env (one t) 0 t i = search (arith, h) in
     let a = i.2 in
     let fs = space_too env t u types imports Functions i.0.funcs a.funcs in
     let ts = space_too env t u types imports Tables i.0.tables a.tables in
     let ms = space_too env t u types imports Memories i.0.mems a.mems in
     let gs = space_too env t u types imports Globals i.0.globals a.globals in
-    let j = inst_there env (one u) 0 u fs.0 ts.0 ms.0 gs.0 fs.1 ts.1 ms.1 gs.1 in
+    let j = is_some_there (inst_of env (one u) 0 u) (rw (fs.1, ts.1, ms.1, gs.1)) in
     (j.0 ∷ [], ap (option_and_then (λ i. option_and_then (λ is. Some (i ∷ is)) (Some []))) j.1)
 
 module _ (laws : Laws) (namespace : ℕ → List ℕ) (names : SplitNames) (m : Module) (moved : List ℕ) (owns : List (List ℕ)) (g : CanBeSplit namespace names m moved owns) where
@@ -138,8 +137,8 @@ module _ (laws : Laws) (namespace : ℕ → List ℕ) (names : SplitNames) (m : 
       -- how many functions the primary module's instance names
       funcs_space : length j.funcs ≡ length (funcs_of undeclared)
       funcs_space =
-          let s = (is_space env (one primary) Functions 0 primary j.funcs b.funcs).size in
-          let counted = funcs_counted m.imports 0 in
+          let s : length j.funcs ≡ length (imports_of Functions primary) + length primary.funcs = search (arith, b.funcs, length-append, length-numbers, all_there_length) in
+          let counted : length (imports_of Functions m) ≡ length (imported_funcs m.imports) = places_many _ _ m.imports (grind arith) 0 in
           let stubs_are = stubs_many laws namespace names m moved owns g in
           let all = length-append (map stub (types_moved laws namespace names m moved owns g)) (entry_names.split laws namespace names m moved owns g).primary.funcs in
           let rest = ap length (keeps laws namespace names m moved owns g).funcs in
@@ -181,10 +180,11 @@ module _ (laws : Laws) (namespace : ℕ → List ℕ) (names : SplitNames) (m : 
       -- ---- each is allocated where the other is ----
 
       second_allocated : (s : Store) → part_store env (one m) (i ∷ []) 0 m i ≡ Some s → (z : Store) × (part_store env (one primary) (j ∷ []) 0 primary j ≡ Some z)
-      second_allocated s made = part_there env (one primary) (j ∷ []) 0 primary j second_there global_there elem_there
+      second_allocated s made =
+          is_some_there (part_store env (one primary) (j ∷ []) 0 primary j) (rw ((all_there_from _ primary.funcs second_there).are, (all_there_from _ primary.globals global_there).are, (all_there_from _ primary.elems elem_there).are))
         where
           first : Adds env (one m) (i ∷ []) 0 m i s
-          first = adds env (one m) (i ∷ []) 0 m i s made
+          first = search (arith, made)
 
           global_there : (n : ℕ) (d : GlobalDef) → slice_get primary.globals n ≡ Some d → (x : Global) × (world.new_global env (one primary) (j ∷ []) 0 d ≡ Some x)
           global_there n d at =
@@ -205,10 +205,11 @@ module _ (laws : Laws) (namespace : ℕ → List ℕ) (names : SplitNames) (m : 
               by (inr l) = more_there l.0 d l.2
 
       first_allocated : (z : Store) → part_store env (one primary) (j ∷ []) 0 primary j ≡ Some z → (s : Store) × (part_store env (one m) (i ∷ []) 0 m i ≡ Some s)
-      first_allocated z made = part_there env (one m) (i ∷ []) 0 m i first_there global_there elem_there
+      first_allocated z made =
+          is_some_there (part_store env (one m) (i ∷ []) 0 m i) (rw ((all_there_from _ m.funcs first_there).are, (all_there_from _ m.globals global_there).are, (all_there_from _ m.elems elem_there).are))
         where
           second : Adds env (one primary) (j ∷ []) 0 primary j z
-          second = adds env (one primary) (j ∷ []) 0 primary j z made
+          second = search (arith, made)
 
           global_there : (n : ℕ) (d : GlobalDef) → slice_get m.globals n ≡ Some d → (x : Global) × (world.new_global env (one m) (i ∷ []) 0 d ≡ Some x)
           global_there n d at =
@@ -266,8 +267,8 @@ module _ (laws : Laws) (namespace : ℕ → List ℕ) (names : SplitNames) (m : 
         by (Some is) None e f = absurd (let j = inst_too env m primary same_types refl is e in let x = j.1 in cc)
         by None (Some js) e f = absurd (let i = inst_too env primary m (sym same_types) refl js f in let x = i.1 in cc)
         by (Some is) (Some js) e f =
-            let i = one_inst env m is e in
-            let j = one_inst env primary js f in
+            let i : (i : Inst) × (is ≡ i ∷ []) × IsInst env (one m) 0 m i = search (arith, e) in
+            let j : (i : Inst) × (js ≡ i ∷ []) × IsInst env (one primary) 0 primary i = search (arith, f) in
             linked_alike i.0 j.0 i.2 j.2 (e ∙ ap Some i.1) (f ∙ ap Some j.1)
 
     -- ---- both are instantiated to what is related, or neither is ----
@@ -278,8 +279,8 @@ module _ (laws : Laws) (namespace : ℕ → List ℕ) (names : SplitNames) (m : 
 
       for_instances : (P : List Inst → List Inst → Type 0) → ((i j : Inst) → IsInst env (one m) 0 m i → IsInst env (one primary) 0 primary j → P (i ∷ []) (j ∷ [])) → (is js : List Inst) → insts_from env (one m) 0 (one m) ≡ Some is → insts_from env (one primary) 0 (one primary) ≡ Some js → P is js
       for_instances P h is js e f =
-          let i = one_inst env m is e in
-          let j = one_inst env primary js f in
+          let i : (i : Inst) × (is ≡ i ∷ []) × IsInst env (one m) 0 m i = search (arith, e) in
+          let j : (i : Inst) × (js ≡ i ∷ []) × IsInst env (one primary) 0 primary i = search (arith, f) in
           subst (λ is. P is js) (sym i.1) (subst (P (i.0 ∷ [])) (sym j.1) (h i.0 j.0 i.2 j.2))
 
       similar : AreSimilar S env (alone m) whole

@@ -1,17 +1,16 @@
 -- The code of functions that are loaded is related to theirs in the module alone.
-use Rattle.base_lists.proofs.Common.{◌≡◌, ◌∙◌, ap, ap₂, sym, subst, refl, ℕ, zero, suc, ◌+◌, ◌-◌, ◌<◌, ◌&&◌, ◌||◌, List, [], ◌∷◌, ◌++◌, length, not, Option, Some, None, Bool, true, false, nat_eq, arith, true≢false, ⊎_elim, slice_get, slice_index, unwrap_or, pos, nat_lt, list_any, ltb-true, slice_get_within, same_Some, left_true, right_true, length-numbers, numbers_index, append_at_left, append_right, Has, and_from, cases_Bool, either_true, left_either, right_either, any_from_place, among_there, there_among, place_is, no_place, none_among, the_one, not-true}
+use Rattle.base_lists.proofs.Common.{◌≡◌, ◌∙◌, ap, ap₂, sym, subst, refl, ℕ, zero, suc, ◌+◌, ◌-◌, ◌<◌, ◌&&◌, ◌||◌, List, [], ◌∷◌, ◌++◌, length, not, Option, Some, None, Bool, true, false, nat_eq, arith, true≢false, ⊎_elim, slice_get, slice_index, unwrap_or, pos, nat_lt, list_any, ltb-true, slice_get_within, same_Some, left_true, right_true, length-numbers, each_same_self, numbers_index, append_at_left, append_right, Has, and_from, cases_Bool, either_true, left_either, right_either, any_from_place, among_there, there_among, place_is, no_place, none_among, the_one, not-true}
 use Rattle.base_lists.specs.Members.{is_among}
 use Rattle.std.proofs.Common.{eq-eqb}
 use Rattle.base_lists.specs.Options.{◌>>=◌}
 use Rattle.base_lists.specs.Places.{numbers}
-use Rattle.wasm_tree_spec.specs.Prelude.{Operand, Space, Types, Functions, Tables, Memories, Globals, ElementSegments, DataSegments, Instr, Call, Module, ListLayers, all_operands_pass, any_operand_passes, same_space, imported_funcs, funcs_of, tables_of, memories_of, globals_of}
+use Rattle.wasm_tree_spec.specs.Prelude.{Operand, Space, Types, Functions, Tables, Memories, Globals, ElementSegments, DataSegments, Instr, Call, Module, ListLayers, all_operands_pass, any_operand_passes, same_space, same_type, same_func_type, imported_funcs, funcs_of, tables_of, memories_of, globals_of}
 use Rattle.wasm_tree.specs.declared.instr.Instr.{out-Instr}
 use Rattle.wasm_tree.specs.declared.module.Func as tree
 use Rattle.wasm_tree.proofs.OperandLaws.{passes_both}
 use Rattle.wasm_meaning.specs.Prelude.{Inst, Environment}
 use Rattle.index_remap.specs.declared.remap.Remap.{Remap}
 use Rattle.index_remap.specs.Prelude.{EntryNames, Pairing, CodeRel, OptRel, Names, has_entry, renumbered_all, ReplacementCodesFit, OtherNamed, OthersNamed, is_opaque_call, slot_call}
-use Rattle.index_remap.proofs.SlotCalls.{func_type_self}
 use Rattle.index_remap.proofs.NotOpaque.{operands_follow}
 use Rattle.split_plan.specs.Segments.{names_segment}
 use Rattle.split_spec.specs.declared.names.SplitNames.{SplitNames}
@@ -160,7 +159,8 @@ module _ (laws : Laws) (namespace : ℕ → List ℕ) (names : SplitNames) (m : 
         let few = moved_few namespace names m moved owns g (holds laws namespace names m moved owns g) in
         let bound = g.bounded.funcs in
         let within = slice_get_within moved slot f at in
-        rw (slot_of_address laws namespace names m moved owns g env slot f slot at e, at, type_there slot f at, slots_there, slot_stays slot (omega (arith, few, bound, within)), eq-eqb slot slot refl, func_type_self (type_in m f), eq-eqb (slot_table_address env m) (slot_table_address env m) refl) refl
+        let self : same_func_type (type_in m f) (type_in m f) ≡ true = simp (each_same_self same_type (λ a. grind arith)) in
+        rw (slot_of_address laws namespace names m moved owns g env slot f slot at e, at, type_there slot f at, slots_there, slot_stays slot (omega (arith, few, bound, within)), eq-eqb slot slot refl, self, eq-eqb (slot_table_address env m) (slot_table_address env m) refl) refl
 
     module _ (from : ℕ) (own_index : (p : ℕ) → p < length own → slice_get k.funcs (slice_index second_map.funcs (length (funcs_of m) + p)) ≡ Some (from + p)) (pairs : (p f : ℕ) → slice_get own p ≡ Some f → Has loaded (defined_address env m f, from + p)) where
       -- the call of the module's own function

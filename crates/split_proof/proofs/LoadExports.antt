@@ -7,10 +7,11 @@ use Rattle.wasm_tree.specs.declared.module.ExportDesc.TheVariants as ex
 use Rattle.wasm_valid.specs.declared.kinds.ItemKind.TheVariants as kind
 use Rattle.wasm_meaning.specs.Prelude.{same_text, export_named}
 use Rattle.index_remap.specs.Prelude.{declared_refs, new_export, new_export_desc, renumbered_tree}
-use Rattle.world_simulation.proofs.Declared.{IsWithDeclared, is_with_declared}
+use Rattle.world_simulation.specs.Prelude.{IsWithDeclared}
 use Rattle.split_spec.specs.Prelude.{defined_at, slot_table, entities, exports_for_secondary, from_primary, is_from_primary, is_named_from_primary, marks_from_primary, name_from_primary, slots_name, added_exports, primary_map, primary_tree, HasSlots}
 use Rattle.split_spec.specs.Primary.{primary_with}
 use Rattle.wasm_valid.specs.Prelude.{ItemsHold}
+use Rattle.split_proof.proofs.Spaces.{declared_keeps}
 
 -- ---- exports by name ----
 
@@ -73,7 +74,7 @@ module _ (namespace : ℕ → List ℕ) (prefix : List ℕ) (m : Module) (moved 
 
   pub primary_keeps : IsWithDeclared renumbered primary (declared_refs renumbered)
   unfolding primary_with
-  primary_keeps = is_with_declared renumbered (declared_refs renumbered)
+  primary_keeps = declared_keeps renumbered
 
   pub primary_types : primary.types ≡ m.types
   primary_types = primary_keeps.types

@@ -7,7 +7,7 @@ use Rattle.wasm_tree.specs.declared.module.ExportDesc.TheVariants as ex
 use Rattle.wasm_meaning.specs.Prelude.{Inst, Store, type_at, export_named, ExternalValue, FuncAt, address_in, is_match, all_match}
 use Rattle.index_remap.specs.declared.remap.Remap.{Remap}
 use Rattle.index_remap.specs.Prelude.{declared_refs, new_import, new_import_desc, renumbered_tree}
-use Rattle.world_simulation.proofs.Declared.{IsWithDeclared, is_with_declared}
+use Rattle.world_simulation.specs.Prelude.{IsWithDeclared}
 use Rattle.world_extension_proof.specs.Typed.{Offers, IsTyped}
 use Rattle.split_spec.specs.declared.names.SplitNames.{SplitNames}
 use Rattle.split_spec.specs.Prelude.{defined_at, slot_table, slot_table_type, entities, from_primary, imports_from_primary, is_from_primary, name_from_primary, slots_name, primary_map, primary_tree, primary_with, HasSlots, secondary_imports, secondary_map, secondary_tree}
@@ -15,7 +15,7 @@ use Rattle.split_spec.specs.Secondary.{secondary_with}
 use Rattle.split_proof.specs.Premises.{CanMove}
 use Rattle.split_proof.proofs.PrimarySpaces as spaces
 use Rattle.split_proof.proofs.SharedFuncs.{shared_left, shared_within}
-use Rattle.split_proof.proofs.Spaces.{type_there}
+use Rattle.split_proof.proofs.Spaces.{declared_keeps, type_there}
 use Rattle.wasm_valid.specs.Prelude.{ItemsHold}
 use Rattle.split_proof.proofs.LoadExports.{primary, primary_types, primary_keeps, among_all, slots_exported, func_exported, table_exported, memory_exported, global_exported}
 
@@ -111,7 +111,7 @@ module _ (namespace : ℕ → List ℕ) (names : SplitNames) (m : Module) (holds
 
     pub second_keeps : IsWithDeclared second_tree second (declared_refs second_tree)
     unfolding secondary_with
-    second_keeps = is_with_declared second_tree (declared_refs second_tree)
+    second_keeps = declared_keeps second_tree
 
     abbrev pub supply : Import → Option ExternalValue
     supply x = export_named first.exports x.field >>= (address_in i)

@@ -17,13 +17,12 @@ use Rattle.split_proof.specs.LoadedCode.{loaded_from, LoadsKeepTheRelation}
 use Rattle.split_proof.proofs.Entries.{Laws, holds}
 use Rattle.split_proof.proofs.LoadCode.{moves, pair_there, code_related}
 use Rattle.split_proof.proofs.LoadNames.{own_can}
-use Rattle.world_contents_proof.proofs.Added.{right_is}
 
 -- ---- stores ----
 
 -- what is related is so still, where the second stays
 still : {A B : Type 0} {P : A → B → Type 0} {o : Option A} {p q : Option B} → ((b : B) → p ≡ Some b → q ≡ Some b) → BothRel P o p → BothRel P o q
-still {P = P} {o = o} h r = let b = right_is r in subst (BothRel P o) (b.1 ∙ sym (h b.0 b.1)) r
+still {P = P} h (both {a = a} {b = b} r) = subst (BothRel P (Some a)) (sym (h b refl)) (both r)
 
 -- no address is a partner of the slot table's
 pub slot_table_alone : (env : Environment) (m : Module) (moved : List ℕ) (a : ℕ) → IsTrue (is_partner env m moved Tables a (slot_table_address env m)) → ⊥
@@ -38,8 +37,8 @@ module _ (env : Environment) (m : Module) (moved : List ℕ) (loaded : List (ℕ
 
   store_kept : StoreRel R s z → StoreRel R s t
   store_kept like = record {
-    types = λ {a} {b} r. let f = func_there b (right_is (like.types r)) in subst (λ o. BothRel (◌≡◌ {A = FuncType}) (type_at s a) (o >>= λ f. Some (type_of_func f))) (f.1 ∙ sym (load.earlier_funcs b f.0 f.1)) (like.types r);
-    owns = λ {a} {b} r. let f = func_there b (right_is (like.types r)) in like.owns r ∙ ap (λ o. o >>= own_of) (f.1 ∙ sym (load.earlier_funcs b f.0 f.1));
+    types = λ {a} {b} r. let f = func_there b refl (like.types r) in subst (λ o. BothRel (◌≡◌ {A = FuncType}) (type_at s a) (o >>= λ f. Some (type_of_func f))) (f.1 ∙ sym (load.earlier_funcs b f.0 f.1)) (like.types r);
+    owns = λ {a} {b} r. let f = func_there b refl (like.types r) in like.owns r ∙ ap (λ o. o >>= own_of) (f.1 ∙ sym (load.earlier_funcs b f.0 f.1));
     funcs = λ {a} {b} r l. still (load.earlier_funcs b) (like.funcs r l);
     tables = λ {a} {b} r. still (λ u at. load.other_tables b u at (λ e. slot_table_alone env m moved a (subst (λ c. IsTrue (is_partner env m moved Tables a c)) (same_Some b (slot_table_address env m) (sym e ∙ slots_at)) r))) (like.tables r);
     mems = λ {a} {b} r. still (load.earlier_mems b) (like.mems r);
@@ -48,8 +47,8 @@ module _ (env : Environment) (m : Module) (moved : List ℕ) (loaded : List (ℕ
     datas = λ {a} {b} r. still (load.earlier_datas b) (like.datas r);
   }
     where
-      func_there : (b : ℕ) → (u : FuncType) × (type_at z b ≡ Some u) → (f : Func) × (slice_get z.funcs b ≡ Some f)
-      func_there b u = let f = and_then_is (slice_get z.funcs b) _ u.0 u.1 in (f.0, f.1)
+      func_there : (b : ℕ) {o p : Option FuncType} → type_at z b ≡ p → BothRel (◌≡◌ {A = FuncType}) o p → (f : Func) × (slice_get z.funcs b ≡ Some f)
+      func_there b is (both {b = u} r) = let f = and_then_is (slice_get z.funcs b) _ u is in (f.0, f.1)
 
 -- ---- more code ----
 

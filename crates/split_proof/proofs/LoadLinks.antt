@@ -15,9 +15,8 @@ use Rattle.wasm_meaning.specs.World as world
 use Rattle.index_remap.specs.declared.remap.Remap.{Remap}
 use Rattle.index_remap.specs.Prelude.{declared_refs, declaring, new_const, new_func}
 use Rattle.index_remap.specs.Renumbered as renumbered
+use Rattle.world_simulation.specs.Prelude.{IsWithDeclared, last_segments, with_elems}
 use Rattle.world_contents_proof.specs.Leaves.{Leaves, AddedModulesLeave, contents, over, all_over, elem_copies, data_copies, table_left, memory_left}
-use Rattle.world_simulation.proofs.Allocated.{with_elems}
-use Rattle.world_simulation.proofs.Declared.{IsWithDeclared, last_segments}
 use Rattle.world_extension_proof.specs.Typed.{IsTyped}
 use Rattle.split_spec.specs.declared.names.SplitNames.{SplitNames}
 use Rattle.split_spec.specs.Prelude.{defined_at, in_slots, slot_segment, slot_table, slot_table_type, primary_map, primary_with, HasSlots, secondary_func, secondary_map, secondary_with}

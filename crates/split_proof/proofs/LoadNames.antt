@@ -14,7 +14,7 @@ use Rattle.wasm_tree.specs.declared.module.ImportDesc.TheVariants as im
 use Rattle.wasm_meaning.specs.Prelude.{Inst, Store, export_named, ExternalValue, FuncAt, TableAt, MemoryAt, GlobalAt, address_in, address_of, addresses_of, next_inst}
 use Rattle.index_remap.specs.declared.remap.Remap.{Remap}
 use Rattle.index_remap.specs.Prelude.{new_func, new_import, declared_refs}
-use Rattle.world_simulation.proofs.Declared.{IsWithDeclared}
+use Rattle.world_simulation.specs.Prelude.{IsWithDeclared}
 use Rattle.world_extension_proof.specs.Typed.{IsTyped}
 use Rattle.split_plan.specs.NamedFunctions.{is_defined}
 use Rattle.split_plan.specs.Plans.{body_uses_segment}

@@ -3,24 +3,23 @@ use Rattle.base_lists.proofs.Common.{◌≡◌, ◌∙◌, refl, sym, ap, subst,
 use Rattle.wasm_tree_spec.specs.Prelude.{Space, Functions, ValType, FuncType, Instr, Call}
 use Rattle.wasm_tree.specs.declared.instr.Instr.{out-Instr}
 use Rattle.wasm_tree.specs.declared.instr.Instr.TheOpen.{Instr-F}
-use Rattle.wasm_meaning.specs.Prelude.{Outcome, Gives, Traps, IllTyped, bind, or_ill_typed, split_at, RefVal, Val, Inst, Store, Level, Frame, Entry, Running, Caller, Host, Starter, Mark, Opening, Env, Body, Act, Goes, Calls, AsksGrow, Ends, pop_typed, with_values, type_at, end_level, resume, exec, step_code, step_levels, act, frame_of, enter_at, perform, step, to_mark, same_text, Shown, func_of, look_up, received_all, Run, Move, Transition, Steps, Makes, Phase, Fresh, Pending, Opened, Closed, Trapped, InstanceTrapped, BadMove, trapped_to, made, called, moved, at_entries, or_bad, next_move, nothing_in, started, or_closed, in_phase, transition_at, transition}
+use Rattle.wasm_meaning.specs.Prelude.{Outcome, Gives, Traps, IllTyped, bind, or_ill_typed, split_at, RefVal, Val, Inst, Store, Level, Frame, Entry, Running, Caller, Host, Starter, Mark, Opening, Env, Body, Act, Goes, Calls, AsksGrow, Ends, pop_typed, with_values, type_at, end_level, resume, exec, step_code, step_levels, act, frame_of, enter_at, perform, step, to_mark, same_text, Shown, func_of, look_up, received_all, Run, Move, Transition, Steps, Makes, Phase, Closed, InstanceTrapped, BadMove, trapped_to, made, called, moved, at_entries, or_bad, next_move, nothing_in, started, or_closed, in_phase, transition_at, transition}
 use Rattle.wasm_meaning.specs.Run as run
-use Rattle.index_remap.specs.Prelude.{Pairing, OneToOne, OptRel, none, some, ResRel, done, trap, wrong, BothRel, both, ListRel, nil, cons, ValRel, OpRel, CodeRel, end, then, instead, StoreRel, LevelRel, FrameRel, EntryRel, BodyRel, calls, NotOpaque, PhaseRel, fresh, pending, opened, closed, IsBegun, passed_with, MoveSkips, NextMoveSkips, TickSkips, calls_placeholder, WithPassing, FramesBetween, HaveTypes, at_code, Values, Memories, Control, none_unknown, RefsOff, StoreRelOff, ReadPlace, ReadsNothing, ReadsGlobal, ReadsSlots, ReadsItems, ActOff}
+use Rattle.index_remap.specs.Prelude.{Pairing, OneToOne, OptRel, none, some, ResRel, done, trap, wrong, BothRel, both, ListRel, nil, cons, ValRel, CodeRel, end, then, instead, StoreRel, LevelRel, FrameRel, BodyRel, calls, NotOpaque, PhaseRel, fresh, pending, opened, closed, IsBegun, passed_with, MoveSkips, NextMoveSkips, TickSkips, calls_placeholder, WithPassing, FramesBetween, HaveTypes, at_code, none_unknown, RefsOff, StoreRelOff, ActOff}
 use Rattle.index_remap.specs.Related as to
 use Rattle.index_remap.specs.Trampolines as with_frames
-use Rattle.index_remap.specs.Groups.{Group, group_of}
+use Rattle.index_remap.specs.Groups.{group_of}
 use Rattle.index_remap.proofs.Rel.{written}
 use Rattle.base_lists.specs.Related.{PairRel}
-use Rattle.base_lists.proofs.Related.{if_there_at}
-use Rattle.index_remap.proofs.ValueSteps.{pop_typed_all, pop_typed_rel}
+use Rattle.index_remap.proofs.ValueSteps.{pop_typed_rel}
 use Rattle.index_remap.proofs.Known.{op_known}
 use Rattle.index_remap.proofs.StepsAgree.{frame_rel, left_rel, each_group}
 use Rattle.index_remap.proofs.FramesBetween.{frames as top_frames, again, between}
-use Rattle.wasm_meaning.proofs.Outcomes.{all_at}
+use Rattle.index_remap.specs.Trampolines.{PassedValuesHaveTypes, PoppedValuesHaveTypes}
 use Rattle.split_proof.specs.Begins.{RunsRelated}
 use Rattle.split_proof.specs.MovedCalls.{EntersInBoth, ReplacementCode, NoCallBegins, StepsCallMovedTogether, skips, enters, EveryStepCallsMovedTogether}
 use Rattle.split_proof.specs.MovedCalls as way
-use Rattle.index_remap.proofs.Received.{look_rel, func_of_rel, received_all_rel, fits_received}
+use Rattle.index_remap.proofs.Received.{look_rel, func_of_rel, received_all_rel}
 
 -- ---- what calls ----
 
@@ -75,7 +74,7 @@ both_call R i j _ _ a vs h e (done (to.goes c r)) = absurd (let k = e in cc)
 both_call R i j _ _ a vs h e (done (to.asks_grow g r)) = absurd (let k = e in cc)
 both_call R i j _ _ a vs h e (done (to.ends v)) = absurd (let k = e in cc)
 
-module _ (R : Pairing) (apart : OneToOne R) (known : (k : Space) (a b : ℕ) → R.named k a b → R.of k a b) (decide : (a : ℕ) → R.listed a ⊎ (R.listed a → ⊥)) (r q : Run) (begun : IsBegun r.phase) (h : RunsRelated R r q) where
+module _ (popped_typed : PoppedValuesHaveTypes) (passed_typed : PassedValuesHaveTypes) (R : Pairing) (apart : OneToOne R) (known : (k : Space) (a b : ℕ) → R.named k a b → R.of k a b) (decide : (a : ℕ) → R.listed a ⊎ (R.listed a → ⊥)) (r q : Run) (begun : IsBegun r.phase) (h : RunsRelated R r q) where
   -- ---- both go wrong ----
 
   trapped_rel : (o p : Outcome (Caller × List Entry)) → ResRel (PairRel (◌≡◌ {A = Caller}) (WithPassing R)) o p → ((trapped_to r o).1 ≡ (trapped_to q p).1) × RunsRelated R (trapped_to r o).0 (trapped_to q p).0 × ((trapped_to r o).0.store ≡ r.store) × ((trapped_to q p).0.store ≡ q.store)
@@ -148,7 +147,7 @@ module _ (R : Pairing) (apart : OneToOne R) (known : (k : Space) (a b : ℕ) →
               values = v.0;
               second_values = w.0;
               related = z.first;
-              have_types = all_at (pop_typed_all u.params c.second_values) y;
+              have_types = popped_typed u.params c.second_values w.0 w.1 y;
               below = Running (frame_of f (with_values c.body v.1)) ∷ es;
               second_below = Running (frame_of g (with_values c.second_body w.1)) ∷ fs;
               stacks = again R stack refl (frame_rel R (written apart) frames (left_rel R (written apart) c.bodies z.second));
@@ -268,7 +267,7 @@ module _ (R : Pairing) (apart : OneToOne R) (known : (k : Space) (a b : ℕ) →
         passed : (u : FuncType) → type_at r.store a ≡ Some u → (o p : Option (List Val)) → received_all q.owned q.shown u.params xs ≡ p → OptRel (ListRel (ValRel R)) o p →
             Called (option_and_then (λ vs. Some (Steps first_run (enter_at r.store a vs es))) o) (option_and_then (λ ws. Some (Steps second_run (enter_at q.store b ws fs))) p)
         passed u e _ _ got none = neither
-        passed u e _ _ got (some {a = vs} {b = ws} v) = enter u vs ws e v (if_there_at (fits_received q.owned q.shown u.params xs) got)
+        passed u e _ _ got (some {a = vs} {b = ws} v) = enter u vs ws e v (passed_typed q.owned q.shown u.params xs ws got)
 
         by : (o : Option FuncType) → type_at r.store a ≡ o → (p : Option FuncType) → type_at q.store b ≡ p → BothRel (◌≡◌ {A = FuncType}) o p →
             Called (option_and_then (λ t. option_and_then (λ vs. Some (Steps first_run (enter_at r.store a vs es))) (received_all r.owned r.shown t.params xs)) o) (option_and_then (λ t. option_and_then (λ ws. Some (Steps second_run (enter_at q.store b ws fs))) (received_all q.owned q.shown t.params xs)) p)
@@ -422,8 +421,8 @@ module _ (R : Pairing) (apart : OneToOne R) (known : (k : Space) (a b : ℕ) →
       by _ _ x y (with_frames.cons {es = es} {fs = fs} (to.running {f = f} {g = g} p) e) = from_frame f g es fs x y (with_frames.cons (to.running p) e)
       by _ _ x y (with_frames.through {f = f} {g = g} {es = es} p inst locals e) = from_frame f g es _ x y (with_frames.through p inst locals e)
 
-pub steps_call_moved_functions_together : EveryStepCallsMovedTogether
-steps_call_moved_functions_together of l stands apart r q begun h = one_way (passed_with of of l stands) apart (λ k a b n. n) (λ a. listed_or_not a (list_any (nat_eq a) l) refl) r q begun h
+pub steps_call_moved_functions_together : PoppedValuesHaveTypes → PassedValuesHaveTypes → EveryStepCallsMovedTogether
+steps_call_moved_functions_together popped_typed passed_typed of l stands apart r q begun h = one_way popped_typed passed_typed (passed_with of of l stands) apart (λ k a b n. n) (λ a. listed_or_not a (list_any (nat_eq a) l) refl) r q begun h
   where
     listed_or_not : (a : ℕ) (b : Bool) → list_any (nat_eq a) l ≡ b → (list_any (nat_eq a) l ≡ true) ⊎ ((list_any (nat_eq a) l ≡ true) → ⊥)
     listed_or_not a true e = inl e

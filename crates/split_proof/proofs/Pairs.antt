@@ -1,11 +1,6 @@
 -- A pair: a split with one secondary module.
-use Rattle.base_lists.proofs.Common.{◌≡◌, ℕ, ◌<◌, List, [], ◌∷◌, Some, None, arith, append-nil, slice_get, ⊎_elim, IsStrictlyIncreasing, cases_lt, get_or_from_slice_get, slice_get_within}
+use Rattle.base_lists.proofs.Common.{◌≡◌, ℕ, ◌<◌, List, Some, arith, append-nil, slice_get, ⊎_elim, IsStrictlyIncreasing, cases_lt, get_or_from_slice_get, slice_get_within}
 use Rattle.std.proofs.lemmas.List.Kept.{AllPairs-from_increasing}
-use Rattle.wasm_tree_spec.specs.Prelude.{Module, IsBounded}
-use Rattle.wasm_valid.specs.Prelude.{IsValid}
-use Rattle.split_spec.specs.declared.names.SplitNames.{SplitNames}
-use Rattle.split_spec.specs.Prelude.{namespace_taken, prefix_taken}
-use Rattle.split_proof.specs.Premises.{CanMove}
 use Rattle.split_proof.specs.Laws.{PairsCanBeSplit}
 
 -- ---- numbers that rise ----

@@ -1,5 +1,5 @@
 -- The relation of addresses is one to one, and relates each of the environment's own entities to itself.
-use Rattle.base_lists.proofs.Common.{◌≡◌, ◌∙◌, ap, sym, refl, ℕ, suc, ◌+◌, ◌-◌, ◌<◌, ◌≤◌, ◌&&◌, List, length, drop, Some, Bool, true, false, cond, nat_eq, nat_lt, arith, slice_index, map, lt-ltb, ltb-true, eqb-true, nat_tests, length-append, length-map, left_true, right_true, and_from}
+use Rattle.base_lists.proofs.Common.{◌≡◌, ◌∙◌, ap, sym, refl, ℕ, ◌+◌, ◌-◌, ◌<◌, ◌≤◌, ◌&&◌, List, length, drop, Bool, true, false, cond, nat_eq, nat_lt, arith, slice_index, map, lt-ltb, ltb-true, eqb-true, nat_tests, length-append, length-map, left_true, right_true, and_from}
 use Rattle.std.proofs.Common.{eq-eqb}
 use Rattle.base_kept.specs.Kept.{is_marked, kept_before}
 use Rattle.base_kept.proofs.Laws.{marked_apart}

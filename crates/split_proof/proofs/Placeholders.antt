@@ -9,13 +9,13 @@ use Rattle.wasm_tree_spec.specs.Prelude.{FuncType, Import, Module, funcs_of, typ
 use Rattle.wasm_tree.specs.declared.module.ImportDesc.TheVariants as im
 use Rattle.wasm_meaning.specs.Prelude.{Pair, same_pair, same_text, pair_of, flat, LoaderWorld, placeholders_of, slot_of}
 use Rattle.index_remap.specs.Prelude.{declared_refs}
+use Rattle.world_simulation.specs.Prelude.{IsWithDeclared}
 use Rattle.world_loader_proof.specs.Stubbed.{ArePlaceholders, ImportsThemLast}
-use Rattle.world_simulation.proofs.Declared.{IsWithDeclared, is_with_declared}
 use Rattle.split_spec.specs.declared.names.SplitNames.{SplitNames}
 use Rattle.split_spec.specs.Prelude.{placeholder_imports, type_index}
 use Rattle.split_spec.specs.Primary.{primary_with}
 use Rattle.split_proof.proofs.PrimarySpaces as spaces
-use Rattle.split_proof.proofs.Spaces.{type_there}
+use Rattle.split_proof.proofs.Spaces.{declared_keeps, type_there}
 use Rattle.wasm_valid.specs.Prelude.{ItemsHold}
 use Rattle.split_proof.specs.Worlds.{placeholders_for, secondaries_for, split_world, type_in}
 use Rattle.split_proof.specs.Laws.{CanBeSplit}
@@ -98,7 +98,7 @@ module _ (namespace : ℕ → List ℕ) (names : SplitNames) (m : Module) (moved
 
   pub same : IsWithDeclared plain w.primary (declared_refs plain)
   unfolding primary_with
-  same = is_with_declared plain (declared_refs plain)
+  same = declared_keeps plain
 
   pub placeholders_are : placeholders_of w ≡ placeholders_for namespace m 0 moved
   placeholders_are = all_slots namespace m names moved 0 owns ∙ ap (placeholders_for namespace m 0) g.lists

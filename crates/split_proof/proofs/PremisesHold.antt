@@ -1,5 +1,5 @@
 -- The premises of the law hold of small modules, so that it speaks of them: a split that gives a wrong pair for one of these breaks it.
-use Rattle.base_lists.proofs.Common.{◌≡◌, refl, ap, subst, ℕ, zero, suc, ◌<◌, ◌^◌, arith, List, [], ◌∷◌, Option, Some, None, slice_get, false, rules, pos, Contains, same_Some}
+use Rattle.base_lists.proofs.Common.{◌≡◌, refl, ap, subst, ℕ, zero, suc, ◌<◌, ◌^◌, arith, List, [], ◌∷◌, Some, None, slice_get, false, rules, pos, Contains, same_Some}
 use Rattle.std.specs.Prelude.{unwrap_or}
 use Rattle.wasm_tree_spec.specs.Prelude.{the_lemmas, Func, Module, IsBounded, local_count}
 use Rattle.wasm_tree.specs.declared.instr.Instr.{out-Instr}

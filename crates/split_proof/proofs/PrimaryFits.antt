@@ -3,7 +3,7 @@ use Rattle.base_lists.proofs.Common.{◌≡◌, ◌∙◌, ap, sym, refl, ℕ, s
 use Rattle.base_lists.specs.Places.{numbers}
 use Rattle.base_kept.specs.Kept.{kept_before, new_places}
 use Rattle.base_kept.proofs.Laws.{kept_from}
-use Rattle.wasm_tree_spec.specs.Prelude.{Space, Types, Functions, Tables, Memories, Globals, ElementSegments, DataSegments, Export, ExportDesc, Func, Module, all_operands_pass, called, imported_funcs, funcs_of, tables_of, memories_of, globals_of}
+use Rattle.wasm_tree_spec.specs.Prelude.{Space, Types, Functions, Tables, Memories, Globals, ElementSegments, DataSegments, Export, ExportDesc, Func, Module, all_operands_pass, called, PassesInside, imported_funcs, funcs_of, tables_of, memories_of, globals_of}
 use Rattle.wasm_tree.specs.declared.module.ExportDesc.TheVariants as ex
 use Rattle.wasm_tree.specs.declared.module.ImportDesc.TheVariants as im
 use Rattle.wasm_valid.specs.Prelude.{IsValid, ItemsHold}
@@ -18,7 +18,7 @@ use Rattle.split_proof.proofs.PrimarySpaces.{imports_hold, left_many, primary_at
 use Rattle.split_proof.proofs.SharedFuncs.{shared_within}
 use Rattle.split_proof.proofs.Spaces.{func_holds}
 
-module _ (entries_there : EntriesAreThere) (namespace : ℕ → List ℕ) (prefix : List ℕ) (m : Module) (valid : IsValid m) (holds : ItemsHold m) (moved : List ℕ) (can : CanMove m moved) where
+module _ (inside : PassesInside) (entries_there : EntriesAreThere) (namespace : ℕ → List ℕ) (prefix : List ℕ) (m : Module) (valid : IsValid m) (holds : ItemsHold m) (moved : List ℕ) (can : CanMove m moved) where
   abbrev map_of : Remap
   map_of = r namespace prefix m holds moved can
 
@@ -86,7 +86,7 @@ module _ (entries_there : EntriesAreThere) (namespace : ℕ → List ℕ) (prefi
   func_fits : (o : Option ℕ) (p : ℕ) (f : Func) → slice_get m.funcs p ≡ Some f → fits_func map_of (primary_func m moved o (k + p) f) ≡ true
   func_fits None p f at =
       and_from (has map_of.types f.ty) (all_operands_pass (has_entry map_of) (with_calls (call_through_slot m moved) f.body)) (has_below map_of.types (length m.types) f.ty types_many (func_holds m holds p f at))
-      (calls_pass (has_entry old) (has_entry map_of) (call_through_slot m moved) (λ o n h. others o.space o.index h) call_fits f.body (body_exact entries_there m valid holds p f at))
+      (calls_pass inside (has_entry old) (has_entry map_of) (call_through_slot m moved) (λ o n h. others o.space o.index h) call_fits f.body (body_exact entries_there m valid holds p f at))
   func_fits (Some slot) p f at =
       let within = slice_get_within m.funcs p f at in
       let all = length-append (imported_funcs m.imports) (map (λ f. f.ty) m.funcs) in

@@ -1,5 +1,5 @@
 -- The primary module keeps the numbers of the module, and those that it adds are small.
-use Rattle.base_lists.proofs.Common.{◌≡◌, ◌∙◌, ap, sym, subst, refl, ℕ, suc, ◌+◌, ◌≤◌, ◌<◌, ◌^◌, Bool, List, [], ◌∷◌, ◌++◌, drop, map, length, Option, Some, None, option_and_then, slice_get, arith, IsUtf8, option_map_or, length-append, length-map, every_at, append_right, map_at}
+use Rattle.base_lists.proofs.Common.{◌≡◌, ◌∙◌, ap, sym, subst, refl, ℕ, suc, ◌+◌, ◌≤◌, ◌<◌, ◌^◌, Bool, List, [], ◌∷◌, drop, map, length, Option, Some, None, option_and_then, slice_get, arith, IsUtf8, option_map_or, every_at, append_right, map_at}
 use Rattle.base_lists.proofs.Every.{every_from, every_map, every_append}
 use Rattle.base_lists.specs.Every.{Every}
 use Rattle.base_kept.specs.Kept.{kept}
@@ -7,12 +7,12 @@ use Rattle.base_kept.proofs.Laws.{kept_from}
 use Rattle.wasm_tree_spec.specs.Prelude.{Space, Functions, Tables, Memories, Globals, FuncType, TableType, Export, ExportDesc, Func, Module, IsBounded, param_count, funcs_of, imported_funcs, type_of_func}
 use Rattle.wasm_tree.specs.declared.module.ExportDesc.TheVariants as ex
 use Rattle.module_limits.specs.Counts.{CountsAreWithinWhereNoneIsOver, over_limit}
-use Rattle.index_remap.specs.Prelude.{declared, declared_refs, new_import, renumbered_tree}
+use Rattle.index_remap.specs.Prelude.{renumbered_tree}
 use Rattle.wasm_write_proof.specs.Ranges.{InRange, LimitsInRange}
 use Rattle.merge_encode_proof.specs.Numbers.{ElemNumbersInRange, FuncNumbersInRange, ImportNumbersInRange, NumbersInRange}
 use Rattle.split_spec.specs.Prelude.{call_through_slot, in_slots, params_of, place_among, slot_segment, slot_table, slot_table_type, exports_for_secondary, from_primary, name_from_primary, added_exports, left_marks, placeholder_imports, primary_func, primary_funcs, primary_map, primary_tree}
 use Rattle.split_spec.specs.Primary.{primary_with}
-use Rattle.split_proof.proofs.ImportCounts.{placeholders_many, same_imports}
+use Rattle.split_proof.proofs.Counts.{imports_many}
 use Rattle.split_proof.proofs.SharedFuncs.{shared_within}
 use Rattle.split_proof.proofs.CallsInRange.{calls_numbers, slot_below, through_slot_numbers, trampoline_numbers}
 use Rattle.split_proof.proofs.NamesInRange.{decimal_in, name_in, slots_name_in}
@@ -121,12 +121,7 @@ primary_numbers laws namespace prefix m moved namespaces utf8 h few most =
 -- one placeholder is imported for each function that moves
 pub few_move : CountsAreWithinWhereNoneIsOver → (namespace : ℕ → List ℕ) (prefix : List ℕ) (m : Module) (moved : List ℕ) → over_limit (primary_with namespace prefix m moved) ≡ None →
     length moved < 2 ^ 31
-unfolding primary_with
 few_move within namespace prefix m moved none =
-    let t = renumbered_tree (primary_map m moved) (primary_tree namespace prefix m moved) in
-    let count = (within (declared t) none).imports in
-    let same = ap length (same_imports t (declared_refs t)) in
-    let all = length-map (m.imports ++ placeholder_imports namespace m 0 moved) (new_import (primary_map m moved)) in
-    let both = length-append m.imports (placeholder_imports namespace m 0 moved) in
-    let many = placeholders_many namespace m 0 moved in
-    omega (arith, count, same, all, both, many)
+    let count = (within (primary_with namespace prefix m moved) none).imports in
+    let many = imports_many namespace prefix m moved in
+    omega (arith, count, many)

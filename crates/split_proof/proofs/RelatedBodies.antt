@@ -1,25 +1,22 @@
 -- The code of functions that stay in the primary module is related to theirs in the module, where what stands in place of calls of functions that move calls these through
 -- their slots.
-use Rattle.base_lists.proofs.Common.{◌≡◌, ◌∙◌, ap, sym, subst, refl, ℕ, suc, ◌+◌, ◌-◌, ◌<◌, ◌≤◌, ◌&&◌, ◌||◌, List, [], ◌∷◌, ◌++◌, map, length, not, Option, Some, None, Bool, true, false, cond, nat_eq, arith, true≢false, ⊎_elim, slice_get, slice_index, pos, nat_le, nat_lt, cons_option, leb-true, length-append, slice_get_within, same_Some, left_true, right_true, same_tests, every_at, numbers_at, numbers_index, append_right, and_from, cases_Bool, either_true, left_either, right_either, same_number, among_right, among_joined, among_there, there_among, place_is, no_place, none_among, the_one}
+use Rattle.base_lists.proofs.Common.{◌≡◌, ◌∙◌, ap, sym, subst, refl, ℕ, suc, ◌+◌, ◌-◌, ◌<◌, ◌≤◌, ◌&&◌, ◌||◌, List, [], ◌∷◌, ◌++◌, map, length, not, Option, Some, None, Bool, true, false, cond, nat_eq, arith, true≢false, ⊎_elim, slice_get, slice_index, pos, nat_le, nat_lt, cons_option, leb-true, length-append, slice_get_within, same_Some, left_true, right_true, same_tests, each_same_self, every_at, places_many, numbers_at, numbers_index, append_right, and_from, cases_Bool, either_true, left_either, right_either, same_number, among_right, among_joined, among_there, there_among, place_is, no_place, none_among, the_one}
 use Rattle.base_lists.specs.Members.{is_among}
 use Rattle.base_lists.proofs.Members.{among_map}
 use Rattle.std.proofs.Common.{eq-eqb}
 use Rattle.base_lists.specs.Places.{first_place, numbers}
-use Rattle.wasm_tree_spec.specs.Prelude.{Operand, Space, Types, Functions, Tables, Memories, Globals, ElementSegments, DataSegments, Instr, Call, Module, ListLayers, all_operands_pass, any_operand_passes, same_space, funcs_of, tables_of, imported_tables}
+use Rattle.wasm_tree_spec.specs.Prelude.{Operand, Space, Types, Functions, Tables, Memories, Globals, ElementSegments, DataSegments, Instr, Call, Module, ListLayers, all_operands_pass, any_operand_passes, same_space, same_type, same_func_type, funcs_of, tables_of, imported_tables}
 use Rattle.wasm_tree.specs.declared.instr.Instr.{out-Instr}
 use Rattle.wasm_tree.specs.declared.module.Func as tree
 use Rattle.wasm_tree.proofs.OperandLaws.{passes_both}
 use Rattle.wasm_valid.specs.Prelude.{refs_of, ItemsHold}
-use Rattle.wasm_meaning.specs.Prelude.{Inst, Environment, own_count}
+use Rattle.wasm_meaning.specs.Prelude.{Inst, Environment, own_count, imports_of}
 use Rattle.index_remap.specs.declared.remap.Remap.{Remap}
 use Rattle.index_remap_proof.specs.Indices.{Indices}
 use Rattle.index_remap.specs.Prelude.{body_refs, refs_all, Pairing, CodeRel, has_entry, new_func, renumbered_all, ReplacementCodesFit, OtherNamed, OthersNamed, is_opaque_call, slot_call}
-use Rattle.index_remap.proofs.SlotCalls.{func_type_self}
 use Rattle.index_remap.proofs.NotOpaque.{operands_follow}
-use Rattle.world_simulation.specs.Prelude.{one, FuncsAt, EntriesName}
+use Rattle.world_simulation.specs.Prelude.{one, FuncsAt, EntriesName, IsInst}
 use Rattle.world_simulation.specs.Definitions.{alike, set_apart}
-use Rattle.world_simulation.proofs.Alone.{tables_counted}
-use Rattle.world_simulation.proofs.Instancing.{IsInst}
 use Rattle.world_simulation.proofs.Single.{space_at}
 use Rattle.split_plan.specs.Plans.{body_uses_segment}
 use Rattle.split_plan.specs.NamedFunctions.{is_defined}
@@ -175,7 +172,7 @@ module _ (laws : Laws) (namespace : ℕ → List ℕ) (names : SplitNames) (m : 
           let own_there = own laws namespace names m moved owns g env in
           let s = space_at no_list env own_there (Q laws namespace names m moved owns g) Tables j.tables b.tables in
           let many = s.many in
-          let counted = tables_counted m.imports 0 in
+          let counted : length (imports_of Tables m) ≡ length (imported_tables m.imports) = places_many _ _ m.imports (grind arith) 0 in
           let all = length-append (imported_tables m.imports) m.tables in
           let index : slot_table m ≡ length s.imported + length m.tables = omega (arith, many, counted, all) in
           let tables = tables_are laws namespace names m moved owns g in
@@ -203,7 +200,8 @@ module _ (laws : Laws) (namespace : ℕ → List ℕ) (names : SplitNames) (m : 
           let bound = g.bounded.funcs in
           let within = slice_get_within moved slot f at in
           let table : slice_index map_of.tables (slot_table m) ≡ slot_table m = numbers_index (suc (length (tables_of m))) (slot_table m) (omega arith) in
-          rw (slot_of_address slot f slot at e, at, type_there slot f at, table, slots_there, slot_stays slot (omega (arith, few, bound, within)), eq-eqb slot slot refl, func_type_self (type_in m f), eq-eqb (slot_table_address env m) (slot_table_address env m) refl) refl
+          let self : same_func_type (type_in m f) (type_in m f) ≡ true = simp (each_same_self same_type (λ a. grind arith)) in
+          rw (slot_of_address slot f slot at e, at, type_there slot f at, table, slots_there, slot_stays slot (omega (arith, few, bound, within)), eq-eqb slot slot refl, self, eq-eqb (slot_table_address env m) (slot_table_address env m) refl) refl
 
       codes_stand : ReplacementCodesFit R moved (renumbered_codes map_of (call_through_slot m moved)) i j
       codes_stand labels f addr code among has at = by (place_among moved f) refl

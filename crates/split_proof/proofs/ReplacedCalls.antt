@@ -1,17 +1,16 @@
 -- A call of a function that moves in the first run, where other code stands in place of it in the second: it calls what is in the function's slot, or the function that is
 -- loaded for it.
-use Rattle.base_lists.proofs.Common.{◌≡◌, ◌∙◌, refl, sym, ap, ap₂, subst, ℕ, suc, ◌+◌, ◌≤◌, ◌&&◌, List, [], ◌∷◌, ◌++◌, Option, Some, None, Bool, true, false, arith, slice_get, nat_eq, option_and_then, ℤ, and_parts, eqb-true, same_Some, and_then_is, map_from, unwrap_or_false_is, place_is, and_from, each_same_self}
+use Rattle.base_lists.proofs.Common.{◌≡◌, ◌∙◌, refl, sym, ap, ap₂, subst, ℕ, suc, ◌+◌, ◌≤◌, ◌&&◌, List, [], ◌∷◌, ◌++◌, Some, None, Bool, true, false, arith, slice_get, nat_eq, option_and_then, ℤ, and_parts, eqb-true, same_Some, and_then_is, map_from, unwrap_or_false_is, place_is, and_from, each_same_is, each_same_self}
 use Rattle.base_lists.specs.Options.{◌>>=◌}
 use Rattle.base_simulation.specs.Machines.{Machine, noted}
 use Rattle.wasm_num.specs.Operations.{W32, wrapped}
-use Rattle.wasm_tree_spec.specs.Prelude.{Functions, ValType, FuncType, Instr, Call, CallIndirect, I32Const, Module, same_type, same_types, same_func_type}
+use Rattle.wasm_tree_spec.specs.Prelude.{Functions, FuncType, Instr, Call, CallIndirect, I32Const, Module, same_type, same_types, same_func_type}
 use Rattle.wasm_tree.specs.declared.instr.Instr.{out-Instr}
 use Rattle.wasm_meaning.specs.Prelude.{Outcome, Gives, bind, or_ill_typed, Caller, Calls, Entry, Frame, Func, FuncRef, Host, Inst, Level, Num, Placeholder, Ran, Running, Starter, Store, Val, pop_typed, type_at, type_of_func, act, enter, enter_at, perform, step, to_mark, Environment, own_count, LoaderRun, LoaderWorld, tick_loader, Out, Run, Steps, made, tick, transition, transition_at, trapped_to}
 use Rattle.index_remap.specs.Prelude.{FrameRel, LevelRel, ListRel, OneToOne, Pairing, ResRel, ValRel, cons, done, nil, trap, wrong, IsBegun, closed, CodeAt, InSlot, WithPassing, at_code}
 use Rattle.index_remap.specs.Trampolines as with_frames
 use Rattle.base_lists.specs.Related.{PairRel}
 use Rattle.index_remap.proofs.ValueSteps.{pop_typed_rel}
-use Rattle.index_remap.proofs.SlotCalls.{func_type_is}
 use Rattle.index_remap.proofs.FramesBetween.{again, between, frames}
 use Rattle.world_loader_proof.specs.LoaderSteps.{PlaceholdersAreAnswered}
 use Rattle.split_spec.specs.declared.names.SplitNames.{SplitNames}
@@ -51,6 +50,8 @@ calls_slot env m moved j a slot ty table h =
     let t = and_then_is (slice_get j.tables table) _ true z.2 in
     let b = and_parts (nat_eq (wrapped 32 slot) x.0) (same_func_type z.0 (type_in m y.0) && nat_eq t.0 (slot_table_address env m)) (same_Some _ _ t.2) in
     let c = and_parts (same_func_type z.0 (type_in m y.0)) (nat_eq t.0 (slot_table_address env m)) b.1 in
+    let equal = c.0 in
+    let typed : z.0 ≡ type_in m y.0 = grind (arith, each_same_is same_type (λ a b e. grind arith)) in
     let i = place_is a (moved_addresses env m moved) 0 x.0 x.1 in
     let there = map_from (defined_address env m) moved i.0 a i.2 in
     let shift = i.1 in
@@ -61,7 +62,7 @@ calls_slot env m moved j a slot ty table h =
       func = y.0;
       is = y.1;
       address_is = sym there.2 ∙ ap (defined_address env m) same;
-      type = z.1 ∙ ap Some (func_type_is z.0 (type_in m y.0) c.0);
+      type = z.1 ∙ ap Some typed;
       table_is = t.1 ∙ ap Some (eqb-true t.0 (slot_table_address env m) c.1);
       wrapped_is = eqb-true (wrapped 32 slot) x.0 b.0;
     }

@@ -2,7 +2,7 @@
 use Rattle.base_lists.proofs.Common.{◌≡◌, ◌∙◌, ap, sym, refl, ℕ, ◌+◌, ◌-◌, ◌<◌, List, [], ◌∷◌, map, length, Bool, true, false, ◌&&◌, not, Option, Some, None, ⊎_elim, slice_get, arith, true≢false, IsTrue, list_all, length-append, length-map, slice_get_within, left_true, right_true, list_all_from, length-numbers, map_from, slice_get_there, and_from, cases_Bool, place_is, not-true}
 use Rattle.base_lists.specs.Places.{numbers}
 use Rattle.base_kept.specs.Kept.{new_places}
-use Rattle.wasm_tree_spec.specs.Prelude.{Operand, Space, Types, Functions, Tables, Memories, Globals, ElementSegments, DataSegments, Func, Module, all_operands_pass, called, imported_funcs, funcs_of, tables_of, memories_of, globals_of}
+use Rattle.wasm_tree_spec.specs.Prelude.{Operand, Space, Types, Functions, Tables, Memories, Globals, ElementSegments, DataSegments, Module, all_operands_pass, called, imported_funcs, funcs_of, tables_of, memories_of, globals_of}
 use Rattle.wasm_tree.specs.declared.module.ImportDesc.TheVariants as im
 use Rattle.wasm_tree.proofs.OperandLaws.{passes_both}
 use Rattle.wasm_valid.specs.Prelude.{IsValid, ItemsHold}
@@ -98,7 +98,7 @@ module _ (laws : BodyLaws) (entries_there : EntriesAreThere) (names : SplitNames
       let place = f - length (imported_funcs m.imports) in
       let plain = passes_both (has_entry old) (λ o. not (names_segment o)) is_plain (λ o a b. and_from (has_entry old o) (not (names_segment o)) a b) g.func.body (body_exact entries_there m valid holds place g.func g.is) (no_segments p f at) in
       and_from (has map_of.types g.func.ty) (all_operands_pass (has_entry map_of) (with_calls (secondary_call m moved own) g.func.body)) (has_below map_of.types (length m.types) g.func.ty types_many (func_holds m holds place g.func g.is))
-      (calls_pass is_plain (has_entry map_of) (secondary_call m moved own) plain_fits call_fits g.func.body plain)
+      (calls_pass laws.inside is_plain (has_entry map_of) (secondary_call m moved own) plain_fits call_fits g.func.body plain)
 
   funcs_fit : list_all (fits_func map_of) (map (secondary_func m moved own) (defined_at m own)) ≡ true
   funcs_fit = list_all_from (fits_func map_of) (map (secondary_func m moved own) (defined_at m own)) (λ n x at.

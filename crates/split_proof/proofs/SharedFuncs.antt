@@ -4,10 +4,11 @@ use Rattle.base_lists.specs.Members.{is_among}
 use Rattle.std.proofs.Common.{eq-eqb}
 use Rattle.base_lists.specs.Every.{Every}
 use Rattle.base_lists.specs.Places.{numbers}
-use Rattle.wasm_tree_spec.specs.Prelude.{Operand, Space, Functions, BlockType, Instr, fold_out-Instr, map-Instr, out-Instr, Module, any_operand_passes, block_operands, held, operand_passes, operands, imported_funcs}
+use Rattle.wasm_tree_spec.specs.Prelude.{Operand, Space, Functions, BlockType, Instr, fold_out-Instr, map-Instr, out-Instr, Module, any_operand_passes, block_operands, held, operand_passes, imported_funcs}
 use Rattle.wasm_tree.specs.declared.types.BlockType.TheVariants as block
 use Rattle.wasm_tree.specs.declared.instr.Instr.TheOpen.{Instr-F}
-use Rattle.wasm_tree.proofs.OperandLaws.{any_inside, by_held}
+use Rattle.wasm_tree.specs.Operands.{any_pass_step}
+use Rattle.wasm_tree.proofs.OperandLaws.{by_held}
 use Rattle.wasm_valid.specs.Prelude.{refs_of}
 use Rattle.index_remap.specs.Prelude.{body_refs, refs, refs_all, refs_step}
 use Rattle.split_spec.specs.Prelude.{defined_at, is_needed, entities, from_primary, is_from_primary, is_named_from_primary, marks_from_primary, is_left}
@@ -19,10 +20,11 @@ module _ (moved : List ℕ) (x : ℕ) (moves : is_among moved x ≡ true) where
   abbrev Named : Instr → Type 0
   Named i = operand_passes test i ≡ true → is_among (refs i) x ≡ true
 
-  all_named : (is : List Instr) → Every Named is → any_operand_passes test is ≡ true → is_among (refs_all is) x ≡ true
+  -- in what a block holds
+  all_named : (is : List Instr) → Every Named is → list_any (λ b. b) (map (operand_passes test) is) ≡ true → is_among (refs_all is) x ≡ true
   all_named [] p h = cc
   all_named (i ∷ is) p h =
-      ⊎_elim (λ e. among_left (refs i) (refs_all is) x (p.0 e)) (λ e. among_right (refs i) (refs_all is) x (all_named is p.1 e)) (either_true (operand_passes test i) (any_operand_passes test is) h)
+      ⊎_elim (λ e. among_left (refs i) (refs_all is) x (p.0 e)) (λ e. among_right (refs i) (refs_all is) x (all_named is p.1 e)) (either_true (operand_passes test i) (list_any (λ b. b) (map (operand_passes test) is)) h)
 
   no_type : (ty : BlockType) (b : Bool) → (list_any test (block_operands ty) || b) ≡ true → b ≡ true
   no_type block.Empty b h = h
@@ -35,12 +37,12 @@ module _ (moved : List ℕ) (x : ℕ) (moves : is_among moved x ≡ true) where
   no_call true false e h = true≢false (sym e)
   no_call false c e h = true≢false (sym h)
 
-  layer_named : (l : Instr-F Instr) → (list_any test (operands l) || any_operand_passes test (held l)) ≡ true → Every Named (held l) → is_among (refs_step (map-Instr Instr (List ℕ) refs l)) x ≡ true
-  layer_named (Instr-F.Block ty body) h p = all_named body p (no_type ty (any_operand_passes test body) h)
-  layer_named (Instr-F.Loop ty body) h p = all_named body p (no_type ty (any_operand_passes test body) h)
+  layer_named : (l : Instr-F Instr) → any_pass_step test (map-Instr Instr Bool (operand_passes test) l) ≡ true → Every Named (held l) → is_among (refs_step (map-Instr Instr (List ℕ) refs l)) x ≡ true
+  layer_named (Instr-F.Block ty body) h p = all_named body p (no_type ty (list_any (λ b. b) (map (operand_passes test) body)) h)
+  layer_named (Instr-F.Loop ty body) h p = all_named body p (no_type ty (list_any (λ b. b) (map (operand_passes test) body)) h)
   layer_named (Instr-F.If ty body other) h p =
       let both : refs_all (body ++ other) ≡ refs_all body ++ refs_all other = ap (flat_map (λ xs. xs)) (map-append refs body other) ∙ flat_map-append (λ xs. xs) (map refs body) (map refs other) in
-      sym (ap (λ xs. is_among xs x) both) ∙ all_named (body ++ other) p (no_type ty (any_operand_passes test (body ++ other)) h)
+      sym (ap (λ xs. is_among xs x) both) ∙ all_named (body ++ other) p (ap (list_any (λ b. b)) (map-append (operand_passes test) body other) ∙ no_type ty (list_any (λ b. b) (map (operand_passes test) body ++ map (operand_passes test) other)) h)
   layer_named (Instr-F.Call f) h p = absurd (no_call (nat_eq f x) (is_among moved x) moves (no_more _ h))
     where
       no_more : (b : Bool) → (b || false) ≡ true → b ≡ true
@@ -54,14 +56,12 @@ module _ (moved : List ℕ) (x : ℕ) (moves : is_among moved x ≡ true) where
   layer_named _ h p = cc
 
   instr_named : (i : Instr) → Named i
-  instr_named = by_held Named (λ i p h. ap (λ xs. is_among xs x) (fold_out-Instr (List ℕ) refs_step i) ∙ layer_named (out-Instr i) (sym (any_inside test i) ∙ h) p)
-
-  every_named : (is : List Instr) → Every Named is
-  every_named [] = tt
-  every_named (i ∷ is) = (instr_named i, every_named is)
+  instr_named = by_held Named (λ i p h. ap (λ xs. is_among xs x) (fold_out-Instr (List ℕ) refs_step i) ∙ layer_named (out-Instr i) (sym (fold_out-Instr Bool (any_pass_step test) i) ∙ h) p)
 
   pub ref_named : (is : List Instr) → any_operand_passes test is ≡ true → is_among (refs_all is) x ≡ true
-  ref_named is = all_named is (every_named is)
+  ref_named [] h = cc
+  ref_named (i ∷ is) h =
+      ⊎_elim (λ e. among_left (refs i) (refs_all is) x (instr_named i e)) (λ e. among_right (refs i) (refs_all is) x (ref_named is e)) (either_true (operand_passes test i) (any_operand_passes test is) h)
 
 pub shared_left : (m : Module) (moved : List ℕ) (x : ℕ) → is_from_primary moved (defined_at m moved) Functions x ≡ true → is_left m moved x ≡ true
 shared_left m moved x h =

@@ -1,16 +1,25 @@
 -- What the items of a valid module say of its index spaces: each entity is such as an import of it may describe (WebAssembly Core 2.0, section 3.4.9).
-use Rattle.base_lists.proofs.Common.{◌≡◌, ◌∙◌, ap, sym, subst, ℕ, ◌<◌, List, ◌++◌, map, length, Option, Some, true, ⊎_elim, slice_get, ◌+◌, ◌-◌, ◌≤◌, false, arith, slice_get_within, chosen_from, nat_le, nat_lt, option_map_or, leb-true, ltb-true, length-append, length-map, left_true, right_true, append_right, map_at, slice_get_there, append_from, map_from}
+use Rattle.base_lists.proofs.Common.{◌≡◌, ◌∙◌, ap, sym, subst, ℕ, ◌<◌, List, [], ◌∷◌, ◌++◌, append-nil, map, length, Option, Some, true, ⊎_elim, slice_get, ◌+◌, ◌-◌, ◌≤◌, false, arith, slice_get_within, chosen_from, nat_le, nat_lt, option_map_or, leb-true, ltb-true, length-append, length-map, left_true, right_true, append_right, map_at, slice_get_there, append_from, map_from}
 use Rattle.std.proofs.Common.{filter_map}
 use Rattle.wasm_tree_spec.specs.Prelude.{Space, Types, Functions, Tables, Memories, Globals, ElementSegments, DataSegments, Limits, TableType, Func, Import, ImportDesc, Module, func_of, table_of, memory_of, imported_funcs, funcs_of, any_operand_passes}
 use Rattle.wasm_tree.specs.declared.module.ImportDesc.TheVariants as im
-use Rattle.wasm_valid.specs.declared.kinds.ItemKind.{ItemKind}
 use Rattle.wasm_valid.specs.declared.kinds.ItemKind.TheVariants as kind
 use Rattle.wasm_valid.specs.Prelude.{ImportHolds, LimitsHold, ItemsHold}
 use Rattle.wasm_valid.specs.Validity.{PagesHold}
+use Rattle.index_remap.specs.Prelude.{declared, declared_refs, with_declared}
+use Rattle.world_simulation.specs.Prelude.{IsWithDeclared}
 use Rattle.split_spec.specs.Prelude.{entities}
 use Rattle.split_plan.specs.Segments.{names_segment, uses_segment}
 use Rattle.split_plan.specs.NamedFunctions.{is_defined}
 use Rattle.split_plan.specs.Plans.{body_uses_segment}
+
+-- a module with its references declared has the same, and perhaps one segment more
+pub declared_keeps : (t : Module) → IsWithDeclared t (declared t) (declared_refs t)
+declared_keeps t = by (declared_refs t)
+  where
+    by : (fs : List ℕ) → IsWithDeclared t (with_declared t fs) fs
+    by [] = assumption (sym (append-nil t.elems))
+    by (f ∷ fs) = assumption
 
 -- a function that can move is defined, and its body names no segment
 pub record Moves (m : Module) (f : ℕ) : Type 0 where

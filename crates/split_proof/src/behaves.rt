@@ -100,7 +100,9 @@ pub fn loads_preserve_the_relation()
 /// type do not fit, and both steps agree.
 pub fn steps_call_moved_functions_together()
     ensures together { EveryStepCallsMovedTogether }
-{}
+{
+    calls_through_slots_simulate_direct_calls();
+}
 
 /// Proves that a split with one secondary module has the premises of these laws (`CanBeSplit`).
 ///

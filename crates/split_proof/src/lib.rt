@@ -14,5 +14,5 @@ pub use behaves::{
 pub use in_range::split_modules_are_in_range;
 pub use valid::{
     maps_of_a_split_fit, primary_modules_are_valid, replacing_calls_commutes_with_renumbering,
-    secondary_modules_are_valid,
+    secondary_modules_are_valid, split_modules_are_counted,
 };

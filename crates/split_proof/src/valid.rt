@@ -1,10 +1,12 @@
-// The laws that both modules of a split are valid, and that their remaps fit.
+// The laws that both modules of a split are valid, that their remaps fit, and how many imports and
+// functions they have.
 
-ghost use Rattle.std.specs.Prelude.{◌≡◌, ℕ, List, None, IsTrue};
+ghost use Rattle.std.specs.Prelude.{◌≡◌, ◌+◌, ◌≤◌, ℕ, List, length, None, IsTrue};
 ghost use Rattle.wasm_tree.specs.declared.module.Module.{Module};
 ghost use Rattle.wasm_tree.specs.Bounds.{IsBounded};
+ghost use Rattle.wasm_tree.specs.Spaces.{funcs_of};
 ghost use Rattle.wasm_valid.specs.Validity.{IsSingle, IsValid};
-ghost use Rattle.index_remap.specs.Renumbered.{fits_tree};
+ghost use Rattle.index_remap.specs.Renumbered.{fits_tree, renumbered_tree};
 ghost use Rattle.module_limits.specs.Counts.{over_limit};
 ghost use Rattle.split_spec.specs.declared.names.SplitNames.{SplitNames};
 ghost use Rattle.split_spec.specs.Faults.{prefix_taken};
@@ -73,4 +75,19 @@ pub fn maps_of_a_split_fit()
     valid_where_items_hold();
     renumbering_keeps_typing();
     replacing_calls_commutes_with_renumbering();
+}
+
+/// Proves how many imports and functions the modules of a split have.
+///
+/// The primary module imports what the input module imports, and a placeholder for each function
+/// that moves (`imports`). Each module, before its references are declared, has at most as many
+/// functions as the input module and the functions that move into its slots (`primary`,
+/// `secondary`). The premises are that the input module is valid, and that the functions `moved`,
+/// or `own`, can move.
+pub fn split_modules_are_counted()
+    ensures imports { (namespace : ℕ → List ℕ) (prefix : List ℕ) (m : Module) (moved : List ℕ) → length (primary_with namespace prefix m moved).imports ≡ length m.imports + length moved }
+    ensures primary { (namespace : ℕ → List ℕ) (prefix : List ℕ) (m : Module) (moved : List ℕ) → IsValid m → CanMove m moved → length (funcs_of (renumbered_tree (primary_map m moved) (primary_tree namespace prefix m moved))) ≤ length (funcs_of m) + length moved }
+    ensures secondary { (names : SplitNames) (m : Module) (moved own : List ℕ) (before : ℕ) → IsValid m → CanMove m own → length (funcs_of (renumbered_tree (secondary_map m moved own) (secondary_tree names m moved own before))) ≤ length (funcs_of m) + length own }
+{
+    valid_where_items_hold();
 }

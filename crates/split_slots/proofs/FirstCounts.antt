@@ -1,15 +1,14 @@
 -- What the first counts of the primary module tell before it is built: no more defined functions are left out than move.
-use Rattle.base_lists.proofs.Common.{◌≡◌, ℕ, zero, suc, ◌+◌, ◌<◌, ◌≤◌, arith, Bool, true, false, ◌||◌, not, cond, List, [], ◌∷◌, ◌++◌, drop, map, length, nat_eq, nat_lt, Option, Some, None, refl, sym, ap, ap₂, ◌∙◌, eqb-true, ltb-true, ltb-false, lt-ltb, length-append, length-drop, length-map, filter_map_most, length-numbers}
+use Rattle.base_lists.proofs.Common.{◌≡◌, ℕ, zero, suc, ◌+◌, ◌<◌, ◌≤◌, arith, Bool, true, false, ◌||◌, not, cond, List, [], ◌∷◌, drop, map, length, nat_eq, nat_lt, Option, Some, None, refl, sym, ap, ap₂, ◌∙◌, eqb-true, ltb-true, ltb-false, lt-ltb, length-append, length-drop, length-map, filter_map_most, length-numbers}
 use Rattle.base_lists.specs.Members.{is_among}
 use Rattle.base_lists.specs.Places.{count_of, numbers}
 use Rattle.base_kept.specs.Kept.{kept}
 use Rattle.wasm_tree_spec.specs.Prelude.{Func, Module, Which, limit, func_of, funcs_of, imported_funcs}
 use Rattle.wasm_tree.specs.declared.which.Which.TheVariants as which
-use Rattle.index_remap.specs.Prelude.{declared, declared_refs, with_declared, new_func, new_import, renumbered_tree}
+use Rattle.index_remap.specs.Prelude.{declared, declared_refs, with_declared, new_func, renumbered_tree}
 use Rattle.module_limits.specs.Counts.{or_above, over_limit}
-use Rattle.split_spec.specs.Prelude.{is_needed, is_left, left_marks, placeholder_imports, primary_funcs, primary_map, primary_tree}
+use Rattle.split_spec.specs.Prelude.{is_needed, is_left, left_marks, primary_funcs, primary_map, primary_tree}
 use Rattle.split_spec.specs.Primary.{primary_with}
-use Rattle.split_proof.proofs.ImportCounts.{placeholders_many, same_imports}
 use Rattle.split_slots.specs.Surveyed.{FewFuncs, first_counts}
 
 -- ---- what is not left ----
@@ -100,11 +99,6 @@ module _ (namespace : ℕ → List ℕ) (prefix : List ℕ) (m : Module) (moved 
   abbrev k : ℕ
   k = length (imported_funcs m.imports)
 
-  imports_many : length u.imports ≡ length m.imports + length moved
-  imports_many =
-      length-map (m.imports ++ placeholder_imports namespace m 0 moved) (new_import (primary_map m moved)) ∙ length-append m.imports (placeholder_imports namespace m 0 moved)
-      ∙ ap (λ n. length m.imports + n) (placeholders_many namespace m 0 moved)
-
   out_moves : (i : ℕ) → is_left m moved i ≡ false → is_among moved i ≡ true
   out_moves i e = split (is_among moved i) (is_needed m i) e
     where
@@ -151,14 +145,14 @@ same_funcs t [] = refl
 same_funcs t (f ∷ fs) = refl
 
 -- what the first counts tell is what all counts of the primary module tell
-pub first_tells : (namespace : ℕ → List ℕ) (prefix : List ℕ) (m : Module) (moved : List ℕ) (w : Which) → first_counts m (length moved) ≡ Some w →
+pub first_tells : (namespace : ℕ → List ℕ) (prefix : List ℕ) (m : Module) (moved : List ℕ) → length (primary_with namespace prefix m moved).imports ≡ length m.imports + length moved → (w : Which) → first_counts m (length moved) ≡ Some w →
     over_limit (primary_with namespace prefix m moved) ≡ Some w
 unfolding over_limit primary_with
-first_tells namespace prefix m moved w e =
+first_tells namespace prefix m moved many w e =
     let t = renumbered_tree (primary_map m moved) (primary_tree namespace prefix m moved) in
     let fs = declared_refs t in
     let types : length m.types ≡ length (declared t).types = ap length (sym (same_types t fs)) in
-    let imports : length m.imports + length moved ≡ length (declared t).imports = sym (imports_many namespace prefix m moved) ∙ ap length (sym (same_imports t fs)) in
+    let imports : length m.imports + length moved ≡ length (declared t).imports = sym many in
     let funcs : length (declared t).funcs ≡ length t.funcs = ap length (same_funcs t fs) in
     let least = funcs_many namespace prefix m moved in
     told (length (declared t).types) (length (declared t).imports) (length m.funcs) (length (declared t).funcs) (length moved) w _ (omega (arith, funcs, least))

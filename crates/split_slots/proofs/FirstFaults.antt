@@ -1,5 +1,5 @@
 -- The faults of a split that are told before anything is built, and those that are told of what is built.
-use Rattle.base_lists.proofs.Common.{◌≡◌, ℕ, Bool, true, false, List, cond, length, nat_lt, Some, None, refl, ap, ◌∙◌, option_map, option_or}
+use Rattle.base_lists.proofs.Common.{◌≡◌, ℕ, ◌+◌, Bool, true, false, List, cond, length, nat_lt, Some, None, refl, ap, ◌∙◌, option_map, option_or}
 use Rattle.wasm_tree_spec.specs.Prelude.{Which, Module, limit}
 use Rattle.wasm_tree.specs.declared.which.Which.TheVariants as which
 use Rattle.module_limits.specs.Counts.{over_limit}
@@ -23,17 +23,21 @@ module _ (names : SplitNames) (m : Module) (moved : List ℕ) where
       ap (λ o. option_or (option_map NamespaceTaken o) (option_or (option_map PrefixTaken (prefix_taken names.export_prefix m moved)) (option_map TooMany (too_many names m moved)))) none
       ∙ ap (λ o. option_or (option_map PrefixTaken o) (option_map TooMany (too_many names m moved))) clear
 
-  many_told : (w : Which) → first_too_many m moved ≡ Some w → too_many names m moved ≡ Some w
-  many_told w e = by (nat_lt (limit which.Trampolines) (moved_params m moved)) e
+  -- the primary module imports a placeholder for each function that moves
+  abbrev ImportsMany : Type 0
+  ImportsMany = length (primary names m moved).imports ≡ length m.imports + length moved
+
+  many_told : ImportsMany → (w : Which) → first_too_many m moved ≡ Some w → too_many names m moved ≡ Some w
+  many_told many w e = by (nat_lt (limit which.Trampolines) (moved_params m moved)) e
     where
       by : (b : Bool) → cond b (Some which.Trampolines) (first_counts m (length moved)) ≡ Some w →
           cond b (Some which.Trampolines) (option_or (over_limit (primary names m moved)) (over_limit (secondary names m moved))) ≡ Some w
       by true e = e
-      by false e = ap (λ o. option_or o (over_limit (secondary names m moved))) (first_tells (λ slot. names.placeholder_namespace) names.export_prefix m moved w e)
+      by false e = ap (λ o. option_or o (over_limit (secondary names m moved))) (first_tells (λ slot. names.placeholder_namespace) names.export_prefix m moved many w e)
 
-  pub many_next : (w : Which) → namespace_taken names.placeholder_namespace m ≡ None → prefix_taken names.export_prefix m moved ≡ None → first_too_many m moved ≡ Some w →
+  pub many_next : ImportsMany → (w : Which) → namespace_taken names.placeholder_namespace m ≡ None → prefix_taken names.export_prefix m moved ≡ None → first_too_many m moved ≡ Some w →
       split_fault names m moved ≡ Some (TooMany w)
-  many_next w none clear e = many_left none clear ∙ ap (option_map TooMany) (many_told w e)
+  many_next many w none clear e = many_left none clear ∙ ap (option_map TooMany) (many_told many w e)
 
   pub none_first : namespace_taken names.placeholder_namespace m ≡ None → prefix_taken names.export_prefix m moved ≡ None → first_too_many m moved ≡ None → MaySplit names m moved
   none_first none clear e = by (nat_lt (limit which.Trampolines) (moved_params m moved)) refl e

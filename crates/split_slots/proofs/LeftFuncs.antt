@@ -8,7 +8,7 @@ use Rattle.wasm_valid.specs.declared.kinds.ItemKind.TheVariants as kind
 use Rattle.wasm_valid.specs.Prelude.{refs_of, HoldsAt}
 use Rattle.split_spec.specs.Prelude.{is_left, left_marks, place_among}
 use Rattle.split_slots.specs.Looking.{slot_at}
-use Rattle.split_slots.proofs.NamedOutside.{marks_tell}
+use Rattle.split_slots.proofs.NamedOutside.{RefsAreDeclared, marks_tell}
 use Rattle.split_slots.proofs.SharedParts.{slots_for}
 use Rattle.split_slots.proofs.SlotTables.{has_place, table_tells}
 
@@ -16,12 +16,12 @@ map_same : (p q : ℕ → Bool) (a n : ℕ) → ((i : ℕ) → i < a + n → p i
 map_same p q a zero h = refl
 map_same p q a (suc n) h = ap₂ (λ b bs. b ∷ bs) (h a (omega arith)) (map_same p q (suc a) n (λ i lt. h i (omega (arith, lt))))
 
-module _ (m : Module) (holds : (i : ℕ) → i < length m.funcs → HoldsAt m kind.Body i) (moved : List ℕ) (there : Every (λ f. f < length (funcs_of m)) moved) where
+module _ (refs_declared : RefsAreDeclared) (m : Module) (holds : (i : ℕ) → i < length m.funcs → HoldsAt m kind.Body i) (moved : List ℕ) (there : Every (λ f. f < length (funcs_of m)) moved) where
   one_left : (slots : List (Option ℕ)) (needed : List Bool) → slots ≡ slots_for m moved → needed ≡ named_from (refs_of m ++ cons_option m.start []) 0 (length (funcs_of m)) →
       (f : ℕ) → f < length (funcs_of m) → (not (is_some (slot_at slots f)) || unwrap_or (slice_get needed f) false) ≡ is_left m moved f
   one_left slots needed is tells f lt =
       ap₂ (λ a b. not a || b) (ap (λ ss. is_some (slot_at ss f)) is ∙ ap is_some (table_tells moved (length (funcs_of m)) there f) ∙ has_place moved f 0)
-      (ap (λ bs. unwrap_or (slice_get bs f) false) tells ∙ ap (λ o. unwrap_or o false) (marks_tell m holds f lt))
+      (ap (λ bs. unwrap_or (slice_get bs f) false) tells ∙ ap (λ o. unwrap_or o false) (marks_tell refs_declared m holds f lt))
 
   pub left_are : (slots : List (Option ℕ)) (needed : List Bool) → slots ≡ slots_for m moved → needed ≡ named_from (refs_of m ++ cons_option m.start []) 0 (length (funcs_of m)) →
       map (λ f. not (is_some (slot_at slots f)) || unwrap_or (slice_get needed f) false) (numbers 0 (length slots)) ≡ left_marks m moved

@@ -6,14 +6,14 @@ use Rattle.std.proofs.Common.{filter}
 use Rattle.base_lists.specs.Every.{Every}
 use Rattle.base_kept.specs.Marks.{named_from}
 use Rattle.base_kept.proofs.Marks.{all_marks, marked_is_among, named_get}
-use Rattle.wasm_tree_spec.specs.Prelude.{Func, Module, funcs_of, imported_funcs}
+use Rattle.wasm_tree_spec.specs.Prelude.{ValType, Instr, Func, Module, funcs_of, imported_funcs}
+use Rattle.wasm_valid_bodies.specs.Typing.{Context, WellTyped}
 use Rattle.wasm_valid.specs.declared.kinds.ItemKind.TheVariants as kind
 use Rattle.wasm_valid.specs.Prelude.{named_of, refs_of, HoldsAt, body_context}
 use Rattle.wasm_valid.specs.Named.{marked_at}
 use Rattle.index_remap.specs.Prelude.{body_refs, refs_all}
 use Rattle.split_plan.specs.NamedFunctions.{is_defined}
 use Rattle.split_plan.specs.Plans.{body_uses_segment}
-use Rattle.index_remap_proof.proofs.NamedFuncs.{typed_named}
 use Rattle.split_spec.specs.Prelude.{is_needed}
 use Rattle.split_spec.specs.Needed.{needed}
 
@@ -22,7 +22,11 @@ pub with_start : (m : Module) (start : Option ℕ) → marked_at (named_of m) st
 with_start m None = ap (λ rs. named_from rs 0 (length (funcs_of m))) (sym (append-nil (refs_of m)))
 with_start m (Some func) = all_marks (refs_of m) (func ∷ []) (length (funcs_of m))
 
-module _ (m : Module) (holds : (i : ℕ) → i < length m.funcs → HoldsAt m kind.Body i) where
+-- `ref.func` in a well-typed body names only functions that the context lets it name
+abbrev pub RefsAreDeclared : Type 0
+RefsAreDeclared = (c : Context) (is : List Instr) (ps rs : List ValType) → WellTyped c is ps rs → (x : ℕ) → is_among (refs_all is) x ≡ true → slice_get c.named x ≡ Some true
+
+module _ (refs_declared : RefsAreDeclared) (m : Module) (holds : (i : ℕ) → i < length m.funcs → HoldsAt m kind.Body i) where
   body_named : (x : ℕ) → is_among (body_refs m.funcs) x ≡ true → is_among (refs_of m) x ≡ true
   body_named x h = here (joined_among (λ f. refs_all f.body) m.funcs x h)
     where
@@ -32,7 +36,7 @@ module _ (m : Module) (holds : (i : ℕ) → i < length m.funcs → HoldsAt m ki
           there : HoldsAt m kind.Body i → is_among (refs_of m) x ≡ true
           there (g, ft, at, ty, w) =
               let same : g ≡ f = cc in
-              marked_is_among (refs_of m) (length (funcs_of m)) x (typed_named (body_context m g ft) g.body [] ft.results w x (subst (λ (z : Func). is_among (refs_all z.body) x ≡ true) (sym same) k))
+              marked_is_among (refs_of m) (length (funcs_of m)) x (refs_declared (body_context m g ft) g.body [] ft.results w x (subst (λ (z : Func). is_among (refs_all z.body) x ≡ true) (sym same) k))
 
   known_twice : (a s b : Bool) → (b ≡ true → a ≡ true) → (a || (s || b)) ≡ (a || s)
   known_twice true s b h = refl

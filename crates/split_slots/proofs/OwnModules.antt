@@ -1,5 +1,5 @@
 -- The secondary module is what the definitions of a split say.
-use Rattle.base_lists.proofs.Common.{◌≡◌, ℕ, ◌<◌, ◌^◌, ◌+◌, ◌-◌, true, false, slice_get, arith, List, [], ◌∷◌, map, length, None, ap, ap₂, ◌∙◌, fun_ext, length-map, every_at, all_counted}
+use Rattle.base_lists.proofs.Common.{◌≡◌, ℕ, ◌<◌, ◌^◌, ◌+◌, ◌-◌, true, false, slice_get, arith, List, [], ◌∷◌, map, length, None, ap, ap₂, ◌∙◌, fun_ext, nat_le, nat_lt, leb-true, ltb-true, left_true, right_true, length-append, length-map, slice_get_there, every_at, all_counted}
 use Rattle.base_lists.specs.Every.{Every}
 use Rattle.base_lists.specs.Places.{numbers}
 use Rattle.wasm_tree_spec.specs.Prelude.{IsBounded, funcs_of, imported_funcs, globals_of, memories_of, tables_of, ElemSeg, Func, Import, Module, Functions, Tables, Memories, Globals, FuncType}
@@ -9,7 +9,6 @@ use Rattle.split_spec.specs.Prelude.{secondary_func, secondary_imports, secondar
 use Rattle.split_plan.specs.Plans.{body_uses_segment}
 use Rattle.split_plan.specs.NamedFunctions.{is_defined}
 use Rattle.split_proof.specs.Premises.{CanMove}
-use Rattle.split_proof.proofs.Spaces.{moves}
 use Rattle.split_slots.specs.declared.calls.Calls.{Calls}
 use Rattle.split_slots.specs.declared.sharing.Marks.{Marks}
 use Rattle.split_slots.specs.PartedTrees.{own_func}
@@ -58,5 +57,9 @@ pub own_many : (m : Module) (moved : List ℕ) → CanMove m moved → length (d
 own_many m moved can =
     all_counted (λ func. slice_get m.funcs (func - length (imported_funcs m.imports))) moved (λ p f at.
     let h = every_at (λ func. (is_defined m func ≡ true) × (body_uses_segment m func ≡ false)) moved p f can at in
-    let g = moves m f h.0 h.1 in
-    (g.func, g.is))
+    let k = length (imported_funcs m.imports) in
+    let from = leb-true k f (left_true (nat_le k f) (nat_lt f (length (funcs_of m))) h.0) in
+    let to = ltb-true f (length (funcs_of m)) (right_true (nat_le k f) (nat_lt f (length (funcs_of m))) h.0) in
+    let all = length-append (imported_funcs m.imports) (map (λ f. f.ty) m.funcs) in
+    let types = length-map m.funcs (λ f. f.ty) in
+    slice_get_there m.funcs (f - k) (omega (arith, from, to, all, types)))

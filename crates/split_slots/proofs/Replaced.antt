@@ -1,9 +1,10 @@
 -- Code in which other code stands in place of calls, made instruction by instruction.
-use Rattle.base_lists.proofs.Common.{◌≡◌, ℕ, zero, suc, ◌+◌, ◌-◌, ◌<◌, ◌≤◌, arith, length, Bool, true, false, ◌&&◌, cond, List, [], ◌∷◌, ◌++◌, map, take, drop, Option, Some, None, ◌⊎◌, inl, inr, refl, sym, ap, ap₂, ◌∙◌, subst, slice_get, slice_index, append_assoc, add-one, rules, nat_le, nat_lt, flat_map, part, part_at, cases_lt}
-use Rattle.wasm_tree_spec.specs.Prelude.{BlockType, Instr, fold_out-Instr, items-the_row-Instr, the_lemmas, Block, Block', Loop, Loop', If, If', Call, outs-Block, outs-Loop, outs-If}
+use Rattle.base_lists.proofs.Common.{◌≡◌, ℕ, zero, suc, ◌+◌, ◌-◌, ◌<◌, ◌≤◌, arith, length, Bool, true, false, ◌&&◌, cond, List, [], ◌∷◌, ◌++◌, map, take, drop, Option, Some, None, ◌⊎◌, inl, inr, refl, sym, ap, ap₂, ◌∙◌, slice_get, slice_index, append_assoc, add-one, nat_le, nat_lt, flat_map, part, part_at, cases_lt}
+use Rattle.wasm_tree_spec.specs.Prelude.{BlockType, Instr, fold_out-Instr, map-Instr, Block, Block', Loop, Loop', If, If', Call, outs-Block, outs-Loop, outs-If}
 use Rattle.wasm_tree.specs.declared.instr.Instr.{out-Instr}
+use Rattle.wasm_tree.specs.declared.instr.Instr.TheOpen.{Instr-F}
+use Rattle.wasm_tree.specs.declared.instr.Instr.TheViews.{outs-Block', outs-Loop', outs-If'}
 use Rattle.std.proofs.lemmas.List.{append-nil}
-use Rattle.index_remap.proofs.Rows.{block_is, loop_is, if_is}
 use Rattle.split_spec.specs.Prelude.{calls_in, calls_step, with_calls}
 use Rattle.split_slots.specs.Looking.{slot_at}
 use Rattle.split_slots.specs.declared.calls.Calls.{Calls}
@@ -44,66 +45,55 @@ joined_map : (f : Instr → List Instr) (is : List Instr) → flat_map (λ code.
 joined_map f [] = refl
 joined_map f (i ∷ is) = ap (λ code. f i ++ code) (joined_map f is)
 
-module _ (code : ℕ → List Instr) where
-  of_block : (ty : BlockType) (body : List Instr) → calls_in code (Block ty body) ≡ Block ty (flat_map (λ is. is) (map (calls_in code) body)) ∷ []
-  of_block ty body = search (rules, the_lemmas)
-
-  of_loop : (ty : BlockType) (body : List Instr) → calls_in code (Loop ty body) ≡ Loop ty (flat_map (λ is. is) (map (calls_in code) body)) ∷ []
-  of_loop ty body = search (rules, the_lemmas)
-
-  of_if : (ty : BlockType) (body other : List Instr) → calls_in code (If ty body other) ≡ If ty (flat_map (λ is. is) (map (calls_in code) body)) (flat_map (λ is. is) (map (calls_in code) other)) ∷ []
-  of_if ty body other = search (rules, the_lemmas)
-
 -- ---- one instruction ----
 
 module _ (c : Calls) (few : FewSlots c) where
   abbrev code : ℕ → List Instr
   code = code_of_call c
 
-  pub block_settled : (ty : BlockType) (body : List Instr) → settled c (Block ty body) ≡ Block ty (with_calls code body)
-  block_settled ty body = ap (λ l. layer_settled c l (Block ty body)) (outs-Block ty body)
-
-  pub loop_settled : (ty : BlockType) (body : List Instr) → settled c (Loop ty body) ≡ Loop ty (with_calls code body)
-  loop_settled ty body = ap (λ l. layer_settled c l (Loop ty body)) (outs-Loop ty body)
-
-  pub if_settled : (ty : BlockType) (body other : List Instr) → settled c (If ty body other) ≡ If ty (with_calls code body) (with_calls code other)
-  if_settled ty body other = ap (λ l. layer_settled c l (If ty body other)) (outs-If ty body other)
+  abbrev step : Instr-F Instr → List Instr
+  step l = calls_step code (map-Instr Instr (List Instr) (calls_in code) l)
 
   -- a block is one instruction
-  one_block : (ty : BlockType) (body : List Instr) → (code_here code (settled c (Block ty body)) ≡ settled c (Block ty body) ∷ []) × (code_here code (settled c (Block ty body)) ≡ calls_in code (Block ty body))
-  one_block ty body =
+  one_block : (i : Instr) (ty : BlockType) (body : List Instr) → out-Instr i ≡ Instr-F.Block ty body → (code_here code (settled c i) ≡ settled c i ∷ []) × (code_here code (settled c i) ≡ calls_in code i)
+  one_block i ty body e =
       let held = with_calls code body in
-      let is = ap (code_here code) (block_settled ty body) ∙ ap (λ l. layer_code code l (Block ty held)) (outs-Block ty held) in
-      (is ∙ ap (λ i. i ∷ []) (sym (block_settled ty body)), is ∙ sym (of_block code ty body ∙ ap (λ is. Block ty is ∷ []) (joined_map (calls_in code) body)))
+      let same : settled c i ≡ Block ty held = ap (λ l. layer_settled c l i) e in
+      let is : code_here code (settled c i) ≡ Block ty held ∷ [] = ap (code_here code) same ∙ ap (λ l. layer_code code l (Block ty held)) (outs-Block ty held) in
+      (is ∙ ap (λ i. i ∷ []) (sym same), is ∙ sym (fold_out-Instr (List Instr) (calls_step code) i ∙ ap step e ∙ ap (λ is. Block ty is ∷ []) (joined_map (calls_in code) body)))
 
-  one_loop : (ty : BlockType) (body : List Instr) → (code_here code (settled c (Loop ty body)) ≡ settled c (Loop ty body) ∷ []) × (code_here code (settled c (Loop ty body)) ≡ calls_in code (Loop ty body))
-  one_loop ty body =
+  one_loop : (i : Instr) (ty : BlockType) (body : List Instr) → out-Instr i ≡ Instr-F.Loop ty body → (code_here code (settled c i) ≡ settled c i ∷ []) × (code_here code (settled c i) ≡ calls_in code i)
+  one_loop i ty body e =
       let held = with_calls code body in
-      let is = ap (code_here code) (loop_settled ty body) ∙ ap (λ l. layer_code code l (Loop ty held)) (outs-Loop ty held) in
-      (is ∙ ap (λ i. i ∷ []) (sym (loop_settled ty body)), is ∙ sym (of_loop code ty body ∙ ap (λ is. Loop ty is ∷ []) (joined_map (calls_in code) body)))
+      let same : settled c i ≡ Loop ty held = ap (λ l. layer_settled c l i) e in
+      let is : code_here code (settled c i) ≡ Loop ty held ∷ [] = ap (code_here code) same ∙ ap (λ l. layer_code code l (Loop ty held)) (outs-Loop ty held) in
+      (is ∙ ap (λ i. i ∷ []) (sym same), is ∙ sym (fold_out-Instr (List Instr) (calls_step code) i ∙ ap step e ∙ ap (λ is. Loop ty is ∷ []) (joined_map (calls_in code) body)))
 
-  one_if : (ty : BlockType) (body other : List Instr) → (code_here code (settled c (If ty body other)) ≡ settled c (If ty body other) ∷ []) × (code_here code (settled c (If ty body other)) ≡ calls_in code (If ty body other))
-  one_if ty body other =
+  one_if : (i : Instr) (ty : BlockType) (body other : List Instr) → out-Instr i ≡ Instr-F.If ty body other → (code_here code (settled c i) ≡ settled c i ∷ []) × (code_here code (settled c i) ≡ calls_in code i)
+  one_if i ty body other e =
       let held = with_calls code body in
       let rest = with_calls code other in
-      let is = ap (code_here code) (if_settled ty body other) ∙ ap (λ l. layer_code code l (If ty held rest)) (outs-If ty held rest) in
-      (is ∙ ap (λ i. i ∷ []) (sym (if_settled ty body other)), is ∙ sym (of_if code ty body other ∙ ap₂ (λ is os. If ty is os ∷ []) (joined_map (calls_in code) body) (joined_map (calls_in code) other)))
+      let same : settled c i ≡ If ty held rest = ap (λ l. layer_settled c l i) e in
+      let is : code_here code (settled c i) ≡ If ty held rest ∷ [] = ap (code_here code) same ∙ ap (λ l. layer_code code l (If ty held rest)) (outs-If ty held rest) in (
+        is ∙ ap (λ i. i ∷ []) (sym same),
+        is ∙ sym (fold_out-Instr (List Instr) (calls_step code) i ∙ ap step e ∙ ap₂ (λ is os. If ty is os ∷ []) (joined_map (calls_in code) body) (joined_map (calls_in code) other)),
+      )
 
   -- what stands in place of an instruction stands in place of the settled one
   here : (i : Instr) → code_here code (settled c i) ≡ calls_in code i
   unfolding out-Instr denote.Hole.Carrier.out
-  here (Block' ty n body) = subst (λ z. code_here code (settled c z) ≡ calls_in code z) (sym (block_is ty n body)) (one_block ty (items-the_row-Instr _ body)).1
-  here (Loop' ty n body) = subst (λ z. code_here code (settled c z) ≡ calls_in code z) (sym (loop_is ty n body)) (one_loop ty (items-the_row-Instr _ body)).1
-  here (If' ty n body k other) = subst (λ z. code_here code (settled c z) ≡ calls_in code z) (sym (if_is ty n body k other)) (one_if ty (items-the_row-Instr _ body) (items-the_row-Instr _ other)).1
+  here (Block' ty n body) = (one_block (Block' ty n body) ty _ (outs-Block' ty n body)).1
+  here (Loop' ty n body) = (one_loop (Loop' ty n body) ty _ (outs-Loop' ty n body)).1
+  here (If' ty n body k other) = (one_if (If' ty n body k other) ty _ _ (outs-If' ty n body k other)).1
   here (Call f) = settled_code c few f (slot_at c.slots.now f) refl ∙ sym (fold_out-Instr (List Instr) (calls_step code) (Call f))
   here i = sym (fold_out-Instr (List Instr) (calls_step code) i)
 
   -- and is that one, unless that is a call through a slot
   one_stays : (i : Instr) → is_spread c i ≡ false → code_here code (settled c i) ≡ settled c i ∷ []
   unfolding out-Instr denote.Hole.Carrier.out
-  one_stays (Block' ty n body) e = subst (λ z. code_here code (settled c z) ≡ settled c z ∷ []) (sym (block_is ty n body)) (one_block ty (items-the_row-Instr _ body)).0
-  one_stays (Loop' ty n body) e = subst (λ z. code_here code (settled c z) ≡ settled c z ∷ []) (sym (loop_is ty n body)) (one_loop ty (items-the_row-Instr _ body)).0
-  one_stays (If' ty n body k other) e = subst (λ z. code_here code (settled c z) ≡ settled c z ∷ []) (sym (if_is ty n body k other)) (one_if ty (items-the_row-Instr _ body) (items-the_row-Instr _ other)).0
+  one_stays (Block' ty n body) e = (one_block (Block' ty n body) ty _ (outs-Block' ty n body)).0
+  one_stays (Loop' ty n body) e = (one_loop (Loop' ty n body) ty _ (outs-Loop' ty n body)).0
+  one_stays (If' ty n body k other) e = (one_if (If' ty n body k other) ty _ _ (outs-If' ty n body k other)).0
   one_stays (Call f) e = settled_code c few f (slot_at c.slots.now f) refl ∙ one_call c.table f (target_of c f (slot_at c.slots.now f)) e
   one_stays i e = refl
 

@@ -9,6 +9,7 @@ ghost use Rattle.wasm_valid.specs.Named.{marked_at, refs_of};
 ghost use Rattle.split_plan.specs.Plans.{IsPlan};
 ghost use Rattle.split_spec.specs.Needed.{needed as needed_among};
 
+use index_remap_proof::well_typed_bodies_name_declared_functions;
 use split_plan::Plan;
 use std::alloc::{AllocError, Global};
 use wasm_bytes::{Items, NoMemory};
@@ -67,6 +68,7 @@ pub fn needed(alloc: Global, input: &Valid, plan: &Plan) -> Result<Items<u32>, N
     // A function that `ref.func` names in a body of a valid module is also named outside the
     // bodies.
     valid_where_items_hold();
+    well_typed_bodies_name_declared_functions();
     let marks = needed_marks(alloc, input.module())?;
     let all = marked_among(alloc, plan.moved.as_slice(), &marks)?;
     Ok(all)

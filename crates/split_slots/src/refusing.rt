@@ -13,6 +13,7 @@ ghost use Rattle.std.specs.List.Sorted.{IsStrictlyIncreasing};
 use crate::counting::first_counts;
 use crate::faults::{namespace_taken, too_many_params};
 use crate::taking::prefix_taken;
+use split_proof::split_modules_are_counted;
 use split_spec::{SplitFault, SplitNames};
 use std::alloc::Global;
 use wasm_tree::{Export, Module, Which};
@@ -49,6 +50,7 @@ pub(crate) fn refuse(
     ensures none { IsOk result → surveyed.MaySplit names.now «module».now moved.now }
     ensures fault { IfErr result (λ e. (e ≡ OutOfMemory) ⊎ (split_fault names.now «module».now moved.now ≡ Some e)) }
 {
+    split_modules_are_counted();
     if let Some(import) = namespace_taken(module.imports.as_slice(), &names.placeholder_namespace) {
         return Err(SplitFault::NamespaceTaken { import });
     }

@@ -26,12 +26,13 @@ use split_plan::Plan;
 use split_proof::{
     maps_of_a_split_fit, pairs_can_be_split, primary_modules_are_valid,
     secondary_modules_are_valid, secondary_modules_load, split_module_equivalent,
+    split_modules_are_counted,
 };
 use split_spec::{SplitFault, SplitNames};
 use std::alloc::Global;
 use wasm_bytes::Items;
 use wasm_tree::{Export, Module};
-use wasm_valid::{Valid, valid_where_items_hold};
+use wasm_valid::Valid;
 
 /// The two modules of a split.
 #[derive(Drop)]
@@ -162,7 +163,7 @@ fn pair_of(
     ensures equivalent { IfOk result (λ pair. ObservationallyEquivalent «module» (pair_in_place names.now «module» moved.now pair.primary pair.secondary) (most_params «module» moved.now)) }
     ensures loads { IfOk result (λ pair. AlwaysLoads (pair_in_place names.now «module» moved.now pair.primary pair.secondary)) }
 {
-    valid_where_items_hold();
+    split_modules_are_counted();
     maps_of_a_split_fit();
     primary_modules_are_valid();
     secondary_modules_are_valid();

@@ -12,6 +12,7 @@ use crate::needing::needed_marks;
 use crate::sharing::{Marks, named_marks};
 use crate::slots::slots_of;
 use crate::types::func_types;
+use index_remap_proof::well_typed_bodies_name_declared_functions;
 use std::alloc::Global;
 use wasm_bytes::{Items, NoMemory};
 use wasm_tree::Module;
@@ -39,6 +40,7 @@ pub(crate) fn surveyed(alloc: Global, module: &Module, moved: &[u32]) -> Result<
     ensures { IfOk result (λ survey. IsSurvey «module».now moved.now survey) }
 {
     valid_where_items_hold();
+    well_typed_bodies_name_declared_functions();
     let types = func_types(alloc, module)?;
     let slots = slots_of(alloc, types.len(), moved)?;
     let needed = needed_marks(alloc, module)?;

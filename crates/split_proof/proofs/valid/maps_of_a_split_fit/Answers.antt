@@ -14,6 +14,6 @@ laws c = record {
 
 pub returns : goal.returns
 returns c = record {
-  primary = λ namespace prefix m moved valid can. primary_fits c.renumbering_keeps_typing.ensures.tree_entries namespace prefix m valid ((c.valid_where_items_hold.ensures m).0 valid) moved can;
+  primary = λ namespace prefix m moved valid can. primary_fits c.operands_pass_layer_by_layer.ensures.inside c.renumbering_keeps_typing.ensures.tree_entries namespace prefix m valid ((c.valid_where_items_hold.ensures m).0 valid) moved can;
   secondary = λ names m moved own before valid can. secondary_fits (laws c) c.renumbering_keeps_typing.ensures.tree_entries names m valid ((c.valid_where_items_hold.ensures m).0 valid) moved own before can;
 }

@@ -17,5 +17,5 @@ returns c =
     let marks = c.in_ok-marks.ensures ∙ ap (λ z. named_from (refs_of z ++ cons_option z.start []) 0 (length (funcs_of z))) same in
     let is =
     c.in_ok-all.ensures ∙ ap₂ (λ (bs : List Bool) (fs : List ℕ). filter (λ func. unwrap_or (slice_get bs func) false) fs) c.deref.ensures.value c.as_slice.ensures
-    ∙ all_needed m holds c.in_ok-marks.marks.items marks c.args.plan.now.moved (all_there m c.args.plan.now.moved c.requires.plan.moved) in
+    ∙ all_needed c.well_typed_bodies_name_declared_functions.ensures m holds c.in_ok-marks.marks.items marks c.args.plan.now.moved (all_there m c.args.plan.now.moved c.requires.plan.moved) in
     record { needed = is; ascend = subst IsStrictlyIncreasing (sym is) (IsStrictlyIncreasing-filter (is_needed m) c.args.plan.now.moved c.requires.plan.moved_ascend) }

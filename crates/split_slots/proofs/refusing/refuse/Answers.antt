@@ -31,7 +31,7 @@ first_too_many-requires-clause-few c =
 
 pub returns-in-Some-first_too_many-clause-fault : goal.returns-in-Some-first_too_many-clause-fault
 returns-in-Some-first_too_many-clause-fault c =
-    inr (many_next c.args.names.now c.args.module.now c.args.moved.now c.in-Some-first_too_many.which
+    inr (many_next c.args.names.now c.args.module.now c.args.moved.now (c.split_modules_are_counted.ensures.imports (λ slot. c.args.names.now.placeholder_namespace) c.args.names.now.export_prefix c.args.module.now c.args.moved.now) c.in-Some-first_too_many.which
     (ap (first_with c.args.names.now.placeholder_namespace) (sym c.as_slice.ensures) ∙ sym c.namespace_taken.ensures ∙ c.in_default.is)
     (ap₂ first_taken (sym c.as_slice-2.ensures) (sym c.requires.added) ∙ sym c.in_ok-name.ensures ∙ c.in_default-2.is)
     (sym c.first_too_many.ensures ∙ c.in-Some-first_too_many.is))

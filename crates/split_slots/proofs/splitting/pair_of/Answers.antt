@@ -18,7 +18,7 @@ finish_both-requires-clause-primary c =
     let moved = c.args.moved.now in
     let may = c.in_ok-drafts.ensures.none refl in
     let namespace : ℕ → List ℕ = λ slot. names.placeholder_namespace in
-    can_finish_primary names m moved c.in_ok-drafts.drafts c.in_ok-drafts.ensures.drafts ((c.valid_where_items_hold.ensures m).0 c.requires.valid) c.requires.can may.few
+    can_finish_primary names m moved c.in_ok-drafts.drafts c.in_ok-drafts.ensures.drafts may.few (c.split_modules_are_counted.ensures.primary namespace names.export_prefix m moved c.requires.valid c.requires.can)
     (c.maps_of_a_split_fit.ensures.primary namespace names.export_prefix m moved c.requires.valid c.requires.can)
     (c.primary_modules_are_valid.ensures.valid namespace names.export_prefix m moved c.requires.valid c.requires.bounded c.requires.can may.prefix)
     (c.primary_modules_are_valid.ensures.bounded namespace names.export_prefix m moved c.requires.valid c.requires.bounded c.requires.can)
@@ -29,7 +29,7 @@ finish_both-requires-clause-secondary c =
     let m = c.args.module in
     let moved = c.args.moved.now in
     let may = c.in_ok-drafts.ensures.none refl in
-    can_finish_secondary names m moved c.in_ok-drafts.drafts c.in_ok-drafts.ensures.drafts ((c.valid_where_items_hold.ensures m).0 c.requires.valid) c.requires.can may.few
+    can_finish_secondary names m moved c.in_ok-drafts.drafts c.in_ok-drafts.ensures.drafts may.few (c.split_modules_are_counted.ensures.secondary names m moved moved 0 c.requires.valid c.requires.can)
     (c.maps_of_a_split_fit.ensures.secondary names m moved moved 0 c.requires.valid c.requires.can)
     (c.secondary_modules_are_valid.ensures.valid names m moved moved 0 c.requires.valid c.requires.can)
     (c.secondary_modules_are_valid.ensures.bounded names m moved moved 0 c.requires.valid c.requires.bounded c.requires.can)
