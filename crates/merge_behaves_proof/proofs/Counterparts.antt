@@ -7,8 +7,7 @@ use Rattle.merge_spec.specs.Prelude.{link_fault, staying_of, new_index}
 use Rattle.merge_valid_proof.specs.Ended.{inside, outside, is_external}
 use Rattle.index_remap.specs.Prelude.{OptRel, ExternalValueRel}
 use Rattle.world_simulation.proofs.Owned.{look_rel, address_rel}
-use Rattle.world_simulation.specs.Prelude.{OwnEntitiesCorrespond}
-use Rattle.world_simulation.proofs.Instancing.{import_address, Entry, imports, defines}
+use Rattle.world_simulation.specs.Prelude.{OwnEntitiesCorrespond, import_address, Entry, imports, defines}
 use Rattle.merge_behaves_proof.specs.Shared.{shared_count, is_shared, sharing}
 use Rattle.merge_behaves_proof.proofs.SpaceLaws.{SpaceLaws}
 use Rattle.merge_behaves_proof.proofs.ValueShared.{is_same, shares_own}
@@ -60,7 +59,7 @@ module _ (env : Environment) (parts : List Part) where
               let here : index_of_export e.what - length (imports_of kd w.of) < defined_count kd w.of → defined_external_value env parts e ≡ external_value_at kd (base env parts kd e.part + (index_of_export e.what - length (imports_of kd w.of))) =
               λ low. rw (w.is_part, numbers_at _ _ _ low) in
               own (defined_before k parts e.part + (index_of_export e.what - length (imports_of k w.of)))
-              (grind (arith, defined_low k parts e.part w.of))
+              (grind (arith, laws.within k parts e.part w.of))
               (grind (arith, here, external))
               (grind (arith, entry (Defined e) h, laws.defined parts e))
           | outside w ↦ stays w.to (grind (arith, entry (Outside w.to) h, laws.places parts w.to w.import w.at w.remains)) (grind (arith, w.same_thing (owned_of env)))
@@ -69,4 +68,4 @@ module _ (env : Environment) (parts : List Part) where
     -- what an index of a part names
     pub entry_stands : (k : Space) (p : ℕ) (m : Module) (x a : ℕ) → module_at parts p ≡ Some m → Entry env parts k p m x a → Stands k (Some a) (new_index parts p k x)
     entry_stands k p m x a is (imports n h e) = rw e at (import_stands k p m x n is h)
-    entry_stands k p m x a is (defines j at l e) = own (defined_before k parts p + j) (omega (arith, defined_low k parts p m)) (grind arith) (grind (arith, (laws.indices parts p m k x is).1, slice_get_past))
+    entry_stands k p m x a is (defines j at l e) = own (defined_before k parts p + j) (omega (arith, laws.within k parts p m is)) (grind arith) (grind (arith, (laws.indices parts p m k x is).1, slice_get_past))

@@ -9,11 +9,9 @@ use Rattle.merge_spec.specs.Prelude.{joined_module, map_of, by_part_from, starts
 use Rattle.merge_spec.specs.Merged.{defined_funcs, merged}
 use Rattle.merge_behaves_proof.proofs.ValueGiven.{Laws, func_typed, EachAgrees, global_typed, item_typed}
 use Rattle.merge_behaves_proof.proofs.MergedAlone.{joined_keeps, names_of}
-use Rattle.world_simulation.proofs.Declared.{last_segments, last_elems}
-use Rattle.world_simulation.specs.Prelude.{one, Instantiated, DefinedAt, values_in, FuncsAt, GlobalsCorrespond, Partners, DefinitionsCorrespond}
+use Rattle.world_simulation.specs.Prelude.{one, last_segments, ElemsAlike, Instantiated, DefinedAt, values_in, FuncsAt, GlobalsCorrespond, Partners, DefinitionsCorrespond}
 use Rattle.base_lists.proofs.Related.{both_or_none, placed_rel}
-use Rattle.world_simulation.proofs.Stored.{global_placed, elem_placed, global_rel, ElemsAlike, elem_rel, alike_correspond}
-use Rattle.world_simulation.proofs.Allocated.{part_there}
+use Rattle.world_simulation.proofs.Stored.{global_rel, elem_rel, alike_correspond}
 use Rattle.merge_valid_proof.specs.Joinable.{CanBeJoined}
 use Rattle.wasm_valid.specs.Prelude.{IsValid}
 use Rattle.merge_behaves_proof.specs.Shared.{sharing}
@@ -161,18 +159,18 @@ module _ (laws : Laws) (env : Environment) (parts : List Part) (mode : Mode) (ca
   pub stores_both : OptRel (λ s z. Unit {0}) (stores_from env parts insts (own_store env) 0 parts insts) (stores_from env M (j ∷ []) (own_store env) 0 M (j ∷ []))
   stores_both = both_or_none _ _ (λ s z e f. tt)
       (λ s made.
-      let last = last_elems env J j (merged parts (names_of parts mode)) (grind (arith, func_count laws.alone_reads env J j are, joined_keeps parts mode)) in
-      let whole = part_there env M (j ∷ []) 0 J j
-      (funcs_there J j (laws.valid parts mode can) (is_inst laws.alone_reads env J j are).types)
-      (merged_there joins.globals _ (λ p m is n g h. right_there (global_rel R _ _ (globals_alike p m is n g h)) (global_placed env v s made (stood joins.globals p m is n g h refl)).2) (λ n x h. cc))
-      (merged_there joins.elems _ (λ p m is n e h. right_there (elem_rel R _ _ (elems_alike p m is n e h)) (elem_placed env v s made (stood joins.elems p m is n e h refl)).2)
+      let last = laws.declared env J j (merged parts (names_of parts mode)) (grind (arith, func_count laws env J j are, joined_keeps parts mode)) in
+      let whole = laws.added env M (j ∷ []) 0 J j
+      (funcs_there J j (laws.valid parts mode can) (is_inst laws env J j are).types)
+      (merged_there joins.globals _ (λ p m is n g h. right_there (global_rel R _ _ (globals_alike p m is n g h)) ((laws.placed env v s made).globals (stood joins.globals p m is n g h refl)).2) (λ n x h. cc))
+      (merged_there joins.elems _ (λ p m is n e h. right_there (elem_rel R _ _ (elems_alike p m is n e h)) ((laws.placed env v s made).elems (stood joins.elems p m is n e h refl)).2)
       -- the segment that declares references is allocated
       (λ n e h. let r = all_there_at _ _ _ last.1 n e h in (r.0, r.1))) in
       is_some_there _ (grind (arith, whole)))
       (λ z made. stores_there env parts insts (own_store env) 0 parts insts (λ p m i is there.
       let x = each p m is in
       let same : x.0 ≡ i = cc in
-      rw (zero-add, ← same) (part_there env parts insts p m x.0
+      rw (zero-add, ← same) (laws.added env parts insts p m x.0
       (funcs_there m x.0 (can.valid p m is) x.2.own_types)
-      (λ n g h. left_there (global_rel R _ _ (globals_alike p m is n g h)) (global_placed env w z made (moved joins.globals p m is n g h refl)).2)
-      (λ n e h. left_there (elem_rel R _ _ (elems_alike p m is n e h)) (elem_placed env w z made (moved joins.elems p m is n e h refl)).2))))
+      (λ n g h. left_there (global_rel R _ _ (globals_alike p m is n g h)) ((laws.placed env w z made).globals (moved joins.globals p m is n g h refl)).2)
+      (λ n e h. left_there (elem_rel R _ _ (elems_alike p m is n e h)) ((laws.placed env w z made).elems (moved joins.elems p m is n e h refl)).2))))

@@ -1,7 +1,7 @@
 -- The instances of the parts, and the instance of the merged module: all there or none, and each index of a part and its new one name one address.
-use Rattle.base_lists.proofs.Common.{◌≡◌, ◌∙◌, ap, sym, refl, ℕ, ◌+◌, ◌<◌, ◌≤◌, List, [], ◌∷◌, ◌++◌, map, length, Option, Some, None, arith, option_and_then, slice_get, true, slice_index, length-append, same_Some, place_there, length-numbers, numbers_at, map_numbers_index, is_some_there, and_then_is, all_there_at, all_there_length, all_there_from, slice_get_there, append_right, slice_index_is, suc, zero-add, add-zero, append_at_left, length-map, add_next}
+use Rattle.base_lists.proofs.Common.{◌≡◌, ◌∙◌, ap, sym, refl, ℕ, ◌+◌, ◌<◌, ◌≤◌, List, [], ◌∷◌, ◌++◌, map, length, Option, Some, None, arith, option_and_then, slice_get, true, slice_index, length-append, same_Some, place_there, length-numbers, numbers_at, map_numbers_index, is_some_there, and_then_is, all_there_at, all_there_length, all_there_from, slice_get_there, append_right, slice_index_is, suc, zero-add, add-zero, append_at_left, length-map, add_next, places_many}
 use Rattle.base_lists.proofs.Options.{AllThere}
-use Rattle.wasm_tree_spec.specs.Prelude.{Space, Types, Functions, Tables, Memories, Globals, ElementSegments, DataSegments, Module}
+use Rattle.wasm_tree_spec.specs.Prelude.{Space, Types, Functions, Tables, Memories, Globals, ElementSegments, DataSegments, Module, imported_funcs, imported_tables, imported_memories, imported_globals}
 use Rattle.wasm_meaning.specs.Prelude.{Inst, Part, has_kind, module_at, imports_of, Environment, own_count, defined_count, all_there, numbers, space, inst_of, insts_from, defined_before}
 use Rattle.index_remap.specs.Prelude.{OptRel, entries}
 use Rattle.merge_names.specs.declared.mode.Mode.{Mode}
@@ -9,15 +9,12 @@ use Rattle.merge_spec.specs.Prelude.{link_fault, staying_of, new_index, joined_m
 use Rattle.merge_spec.specs.Merged.{map_of}
 use Rattle.merge_valid_proof.specs.Joinable.{CanBeJoined}
 use Rattle.merge_valid_proof.specs.Ended.{added_count, is_external}
-use Rattle.world_simulation.specs.Prelude.{one}
-use Rattle.world_simulation.proofs.Alone.{funcs_counted, tables_counted, memories_counted, globals_counted}
-use Rattle.world_simulation.proofs.Instancing.{import_address, is_space, entry_at, IsInst, insts_are}
+use Rattle.world_simulation.specs.Prelude.{one, import_address, IsInst}
 use Rattle.base_lists.proofs.Related.{both_or_none}
-use Rattle.world_simulation.proofs.Single.{one_inst}
 use Rattle.merge_behaves_proof.specs.Shared.{shared_count}
 use Rattle.merge_behaves_proof.specs.Instances.{SpaceAgrees, PartAgrees, InstancesAgree}
 use Rattle.merge_behaves_proof.proofs.SpaceLaws.{SpaceLaws}
-use Rattle.merge_behaves_proof.proofs.Counterparts.{defined_low, total, site_address, site_low, Stands, own, stays, import_stands, entry_stands}
+use Rattle.merge_behaves_proof.proofs.Counterparts.{total, site_address, site_low, Stands, own, stays, import_stands, entry_stands}
 use Rattle.merge_behaves_proof.proofs.MergedAlone.{joined_keeps, joined_types, staying_kind, names_of, merged_space, elems_many, datas_many}
 
 -- ---- an instance, and all instances ----
@@ -48,7 +45,12 @@ module _ (env : Environment) (all : List Part) where
 module _ (parts : List Part) (p : ℕ) (m : Module) (k : Space) (ext : is_external k ≡ true) where
   map_is : entries (map_of parts p m) k ≡ map (new_index parts p k) (numbers 0 (length (imports_of k m) + defined_count k m))
   unfolding map_of
-  map_is = grind (arith, length-append, length-map, funcs_counted, tables_counted, memories_counted, globals_counted)
+  map_is =
+      let funcs : length (imports_of Functions m) ≡ length (imported_funcs m.imports) = places_many _ _ m.imports (grind arith) 0 in
+      let tables : length (imports_of Tables m) ≡ length (imported_tables m.imports) = places_many _ _ m.imports (grind arith) 0 in
+      let mems : length (imports_of Memories m) ≡ length (imported_memories m.imports) = places_many _ _ m.imports (grind arith) 0 in
+      let globals : length (imports_of Globals m) ≡ length (imported_globals m.imports) = places_many _ _ m.imports (grind arith) 0 in
+      grind (arith, length-append, length-map, funcs, tables, mems, globals)
 
   -- what a map has for an index
   pub entry_is : (x : ℕ) → x < length (entries (map_of parts p m) k) → slice_index (entries (map_of parts p m) k) x ≡ new_index parts p k x
@@ -65,9 +67,9 @@ module _ (laws : SpaceLaws) (env : Environment) (parts : List Part) (linked : li
   staying_there : (insts : List Inst) → insts_from env parts 0 parts ≡ Some insts → (k : Space) → is_external k ≡ true → AllThere (site_address env parts k) (staying_of parts k)
   staying_there insts h k ext = all_there_from (site_address env parts k) (staying_of parts k) (λ n s at.
       let w = staying_kind laws parts k n s at in
-      let i = (insts_are env parts 0 parts insts h).each s.part w.0.of w.0.is_part in
+      let i = (laws.instances env parts 0 parts insts h).each s.part w.0.of w.0.is_part in
       let is : IsInst env parts s.part w.0.of i.0 = search (arith, i.2) in
-      let t = is_space env parts k s.part w.0.of (addresses_in k i.0) (grind (arith, is)) in
+      let t = laws.index_spaces env parts k s.part w.0.of (addresses_in k i.0) (grind (arith, is)) in
       let x = place_there (has_kind k) w.0.of.imports 0 s.import w.0.import w.0.stands w.1 in
       is_some_there _ (grind (arith, x, laws.stays parts linked s w.0.import w.0.at w.0.remains, all_there_at (import_address env parts k s.part) (imports_of k w.0.of) t.imported t.are)))
 
@@ -111,13 +113,13 @@ module _ (laws : SpaceLaws) (env : Environment) (parts : List Part) (linked : li
     where
       agrees : (k : Space) → is_external k ≡ true → SpaceAgrees env parts k (addresses_in k i) (addresses_in k j) (entries (map_of parts p m) k)
       agrees k e =
-          let s = is_space env parts k p m (addresses_in k i) (grind arith) in
+          let s = laws.index_spaces env parts k p m (addresses_in k i) (grind arith) in
           let many = simp (length-map, length-numbers) at (ap length (map_is parts p m k e)) in
           record {
             size = omega arith;
             each = λ x l.
                 let o = slice_get_there (addresses_in k i) x (omega arith) in
-                let q = stands_at j b k e (entry_stands env parts laws linked k p m x o.0 is (entry_at env parts k p m _ s x o.0 o.1)) in
+                let q = stands_at j b k e (entry_stands env parts laws linked k p m x o.0 is (laws.names env parts k p m _ s x o.0 o.1)) in
                 record { address = q.0; first = o.1 ∙ q.1; second = rw (entry_is parts p m k e x l) q.2; shared = q.3 };
           }
 
@@ -127,7 +129,7 @@ module _ (laws : SpaceLaws) (env : Environment) (parts : List Part) (linked : li
         each = λ x l.
             let first = defined_before k parts p in
             let many = length-numbers first (defined_count k m) in
-            let low = defined_low k parts p m is in
+            let low = laws.within k parts p m is in
             let at = numbers_at first (defined_count k m) x (omega arith) in
             record { address = first + x; first = at; second = grind (arith, slice_index_is _ x _ at, numbers_at 0 n); shared = omega arith };
       }
@@ -136,13 +138,13 @@ module _ (laws : SpaceLaws) (env : Environment) (parts : List Part) (linked : li
 pub instances_agree : SpaceLaws → (env : Environment) (parts : List Part) (mode : Mode) → CanBeJoined parts mode → OptRel (InstancesAgree env parts) (insts_from env parts 0 parts) (insts_from env (one (joined_module parts mode)) 0 (one (joined_module parts mode)))
 instances_agree laws env parts mode can = both_or_none _ _
     (λ insts js h g.
-    let j = one_inst env _ js g in
+    let j : (j : Inst) × (js ≡ j ∷ []) × IsInst env (one (joined_module parts mode)) 0 (joined_module parts mode) j = search (arith, g) in
     record {
       merged = j.0;
       alone = j.1;
-      size = (insts_are env parts 0 parts insts h).size;
+      size = (laws.instances env parts 0 parts insts h).size;
       each = λ p m at.
-          let i = (insts_are env parts 0 parts insts h).each p m at in
+          let i = (laws.instances env parts 0 parts insts h).each p m at in
           let is : IsInst env parts p m i.0 = search (arith, i.2) in
           (i.0, i.1, part_agrees laws env parts can.linked mode p m i.0 j.0 at is j.2);
     })
@@ -151,7 +153,7 @@ instances_agree laws env parts mode can = both_or_none _ _
     (_, merged_space laws env parts can.linked mode k ext ∙ ap (option_and_then _) (staying_there laws env parts can.linked mode insts h k ext).are)) in
     (i.0 ∷ [], rw i.1))
     (λ js g.
-    let j = one_inst env _ js g in
+    let j : (j : Inst) × (js ≡ j ∷ []) × IsInst env (one (joined_module parts mode)) 0 (joined_module parts mode) j = search (arith, g) in
     insts_in env parts (λ p m is. all_spaces env parts p m (λ k ext.
     let all = all_there_from (import_address env parts k p) (imports_of k m) (λ x n h. let a = stands_at laws env parts can.linked mode j.0 j.2 k ext (import_stands env parts laws can.linked k p m x n is h) in (a.0, a.1)) in
     (_, ap (option_and_then _) all.are))))

@@ -1,12 +1,11 @@
 -- The external type of an entity of the store (WebAssembly Core 2.0, section 4.5.1), when it is what an import asks for, and limits that are asked for together.
-use Rattle.base_lists.proofs.Common.{◌≡◌, ℕ, List, length, Option, Some, None, true, false, refl, ◌∙◌, option_map, slice_get, unwrap_or, [], ◌∷◌, Bool, cond, arith, ◌&&◌, is_some_there, nat_tests, list_all_each, list_all_from, length_rel, same_there, there, then_eq}
+use Rattle.base_lists.proofs.Common.{◌≡◌, ℕ, List, length, Option, Some, None, true, false, refl, ◌∙◌, option_map, slice_get, unwrap_or, [], ◌∷◌, Bool, cond, arith, ◌&&◌, is_some_there, nat_tests, list_all_each, list_all_from, length_rel, same_there, there, then_eq, each_same_is}
 use Rattle.base_lists.specs.Options.{◌>>=◌}
-use Rattle.wasm_tree_spec.specs.Prelude.{Limits, Import}
+use Rattle.wasm_tree_spec.specs.Prelude.{Limits, Import, same_type}
 use Rattle.wasm_meaning.specs.Prelude.{Store, type_at, Part, Site, import_at, sites, limits_of, is_outside, linked_end, met_limits, consed, demands, met, Environment, ExternalValue, FuncAt, TableAt, MemoryAt, GlobalAt, meets, all_of, is_matched, imported_external_value}
 use Rattle.index_remap.specs.Prelude.{Pairing, StoreRel, ExternalValueRel, a_func, a_table, a_memory, a_global}
 use Rattle.merge_spec.specs.Prelude.{External, FuncOf, TableOf, MemoryOf, GlobalOf, asked_at, same_but_limits, meets_limits}
 use Rattle.merge_valid_proof.specs.Ended.{SitesAreImports}
-use Rattle.index_remap.proofs.SlotCalls.{func_type_is}
 
 -- ---- the external type of an entity ----
 
@@ -59,7 +58,7 @@ kept x l = x
 -- where limits imply others, what fits with the ones fits with the others
 pub fits_kept : (d e : External) (o : Option External) (l : Limits) → same_but_limits d e ≡ true → fits_type (kept e l) o ≡ true →
     ((k : Limits) → limits_in d ≡ Some k → (size : ℕ) (most : Option ℕ) → meets size most l ≡ true → meets size most k ≡ true) → fits_type d o ≡ true
-fits_kept (FuncOf t) (FuncOf u) o l same f implied = rw (func_type_is t u same) f
+fits_kept (FuncOf t) (FuncOf u) o l same f implied = (let is : t ≡ u = grind (arith, each_same_is same_type (λ a b e. grind arith)) in rw is f)
 fits_kept d e o l same f implied = grind arith
 
 -- ---- an import by its site ----

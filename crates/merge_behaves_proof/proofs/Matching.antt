@@ -1,11 +1,9 @@
 -- All imports of the parts match where all imports of the merged module do.
-use Rattle.base_lists.proofs.Common.{◌≡◌, ℕ, ◌+◌, ◌-◌, ◌≤◌, List, ◌++◌, length, Some, refl, sym, arith, Option, None, true, option_and_then, slice_get, and_then_is, map_from, append_right, same_tests, is_kept, chosen_from, has_chosen, list_all_each, list_all_from, map, map-id, copies_length, then_eq, numbers_at, ◌<◌}
+use Rattle.base_lists.proofs.Common.{◌≡◌, ℕ, ◌+◌, ◌-◌, ◌≤◌, List, ◌++◌, length, Some, refl, sym, arith, Option, None, true, option_and_then, slice_get, and_then_is, map_from, append_right, same_tests, is_kept, chosen_from, has_chosen, list_all_each, list_all_from, map, map-id, copies_length, then_eq, numbers_at, ◌<◌, places_many}
 use Rattle.std.proofs.Common.{eq-eqb}
-use Rattle.wasm_tree_spec.specs.Prelude.{Space, Functions, Tables, Memories, Globals, FuncType, ExportDesc, Module, type_of_func, index_of_export, space_of_export, Import}
+use Rattle.wasm_tree_spec.specs.Prelude.{Space, Functions, Tables, Memories, Globals, FuncType, ExportDesc, Module, type_of_func, index_of_export, space_of_export, Import, imported_funcs, imported_tables, imported_memories, imported_globals}
 use Rattle.wasm_meaning.specs.Prelude.{Inst, Store, type_at, imports_of, module_at, Part, Site, import_at, is_outside, sites, linked_end, met_limits, Environment, owned_of, all_of, base, external_value_at, own_store, stores_from, outside_external_value, is_matched, defined_external_value, defined_count, Outside}
-use Rattle.world_simulation.specs.Prelude.{Instantiated, DefinedAt, one, site}
-use Rattle.world_simulation.proofs.Alone.{funcs_counted, tables_counted, memories_counted, globals_counted}
-use Rattle.world_simulation.proofs.Stored.{func_placed, table_placed, memory_placed, global_placed}
+use Rattle.world_simulation.specs.Prelude.{Instantiated, DefinedAt, HasDefinitions, one, site}
 use Rattle.merge_spec.specs.Prelude.{External, external_of, asked_at, stays, link_fault, merged_import, merged_desc, joined_module}
 use Rattle.merge_behaves_proof.proofs.MatchTypes.{type_in, fits_type, type_same, kept, kept_fits, fits_kept, site_limits, matched_is, type_fits, demands_met}
 use Rattle.index_remap.specs.Prelude.{StoreRel}
@@ -21,7 +19,7 @@ use Rattle.wasm_tree.specs.declared.module.ExportDesc.TheVariants as ex
 
 -- ---- what a part defines has the external type that its module says: what is allocated for it has its type, its least size and its maximum ----
 
-module _ (env : Environment) (w : Instantiated) (s : Store) (made : stores_from env w.parts w.insts (own_store env) 0 w.parts w.insts ≡ Some s) (q : ℕ) (m : Module) (i : Inst) (is : module_at w.parts q ≡ Some m) (there : slice_get w.insts q ≡ Some i) (types : i.types ≡ m.types) where
+module _ (env : Environment) (w : Instantiated) (s : Store) (has : HasDefinitions env w s) (q : ℕ) (m : Module) (i : Inst) (is : module_at w.parts q ≡ Some m) (there : slice_get w.insts q ≡ Some i) (types : i.types ≡ m.types) where
   abbrev place : Space → ℕ → ℕ
   place k n = n - length (imports_of k m)
 
@@ -39,22 +37,26 @@ module _ (env : Environment) (w : Instantiated) (s : Store) (made : stores_from 
 
   pub func_typed : (n : ℕ) (t : FuncType) → length (imports_of Functions m) ≤ n → type_of_func m n ≡ Some t → type_at s (address Functions n) ≡ Some t
   func_typed n t le h =
-      let f = defined Functions (λ m. m.funcs) (λ f. f.ty) _ _ (funcs_counted m.imports 0) refl le h in
-      let x = func_placed env w s made f.0 in
+      let many : length (imports_of Functions m) ≡ length (imported_funcs m.imports) = places_many _ _ m.imports (grind arith) 0 in
+      let f = defined Functions (λ m. m.funcs) (λ f. f.ty) _ _ many refl le h in
+      let x = has.funcs f.0 in
       grind arith
 
   pub defined_type : (what : ExportDesc) (x : External) → external_of m what ≡ Some x → length (imports_of (space_of_export what) m) ≤ index_of_export what →
       option_and_then (type_in s) (external_value_at (space_of_export what) (address (space_of_export what) (index_of_export what))) ≡ Some x
   defined_type (ex.Func n) x h le = grind (arith, func_typed n)
   defined_type (ex.Table n) x h le =
-      let d = defined Tables (λ m. m.tables) (λ t. t) _ _ (tables_counted m.imports 0) (sym (map-id _)) le h in
-      grind (arith, table_placed env w s made d.0, copies_length)
+      let many : length (imports_of Tables m) ≡ length (imported_tables m.imports) = places_many _ _ m.imports (grind arith) 0 in
+      let d = defined Tables (λ m. m.tables) (λ t. t) _ _ many (sym (map-id _)) le h in
+      grind (arith, has.tables d.0, copies_length)
   defined_type (ex.Memory n) x h le =
-      let d = defined Memories (λ m. m.mems) (λ l. l) _ _ (memories_counted m.imports 0) (sym (map-id _)) le h in
-      rw (memory_placed env w s made d.0) d.1
+      let many : length (imports_of Memories m) ≡ length (imported_memories m.imports) = places_many _ _ m.imports (grind arith) 0 in
+      let d = defined Memories (λ m. m.mems) (λ l. l) _ _ many (sym (map-id _)) le h in
+      rw (has.mems d.0) d.1
   defined_type (ex.Global n) x h le =
-      let d = defined Globals (λ m. m.globals) (λ g. g.ty) _ _ (globals_counted m.imports 0) refl le h in
-      let p = global_placed env w s made d.0 in
+      let many : length (imports_of Globals m) ≡ length (imported_globals m.imports) = places_many _ _ m.imports (grind arith) 0 in
+      let d = defined Globals (λ m. m.globals) (λ g. g.ty) _ _ many refl le h in
+      let p = has.globals d.0 in
       grind arith
 
 -- ---- all imports ----
@@ -118,7 +120,7 @@ module _ (laws : SpaceLaws) (env : Environment) (parts : List Part) (linked : li
                 let here : index_of_export e.what - length (imports_of kd w.of) < defined_count kd w.of → defined_external_value env parts e ≡ external_value_at kd (base env parts kd e.part + (index_of_export e.what - length (imports_of kd w.of))) =
                 λ low. rw (w.is_part, numbers_at _ _ _ low) in
                 let a = agree.each e.part w.of w.is_part in
-                let type = defined_type env (record { parts = parts; insts = insts }) s made e.part w.of a.0 w.is_part a.1 a.2.own_types e.what w.thing w.is (grind arith) in
+                let type = defined_type env (record { parts = parts; insts = insts }) s (laws.placed env (record { parts = parts; insts = insts }) s made) e.part w.of a.0 w.is_part a.1 a.2.own_types e.what w.thing w.is (grind arith) in
                 grind (arith, matched_is env parts s t i.0 w.demand i.1 w.asks, here)
             | outside w ↦
                 let u = w.to in

@@ -1,9 +1,9 @@
 -- The merged module alone: its imports are those that stay, and denote what these denote in the parts' world; then comes what the parts define.
-use Rattle.base_lists.proofs.Common.{◌≡◌, ◌∙◌, refl, ℕ, ◌+◌, List, ◌++◌, length, Option, Some, None, true, arith, option_and_then, slice_get, filter_map, length-map, kept_is, and_then_is}
+use Rattle.base_lists.proofs.Common.{◌≡◌, ◌∙◌, refl, sym, append-nil, ℕ, ◌+◌, List, [], ◌∷◌, ◌++◌, length, Option, Some, None, true, arith, option_and_then, slice_get, filter_map, length-map, kept_is, and_then_is}
 use Rattle.wasm_tree_spec.specs.Prelude.{Space, Functions, DataSegments, ElementSegments, Import, Module}
 use Rattle.wasm_meaning.specs.Prelude.{Text, Part, Site, has_kind, module_at, import_at, sites, Environment, owned_of, own_count, defined_before, address_of, outside_external_value, all_there, numbers, space}
-use Rattle.index_remap.specs.Prelude.{declared_refs}
-use Rattle.world_simulation.proofs.Declared.{IsWithDeclared, is_with_declared}
+use Rattle.index_remap.specs.Prelude.{declared_refs, with_declared}
+use Rattle.world_simulation.specs.Declared.{IsWithDeclared}
 use Rattle.merge_names.specs.declared.mode.Mode.{Mode}
 use Rattle.merge_names.specs.Names.{new_names}
 use Rattle.merge_spec.specs.Prelude.{link_fault, stays, merged_types, merged_desc, imports_kind, export_names, named_exports, start_among, start_calls, starts}
@@ -24,7 +24,9 @@ names_of parts mode = new_names mode (export_names parts)
 
 pub joined_keeps : (parts : List Part) (mode : Mode) → IsWithDeclared (merged parts (names_of parts mode)) (joined_module parts mode) (declared_refs (merged parts (names_of parts mode)))
 unfolding joined_module
-joined_keeps parts mode = is_with_declared _ _
+joined_keeps parts mode =
+    let m = merged parts (names_of parts mode) in
+    elim (declared_refs m) as (λ fs. IsWithDeclared m (with_declared m fs) fs) [ [] ↦ assumption (sym (append-nil m.elems)) | f ∷ fs ↦ assumption ]
 
 pub joined_types : (parts : List Part) (mode : Mode) → (joined_module parts mode).types ≡ merged_types parts
 unfolding merged

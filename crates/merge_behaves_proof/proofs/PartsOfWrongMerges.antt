@@ -1,10 +1,10 @@
 -- The parts of the wrong merges can be joined, so that the law `merged_module_equivalent` speaks of them: a merge that gives a wrong module breaks it.
-use Rattle.base_lists.proofs.Common.{◌≡◌, refl, subst, ℕ, List, [], ◌∷◌, Some, None, arith, true, ◌+◌, ◌<◌, ◌^◌, unwrap_or, option_map}
+use Rattle.base_lists.proofs.Common.{◌≡◌, ◌∙◌, refl, sym, subst, ℕ, List, [], ◌∷◌, Some, None, arith, true, ◌+◌, ◌<◌, ◌^◌, unwrap_or, option_map}
 use Rattle.wasm_tree.specs.declared.types.ValType.TheVariants as valt
-use Rattle.wasm_tree_spec.specs.Prelude.{end_of-Instr, more_of-Instr, Module, Space}
+use Rattle.wasm_tree_spec.specs.Prelude.{roll-out-Instr, items_shown-the_row-Instr-0, end_of-Instr, more_of-Instr, Loop', Module, Space}
 use Rattle.wasm_tree.specs.declared.instr.Instr.TheVariants as i
 use Rattle.wasm_tree.specs.declared.types.BlockType.TheVariants as bt
-use Rattle.index_remap.proofs.Rows.{loop_is}
+use Rattle.wasm_tree.specs.declared.instr.Instr.TheViews.{outs-Loop', rolls-Loop}
 use Rattle.wasm_valid.specs.Prelude.{IsValid}
 use Rattle.wasm_meaning.specs.Prelude.{Text, Part, sites, count_of, defined_before, linked_end}
 use Rattle.merge_names.specs.declared.mode.Mode.{Mode}
@@ -105,7 +105,8 @@ calling_is_valid = (
 -- its function, its start and the body of the function
 never_ending_is_valid : IsValid never_ending
 never_ending_is_valid =
-    rw (← loop_is bt.Empty (_ ∷ []) (more_of-Instr (i.Br 0) end_of-Instr))
+    let is : Loop' bt.Empty (_ ∷ []) (more_of-Instr (i.Br 0) end_of-Instr) ≡ i.Loop bt.Empty (i.Br 0 ∷ []) = sym (roll-out-Instr (Loop' bt.Empty (_ ∷ []) (more_of-Instr (i.Br 0) end_of-Instr))) ∙ simp (outs-Loop', rolls-Loop, items_shown-the_row-Instr-0) in
+    rw (← is)
     ((_, refl, omega arith), ((_, _, refl, refl, refl, refl), ((_, _, refl, refl, ([], ([], (_, refl, ([], ([], (_, refl, ([], _, refl, tt)), refl), tt), ([], [], refl, tt, refl)), refl), tt)), tt)))
 
 memory_is_valid : (n : ℕ) → n < 2 → IsValid (one_memory_from n)

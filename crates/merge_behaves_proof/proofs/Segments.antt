@@ -3,11 +3,10 @@ use Rattle.base_lists.proofs.Common.{◌≡◌, ℕ, suc, List, [], ◌∷◌, �
 use Rattle.std.proofs.lemmas.List.{drop-drop}
 use Rattle.wasm_tree_spec.specs.Prelude.{Space, Module, Tables, Memories, I32, ConstExpr}
 use Rattle.wasm_meaning.specs.Prelude.{Inst, Part, module_at, Environment, PlacedSegment, segments_in, defined_before, numbers, insts_from}
-use Rattle.wasm_meaning.proofs.Counts.{defined_none, defined_next}
+use Rattle.wasm_meaning.specs.Counted.{EachPartAddsItsDefinitions, NothingIsDefinedBeforeTheFirst}
 use Rattle.merge_spec.specs.Prelude.{by_part_from, merged_const, joined_module}
 use Rattle.merge_spec.specs.Merged.{map_of}
-use Rattle.world_simulation.specs.Prelude.{InOrder, both, ends, only_second, offset_in, ElemsInOrder, DatasInOrder, one, Instantiated, values_in}
-use Rattle.world_simulation.proofs.Ordered.{tasks_by, elems_by, datas_by}
+use Rattle.world_simulation.specs.Prelude.{tasks_by, InOrder, both, ends, only_second, offset_in, ElemsInOrder, DatasInOrder, one, Instantiated, values_in}
 use Rattle.merge_behaves_proof.specs.Instances.{SpaceAgrees, PartAgrees, InstancesAgree}
 use Rattle.merge_behaves_proof.specs.Shared.{sharing}
 use Rattle.wasm_valid.specs.Prelude.{const_type}
@@ -47,18 +46,18 @@ module _ {env : Environment} {parts : List Part} {insts js : List Inst} (agree :
   rest_alone _ _ h = ends
 
   -- The segments of the parts and those of the merged module: a part's stand there behind those of the parts before it, with the addresses that they have, and each has its partner.
-  all_in_order : ((n l : ℕ) (e : A) → slice_get more l ≡ Some e → second (task 0 whole n e)) →
+  all_in_order : NothingIsDefinedBeforeTheFirst → EachPartAddsItsDefinitions → ((n l : ℕ) (e : A) → slice_get more l ≡ Some e → second (task 0 whole n e)) →
       ((p : ℕ) (m : Module) (i : Inst) → module_at parts p ≡ Some m → PartAgrees env parts p m i whole → SpaceAgrees env parts k (addresses_in k i) (addresses_in k whole) (numbers (defined_before k parts p) (length (segs m)))
       × ((x a : ℕ) (e : A) → slice_get (segs m) x ≡ Some e → (sharing env parts).of k a a → partners (task p i a e) (task 0 whole a (new p m e)))) →
       InOrder partners first second (tasks_by segs (addresses_in k) 0 parts insts) (segments_in 0 whole (addresses_in k whole) (segs (joined_module parts mode)))
-  all_in_order last each = rw joins.is (rw (defined_none k parts) at (along agree
+  all_in_order none_before before_next last each = rw joins.is (rw (none_before k parts) at (along agree
       (λ p rest is. InOrder partners first second (tasks_by segs (addresses_in k) p rest is)
       (segments_in 0 whole (drop (defined_before k parts p) (addresses_in k whole)) (by_part_from (λ p m. map (new p m) (segs m)) p rest ++ more)))
       (λ p is. rest_alone _ more last)
       (λ p part i rest is at a then.
       let m = part.«module» in
       let s = each p m i at a in
-      rw append_assoc (in_part p i (new p m) _ _ _ then (addresses_in k i) _ (segs m) (grind (arith, drop-drop, joins.counts m, defined_next k parts p m at)) (λ x e h.
+      rw append_assoc (in_part p i (new p m) _ _ _ then (addresses_in k i) _ (segs m) (grind (arith, drop-drop, joins.counts m, before_next k parts p m at)) (λ x e h.
       let low = slice_get_within (segs m) x e h in
       let t = s.0.each x (rw length-numbers low) in
       (t.address, t.first, rw (drop_at, ← slice_index_is _ x _ (numbers_at (defined_before k parts p) _ x low)) t.second, s.1 x t.address e h (shares env parts k t.address t.shared)))))))
@@ -80,8 +79,8 @@ module _ (laws : Laws) (env : Environment) (parts : List Part) (mode : Mode) (ca
 
   pub elems_in_order : ElemsInOrder R env v w
   unfolding map_of
-  elems_in_order = rw (elems_by 0 parts insts, agree.alone, append-nil)
-      (all_in_order agree (all_join parts mode).elems _ _ _
+  elems_in_order = rw (laws.elems_listed 0 parts insts, agree.alone, append-nil)
+      (all_in_order agree (all_join parts mode).elems _ _ _ laws.none_before laws.before_next
       -- a segment that declares references has no partner
       (λ n l e h. grind (arith, segments.ElemAlone.declarative))
       (λ p m i is k. (
@@ -103,8 +102,8 @@ module _ (laws : Laws) (env : Environment) (parts : List Part) (mode : Mode) (ca
 
   pub datas_in_order : DatasInOrder R env v w
   unfolding map_of
-  datas_in_order = rw (datas_by 0 parts insts, agree.alone, append-nil)
-      (all_in_order agree (all_join parts mode).datas _ _ _
+  datas_in_order = rw (laws.datas_listed 0 parts insts, agree.alone, append-nil)
+      (all_in_order agree (all_join parts mode).datas _ _ _ laws.none_before laws.before_next
       (λ n l e h. cc)
       (λ p m i is k. (
         k.datas,

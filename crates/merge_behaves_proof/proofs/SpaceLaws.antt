@@ -1,6 +1,9 @@
 -- What is taken from the crates below.
 use Rattle.world_simulation.specs.Alone.{ImportsDenoteTheEnvironment, SpacesAreImportsAndOwn}
 use Rattle.world_simulation.specs.Owned.{OwnEntitiesCorrespond}
+use Rattle.world_simulation.specs.IndexSpaces.{EachPartHasAnInstance, IndicesNameImportsOrDefinitions, SpacesAreImportsAndDefinitions}
+use Rattle.world_simulation.specs.Allocated.{AllocatedStoresHaveDefinitions}
+use Rattle.wasm_meaning.specs.Counted.{NoPartDefinesMoreThanAll}
 use Rattle.merge_valid_proof.specs.Ended.{LinkedImportsEnd, StayingImportsEndThere, SitesAreImports, StayingImportsHavePlaces, NewIndicesArePlaces, DefinedEntitiesHavePlaces, TypesHavePlaces, MergedModulesDefineAll}
 
 pub record SpaceLaws : Type 0 where
@@ -15,3 +18,8 @@ pub record SpaceLaws : Type 0 where
   pub things : ImportsDenoteTheEnvironment
   pub spaces : SpacesAreImportsAndOwn
   pub own : OwnEntitiesCorrespond
+  pub index_spaces : SpacesAreImportsAndDefinitions
+  pub names : IndicesNameImportsOrDefinitions
+  pub instances : EachPartHasAnInstance
+  pub placed : AllocatedStoresHaveDefinitions
+  pub within : NoPartDefinesMoreThanAll

@@ -1,18 +1,15 @@
 -- The functions that the parts start, and what the merged module starts in place of these.
-use Rattle.base_lists.proofs.Common.{◌≡◌, ◌∙◌, sym, refl, ℕ, suc, ◌<◌, List, [], ◌∷◌, length, Option, Some, None, true, arith, slice_get, map, ltb-true, append_right, place_of, append_at_left, length-append, option_map_is, append_rel}
-use Rattle.wasm_tree_spec.specs.Prelude.{Functions, Module, Call, func_of, imported_funcs, type_of_func}
+use Rattle.base_lists.proofs.Common.{◌≡◌, ◌∙◌, sym, refl, ℕ, suc, ◌<◌, List, [], ◌∷◌, length, Option, Some, None, true, arith, slice_get, map, ltb-true, append_right, place_of, append_at_left, length-append, option_map_is, append_rel, each_same_is}
+use Rattle.wasm_tree_spec.specs.Prelude.{Functions, FuncType, Module, Call, func_of, imported_funcs, type_of_func, same_type, same_func_type}
 use Rattle.wasm_meaning.specs.Prelude.{Inst, Code, Store, Part, has_kind, sites, Environment, all_of, defined_before, start_in, starts_of, insts_from, own_store, stores_from, is_matched, Filled, run_elem, run_data, one_by_one, segments, type_at, FuncAt}
 use Rattle.index_remap.specs.Prelude.{fits_start, ListRel, nil, cons}
 use Rattle.merge_names.specs.declared.mode.Mode.{Mode}
 use Rattle.merge_spec.specs.Prelude.{link_fault, FuncOf, map_of, start_of, by_part_from, nullary, start_calls, place_of_type, joined_module}
 use Rattle.merge_spec.specs.Merged.{starts, defined_funcs}
-use Rattle.index_remap.proofs.SlotCalls.{func_type_is}
-use Rattle.world_simulation.specs.Prelude.{Instantiated, one, site}
+use Rattle.world_simulation.specs.Prelude.{Instantiated, one, site, IsInst, imports, defines}
 use Rattle.merge_behaves_proof.specs.Shared.{shared_count, sharing}
 use Rattle.merge_behaves_proof.specs.Instances.{PartAgrees, InstancesAgree}
 use Rattle.merge_behaves_proof.proofs.SpaceLaws.{SpaceLaws}
-use Rattle.world_simulation.proofs.Instancing.{IsInst, is_space, imports, defines, entry_at}
-use Rattle.world_simulation.proofs.Single.{one_inst}
 use Rattle.merge_behaves_proof.proofs.ValueShared.{shares}
 use Rattle.merge_behaves_proof.proofs.MergedAlone.{joined_keeps, names_of, joined_types, joined_start, joined_funcs}
 use Rattle.merge_behaves_proof.proofs.Instances.{entry_is, along, own_at}
@@ -21,7 +18,6 @@ use Rattle.merge_valid_proof.specs.Joinable.{CanBeJoined}
 use Rattle.merge_valid_proof.specs.Started.{StartsTakeNothing}
 use Rattle.merge_behaves_proof.proofs.MatchTypes.{site_fits}
 use Rattle.merge_behaves_proof.proofs.Matching.{func_typed}
-use Rattle.world_simulation.proofs.Stored.{func_placed}
 
 -- ---- what is started: the same one, or none, or the one function that calls several ----
 
@@ -71,7 +67,7 @@ module _ (laws : SpaceLaws) (env : Environment) (parts : List Part) (linked : li
     few = λ l. grind (arith, all_named);
     -- the merged module has a function more, and the instance names it by its last index
     calls = λ f g fs e.
-        let j = one_inst env J js there in
+        let j : (j : Inst) × (js ≡ j ∷ []) × IsInst env (one J) 0 J j = search (arith, there) in
         grind (arith, e, j.1, own_at laws env parts linked mode j.0 j.2 Functions refl (defined_before Functions parts (length parts)));
   })
 
@@ -89,6 +85,10 @@ segments_keep_funcs env parts insts s = grind (arith, in_turn_keeps (run_elem en
 
 -- ---- the merged module's functions ----
 
+-- a type that is the same as that of the starts is that one
+nullary_is : (t : FuncType) → same_func_type nullary t ≡ true → nullary ≡ t
+nullary_is t h = grind (arith, each_same_is same_type (λ a b e. grind arith))
+
 module _ (laws : SpaceLaws) (nothing : StartsTakeNothing) (env : Environment) (parts : List Part) (mode : Mode) (can : CanBeJoined parts mode) (j : Inst) (z : Store) (inst : IsInst env (one (joined_module parts mode)) 0 (joined_module parts mode) j)
     (there : stores_from env (one (joined_module parts mode)) (j ∷ []) (own_store env) 0 (one (joined_module parts mode)) (j ∷ []) ≡ Some z) where
   abbrev whole : Module
@@ -104,7 +104,7 @@ module _ (laws : SpaceLaws) (nothing : StartsTakeNothing) (env : Environment) (p
   pub caller_code : (f g : ℕ) (fs : List ℕ) → starts parts ≡ f ∷ g ∷ fs → slice_get z.funcs (shared_count env parts Functions) ≡ Some (Code nullary j [] (map Call (starts parts)))
   caller_code f g fs e =
       let calls = start_calls parts (starts parts) in
-      let r = func_placed env w z there (record {
+      let r = (laws.placed env w z there).funcs (record {
         part = 0;
         of = whole;
         is_part = refl;
@@ -131,13 +131,13 @@ module _ (laws : SpaceLaws) (nothing : StartsTakeNothing) (env : Environment) (p
       let q = joined_keeps parts mode in
       let typed : type_of_func whole f ≡ Some nullary = rw (q.types, q.func_space) (nothing parts (names_of parts mode) can.valid can.linked n f is).0 in
       -- a function that an index names has the type of that index
-      h f a e (elim (entry_at env M Functions 0 whole _ (is_space env M Functions 0 whole _ inst.funcs) f a e) [
+      h f a e (elim (laws.names env M Functions 0 whole _ (laws.index_spaces env M Functions 0 whole _ inst.funcs) f a e) [
         | imports k at address ↦
             let r = place_of (has_kind Functions) (λ i. func_of i.desc) whole.imports (grind arith) 0 f k at in
             let fits = site_fits env M z (site k) r.1 (FuncOf nullary) (grind (arith, r.2, r.3)) (grind (arith, r.2, r.3, append_at_left (imported_funcs whole.imports))) laws.sites matched in
             -- what fits is of the type that is asked for
             let thing : fits.thing ≡ FuncAt a = grind (arith, rw fits.is at address) in
             let u = option_map_is FuncOf (type_at z a) fits.type (rw thing at fits.typed) in
-            rw (func_type_is nullary u.0 (rw (← u.2) at fits.fits.same)) u.1
-        | defines k at low is ↦ grind (arith, func_typed env w z there 0 whole j refl refl inst.types f nullary)
+            rw (nullary_is u.0 (rw (← u.2) at fits.fits.same)) u.1
+        | defines k at low is ↦ grind (arith, func_typed env w z (laws.placed env w z there) 0 whole j refl refl inst.types f nullary)
       ]))

@@ -7,7 +7,8 @@ use Rattle.wasm_meaning.specs.Prelude.{Inst, Part, Read, module_at, read_of, Env
 use Rattle.index_remap.specs.Prelude.{fits_tree, RenumberedCodeIsRelated}
 use Rattle.world_simulation.specs.Alone.{SpacesAreImportsAndOwn, ReadsStay}
 use Rattle.world_simulation.specs.Named.{FittingCodeIsNamed}
-use Rattle.world_simulation.specs.Prelude.{OwnEntitiesCorrespond}
+use Rattle.world_simulation.specs.Prelude.{OwnEntitiesCorrespond, AllocatedStoresHaveDefinitions, DatasAreListedByPart, DeclaringSegmentsAreAllocated, ElemsAreListedByPart, IndicesNameImportsOrDefinitions, PartsAddWhatCanBeAllocated, SpacesAreImportsAndDefinitions}
+use Rattle.wasm_meaning.specs.Counted.{EachPartAddsItsDefinitions, NothingIsDefinedBeforeTheFirst}
 use Rattle.merge_names.specs.declared.mode.Mode.{Mode}
 use Rattle.merge_spec.specs.Prelude.{link_fault, joined_module, map_of}
 use Rattle.merge_valid_proof.specs.Entries.{HasEntry}
@@ -27,6 +28,16 @@ pub record Laws : Type 0 where
   pub alone_spaces : SpacesAreImportsAndOwn
   pub own : OwnEntitiesCorrespond
   pub named : FittingCodeIsNamed
+  pub index_spaces : SpacesAreImportsAndDefinitions
+  pub names : IndicesNameImportsOrDefinitions
+  pub placed : AllocatedStoresHaveDefinitions
+  pub added : PartsAddWhatCanBeAllocated
+  pub declared : DeclaringSegmentsAreAllocated
+  pub elems_listed : ElemsAreListedByPart
+  pub datas_listed : DatasAreListedByPart
+  -- of wasm_meaning
+  pub none_before : NothingIsDefinedBeforeTheFirst
+  pub before_next : EachPartAddsItsDefinitions
   -- of index_remap
   pub code : RenumberedCodeIsRelated
 

@@ -1,11 +1,8 @@
 -- The values of constant expressions of a part, and of what these become in the merged module.
-use Rattle.base_lists.proofs.Common.{◌≡◌, ℕ, zero, suc, ◌+◌, List, [], ◌∷◌, length, Some, true, ap, ◌∙◌, arith, option_and_then, slice_get, slice_get_past, length-append, ltb-true, length-map, place_back, get_rel, then_rel}
-use Rattle.wasm_tree_spec.specs.Prelude.{Space, Functions, Globals, Import, Module, funcs_of, ValType, ConstExpr}
-use Rattle.wasm_meaning.specs.Prelude.{Inst, places, has_kind, space_index, Part, module_at, Environment, own_globals, insts_from, value_of, const_value, inst_of}
-use Rattle.world_simulation.proofs.Alone.{funcs_counted}
-use Rattle.world_simulation.specs.Prelude.{one}
-use Rattle.world_simulation.specs.Alone.{ReadsStay}
-use Rattle.world_simulation.proofs.Instancing.{is_space, entry_at, IsInst}
+use Rattle.base_lists.proofs.Common.{◌≡◌, ℕ, zero, suc, ◌+◌, List, [], ◌∷◌, length, Some, true, ap, ◌∙◌, arith, option_and_then, slice_get, slice_get_past, length-append, ltb-true, length-map, place_back, get_rel, then_rel, places_many}
+use Rattle.wasm_tree_spec.specs.Prelude.{Space, Functions, Globals, Import, Module, funcs_of, imported_funcs, ValType, ConstExpr}
+use Rattle.wasm_meaning.specs.Prelude.{Inst, places, has_kind, imports_of, space_index, Part, module_at, Environment, own_globals, insts_from, value_of, const_value, inst_of}
+use Rattle.world_simulation.specs.Prelude.{one, IsInst}
 use Rattle.wasm_valid.specs.Prelude.{const_type}
 use Rattle.index_remap.specs.Prelude.{new_const, fits_const, Pairing, OptRel, some, func, ValRel, number, reference}
 use Rattle.merge_names.specs.declared.mode.Mode.{Mode}
@@ -29,16 +26,18 @@ index_at k (i ∷ is) from (suc p) y h = grind (arith, index_at k is (suc from) 
 
 -- ---- the instance of a module alone ----
 
-module _ (reads : ReadsStay) (env : Environment) (u : Module) (j : Inst) (are : insts_from env (one u) 0 (one u) ≡ Some (j ∷ [])) where
+module _ (laws : Laws) (env : Environment) (u : Module) (j : Inst) (are : insts_from env (one u) 0 (one u) ≡ Some (j ∷ [])) where
   pub is_inst : IsInst env (one u) 0 u j
   is_inst = let is : inst_of env (one u) 0 u ≡ Some j = grind (arith, are) in search (arith, is)
 
   pub func_count : length j.funcs ≡ length (funcs_of u)
-  func_count = simp (length-append, length-map, ← funcs_counted u.imports 0) (is_space env (one u) Functions 0 u _ is_inst.funcs).size
+  func_count =
+      let many : length (imports_of Functions u) ≡ length (imported_funcs u.imports) = places_many _ _ u.imports (grind arith) 0 in
+      simp (length-append, length-map, ← many) (laws.index_spaces env (one u) Functions 0 u _ is_inst.funcs).size
 
   -- a global has the value of the environment's at its address, where it is an import, and otherwise none that is read; its address is then none of the environment's
   pub global_value : (y a : ℕ) → slice_get j.globals y ≡ Some a → value_of env (one u) (j ∷ []) 0 (const.Global y) ≡ option_and_then (λ g. Some g.value) (slice_get (own_globals env) a)
-  global_value y a h = grind (arith, reads u (const.Global y), entry_at env (one u) Globals 0 u _ (is_space env (one u) Globals 0 u _ is_inst.globals) y a h, place_back (has_kind Globals) u.imports 0, index_at Globals u.imports 0, slice_get_past)
+  global_value y a h = grind (arith, laws.alone_reads u (const.Global y), laws.names env (one u) Globals 0 u _ (laws.index_spaces env (one u) Globals 0 u _ is_inst.globals) y a h, place_back (has_kind Globals) u.imports 0, index_at Globals u.imports 0, slice_get_past)
 
 -- ---- a constant expression of a part, and what it becomes ----
 
@@ -55,7 +54,7 @@ module _ (laws : Laws) (env : Environment) (parts : List Part) (mode : Mode) whe
     read_rel q m i k (const.Func f) h = then_rel (names_one env parts Functions k.funcs f h) (λ _ _ r. some (reference (func (some r))))
     read_rel q m i k (const.Global x) h =
         let a = k.globals.each x (ltb-true _ _ h) in
-        rw (a.first, global_value laws.alone_reads env (joined_module parts mode) j are _ a.address a.second)
+        rw (a.first, global_value laws env (joined_module parts mode) j are _ a.address a.second)
         (then_rel (get_rel (laws.own (is_shared env parts) env (shares_own env parts)).globals a.address) (λ _ _ g. some g.value))
     read_rel q m i k x h = grind (arith, some, number, reference, null_rel R)
 

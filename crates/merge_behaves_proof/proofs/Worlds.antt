@@ -110,7 +110,7 @@ module _ (spaces : SpaceLaws) (laws : Laws) (nothing : StartsTakeNothing) (simil
       calls_each f g fs e =
           -- the store that segments were copied into has the functions that were allocated
           let same_funcs = segments_keep_funcs env M y.insts y.allocated in
-          let inst = is_inst laws.alone_reads env J k.merged (y.are_insts ∙ ap Some k.alone) in
+          let inst = is_inst laws env J k.merged (y.are_insts ∙ ap Some k.alone) in
           let there = subst (λ js. stores_from env M js (own_store env) 0 M js ≡ Some y.allocated) k.alone y.is_allocated in
           record {
             inst = k.merged;

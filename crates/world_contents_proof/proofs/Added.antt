@@ -4,8 +4,9 @@ use Rattle.wasm_tree_spec.specs.Prelude.{Space, Functions, ElementSegments, Data
 use Rattle.wasm_meaning.specs.Prelude.{Inst, Store, ExternalValue, Filled, PlacedSegment, numbers, const_value, store_with, joined_stores, segments_in, run_elem_with, run_data_with, and_then, one_by_one, Added, added, own_segments, next_inst}
 use Rattle.index_remap.specs.Prelude.{Pairing, BothRel, both, StoreRel, turned, HasNoPartner}
 use Rattle.world_contents_proof.specs.Added.{WritesAlone}
-use Rattle.world_simulation.proofs.Copied.{Kept, nothing_kept}
-use Rattle.world_simulation.proofs.Ordered.{in_first, in_second, kept_rel}
+use Rattle.world_simulation.specs.Prelude.{Kept, in_first, in_second}
+use Rattle.world_simulation.proofs.Copied.{nothing_kept}
+use Rattle.world_simulation.proofs.Ordered.{kept_rel}
 
 -- ---- what is added comes behind ----
 

@@ -2,13 +2,7 @@
 use Rattle.base_lists.proofs.Common.{◌≡◌, List, [], ◌∷◌, Option, refl, ap, arith}
 use Rattle.wasm_tree_spec.specs.Prelude.{ConstExpr, Module}
 use Rattle.wasm_meaning.specs.Prelude.{Val, Inst, Func, Store, Filled, segments_in, run_elem_with, run_data_with, one_by_one, own_segments}
-
--- the store with other functions
-abbrev pub with_funcs : List Func → Store → Store
-with_funcs fs s = record s { funcs = fs }
-
-abbrev pub filled_with : List Func → Filled → Filled
-filled_with fs f = record f { store = with_funcs fs f.store }
+pub use Rattle.world_contents_proof.specs.FuncsAside.{filled_with, with_funcs}
 
 module _ (fs : List Func) where
   -- runs one after the other do the same whatever the functions are, if each run does

@@ -4,8 +4,7 @@ use Rattle.std.proofs.Common.{length-append}
 use Rattle.wasm_meaning.specs.Prelude.{numbers, PlacedSegment, segments_in, own_count, defined_count, Inst, Environment}
 use Rattle.index_remap.specs.Prelude.{OptRel, some, ListRel, has}
 use Rattle.wasm_tree_spec.specs.Prelude.{Space, ElemSeg, Module}
-use Rattle.world_simulation.proofs.Declared.{last_segments}
-use Rattle.world_simulation.specs.Prelude.{InOrder, both, ends, only_second, ElemAlone, Partners, Instantiated, one}
+use Rattle.world_simulation.specs.Prelude.{last_segments, InOrder, both, ends, only_second, ElemAlone, Partners, Instantiated, one}
 use Rattle.world_simulation.specs.Definitions as partners
 use Rattle.world_simulation.specs.Segments as order
 

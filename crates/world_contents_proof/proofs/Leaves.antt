@@ -1,62 +1,17 @@
 -- What the instantiation of one module leaves: what it defines behind what was there, and its segments copied.
-use Rattle.base_lists.proofs.Common.{◌≡◌, ℕ, ◌+◌, List, [], ◌∷◌, ◌++◌, map, length, Option, Some, false, refl, ap, ◌∙◌, append-nil, slice_get, same_Some, slice_get_within, all_there_at, and_then_is, append_at_left, append_right, map_at, map_from, arith}
+use Rattle.base_lists.proofs.Common.{◌≡◌, ℕ, ◌+◌, List, [], ◌∷◌, ◌++◌, map, length, Option, Some, false, refl, ap, subst, ◌∙◌, append-nil, slice_get, same_Some, slice_get_within, all_there_at, and_then_is, append_at_left, append_right, map_at, map_from, arith}
 use Rattle.base_lists.specs.Options.{◌>>=◌}
 use Rattle.wasm_tree_spec.specs.Prelude.{ConstExpr, ElemMode, ElemSeg, DataMode, DataSeg, Module}
 use Rattle.wasm_tree.specs.declared.module.ElemMode.TheVariants as elem
 use Rattle.wasm_tree.specs.declared.module.DataMode.TheVariants as data'
-use Rattle.wasm_meaning.specs.Prelude.{Text, Entity, RefVal, Val, Inst, Table, Memory, Elem, Data, Store, SetTable, SetMemory, DropElem, DropData, changed, no_items, no_bytes, ref_of, Begun, Filled, PlacedSegment, address_in, all_there, const_value, value_of, elem_with, store_with, part_store, joined_stores, numbers, segments_in, copy_slots, run_elem_with, run_elem, copy_bytes, run_data_with, run_data, and_then, one_by_one, segments, insts_from, own_store, alone, instantiate, Added, added, next_inst, LoaderWorld, store_under, supplied, primary_added, begun_under, Environment, ExternalValue, World}
-use Rattle.world_contents_proof.specs.Leaves.{Copy, all_over, elem_copy, elem_copies, data_copy, data_copies, Stands, elem_left, data_left, Leaves}
-use Rattle.world_simulation.proofs.Allocated.{adds_with, new_table, new_memory, new_data}
-use Rattle.world_simulation.specs.Prelude.{one, IsInstantiated}
+use Rattle.wasm_meaning.specs.Prelude.{Text, Entity, Val, Inst, Elem, Store, ref_of, Begun, Filled, PlacedSegment, address_in, all_there, const_value, value_of, elem_with, store_with, part_store, joined_stores, numbers, segments_in, run_elem_with, run_elem, run_data_with, run_data, and_then, one_by_one, segments, insts_from, stores_from, begun, own_store, alone, Added, added, next_inst, LoaderWorld, store_under, supplied, primary_added, begun_under, Environment, ExternalValue, World}
+pub use Rattle.world_contents_proof.specs.Copies.{memories, tables}
+use Rattle.world_contents_proof.specs.Copies.{OwnSegmentsLeave, OwnSegmentsRunAsCopies, SegmentsAloneRunAsCopies}
+use Rattle.world_contents_proof.specs.Leaves.{Copy, all_over, elem_copy, elem_copies, data_copy, data_copies, Stands, elem_left, data_left, Leaves, ModulesAloneLeave, WorldsOfOneModuleLeave}
+use Rattle.world_simulation.proofs.Simulated.{what_is_made}
+use Rattle.world_simulation.specs.Prelude.{one, WhatIsInstantiated, AddsWith, IsInst, new_data, new_memory, new_table}
 use Rattle.world_contents_proof.proofs.Added.{added_is}
-use Rattle.world_simulation.proofs.Single.{one_inst}
 use Rattle.world_contents_proof.proofs.Copies.{Kind, run, runs, left, IsOf, all_ran, all_stay, then_went}
-
--- ---- the two kinds ----
-
-abbrev pub tables : Kind Table Elem RefVal
-tables = record {
-  holders = λ s. s.tables;
-  segments = λ s. s.elems;
-  held = λ t. t.slots;
-  holding = λ t slots. record t { slots = slots };
-  items = λ e. e.items;
-  dropped = no_items;
-  put = λ s a t. changed s (SetTable a t);
-  drop = λ s n. changed s (DropElem n);
-  fill = copy_slots;
-  holders_put = λ s a c. refl;
-  segments_put = λ s a c. refl;
-  holders_drop = λ s n. refl;
-  segments_drop = λ s n. refl;
-  held_holding = λ c xs. refl;
-  holding_again = λ c xs ys. refl;
-  holding_held = λ c. refl;
-  filled = λ s n a c xs. refl;
-  traps = λ s n a c. refl;
-}
-
-abbrev pub memories : Kind Memory Data ℕ
-memories = record {
-  holders = λ s. s.mems;
-  segments = λ s. s.datas;
-  held = λ m. m.bytes;
-  holding = λ m bytes. record m { bytes = bytes };
-  items = λ d. d.bytes;
-  dropped = no_bytes;
-  put = λ s a m. changed s (SetMemory a m);
-  drop = λ s n. changed s (DropData n);
-  fill = copy_bytes;
-  holders_put = λ s a c. refl;
-  segments_put = λ s a c. refl;
-  holders_drop = λ s n. refl;
-  segments_drop = λ s n. refl;
-  held_holding = λ c xs. refl;
-  holding_again = λ c xs ys. refl;
-  holding_held = λ c. refl;
-  filled = λ s n a c xs. refl;
-  traps = λ s n a c. refl;
-}
 
 -- ---- runs of copies ----
 
@@ -122,7 +77,7 @@ module _ (value : ConstExpr → Option Val) (m : Module) (i : Inst) (before t : 
 
   leaves : elems_run.trapped ≡ false → datas_run.trapped ≡ false → Leaves value m i before datas_run.store
   leaves went went_on =
-      let adds = adds_with value m i t made in
+      let adds : AddsWith value m i t = search arith in
       let first = all_stay tables (λ s. record s { tables = []; elems = [] }) (λ s a c. refl) (λ s n. refl) (elem_copies value i m.elems) _ _ went in
       let second = all_stay memories (λ s. record s { mems = []; datas = [] }) (λ s a c. refl) (λ s n. refl) (data_copies value i m.datas) _ _ went_on in
       let funcs_stay = ap (λ (s : Store). s.funcs) second ∙ ap (λ (s : Store). s.funcs) first in
@@ -165,6 +120,19 @@ data_runs value i s n d data'.Passive = refl
 
 -- ---- the laws ----
 
+pub own_runs : OwnSegmentsRunAsCopies
+own_runs value m i n k elems datas s =
+    copies_in_turn value m i (λ s task. run_elem_with value s task task.segment.mode) (λ s task. run_data_with value s task task.segment.mode) (λ s n e. elem_runs value i s n e e.mode) (λ s n d. data_runs value i s n d d.mode) n k elems datas s
+
+pub alone_runs : SegmentsAloneRunAsCopies
+alone_runs env m i n k elems datas s =
+    let value = value_of env (one m) (i ∷ []) 0 in
+    rw (append-nil, append-nil) (copies_in_turn value m i (run_elem env (one m) (i ∷ [])) (run_data env (one m) (i ∷ [])) (λ s n e. elem_runs value i s n e e.mode) (λ s n d. data_runs value i s n d d.mode) n k elems datas s)
+
+pub own_leave : OwnSegmentsLeave
+own_leave value m i before t made elems datas good =
+    left_in_turn value m i before t made (λ s task. run_elem_with value s task task.segment.mode) (λ s task. run_data_with value s task task.segment.mode) (λ s n e. elem_runs value i s n e e.mode) (λ s n d. data_runs value i s n d d.mode) elems datas _ refl good
+
 pub added_leaves : (s : Store) (m : Module) (things : List ExternalValue) (a : Added) → added s m things ≡ Some a → a.filled.trapped ≡ false → Leaves (const_value s.globals a.inst) m a.inst s a.filled.store
 added_leaves s m things a h good =
     let x = added_is s m things a h in
@@ -172,28 +140,33 @@ added_leaves s m things a h good =
     rw (← x.2) (left_in_turn _ m i s x.0 x.1 (λ s task. run_elem_with _ s task task.segment.mode) (λ s task. run_data_with _ s task task.segment.mode)
     (λ s n e. elem_runs _ i s n e e.mode) (λ s n d. data_runs _ i s n d d.mode) refl refl _ refl (rw (← x.2) at good))
 
-what_is_made : (env : Environment) (w : World) (b : Begun) → instantiate env w ≡ Some b → IsInstantiated env w b
-what_is_made env w b h = grind arith
-
--- a world of one module, whatever names it shows
-pub world_leaves : (env : Environment) (m : Module) (view : List (Text × Entity)) (b : Begun) → instantiate env (record { parts = one m; view = view }) ≡ Some b → b.trapped ≡ false →
-    (i : Inst) × (insts_from env (one m) 0 (one m) ≡ Some (i ∷ [])) × Leaves (value_of env (one m) (i ∷ []) 0) m i (own_store env) b.store
-world_leaves env m view b h good =
-    let made = what_is_made env (record { parts = one m; view = view }) b h in
-    let x = one_inst env m _ made.are_insts in
-    let i = x.0 in
-    let t = and_then_is (part_store env (one m) (i ∷ []) 0 m i) _ _ (rw x.1 at made.is_allocated) in
+-- a world of one module, whatever names it shows, with its instance and its allocated store
+world_left : (env : Environment) (m : Module) (view : List (Text × Entity)) (b : Begun) (i : Inst) (s : Store) (names : List (Text × ExternalValue)) → stores_from env (one m) (i ∷ []) (own_store env) 0 (one m) (i ∷ []) ≡ Some s →
+    begun env (record { parts = one m; view = view }) (i ∷ []) names (segments env (one m) (i ∷ []) s) ≡ b → IsInst env (one m) 0 m i → b.trapped ≡ false → Leaves (value_of env (one m) (i ∷ []) 0) m i (own_store env) b.store
+world_left env m view b i s names made is inst good =
+    let t = and_then_is (part_store env (one m) (i ∷ []) 0 m i) _ _ made in
     let same = same_Some _ _ t.2 in
-    let is = rw x.1 at made.is in (
-      i,
-      rw x.1 at made.are_insts,
-      rw (ap (λ (b : Begun). b.store) is) at (left_in_turn _ m i (own_store env) t.0 t.1
-          (run_elem env (one m) (i ∷ [])) (run_data env (one m) (i ∷ [])) (λ s n e. elem_runs _ i s n e e.mode) (λ s n d. data_runs _ i s n d d.mode) x.2.elems x.2.datas
-          (segments env (one m) (i ∷ []) made.allocated) (rw (same, append-nil, append-nil)) (rw (← is) at good)),
-    )
+    rw (ap (λ (b : Begun). b.store) is) at (left_in_turn _ m i (own_store env) t.0 t.1 (run_elem env (one m) (i ∷ [])) (run_data env (one m) (i ∷ [])) (λ s n e. elem_runs _ i s n e e.mode) (λ s n d. data_runs _ i s n d d.mode) inst.elems inst.datas
+    (segments env (one m) (i ∷ []) s) (rw (same, append-nil, append-nil)) (rw (← is) at good))
 
-pub alone_leaves : (env : Environment) (m : Module) (b : Begun) → instantiate env (alone m) ≡ Some b → b.trapped ≡ false → (i : Inst) × (insts_from env (one m) 0 (one m) ≡ Some (i ∷ [])) × Leaves (value_of env (one m) (i ∷ []) 0) m i (own_store env) b.store
-alone_leaves env m = world_leaves env m (alone m).view
+one_inst : (env : Environment) (m : Module) (is : List Inst) → insts_from env (one m) 0 (one m) ≡ Some is → (i : Inst) × (is ≡ i ∷ []) × IsInst env (one m) 0 m i
+one_inst env m is h = search arith
+
+module _ (made : WhatIsInstantiated) where
+  pub world_leaves_by : WorldsOfOneModuleLeave
+  world_leaves_by env m view b h good =
+      let world : World = record { parts = one m; view = view } in
+      let w = made env world b h in
+      let x = one_inst env m w.insts w.are_insts in
+      let s = subst (λ is. stores_from env (one m) is (own_store env) 0 (one m) is ≡ Some w.allocated) x.1 w.is_allocated in
+      let is = subst (λ is. begun env world is w.view (segments env (one m) is w.allocated) ≡ b) x.1 w.is in
+      (x.0, subst (λ is. insts_from env (one m) 0 (one m) ≡ Some is) x.1 w.are_insts, world_left env m view b x.0 w.allocated w.view s is x.2 good)
+
+  pub alone_leaves : ModulesAloneLeave
+  alone_leaves env m = world_leaves_by env m (alone m).view
+
+pub world_leaves : WorldsOfOneModuleLeave
+world_leaves = world_leaves_by what_is_made
 
 pub primary_leaves : (env : Environment) (w : LoaderWorld) (b : Begun) → begun_under env w ≡ Some b → b.trapped ≡ false → (a : Added) × (primary_added env w ≡ Some a) × Leaves (const_value (store_under env w).globals a.inst) w.primary a.inst (store_under env w) b.store
 primary_leaves env w b h good =

@@ -3,8 +3,8 @@ use Rattle.base_lists.proofs.Common.{◌≡◌, ℕ, zero, suc, ◌+◌, ◌<◌
 use Rattle.wasm_tree_spec.specs.Prelude.{Space, Globals, ConstExpr, Import, Module}
 use Rattle.wasm_tree.specs.declared.module.ConstExpr.TheVariants as const
 use Rattle.wasm_meaning.specs.Prelude.{Inst, Val, has_kind, places, space_index, imports_of, Environment, own_globals, const_value, value_of, value_of_read, read_of}
-use Rattle.world_simulation.specs.Prelude.{one, read_in}
-use Rattle.world_simulation.proofs.Instancing.{IsInst, imports, defines, is_space, entry_at}
+use Rattle.world_simulation.specs.Prelude.{one, read_in, IsInst, imports, defines, IndicesNameImportsOrDefinitions, SpacesAreImportsAndDefinitions}
+use Rattle.world_simulation.proofs.Instancing.{is_space, entry_at}
 
 -- an import of the list has the place `n`, counted from `from`, and the index `x` among those of its kind
 abbrev Indexed : Space → List Import → (from x n : ℕ) → Type 0
@@ -23,19 +23,19 @@ place_index k (i ∷ is) from x n h = by (λ x. place_index k is (suc from) x n)
     by more true e (suc x) h = let r = more x h in (suc r.0, omega (arith, r.1), r.2, r.3, rw (e, r.4))
     by more false e x h = let r = more x h in (suc r.0, omega (arith, r.1), r.2, r.3, rw e r.4)
 
-module _ (env : Environment) (m : Module) (i : Inst) (a : IsInst env (one m) 0 m i) where
+module _ (spaces : SpacesAreImportsAndDefinitions) (indices : IndicesNameImportsOrDefinitions) (env : Environment) (m : Module) (i : Inst) (a : IsInst env (one m) 0 m i) where
   -- a global of the module that has a value among the environment's own is an import
   own_within : (x : ℕ) (v : Val) → const_value (own_globals env) i (const.Global x) ≡ Some v → x < length (imports_of Globals m)
   own_within x v h =
       let c = and_then_is (slice_get i.globals x) _ v h in
       let g = and_then_is (slice_get (own_globals env) c.0) _ v c.2 in
-      elim (entry_at _ _ _ _ _ _ (is_space env (one m) Globals 0 m _ a.globals) x c.0 c.1) [
+      elim (indices _ _ _ _ _ _ (spaces env (one m) Globals 0 m _ a.globals) x c.0 c.1) [
         | imports n e f ↦ slice_get_within (imports_of Globals m) x n e
         | defines j e l past ↦ absurd (omega (arith, slice_get_within (own_globals env) c.0 g.0 g.1))
       ]
 
-  pub const_same : (e : ConstExpr) → value_of env (one m) (i ∷ []) 0 e ≡ const_value (own_globals env) i e
-  const_same (const.Global x) = let reads : read_of (one m) 0 (const.Global x) ≡ read_in m.imports (const.Global x) = grind arith in rw reads (by _ refl _ refl)
+  pub const_reads : (e : ConstExpr) → value_of env (one m) (i ∷ []) 0 e ≡ const_value (own_globals env) i e
+  const_reads (const.Global x) = let reads : read_of (one m) 0 (const.Global x) ≡ read_in m.imports (const.Global x) = grind arith in rw reads (by _ refl _ refl)
     where
       by : (o : Option ℕ) → slice_get (imports_of Globals m) x ≡ o → (v : Option Val) → const_value (own_globals env) i (const.Global x) ≡ v → option_and_then (value_of_read (own_globals env) (i ∷ [])) (read_in m.imports (const.Global x)) ≡ v
       by None e None f = rw e
@@ -44,4 +44,7 @@ module _ (env : Environment) (m : Module) (i : Inst) (a : IsInst env (one m) 0 m
           let r = place_index Globals m.imports 0 x n e in
           let z : n ≡ r.0 = omega (arith, r.1) in
           rw (e, z, r.3, r.4) f
-  const_same _ = refl
+  const_reads _ = refl
+
+pub const_same : (env : Environment) (m : Module) (i : Inst) → IsInst env (one m) 0 m i → (e : ConstExpr) → value_of env (one m) (i ∷ []) 0 e ≡ const_value (own_globals env) i e
+const_same = const_reads is_space entry_at

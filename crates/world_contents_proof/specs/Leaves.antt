@@ -7,7 +7,7 @@ use Rattle.wasm_tree_spec.specs.Prelude.{TableType, Limits, ConstExpr, GlobalDef
 use Rattle.wasm_tree.specs.declared.module.Func as tree
 use Rattle.wasm_tree.specs.declared.module.ElemMode.TheVariants as elem
 use Rattle.wasm_tree.specs.declared.module.DataMode.TheVariants as data'
-use Rattle.wasm_meaning.specs.Prelude.{overwrite, RefVal, Val, Inst, Func, Table, Memory, Global, Elem, Data, Store, ref_of, no_items, no_bytes, Environment, ExternalValue, Begun, all_there, const_value, value_of, new_func, global_with, elem_with, insts_from, own_store, alone, instantiate, Added, added, LoaderWorld, store_under, primary_added, begun_under}
+use Rattle.wasm_meaning.specs.Prelude.{Text, Entity, overwrite, RefVal, Val, Inst, Func, Table, Memory, Global, Elem, Data, Store, ref_of, no_items, no_bytes, Environment, ExternalValue, Begun, all_there, const_value, value_of, new_func, global_with, elem_with, insts_from, own_store, alone, instantiate, Added, added, LoaderWorld, store_under, primary_added, begun_under}
 use Rattle.world_simulation.specs.Prelude.{one, new_table, new_memory, offset_in}
 
 -- ---- copies ----
@@ -99,6 +99,12 @@ AddedModulesLeave =
 abbrev pub ModulesAloneLeave : Type 0
 ModulesAloneLeave =
     (env : Environment) (m : Module) (b : Begun) → instantiate env (alone m) ≡ Some b → b.trapped ≡ false →
+    (i : Inst) × (insts_from env (one m) 0 (one m) ≡ Some (i ∷ [])) × Leaves (value_of env (one m) (i ∷ []) 0) m i (own_store env) b.store
+
+-- The same for a world of one module, whatever names it shows.
+abbrev pub WorldsOfOneModuleLeave : Type 0
+WorldsOfOneModuleLeave =
+    (env : Environment) (m : Module) (view : List (Text × Entity)) (b : Begun) → instantiate env (record { parts = one m; view = view }) ≡ Some b → b.trapped ≡ false →
     (i : Inst) × (insts_from env (one m) 0 (one m) ≡ Some (i ∷ [])) × Leaves (value_of env (one m) (i ∷ []) 0) m i (own_store env) b.store
 
 -- The same for the primary module of a loader, over these and the placeholders.

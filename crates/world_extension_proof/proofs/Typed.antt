@@ -1,13 +1,11 @@
 -- Each index of a module that is added names what the module says, and so it does in each store that extends that one.
-use Rattle.base_lists.proofs.Common.{◌≡◌, ◌∙◌, refl, sym, ap, subst, ℕ, zero, suc, ◌+◌, List, [], ◌∷◌, ◌++◌, map, length, Option, Some, None, Bool, true, false, ◌&&◌, ⊎_elim, arith, slice_get, true≢false, nat_le, cons_option, le-leb, and_parts, and_from, same_Some, cond_is, numbers_at, and_then_is, all_there_at, unwrap_or_false_is, append_at_left, append_from, append_right, map_at, map_from, slice_get_within, length-map, copies_length}
+use Rattle.base_lists.proofs.Common.{◌≡◌, ◌∙◌, refl, sym, ap, subst, ℕ, zero, suc, ◌+◌, List, [], ◌∷◌, ◌++◌, map, length, Option, Some, None, Bool, true, false, ◌&&◌, ⊎_elim, arith, slice_get, true≢false, nat_le, cons_option, le-leb, and_parts, and_from, same_Some, cond_is, numbers_at, and_then_is, all_there_at, unwrap_or_false_is, append_at_left, append_from, append_right, map_at, map_from, slice_get_within, length-map, copies_length, each_same_self}
 use Rattle.std.proofs.Common.{filter_map}
 use Rattle.base_lists.specs.Options.{◌>>=◌}
 use Rattle.wasm_tree_spec.specs.Prelude.{same_func_type, same_ref, same_type, Functions, Tables, Memories, Globals, FuncType, Limits, TableType, GlobalType, Import, ImportDesc, Module, func_of, table_of, memory_of, global_of, imported_funcs, imported_tables, imported_memories, imported_globals}
 use Rattle.wasm_tree.specs.declared.module.ImportDesc.TheVariants as im
 use Rattle.wasm_meaning.specs.Prelude.{Inst, Func, Table, Memory, Global, Store, null_of, type_of_func, ExternalValue, FuncAt, TableAt, MemoryAt, GlobalAt, address_of, numbers, new_func, global_with, const_value, import_type, joined_stores, same_bool, meets_most, meets, is_match, Added, addresses_of, next_inst, all_match, added_as, store_with}
-use Rattle.index_remap.proofs.SlotCalls.{func_type_self}
-use Rattle.world_simulation.specs.Prelude.{new_table, new_memory}
-use Rattle.world_simulation.proofs.Allocated.{AddsWith, adds_with}
+use Rattle.world_simulation.specs.Prelude.{new_table, new_memory, AddsWith}
 use Rattle.world_extension_proof.specs.Extends.{StaysIn}
 use Rattle.world_extension_proof.specs.Typed.{Offers, IsTyped, AddedModulesAreTyped, InstancesStayTyped}
 use Rattle.world_extension_proof.proofs.LoadExtends.{stays_in, joined_stays, own_segments_fill, added_with}
@@ -161,7 +159,7 @@ module _ (s : Store) (m : Module) (things : List ExternalValue) (matched : all_m
       let there : slice_get all.funcs (length s.funcs + k) ≡ Some g.0 = append_right s.funcs t.funcs k ∙ g.2 in
       ap (λ o. o >>= λ t. (slice_get all.funcs (length s.funcs + k) >>= λ f. Some (type_of_func f)) >>= λ u. Some (same_func_type t u)) named
       ∙ ap (λ o. (o >>= λ f. Some (type_of_func f)) >>= λ v. Some (same_func_type u.0 v)) there
-      ∙ ap (λ v. Some (same_func_type u.0 v)) same ∙ ap Some (func_type_self u.0)
+      ∙ ap (λ v. Some (same_func_type u.0 v)) same ∙ (let self : same_func_type u.0 u.0 ≡ true = simp (each_same_self same_type (λ a. grind arith)) in ap Some self)
 
   new_table_is : (k : ℕ) (u : TableType) → slice_get m.tables k ≡ Some u → is_match all m (im.Table u) (TableAt (length s.tables + k)) ≡ Some true
   new_table_is k u e =
@@ -206,4 +204,4 @@ added_typed s m things a h =
     let x : (t : Store) × (store_with (const_value s.globals i) m i ≡ Some t) × (added_with s m things t ≡ a) = grind (arith, h) in
     let start = joined_stores s x.0 in
     subst (λ (a : Added). IsTyped m a.inst a.filled.store) x.2
-    (stays_typed m i start _ (stays_in start _ (own_segments_fill (const_value s.globals i) m i start)) (allocated_typed s m things matched x.0 (adds_with (const_value s.globals i) m i x.0 x.1)))
+    (stays_typed m i start _ (stays_in start _ (own_segments_fill (const_value s.globals i) m i start)) (allocated_typed s m things matched x.0 (let made = x.1 in search arith)))

@@ -38,14 +38,6 @@ pub record Extends (s t : Store) : Type 0 where
   pub elem_count : length t.elems ≡ length s.elems
   pub data_count : length t.datas ≡ length s.datas
 
--- Each store extends itself.
-abbrev pub StoresExtendThemselves : Type 0
-StoresExtendThemselves = (s : Store) → Extends s s
-
--- A store extends what the store that it extends does.
-abbrev pub ExtensionIsTransitive : Type 0
-ExtensionIsTransitive = (s t u : Store) → Extends s t → Extends t u → Extends s u
-
 -- the same for the functions, tables, memories and globals of the first store; the second may have
 -- more behind them
 pub record StaysIn (s t : Store) : Type 0 where
@@ -53,6 +45,18 @@ pub record StaysIn (s t : Store) : Type 0 where
   pub tables : EachExtends TableExtends s.tables t.tables
   pub mems : EachExtends MemoryExtends s.mems t.mems
   pub globals : EachExtends GlobalExtends s.globals t.globals
+
+-- Each store extends itself.
+abbrev pub StoresExtendThemselves : Type 0
+StoresExtendThemselves = (s : Store) → Extends s s
+
+-- If `t` extends `s`, and `u` extends `t`, then `u` extends `s`.
+abbrev pub ExtensionIsTransitive : Type 0
+ExtensionIsTransitive = (s t u : Store) → Extends s t → Extends t u → Extends s u
+
+-- What is in a store stays in each store that extends it.
+abbrev pub ExtensionsKeepWhatIsThere : Type 0
+ExtensionsKeepWhatIsThere = (s t : Store) → Extends s t → StaysIn s t
 
 -- ---- runs ----
 

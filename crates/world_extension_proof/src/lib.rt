@@ -6,6 +6,7 @@ ghost use Rattle.world_extension_proof.specs.Extends.{
   AddedModulesExtend,
   CallsExtend,
   ExtensionIsTransitive,
+  ExtensionsKeepWhatIsThere,
   LoadersExtend,
   OwnSegmentsExtend,
   SegmentsExtend,
@@ -19,10 +20,11 @@ use wasm_meaning::steps_write_only_touched_places;
 
 /// Store extension (compare WebAssembly Core 2.0, appendix, Soundness) is a preorder: each store
 /// extends itself (`reflexive`), and a store that extends an extension of another one extends that
-/// one (`transitive`).
+/// one (`transitive`). What is in a store stays in each store that extends it (`kept`).
 pub fn store_extension_is_a_preorder()
     ensures reflexive { StoresExtendThemselves }
     ensures transitive { ExtensionIsTransitive }
+    ensures kept { ExtensionsKeepWhatIsThere }
 {}
 
 /// Once a run is instantiated, each step extends its store and leaves it instantiated (WebAssembly

@@ -1,5 +1,4 @@
 -- A loader that supplies nothing begins as its primary module alone is instantiated.
-use Rattle.world_simulation.proofs.Instancing.{import_address}
 use Rattle.base_lists.proofs.Common.{◌≡◌, ℕ, suc, ◌+◌, List, [], ◌∷◌, ◌++◌, map, length, filter, filter_map, Option, Some, None, is_some, Bool, true, false, cond, refl, sym, ap₂, ◌∙◌, arith, append-nil, add-zero, zero-add, slice_get, unwrap_or, fun_ext, add_next}
 use Rattle.base_lists.proofs.Filtered.{at_places, chosen_twice}
 use Rattle.base_lists.specs.Options.{◌>>=◌}
@@ -8,10 +7,10 @@ use Rattle.wasm_tree.specs.declared.module.ImportDesc.TheVariants as im
 use Rattle.wasm_meaning.specs.Prelude.{Text, Val, Inst, Store, Site, PlacedSegment, has_kind, sites, sites_in, Environment, ExternalValue, owned_of, own_globals, all_of, Filled, all_there, address_of, address_in, own_count, defined_count, numbers, const_value, value_of, joined_stores, own_store, is_match, is_matched, run_elem_with, run_data_with, and_then, one_by_one, segments, space, instantiate, all_match, addresses_of, added_as, own_segments, next_inst, LoaderWorld, placeholders_of, primary_added, store_under, supplied, begun_of, start_in, imported_external_value}
 use Rattle.wasm_meaning.specs.World as world
 use Rattle.wasm_meaning.specs.Sequential.{own_external_value}
-use Rattle.world_simulation.specs.Prelude.{one, site}
+use Rattle.world_simulation.specs.Prelude.{one, site, import_address}
 use Rattle.world_loader_proof.specs.Loaded.{LoadersHaveTheirPrimarysInstance, primary_world, LoadersBeginAsTheirPrimary}
 use Rattle.world_contents_proof.proofs.Added.{joined_right}
-use Rattle.world_contents_proof.proofs.OwnValues.{const_same}
+use Rattle.world_contents_proof.specs.OwnValues.{ConstantsAloneReadTheEnvironment}
 use Rattle.world_loader_proof.proofs.OwnEntities.{R, shares, own_like}
 use Rattle.world_simulation.proofs.Single.{all_matched}
 
@@ -83,13 +82,13 @@ module _ (env : Environment) (m : Module) where
     inst_there = rw (space_there Functions, space_there Tables, space_there Memories, space_there Globals)
 
     -- its constant expressions have the values, and its segments the runs, of a module that is added
-    values_same : value_of env (one m) (next ∷ []) 0 ≡ const_value (own_globals env) next
-    values_same = fun_ext (const_same env m next (search (arith, inst_there)))
+    values_same : ConstantsAloneReadTheEnvironment → value_of env (one m) (next ∷ []) 0 ≡ const_value (own_globals env) next
+    values_same values = fun_ext (values env m next (search (arith, inst_there)))
 
-    segments_same : (s : Store) → segments env (one m) (next ∷ []) s ≡ own_segments (const_value (own_globals env) next) m next s
-    segments_same s =
+    segments_same : ConstantsAloneReadTheEnvironment → (s : Store) → segments env (one m) (next ∷ []) s ≡ own_segments (const_value (own_globals env) next) m next s
+    segments_same values s =
         let value = value_of env (one m) (next ∷ []) in
-        rw (← values_same) (ap₂ and_then (all_copied (λ v s task. run_elem_with v s task task.segment.mode) value next next.elems m.elems s)
+        rw (← values_same values) (ap₂ and_then (all_copied (λ v s task. run_elem_with v s task task.segment.mode) value next next.elems m.elems s)
         (fun_ext (all_copied (λ v s task. run_data_with v s task task.segment.mode) value next next.datas m.datas)))
 
 -- ---- the law ----
@@ -124,12 +123,12 @@ module _ (env : Environment) (w : LoaderWorld) where
   added_is none = rw (fun_ext (nothing_supplied env w none), store_is env w none) (fitting env m m.imports (λ xs. added_as (own_store env) m (next_inst (own_store env) m xs)))
 
   -- and instantiated alone, it begins as what is added so
-  alone_is : (b : Bool) → all_of (fits env m) m.imports ≡ b → instantiate env (primary_world w) ≡ cond b (added_as (own_store env) m (next env m)) None >>= begun_of env w
-  alone_is false h = simp (then_made, matched_is env m, h, none_after)
-  alone_is true h = rw (inst_there env m h, values_same env m h) (simp (then_made, seen, matched_is env m, h, segments_same env m h, append-nil (start_in (next env m) m.start)))
+  alone_is : ConstantsAloneReadTheEnvironment → (b : Bool) → all_of (fits env m) m.imports ≡ b → instantiate env (primary_world w) ≡ cond b (added_as (own_store env) m (next env m)) None >>= begun_of env w
+  alone_is values false h = simp (then_made, matched_is env m, h, none_after)
+  alone_is values true h = rw (inst_there env m h, values_same env m h values) (simp (then_made, seen, matched_is env m, h, segments_same env m h values, append-nil (start_in (next env m) m.start)))
 
-pub begins_as_primary : LoadersBeginAsTheirPrimary
-begins_as_primary env w none = rw (added_is env w none) (sym (alone_is env w _ refl))
+pub begins_as_primary : ConstantsAloneReadTheEnvironment → LoadersBeginAsTheirPrimary
+begins_as_primary values env w none = rw (added_is env w none) (sym (alone_is env w values _ refl))
 
 -- the instance is that of the world
 pub primary_inst : LoadersHaveTheirPrimarysInstance

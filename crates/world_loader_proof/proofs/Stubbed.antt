@@ -1,18 +1,17 @@
 -- A loader begins as one whose primary module has functions of its own in place of the placeholders.
 use Rattle.world_simulation.specs.Prelude.{external_value_in}
-use Rattle.base_lists.proofs.Common.{◌≡◌, ℕ, suc, ◌+◌, List, [], ◌∷◌, ◌++◌, map, length, Option, Some, None, true, cond, refl, ap, arith, append_assoc, append-nil, slice_get, length-append, length-map, add-zero, same_Some, filter_map-append, numbers_append, append_right, opt_self, add_next}
+use Rattle.base_lists.proofs.Common.{◌≡◌, ℕ, suc, ◌+◌, List, [], ◌∷◌, ◌++◌, map, length, Option, Some, None, true, cond, refl, ap, arith, append_assoc, append-nil, slice_get, length-append, length-map, add-zero, same_Some, filter_map-append, numbers_append, append_right, opt_self, add_next, each_same_self}
 use Rattle.base_lists.specs.Every.{Every}
 use Rattle.base_lists.specs.Options.{◌>>=◌}
-use Rattle.wasm_tree_spec.specs.Prelude.{Space, same_space, Functions, FuncType, Unreachable, ConstExpr, Import, Module}
+use Rattle.wasm_tree_spec.specs.Prelude.{Space, same_space, same_type, same_func_type, Functions, FuncType, Unreachable, ConstExpr, Import, Module}
 use Rattle.wasm_meaning.specs.Prelude.{Pair, Val, Inst, Func, Code, Store, declared, Environment, ExternalValue, FuncAt, owned_of, own_funcs, own_globals, all_there, own_count, numbers, const_value, new_func, store_with, joined_stores, own_store, is_match, Added, added, added_as, addresses_of, all_match, next_inst, own_segments, LoaderWorld, placeholders_of, placeholders_from, store_under, slot_of, supplied}
 use Rattle.wasm_meaning.specs.Sequential.{own_external_value}
 use Rattle.index_remap.specs.Prelude.{StoreRel}
-use Rattle.index_remap.proofs.SlotCalls.{func_type_self}
 use Rattle.world_loader_proof.specs.Stubbed.{ArePlaceholders, ImportsThemLast, stub, stubbed, placeholders_in, LoadersAddAsStubbed, LoadersBeginAsStubbed}
 use Rattle.world_contents_proof.proofs.Added.{joined_right}
 use Rattle.world_simulation.proofs.Single.{thing_rel, match_same}
 use Rattle.world_loader_proof.proofs.OwnEntities.{R, shares, own_like}
-use Rattle.world_contents_proof.proofs.FuncsAside.{segments_with, segments_funcs}
+use Rattle.world_contents_proof.specs.FuncsAside.{SegmentsIgnoreFunctions, SegmentsKeepFunctions}
 use Rattle.std.proofs.Common.{add-suc}
 use lib.Seq.{drop-append_seam, drop-append-add}
 
@@ -34,7 +33,7 @@ of_functions k (x ∷ xs) = grind (arith, of_functions k xs)
 abbrev stub_in : Inst → Pair × FuncType → Func
 stub_in i q = Code q.1 i (declared []) (Unreachable ∷ [])
 
-module _ (env : Environment) (w : LoaderWorld) (others : List Import) (tys : List ℕ) (last : ImportsThemLast w others tys) where
+module _ (kept : SegmentsKeepFunctions) (ignored : SegmentsIgnoreFunctions) (env : Environment) (w : LoaderWorld) (others : List Import) (tys : List ℕ) (last : ImportsThemLast w others tys) where
   -- the primary module, and the one with stubs in place of the placeholders
   abbrev P : Module
   P = w.primary
@@ -66,9 +65,10 @@ module _ (env : Environment) (w : LoaderWorld) (others : List Import) (tys : Lis
   placed n [] [] [] h = record { denote = refl; match = λ there. refl; many = refl; are_stubs = λ i types. refl }
   placed n (i ∷ is) (q ∷ qs) (t ∷ ts) (d, at, typed, rest) =
       let more = rw add-suc at (placed (suc n) is qs ts rest) in
+      let self : same_func_type q.1 q.1 ≡ true = simp (each_same_self same_type (λ a. grind arith)) in
       record {
         denote = rw (at, more.denote);
-        match = λ there. rw (d, typed, rw add-zero at (there 0), func_type_self) (more.match (λ k. rw add_next at (there (suc k))));
+        match = λ there. rw (d, typed, rw add-zero at (there 0), self) (more.match (λ k. rw add_next at (there (suc k))));
         many = ap suc more.many;
         are_stubs = λ i types. rw (types, typed, more.are_stubs i types);
       }
@@ -121,7 +121,7 @@ module _ (env : Environment) (w : LoaderWorld) (others : List Import) (tys : Lis
     in_place None = refl
     in_place (Some t) =
         let second : Store = joined_stores (own_store env) (record t { funcs = map (stub_in i) ps ++ t.funcs }) in
-        rw (segments_with ((own_funcs env ++ placeholders_from 0 ps) ++ t.funcs) value Q i second, segments_funcs value Q i second, drop-append-add, ← length-map ps (stub_in i), drop-append_seam, append_assoc)
+        rw (ignored ((own_funcs env ++ placeholders_from 0 ps) ++ t.funcs) value Q i second, kept value Q i second, drop-append-add, ← length-map ps (stub_in i), drop-append_seam, append_assoc)
 
     same_added : added_as first P i ≡ added_as (own_store env) Q i >>= λ a. Some (placeholders_in env w a)
     same_added =
@@ -137,8 +137,9 @@ module _ (env : Environment) (w : LoaderWorld) (others : List Import) (tys : Lis
   denoted : all_there (supplied env w) P.imports ≡ all_there (own_external_value (owned_of env) Q) others >>= λ xs. Some (behind xs)
   denoted = rw (last.all, there_both, supplied_own others last.own, slots.denote)
 
-pub add_as_stubbed : LoadersAddAsStubbed
-add_as_stubbed env w others tys last = rw (denoted env w others tys last, append-nil (own_funcs env)) (grind (arith, added_same env w others tys last))
+module _ (kept : SegmentsKeepFunctions) (ignored : SegmentsIgnoreFunctions) where
+  pub add_as_stubbed : LoadersAddAsStubbed
+  add_as_stubbed env w others tys last = rw (denoted kept ignored env w others tys last, append-nil (own_funcs env)) (grind (arith, added_same kept ignored env w others tys last))
 
-pub begin_as_stubbed : LoadersBeginAsStubbed
-begin_as_stubbed env w others tys last = rw (add_as_stubbed env w others tys last) (grind arith)
+  pub begin_as_stubbed : LoadersBeginAsStubbed
+  begin_as_stubbed env w others tys last = rw (add_as_stubbed env w others tys last) (grind arith)

@@ -47,7 +47,11 @@ placeholders_in env w a = record a { filled = record a.filled { store = with_pla
 abbrev pub placeholders_begun : Environment → LoaderWorld → Begun → Begun
 placeholders_begun env w b = record b { store = with_placeholders env w b.store }
 
--- ---- the law ----
+-- ---- the laws ----
+
+-- In the store, the placeholders are one function each.
+abbrev pub PlaceholdersAreCounted : Type 0
+PlaceholdersAreCounted = (slot : ℕ) (ps : List (Pair × FuncType)) → length (placeholders_from slot ps) ≡ length ps
 
 -- The instances are the same, and the stores too, except for the placeholders; both are linked or
 -- neither, and both trap or neither.

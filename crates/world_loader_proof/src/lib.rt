@@ -3,7 +3,11 @@
 
 ghost use Rattle.world_loader_proof.specs.Loaded.{LoadersBeginAsTheirPrimary, LoadersHaveTheirPrimarysInstance};
 ghost use Rattle.world_loader_proof.specs.LoaderSteps.{LoadersGoAsTheirRun, LoadersStepAsTheirRun, PlaceholdersAreAnswered};
-ghost use Rattle.world_loader_proof.specs.Stubbed.{LoadersAddAsStubbed, LoadersBeginAsStubbed};
+ghost use Rattle.world_loader_proof.specs.Stubbed.{LoadersAddAsStubbed, LoadersBeginAsStubbed, PlaceholdersAreCounted};
+
+use world_contents_proof::{
+    constants_of_one_module_read_the_environment, segments_leave_functions_alone,
+};
 
 /// A loader that supplies nothing begins as its primary module alone, with the loader's view, and
 /// one is linked if and only if the other is (`begin`). It has the instance of the primary module
@@ -11,7 +15,9 @@ ghost use Rattle.world_loader_proof.specs.Stubbed.{LoadersAddAsStubbed, LoadersB
 pub fn loaders_begin_as_their_primary()
     ensures begin { LoadersBeginAsTheirPrimary }
     ensures inst { LoadersHaveTheirPrimarysInstance }
-{}
+{
+    constants_of_one_module_read_the_environment();
+}
 
 /// A step under a loader that calls no placeholder is the step of its run (`step`), and so are
 /// several (`steps`). A step that calls a placeholder of a secondary module that can be loaded, or
@@ -26,8 +32,12 @@ pub fn loaders_step_as_their_run()
 /// Take a loader whose primary module imports its placeholders after all else, and one that
 /// supplies nothing and whose primary module has functions of its own in their place. Except for
 /// the placeholders themselves, both have the same instance (`added`) and begin alike (`begin`):
-/// one is linked if and only if the other is, and traps if and only if the other does.
+/// one is linked if and only if the other is, and traps if and only if the other does. In the store,
+/// the placeholders are one function each (`counted`).
 pub fn loaders_begin_as_with_defined_placeholders()
     ensures added { LoadersAddAsStubbed }
     ensures begin { LoadersBeginAsStubbed }
-{}
+    ensures counted { PlaceholdersAreCounted }
+{
+    segments_leave_functions_alone();
+}
