@@ -1,5 +1,5 @@
 -- The index spaces of what is left of a module: what is kept of those of the module.
-use Rattle.base_lists.proofs.Common.{◌≡◌, ◌∙◌, ap, ap₂, sym, subst, refl, ℕ, suc, ◌+◌, ◌<◌, List, [], ◌∷◌, ◌++◌, map, length, replicate, Option, Some, is_some, true, arith, slice_get, slice_index, length-append, get_or-replicate, length-replicate, slice_get_within, numbers_index, map_stays}
+use Rattle.base_lists.proofs.Common.{◌≡◌, ◌∙◌, ap, ap₂, sym, subst, refl, ℕ, suc, ◌+◌, ◌<◌, List, [], ◌∷◌, ◌++◌, map, length, replicate, Option, Some, is_some, true, arith, slice_get, slice_index, length-append, get_or-replicate, length-replicate, slice_get_within, numbers_index, map_stays, places_many}
 use Rattle.std.proofs.Common.{filter_map}
 use Rattle.wasm_tree_spec.specs.Prelude.{Space, Functions, Tables, Memories, Globals, Import, ImportDesc, Module, func_of, table_of, memory_of, global_of, imported_funcs, imported_tables, imported_memories, imported_globals, funcs_of, tables_of, memories_of, globals_of}
 use Rattle.wasm_tree.specs.declared.module.ImportDesc.TheVariants as im
@@ -9,7 +9,6 @@ use Rattle.wasm_valid.specs.Prelude.{elem_types, ImportHolds, ItemsHold}
 use Rattle.wasm_meaning.specs.Prelude.{has_kind, imports_of}
 use Rattle.index_remap.specs.declared.remap.Remap.{Remap}
 use Rattle.index_remap.specs.Prelude.{new_import_desc, new_import, new_func, new_global, new_elem}
-use Rattle.world_simulation.proofs.Alone.{tables_counted, memories_counted}
 use Rattle.base_kept.specs.Kept.{kept}
 use Rattle.dce_sweep_spec.specs.Marks.{Marks, stays}
 use Rattle.dce_sweep_spec.specs.Swept.{defined_funcs, defined_globals, kept_elem, sweep_map, renumbered_kept}
@@ -45,18 +44,19 @@ module _ (k : Marks) (m : Module) (c : AreClosed k m) where
       kept_chosen (has_kind Globals) (λ i. global_of i.desc) (grind arith) k.imports k.globals m.imports 0 c.imports_many (omega (arith, many, all)) (λ i n e. c.imported Globals i n (e ∙ ap Some (same_place n)))
 
   -- all tables and memories are kept
-  all_imported : {B : Type 0} (space : Space) (f : Import → Option B) → ((i : Import) → is_some (f i) ≡ has_kind space i) → ((i : ℕ) → stays k space i ≡ true) → length (imports_of space m) ≡ length (filter_map f m.imports) → filter_map f (kept k.imports m.imports) ≡ filter_map f m.imports
-  all_imported space f kinds all counted =
+  all_imported : {B : Type 0} (space : Space) (f : Import → Option B) → ((i : Import) → is_some (f i) ≡ has_kind space i) → ((i : ℕ) → stays k space i ≡ true) → filter_map f (kept k.imports m.imports) ≡ filter_map f m.imports
+  all_imported space f kinds all =
+      let counted = places_many (has_kind space) f m.imports kinds 0 in
       let many = length-replicate (length (filter_map f m.imports)) true in
       kept_chosen (has_kind space) f kinds k.imports (replicate (length (filter_map f m.imports)) true) m.imports 0 c.imports_many (omega (arith, many))
       (λ i n e. let lt = slice_get_within (imports_of space m) i (0 + n) e in c.imported space i n (e ∙ ap Some (same_place n)) ∙ all i ∙ sym (get_or-replicate (length (filter_map f m.imports)) i true _ (omega (arith, lt, counted))))
       ∙ kept_all (length (filter_map f m.imports)) (filter_map f m.imports) (omega arith)
 
   pub tables_imported : imported_tables (kept k.imports m.imports) ≡ imported_tables m.imports
-  tables_imported = all_imported Tables (λ i. table_of i.desc) table_kind (λ i. refl) (tables_counted m.imports 0)
+  tables_imported = all_imported Tables (λ i. table_of i.desc) table_kind (λ i. refl)
 
   pub memories_imported : imported_memories (kept k.imports m.imports) ≡ imported_memories m.imports
-  memories_imported = all_imported Memories (λ i. memory_of i.desc) memory_kind (λ i. refl) (memories_counted m.imports 0)
+  memories_imported = all_imported Memories (λ i. memory_of i.desc) memory_kind (λ i. refl)
 
   -- ---- what is kept, with its new indices ----
 

@@ -1,7 +1,9 @@
 //! Laws: what closed marks leave of a valid module is valid, and the map of the sweep fits it.
 #![tactic(auto)]
 
-ghost use Rattle.std.specs.Prelude.{◌≡◌, ◌<◌, ◌^◌, length, None, IsTrue};
+ghost use Rattle.std.specs.Prelude.{◌≡◌, ◌<◌, ◌^◌, ℕ, List, length, None, Some, slice_get, IsTrue};
+ghost use Rattle.wasm_tree.specs.declared.module.ConstExpr.{ConstExpr};
+ghost use Rattle.wasm_tree.specs.declared.module.ElemMode.{ElemMode};
 ghost use Rattle.wasm_tree.specs.declared.module.Module.{Module};
 ghost use Rattle.wasm_tree.specs.Bounds.{IsBounded};
 ghost use Rattle.wasm_tree.specs.Spaces.{funcs_of};
@@ -9,7 +11,7 @@ ghost use Rattle.wasm_valid.specs.Validity.{IsSingle, IsValid};
 ghost use Rattle.index_remap.specs.Renumbered.{fits_tree};
 ghost use Rattle.module_limits.specs.Counts.{over_limit};
 ghost use Rattle.dce_sweep_spec.specs.Marks.{Marks};
-ghost use Rattle.dce_sweep_spec.specs.Swept.{kept_tree, renumbered_kept, sweep_map, swept};
+ghost use Rattle.dce_sweep_spec.specs.Swept.{kept_items, kept_tree, renumbered_kept, sweep_map, swept};
 ghost use Rattle.dce_sweep_spec.specs.Closed.{AreClosed};
 
 use index_remap_proof::{
@@ -35,9 +37,11 @@ pub fn swept_modules_are_valid()
 
 /// The map of a sweep has an entry for each index that is named in what is kept (`entries`). With
 /// its new indices, what is kept of a bounded module has functions that a u32 can count (`funcs`).
+/// Each item that is kept of an element segment was one of it (`items`).
 pub fn what_is_kept_fits()
     ensures entries { (k : Marks) (m : Module) → IsValid m → AreClosed k m → IsTrue (fits_tree (sweep_map k m) (kept_tree k m)) }
     ensures funcs { (k : Marks) (m : Module) → IsValid m → AreClosed k m → IsBounded m → length (funcs_of (renumbered_kept k m)) < 2 ^ 32 }
+    ensures items { (k : Marks) (mode : ElemMode) (items : List ConstExpr) (p : ℕ) (e : ConstExpr) → slice_get (kept_items k mode items) p ≡ Some e → (q : ℕ) × (slice_get items q ≡ Some e) }
 {
     valid_where_items_hold();
     renumbering_keeps_typing();

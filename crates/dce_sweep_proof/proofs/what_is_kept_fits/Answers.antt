@@ -1,4 +1,5 @@
 use Rattle.dce_sweep_proof.proofs.Bounds.{kept_bounded}
+use Rattle.dce_sweep_proof.proofs.ComesFrom.{item_there}
 use Rattle.dce_sweep_proof.proofs.Fits.{kept_fits}
 use Rattle.dce_sweep_proof.proofs.what_is_kept_fits.Goals as goal
 
@@ -6,4 +7,5 @@ pub returns : goal.returns
 returns c = record {
   entries = λ k m. kept_fits k m c.renumbering_keeps_typing.ensures.tree_entries;
   funcs = λ k m valid closed few. (kept_bounded k m closed ((c.valid_where_items_hold.ensures m).0 valid) few).funcs;
+  items = item_there;
 }
