@@ -1,5 +1,5 @@
 -- What is allocated for the quiet run, and for the module with one function more in an environment, is related but for what is unknown at first.
-use Rattle.base_lists.proofs.Common.{◌≡◌, ◌∙◌, sym, ap, subst, refl, ℕ, zero, suc, ◌+◌, ◌<◌, List, [], ◌∷◌, map, length, Bool, true, false, not, Option, Some, None, arith, slice_get, option_and_then, get_or, nat_eq, ◌&&◌, and_from, eq-eqb, not-true, get_or_from_slice_get, same_Some, slice_get_past, slice_get_within, place_there, numbers_is, all_there_at, all_there_length, and_then_is, append_at_left, append_right, map_at, slice_get_none, slice_get_there, length-map, copies_rel, get_rel, both_at, opt_at, opt_both}
+use Rattle.base_lists.proofs.Common.{◌≡◌, ◌∙◌, sym, ap, subst, refl, ℕ, zero, suc, ◌+◌, ◌<◌, List, [], ◌∷◌, map, length, Bool, true, false, not, Option, Some, None, arith, slice_get, option_and_then, get_or, nat_eq, ◌&&◌, and_from, eq-eqb, not-true, get_or_from_slice_get, same_Some, slice_get_past, slice_get_within, place_there, places_many, numbers_is, all_there_at, all_there_length, and_then_is, append_at_left, append_right, map_at, slice_get_none, slice_get_there, length-map, copies_rel, get_rel, both_at, opt_at, opt_both}
 use Rattle.base_lists.specs.Members.{is_among}
 use Rattle.std.proofs.lemmas.List.Folds.{list_any_at}
 use Rattle.base_lists.specs.Places.{places}
@@ -9,16 +9,13 @@ use Rattle.wasm_tree.specs.declared.module.Func as tree
 use Rattle.wasm_meaning.specs.Prelude.{RefVal, Inst, Store, Global, Elem, null_of, ref_of, imports_of, Environment, own_globals, own_memories, own_tables, all_there, defined_count, elem_with, global_with, joined_stores, new_elem, own_count, own_store, space}
 use Rattle.index_remap.specs.Prelude.{Pairing, OptRel, none, some, BothRel, RefRel, is_written, GlobalOff, RefsOff, StoreRelOff, TableOff, is_place_among}
 use Rattle.index_remap_proof.specs.Indices.{TreeNamesOnly, with_entry}
-use Rattle.world_simulation.specs.Prelude.{one, new_memory, new_table}
-use Rattle.world_simulation.proofs.Alone.{globals_counted, memories_counted, tables_counted}
-use Rattle.world_simulation.proofs.Allocated.{AddsWith, new_data}
-use Rattle.world_simulation.proofs.Instancing.{Entry, IsInst, defines, entry_at, imports, is_space}
+use Rattle.world_simulation.specs.Prelude.{one, new_memory, new_table, AddsWith, Entry, IsInst, defines, imports, new_data}
 use Rattle.world_simulation.proofs.Owned.{null_rel}
 use Rattle.world_simulation.proofs.Stored.{own_same, ref_rel, type_same}
 use Rattle.eval_spec.specs.Prelude.{imported_store, own_inst, reads_global, unknown_at_first, unknown_items, value_in}
 use Rattle.eval_behaves_proof.specs.Addresses.{addresses_in}
 use Rattle.eval_behaves_proof.proofs.OneMore.{with_funcs}
-use Rattle.eval_behaves_proof.proofs.InRange.{each_index}
+use Rattle.eval_behaves_proof.proofs.InRange.{NamingLaws, each_index}
 use Rattle.eval_behaves_proof.proofs.FuncsAtFirst.{behind, funcs_related}
 use Rattle.eval_behaves_proof.proofs.Related.{defined, named}
 use Rattle.eval_behaves_proof.proofs.Counterparts.{R, value_alike, value_there}
@@ -80,7 +77,7 @@ item_known es j p e x h k q = by (reads_global x) refl
 
 -- ---- what is defined ----
 
-module _ (env : Environment) (m : Module) (fs : List tree.Func) (i : Inst) (is : IsInst env (one (with_funcs m fs)) 0 (with_funcs m fs) i) where
+module _ (laws : NamingLaws) (env : Environment) (m : Module) (fs : List tree.Func) (i : Inst) (is : IsInst env (one (with_funcs m fs)) 0 (with_funcs m fs) i) where
   -- where it stands in both
   record DefinedBoth (k : Space) (n a : ℕ) : Type 0 where
     place : ℕ
@@ -89,8 +86,8 @@ module _ (env : Environment) (m : Module) (fs : List tree.Func) (i : Inst) (is :
     low : place < defined_count k (with_funcs m fs)
 
   defined_both : (k : Space) → is_written k ≡ true → space env (one (with_funcs m fs)) k 0 (with_funcs m fs) ≡ Some (addresses_in i k) → (n a : ℕ) → (R env m fs i is).of k n a → DefinedBoth k n a
-  defined_both k w h n a r = by (entry_at env (one (with_funcs m fs)) k 0 (with_funcs m fs) (addresses_in i k)
-      (is_space env (one (with_funcs m fs)) k 0 (with_funcs m fs) (addresses_in i k) h) n a (named m i k n a r))
+  defined_both k w h n a r = by (laws.indices env (one (with_funcs m fs)) k 0 (with_funcs m fs) (addresses_in i k)
+      (laws.spaces env (one (with_funcs m fs)) k 0 (with_funcs m fs) (addresses_in i k) h) n a (named m i k n a r))
     where
       by : Entry env (one (with_funcs m fs)) k 0 (with_funcs m fs) n a → DefinedBoth k n a
       by (imports p at address) = let l = slice_get_within (imports_of k m) n p at in let g = defined m i k w n a r in absurd (omega (arith, l, g))
@@ -119,7 +116,8 @@ module _ (env : Environment) (m : Module) (fs : List tree.Func) (i : Inst) (is :
         let p = defined_both Tables refl is.tables n a r in
         let ty = slice_get_there m.tables p.place p.low in
         let x = map_at new_table m.tables p.place ty.0 ty.1 in
-        let many = length-map (imported_tables m.imports) (λ t. record { ty = t.ty; most = t.limits.max; slots = [] }) ∙ sym (tables_counted m.imports 0) in
+        let counted : length (imports_of Tables m) ≡ length (imported_tables m.imports) = places_many _ _ m.imports (grind arith) 0 in
+        let many = length-map (imported_tables m.imports) (λ t. record { ty = t.ty; most = t.limits.max; slots = [] }) ∙ sym counted in
         both_at first.tables second.tables n a (new_table ty.0) (new_table ty.0)
         (behind (imported_store m).tables quiet.tables n (length (imports_of Tables m)) p.place many p.first_at ∙ ap (λ l. slice_get l p.place) q.tables ∙ x)
         (behind (own_tables env) there.tables a (own_count Tables env) p.place refl p.second_at ∙ ap (λ l. slice_get l p.place) t.tables ∙ x)
@@ -130,7 +128,8 @@ module _ (env : Environment) (m : Module) (fs : List tree.Func) (i : Inst) (is :
         let p = defined_both Memories refl is.mems n a r in
         let l = slice_get_there m.mems p.place p.low in
         let x = map_at new_memory m.mems p.place l.0 l.1 in
-        let many = length-map (imported_memories m.imports) (λ l. record { most = l.max; pages = 0; bytes = [] }) ∙ sym (memories_counted m.imports 0) in
+        let counted : length (imports_of Memories m) ≡ length (imported_memories m.imports) = places_many _ _ m.imports (grind arith) 0 in
+        let many = length-map (imported_memories m.imports) (λ l. record { most = l.max; pages = 0; bytes = [] }) ∙ sym counted in
         both_at first.mems second.mems n a (new_memory l.0) (new_memory l.0)
         (behind (imported_store m).mems quiet.mems n (length (imports_of Memories m)) p.place many p.first_at ∙ ap (λ l. slice_get l p.place) q.mems ∙ x)
         (behind (own_memories env) there.mems a (own_count Memories env) p.place refl p.second_at ∙ ap (λ l. slice_get l p.place) t.mems ∙ x) refl
@@ -150,7 +149,7 @@ module _ (env : Environment) (m : Module) (fs : List tree.Func) (i : Inst) (is :
         let g = slice_get_there m.globals p.place p.low in
         let y = all_there_at (global_with (value_in m)) m.globals quiet.globals q.globals p.place g.0 g.1 in
         let z = all_there_at (global_with (value_there env m fs i is)) m.globals there.globals t.globals p.place g.0 g.1 in
-        let counted = globals_counted m.imports 0 in
+        let counted : length (imports_of Globals m) ≡ length (imported_globals m.imports) = places_many _ _ m.imports (grind arith) 0 in
         let many = length-map (imported_globals m.imports) (λ t. record { ty = t; value = _ }) ∙ sym counted in
         let at = p.first_at in
         both_at first.globals second.globals n a y.0 z.0 (behind (imported_store m).globals quiet.globals n (length (imports_of Globals m)) p.place many p.first_at ∙ y.2)
@@ -220,9 +219,9 @@ module _ (env : Environment) (m : Module) (fs : List tree.Func) (i : Inst) (is :
 
     pub related_at_first : StoreRelOff S (unknown_at_first m) first second
     related_at_first = record {
-      types = λ {a} {b} r. type_same S (funcs_related m names_only env fs i is quiet there q t a b r);
-      owns = λ {a} {b} r. own_same S (funcs_related m names_only env fs i is quiet there q t a b r);
-      funcs = λ {a} {b} r free. funcs_related m names_only env fs i is quiet there q t a b r;
+      types = λ {a} {b} r. type_same S (funcs_related m names_only env fs i is quiet there q t laws a b r);
+      owns = λ {a} {b} r. own_same S (funcs_related m names_only env fs i is quiet there q t laws a b r);
+      funcs = λ {a} {b} r free. funcs_related m names_only env fs i is quiet there q t laws a b r;
       tables = λ {a} {b} r. table_off _ a b r;
       mems = λ {a} {b} r. memory_same a b r;
       globals = λ {a} {b} r. global_related a b r;

@@ -5,9 +5,8 @@ use Rattle.wasm_valid.specs.Prelude.{IsValid, ItemsHold}
 use Rattle.wasm_meaning.specs.Prelude.{Text, Inst, Val, Store, StepsWriteWhatTheyTouch, sites, Environment, ExternalValue, all_of, Begun, all_there, alone, begun, inst_of, insts_from, instantiate, is_matched, joined_stores, own_store, part_store, seen_as, segments, start_in, stores_from, value_of}
 use Rattle.index_remap.specs.Prelude.{Pairing, some, ListRel, nil, cons, opening, StoreRel, BegunRel, KeyRel, EntryByEntry, StoreRelOff, StepsAgreeOff, RunsAgreeOff}
 use Rattle.index_remap_proof.specs.Indices.{TreeNamesOnly, with_entry}
-use Rattle.world_simulation.specs.Prelude.{one, IsInstantiated}
-use Rattle.world_contents_proof.specs.Leaves.{Leaves}
-use Rattle.world_simulation.proofs.Instancing.{IsInst}
+use Rattle.world_simulation.specs.Prelude.{DeclaringSegmentsAreAllocated, one, IsInstantiated, IsInst}
+use Rattle.world_contents_proof.specs.Leaves.{Leaves, WorldsOfOneModuleLeave}
 use Rattle.world_simulation.proofs.Owned.{owned_rel}
 use Rattle.eval_spec.specs.declared.limits.TheConstants.{MOST_TURNS}
 use Rattle.eval_numbers_proof.specs.Ranges.{GlobalsAreExpressible}
@@ -19,13 +18,12 @@ use Rattle.eval_proof.specs.Machines.{InstantiatedAs, InstantiationsAreTheMachin
 use Rattle.eval_snapshot_spec.specs.After.{IsAfter}
 use Rattle.eval_snapshot_spec.specs.Evaluated.{funcs_named}
 use Rattle.eval_snapshot_spec.specs.Snapshot.{snapshot}
-use Rattle.eval_snapshot_proof.proofs.Trees.{CodeLaws}
 use Rattle.eval_behaves_proof.specs.Worlds.{all_called, evaluated_from, evaluated_world, with_empty_func}
-use Rattle.eval_behaves_proof.proofs.StatesAgree.{R, enough}
+use Rattle.eval_behaves_proof.proofs.StatesAgree.{SnapshotLaws, R, enough}
 use Rattle.eval_behaves_proof.proofs.InRange.{NamingLaws, each_index, names_there}
 use Rattle.eval_behaves_proof.proofs.DatasAlike.{AreBytesOf}
 use Rattle.eval_behaves_proof.proofs.KnownValues.{Run}
-use Rattle.world_contents_proof.proofs.Leaves.{world_leaves}
+use Rattle.world_contents_proof.specs.Copies.{OwnSegmentsLeave, OwnSegmentsRunAsCopies, SegmentsAloneRunAsCopies}
 use Rattle.eval_behaves_proof.proofs.Left.{quiet_leaves}
 use Rattle.eval_behaves_proof.proofs.QuietRuns.{BothInstantiated, QuietRun, quiet_run}
 use Rattle.eval_behaves_proof.proofs.QuietSegments.{IsQuietlyMade, memory_count, quietly_made}
@@ -48,9 +46,14 @@ pub record Laws : Type 0 where
   pub reached : EndsAreReached
   pub machines : InstantiationsAreTheMachines
   pub writes : StepsWriteWhatTheyTouch
-  pub code : CodeLaws
+  pub code : SnapshotLaws
   pub items : (m : Module) → IsValid m → ItemsHold m
   pub naming : NamingLaws
+  pub run_own : OwnSegmentsRunAsCopies
+  pub run_alone : SegmentsAloneRunAsCopies
+  pub leave : OwnSegmentsLeave
+  pub worlds_leave : WorldsOfOneModuleLeave
+  pub declared : DeclaringSegmentsAreAllocated
 
 -- the one instance of a list is the one of an equal list
 same_inst : (i j : Inst) → i ∷ [] ≡ j ∷ [] → i ≡ j
@@ -85,17 +88,17 @@ module _ (laws : Laws) (env : Environment) (m : Module) (s : State) (name : Text
   quietly = laws.machines m MOST_TURNS b.quiet b.is_quiet
 
   quiet : Leaves (value_in m) m (own_inst m) (imported_store m) b.quiet.store
-  quiet = quiet_leaves m b.quiet quietly
+  quiet = quiet_leaves laws.leave m b.quiet quietly
 
   steady : Steady b.quiet.store after.end.store
   steady = steady_run laws.writes m b.quiet after.end (funcs_named m (name ∷ names)) b.is_quiet after.quiet
 
   are : AreBytesOf m (memory_bytes m s)
-  are = are_bytes m s after.end b.quiet quiet steady after.told (memory_count m b.quiet quietly) (laws.items m valid)
+  are = are_bytes m s after.end b.quiet quiet steady after.told (memory_count m laws.run_own b.quiet quietly) (laws.items m valid)
 
   left : Leaves (value_of env (one first) (i ∷ []) 0) first i (own_store env) b.begun.store
   left =
-      let x = world_leaves env first (evaluated_world m (name ∷ names) kept).view b.begun b.is_begun b.untrapped in
+      let x = laws.worlds_leave env first (evaluated_world m (name ∷ names) kept).view b.begun b.is_begun b.untrapped in
       subst (λ k. Leaves (value_of env (one first) (k ∷ []) 0) first k (own_store env) b.begun.store) (same_inst x.0 i (same_Some _ _ (sym x.1 ∙ b.is_inst))) x.2
 
   related : StoreRelOff (Run m i) after.end.unknown after.end.store run.machines.begun.store
@@ -126,10 +129,10 @@ module _ (laws : Laws) (env : Environment) (m : Module) (s : State) (name : Text
         (y.0, y.1, same_Some _ _ y.2)
 
     inits : (n : ℕ) (g : GlobalDef) → slice_get second.globals n ≡ Some g → (w : Val) × (value_of env (one second) (j ∷ []) 0 g.init ≡ Some w)
-    inits = inits_there env m s name names kept i j b.shape c named b.begun.store run.machines.begun.store b.quiet after.end left quiet steady related run.alone after.told fit
+    inits = inits_there laws.code.constants env m s name names kept i j b.shape c named b.begun.store run.machines.begun.store b.quiet after.end left quiet steady related run.alone after.told fit
 
     stored : (z : Store) × (part_store env (one second) (j ∷ []) 0 second j ≡ Some z)
-    stored = second_store env m s name names kept i b.shape j c named added.0 added.1 inits
+    stored = second_store env m s name names kept i b.shape j c named added.0 added.1 inits laws.code.constants laws.declared
 
     matched : all_of (is_matched env (one second) (joined_stores (own_store env) stored.0)) (sites (one second)) ≡ true
     matched = second_matched env m s name names kept i b.shape j c named added.0 added.1 inits stored.0 stored.1
@@ -152,11 +155,11 @@ module _ (laws : Laws) (env : Environment) (m : Module) (s : State) (name : Text
         rw (insts, stores, viewed.1, matched) refl
 
     good : now.trapped ≡ false
-    good = untrapped env m s name names kept i j b.shape c made named are b.begun.store left stored.0 stored.1
+    good = untrapped laws.code.constants env m s name names kept i j b.shape c made named are b.begun.store left stored.0 stored.1 laws.run_alone
 
     right : Leaves (value_of env (one second) (j ∷ []) 0) second j (own_store env) now.store
     right =
-        let y = world_leaves env second (alone second).view now instantiated_is good in
+        let y = laws.worlds_leave env second (alone second).view now instantiated_is good in
         let insts : insts_from env (one second) 0 (one second) ≡ Some (j ∷ []) = ap (option_and_then (λ i. option_and_then (λ is. Some (i ∷ is)) (Some []))) j_is in
         subst (λ k. Leaves (value_of env (one second) (k ∷ []) 0) second k (own_store env) now.store) (same_inst y.0 j (same_Some _ _ (sym y.1 ∙ insts))) y.2
 

@@ -7,16 +7,14 @@ use Rattle.wasm_tree.specs.declared.module.Func as tree
 use Rattle.wasm_meaning.specs.Prelude.{RefVal, Inst, Store, Elem, ref_of, Environment, Filled, all_there, and_then, elem_with, joined_stores, new_elem, one_by_one, own_store, part_store, placed_datas, placed_elems, run_data, run_elem, segments, segments_in, store_with}
 use Rattle.index_remap.specs.Prelude.{OneToOneWhereWritten, StoreRelOff}
 use Rattle.index_remap_proof.specs.Indices.{TreeNamesOnly, with_entry}
-use Rattle.world_simulation.specs.Prelude.{one}
-use Rattle.world_simulation.proofs.Allocated.{AddsWith, adds_with}
-use Rattle.world_simulation.proofs.Instancing.{IsInst}
+use Rattle.world_simulation.specs.Prelude.{one, AddsWith, IsInst}
 use Rattle.eval_spec.specs.declared.stop.Stop.TheVariants as why
 use Rattle.eval_spec.specs.Prelude.{State, Stage, Going, Stopped, Finished, filled_from, imported_store, in_order, instantiated, none_written, own_inst, state_at_first, unknown_at_first, value_in, with_data, with_elem, with_segments}
 use Rattle.eval_proof.specs.Known.{FuncsOf}
 use Rattle.eval_behaves_proof.proofs.OneMore.{with_funcs}
 use Rattle.eval_behaves_proof.proofs.AtFirst.{related_at_first}
 use Rattle.eval_behaves_proof.proofs.FuncsAtFirst.{code_of}
-use Rattle.eval_behaves_proof.proofs.InRange.{each_index}
+use Rattle.eval_behaves_proof.proofs.InRange.{NamingLaws, each_index}
 use Rattle.eval_behaves_proof.proofs.SegmentsAlike.{CopiedAlike, IsWhole, data_alike, elem_alike, nothing_copied}
 use Rattle.eval_behaves_proof.proofs.Counterparts.{R, value_there}
 
@@ -108,15 +106,15 @@ module _ (env : Environment) (m : Module) (fs : List tree.Func) (i : Inst) (is :
     pub funcs : FuncsOf (own_inst m) t.store.funcs
     pub left : t.turns ≡ turns
 
-  module _ (names : TreeNamesOnly (with_entry (each_index m)) m) (there : Store) (allocated : part_store env (one (with_funcs m fs)) (i ∷ []) 0 (with_funcs m fs) i ≡ Some there) where
+  module _ (laws : NamingLaws) (names : TreeNamesOnly (with_entry (each_index m)) m) (there : Store) (allocated : part_store env (one (with_funcs m fs)) (i ∷ []) 0 (with_funcs m fs) i ≡ Some there) where
     filled_alike : (turns : ℕ) (t : State) (o : Option Store) → store_with (value_in m) m (own_inst m) ≡ o →
         filled_from m turns (option_and_then (λ defined. Some
         (record { store = joined_stores (imported_store m) defined; unknown = unknown_at_first m; written = none_written m.mems; turns = turns })) o) ≡ Finished t → BothFilled turns t there
     filled_alike turns t None e h = absurd (let k = h in cc)
     filled_alike turns t (Some quiet) e h =
-        let q = adds_with (value_in m) m (own_inst m) quiet e in
-        let d = adds_with (value_there env m fs i is) (with_funcs m fs) i there allocated in
-        let first = related_at_first env m fs i is names quiet there q d in
+        let q : AddsWith (value_in m) m (own_inst m) quiet = search (arith, e) in
+        let d : AddsWith (value_there env m fs i is) (with_funcs m fs) i there = search (arith, allocated) in
+        let first = related_at_first laws env m fs i is names quiet there q d in
         let s : State = record { store = joined_stores (imported_store m) quiet; unknown = unknown_at_first m; written = none_written m.mems; turns = turns } in
         let a = segments_alike s t (joined_stores (own_store env) there) (whole_at_first quiet q) first h in
         record { store = a.store; filled = a.filled; related = a.related; funcs = subst (FuncsOf (own_inst m)) (sym a.funcs) (code_of m names quiet q); left = a.turns }

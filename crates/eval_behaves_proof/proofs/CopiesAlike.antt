@@ -7,13 +7,12 @@ use Rattle.wasm_num.specs.Operations.{W32}
 use Rattle.wasm_meaning.specs.Prelude.{overwrite, Text, Inst, RefVal, Val, Elem, num_of, ref_of, Environment, all_there, elem_with, new_elem}
 use Rattle.index_remap.specs.Prelude.{Pairing, ListRel, nil, cons, RefRel, ElemRel}
 use Rattle.index_remap_proof.specs.Indices.{ConstNamesOnly, ElemModeNamesOnly, TreeNamesOnly, with_entry}
-use Rattle.world_simulation.specs.Prelude.{one}
+use Rattle.world_simulation.specs.Prelude.{one, IsInst, last_segments}
 use Rattle.world_contents_proof.specs.Leaves.{contents, is_address, over, all_over, elem_copy, elem_copies, elem_left}
-use Rattle.world_simulation.proofs.Declared.{last_segments}
-use Rattle.world_simulation.proofs.Instancing.{IsInst}
 use Rattle.world_simulation.proofs.Stored.{ref_rel}
 use Rattle.eval_spec.specs.Prelude.{State}
 use Rattle.eval_snapshot_spec.specs.Snapshot.{snapshot}
+use Rattle.world_contents_proof.specs.OwnValues.{ConstantsAloneReadTheEnvironment}
 use Rattle.eval_behaves_proof.specs.Worlds.{with_empty_func}
 use Rattle.eval_behaves_proof.proofs.StatesAgree.{R, first_value, second_value, table_shared, value_itself, values_same}
 use Rattle.eval_behaves_proof.proofs.InRange.{below, each_index}
@@ -26,7 +25,7 @@ SegmentsName m es = (n : ℕ) (e : ElemSeg) → slice_get es n ≡ Some e →
 pub segments_name : (m : Module) → TreeNamesOnly (with_entry (each_index m)) m → SegmentsName m m.elems
 segments_name m named n e at = ((λ p x is. named.items n p e x at is), named.elem_modes n e at)
 
-module _ (env : Environment) (m : Module) (s : State) (name : Text) (names kept : List Text) (i j : Inst) (a : IsInst env (one (with_empty_func m)) 0 (with_empty_func m) i)
+module _ (constants : ConstantsAloneReadTheEnvironment) (env : Environment) (m : Module) (s : State) (name : Text) (names kept : List Text) (i j : Inst) (a : IsInst env (one (with_empty_func m)) 0 (with_empty_func m) i)
     (b : IsInst env (one (snapshot m s (name ∷ names) kept)) 0 (snapshot m s (name ∷ names) kept) j) where
   abbrev pub Q : Pairing
   Q = R env m s name names kept
@@ -42,7 +41,7 @@ module _ (env : Environment) (m : Module) (s : State) (name : Text) (names kept 
 
   items_same : (xs : List ConstExpr) → ItemsName xs → all_there (λ x. first x >>= ref_of) xs ≡ all_there (λ x. second x >>= ref_of) xs
   items_same [] h = refl
-  items_same (x ∷ xs) h = ap₂ (λ o p. o >>= λ y. p >>= λ ys. Some (y ∷ ys)) (ap (λ o. o >>= ref_of) (values_same env m s name names kept i j a b x (h 0 x refl))) (items_same xs (λ p. h (suc p)))
+  items_same (x ∷ xs) h = ap₂ (λ o p. o >>= λ y. p >>= λ ys. Some (y ∷ ys)) (ap (λ o. o >>= ref_of) (values_same env m s name names kept i j a b constants x (h 0 x refl))) (items_same xs (λ p. h (suc p)))
 
   items_itself : (xs : List ConstExpr) (rs : List RefVal) → ItemsName xs → all_there (λ x. first x >>= ref_of) xs ≡ Some rs → ListRel (RefRel Q) rs rs
   items_itself [] rs h is = subst (λ rs. ListRel (RefRel Q) rs rs) (same_Some _ _ is) nil
@@ -50,7 +49,7 @@ module _ (env : Environment) (m : Module) (s : State) (name : Text) (names kept 
       let o = and_then_is (first x >>= ref_of) _ rs is in
       let y = and_then_is (first x) ref_of o.0 o.1 in
       let rest = and_then_is (all_there (λ x. first x >>= ref_of) xs) _ rs o.2 in
-      let r = opt_self (ref_rel Q (value_itself env m s name names kept i j a b x y.0 (h 0 x refl) y.1)) y.2 in
+      let r = opt_self (ref_rel Q (value_itself env m s name names kept i j a b constants x y.0 (h 0 x refl) y.1)) y.2 in
       subst (λ rs. ListRel (RefRel Q) rs rs) (same_Some _ _ rest.2) (cons r (items_itself xs rest.0 (λ p. h (suc p)) rest.1))
 
   -- ---- copies ----
@@ -59,7 +58,7 @@ module _ (env : Environment) (m : Module) (s : State) (name : Text) (names kept 
   copy_same e (elem.Active x offset) h k =
       let o = table_shared env m s name names kept i j a b x (below (length (tables_of m)) x k.0) in
       ap (λ q. contents q (first offset >>= num_of W32) (all_there (λ x. first x >>= ref_of) e.items)) (o.first ∙ sym o.second)
-      ∙ ap (λ q. contents (slice_get j.tables x) (q >>= num_of W32) (all_there (λ x. first x >>= ref_of) e.items)) (values_same env m s name names kept i j a b offset k.1)
+      ∙ ap (λ q. contents (slice_get j.tables x) (q >>= num_of W32) (all_there (λ x. first x >>= ref_of) e.items)) (values_same env m s name names kept i j a b constants offset k.1)
       ∙ ap (contents (slice_get j.tables x) (second offset >>= num_of W32)) (items_same e.items h)
   copy_same e elem.Passive h k = refl
   copy_same e elem.Declarative h k = refl

@@ -8,9 +8,8 @@ use Rattle.wasm_meaning.specs.Prelude.{Val, Num, Ref, FuncRef, Inst, null_of, nu
 use Rattle.index_remap.specs.Prelude.{Pairing, OptRel, some, ValRel, number, reference, func, CodeRel, passed}
 use Rattle.index_remap_proof.specs.Indices.{FuncNamesOnly, with_entry}
 use Rattle.wasm_tree.specs.declared.module.Func as tree
-use Rattle.world_simulation.specs.Prelude.{one}
+use Rattle.world_simulation.specs.Prelude.{one, IsInst}
 use Rattle.world_contents_proof.specs.Leaves.{is_address}
-use Rattle.world_simulation.proofs.Instancing.{IsInst}
 use Rattle.world_simulation.proofs.Owned.{null_rel}
 use Rattle.eval_spec.specs.Prelude.{own_inst, reads_global, value_in}
 use Rattle.eval_behaves_proof.specs.Addresses.{addresses_in, names_at, stands_at}

@@ -1,20 +1,14 @@
 -- What the data segments of a module and of its snapshot copy into memories: nothing into the environment's own, and into the defined one of the snapshot what it is to hold.
-use Rattle.base_lists.proofs.Common.{◌≡◌, ◌∙◌, sym, ap, refl, subst, ℕ, suc, ◌+◌, ◌-◌, ◌*◌, ◌^◌, ◌<◌, ◌≤◌, List, [], ◌∷◌, ◌++◌, map, length, false, cond, Option, Some, None, ◌⊎◌, inl, inr, ⊎_elim, arith, slice_get, nat_lt, cases_lt, lt-ltb, ne_eqb, length-append, slice_get_within, every_at, append_from, map_at, map_from, length-map}
+use Rattle.base_lists.proofs.Common.{◌≡◌, ◌∙◌, sym, ap, refl, subst, ℕ, suc, ◌+◌, ◌-◌, ◌*◌, ◌^◌, ◌<◌, ◌≤◌, List, [], ◌∷◌, ◌++◌, map, length, false, cond, Option, Some, None, ◌⊎◌, inl, inr, ⊎_elim, arith, slice_get, nat_lt, cases_lt, lt-ltb, ne_eqb, places_many, length-append, slice_get_within, every_at, append_from, map_at, map_from, length-map}
 use Rattle.std.proofs.lemmas.Bool.{true≢false}
 use Rattle.base_lists.specs.Options.{◌>>=◌}
 use Rattle.wasm_tree_spec.specs.Prelude.{Memories, Limits, ConstExpr, DataMode, DataSeg, Module, imported_memories, memories_of}
-use Rattle.wasm_tree.specs.declared.module.ConstExpr.TheVariants as const
 use Rattle.wasm_tree.specs.declared.module.DataMode.TheVariants as data'
 use Rattle.wasm_meaning.specs.Prelude.{copies, overwrite, Text, Inst, Val, Memory, Store, imports_of, Environment, own_memories, own_count}
 use Rattle.index_remap_proof.specs.Indices.{DataModeNamesOnly, TreeNamesOnly, with_entry}
-use Rattle.world_simulation.specs.Prelude.{one, new_memory}
+use Rattle.world_simulation.specs.Prelude.{one, new_memory, IsInst, new_data}
 use Rattle.world_contents_proof.specs.Leaves.{Copy, nothing, contents, is_address, over, all_over, data_copy, data_copies}
-use Rattle.world_simulation.proofs.Alone.{memories_counted}
-use Rattle.world_simulation.proofs.Allocated.{new_data}
-use Rattle.world_contents_proof.proofs.Copies.{AreOf, IsOf}
-use Rattle.world_simulation.proofs.Instancing.{IsInst}
-use Rattle.world_contents_proof.proofs.Leaves.{memories}
-use Rattle.world_contents_proof.proofs.OwnValues.{const_same}
+use Rattle.world_contents_proof.specs.Copies.{AreOf, IsOf, memories}
 use Rattle.eval_spec.specs.Prelude.{State, is_imported, memory_bytes}
 use Rattle.eval_snapshot_spec.specs.Contents as tree
 use Rattle.eval_snapshot_spec.specs.Contents.{Stretch, stretch_segment, stretches}
@@ -71,7 +65,7 @@ module _ (env : Environment) (m : Module) (s : State) (name : Text) (names kept 
   -- the memories that are defined
   pub memory_at : (n : ℕ) → n < length m.mems → (slice_get i.mems (place + n) ≡ Some (own + n)) × (slice_get j.mems (place + n) ≡ Some (own + n))
   memory_at n lt =
-      let c : length (imports_of Memories m) ≡ place = memories_counted m.imports 0 in
+      let c : length (imports_of Memories m) ≡ place = places_many _ _ m.imports (grind arith) 0 in
       let same : length (snapshot m s (name ∷ names) kept).mems ≡ length m.mems = ap length (shape m s name names kept).mems in
       let d = defined_named (bound m s name names kept env) env (enough env m s name names kept) (with_empty_func m) (snapshot m s (name ∷ names) kept) (same_types env m s name names kept i j a b)
       (same_imports env m s name names kept i j a b) Memories i.mems j.mems a.mems b.mems n lt (omega (arith, lt, same)) (omega (arith, lt)) in
@@ -91,7 +85,7 @@ module _ (env : Environment) (m : Module) (s : State) (name : Text) (names kept 
   active_elsewhere : (address : ℕ) → address < own → (d : DataSeg) (x : ℕ) (offset : ConstExpr) → x < length (memories_of m) → is_imported m Memories x ≡ false →
       Elsewhere address (data_copy first i d (data'.Active x offset))
   active_elsewhere address low d x offset lt defined =
-      let c : length (imports_of Memories m) ≡ place = memories_counted m.imports 0 in
+      let c : length (imports_of Memories m) ≡ place = places_many _ _ m.imports (grind arith) 0 in
       let le = at_most x (length (imports_of Memories m)) defined in
       let all = length-append (imported_memories m.imports) m.mems in
       let n = x - place in
@@ -157,7 +151,7 @@ module _ (env : Environment) (m : Module) (s : State) (name : Text) (names kept 
         let size = are.size l at in
         let lt = slice_get_within m.mems 0 l at in
         ap (λ n. all_over own (data_copies second j all) (copies n 0)) (sym size)
-        ∙ snapshot_memory second j place own (zero_place lt) (λ c. const_same env (snapshot m s (name ∷ names) kept) j b (const.I32 c)) m s bytes are.small
+        ∙ snapshot_memory second j place own (zero_place lt) (λ c. refl) m s bytes are.small
 
     -- ---- they fit ----
 

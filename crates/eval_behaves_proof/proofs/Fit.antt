@@ -3,7 +3,7 @@ use Rattle.base_lists.proofs.Common.{◌≡◌, ◌≢◌, ◌∙◌, sym, ap, r
 use Rattle.base_lists.specs.Options.{◌>>=◌}
 use Rattle.wasm_meaning.specs.Prelude.{overwrite, Store, Filled, and_then}
 use Rattle.world_contents_proof.specs.Leaves.{Copy, nothing, contents, over, all_over}
-use Rattle.world_contents_proof.proofs.Copies.{Kind, run, runs, IsOf, AreOf}
+use Rattle.world_contents_proof.specs.Copies.{Kind, run, runs, IsOf, AreOf}
 
 module _ {C S A : Type 0} (k : Kind C S A) where
   -- what it goes to is there

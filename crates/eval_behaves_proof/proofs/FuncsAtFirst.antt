@@ -8,15 +8,12 @@ use Rattle.wasm_tree.specs.declared.module.Func as tree
 use Rattle.wasm_meaning.specs.Prelude.{Pair, Inst, Func, Own, Store, has_kind, imports_of, pair_of, Environment, FuncKey, owned_at, owned_of, own_funcs, address_of, imported_external_value, joined_stores, new_func, own_store}
 use Rattle.index_remap.specs.Prelude.{BothRel, FuncRel, own}
 use Rattle.index_remap_proof.specs.Indices.{ImportNamesOnly, TreeNamesOnly, with_entry}
-use Rattle.world_simulation.specs.Prelude.{key_in, one, site, external_value_in, FuncsCorrespond}
-use Rattle.world_simulation.proofs.Alone.{funcs_counted}
-use Rattle.world_simulation.proofs.Allocated.{AddsWith}
-use Rattle.world_simulation.proofs.Instancing.{Entry, IsInst, defines, entry_at, import_address, imports, is_space}
+use Rattle.world_simulation.specs.Prelude.{key_in, one, site, external_value_in, FuncsCorrespond, AddsWith, Entry, IsInst, defines, import_address, imports}
 use Rattle.world_simulation.proofs.Stored.{func_rel}
 use Rattle.eval_spec.specs.Prelude.{imported_func, imported_store, own_inst, value_in}
 use Rattle.eval_proof.specs.Known.{FuncsOf, IsCodeOf}
 use Rattle.eval_behaves_proof.proofs.OneMore.{with_funcs}
-use Rattle.eval_behaves_proof.proofs.InRange.{below, each_index}
+use Rattle.eval_behaves_proof.proofs.InRange.{NamingLaws, below, each_index}
 use Rattle.eval_behaves_proof.proofs.OwnFuncs.{own_found}
 use Rattle.eval_behaves_proof.proofs.Related.{named}
 use Rattle.eval_behaves_proof.proofs.Counterparts.{R, body_alike, value_there}
@@ -115,9 +112,9 @@ module _ (m : Module) where
 
       -- ---- all of them ----
 
-      pub funcs_related : (n a : ℕ) → (R env m fs i is).of Functions n a → BothRel (FuncRel (R env m fs i is)) (slice_get first.funcs n) (slice_get second.funcs a)
-      funcs_related n a r = by (entry_at env (one (with_funcs m fs)) Functions 0 (with_funcs m fs) i.funcs
-          (is_space env (one (with_funcs m fs)) Functions 0 (with_funcs m fs) i.funcs is.funcs) n a (named m i Functions n a r))
+      pub funcs_related : NamingLaws → (n a : ℕ) → (R env m fs i is).of Functions n a → BothRel (FuncRel (R env m fs i is)) (slice_get first.funcs n) (slice_get second.funcs a)
+      funcs_related laws n a r = by (laws.indices env (one (with_funcs m fs)) Functions 0 (with_funcs m fs) i.funcs
+          (laws.spaces env (one (with_funcs m fs)) Functions 0 (with_funcs m fs) i.funcs is.funcs) n a (named m i Functions n a r))
         where
           few : n < length (funcs_of m)
           few =
@@ -129,7 +126,7 @@ module _ (m : Module) where
           by (imports p h address) = import_related n a p h address
           by (defines j e low d) =
               let l = few in
-              let c = funcs_counted m.imports 0 in
+              let c : length (imports_of Functions m) ≡ length (imported_funcs m.imports) = places_many _ _ m.imports (grind arith) 0 in
               let f = length-append (imported_funcs m.imports) (map (λ f. f.ty) m.funcs) in
               let g = length-map m.funcs (λ f. f.ty) in
               defined_related n a j e (omega (arith, l, e, c, f, g)) (omega (arith, d))

@@ -7,6 +7,7 @@ use Rattle.index_remap.specs.declared.remap.Remap.{Remap}
 use Rattle.index_remap.specs.Prelude.{fits_tree}
 use Rattle.index_remap_proof.specs.Indices.{TreeNamesOnly, with_entry}
 use Rattle.index_remap_proof.specs.Trees.{Covers}
+use Rattle.world_simulation.specs.Prelude.{IndicesNameImportsOrDefinitions, SpacesAreImportsAndDefinitions}
 
 -- an entry for each index
 abbrev pub each_index : Module → Remap
@@ -34,10 +35,12 @@ all_covered m = record {
   datas = as_many (length m.datas);
 }
 
--- the laws of `renumbering_keeps_typing` of index_remap_proof
+-- the laws of `renumbering_keeps_typing` of index_remap_proof, and of `index_spaces_list_imports_and_definitions` of world_simulation
 pub record NamingLaws : Type 0 where
   pub entries : (r : Remap) (t : Module) → IsValid t → Covers r t → IsTrue (fits_tree r t)
   pub named : (r : Remap) (t : Module) → IsTrue (fits_tree r t) → TreeNamesOnly (with_entry r) t
+  pub spaces : SpacesAreImportsAndDefinitions
+  pub indices : IndicesNameImportsOrDefinitions
 
 pub names_there : NamingLaws → (m : Module) → IsValid m → TreeNamesOnly (with_entry (each_index m)) m
 names_there laws m valid = laws.named (each_index m) m (laws.entries (each_index m) m valid (all_covered m))

@@ -1,16 +1,14 @@
 -- Where an environment links a module whose evaluation is quiet, both are instantiated to what is related, and the functions to be called correspond.
 use Rattle.base_lists.proofs.Common.{◌≡◌, ◌∙◌, ap, subst, refl, ℕ, suc, ◌<◌, List, [], ◌∷◌, ◌++◌, map, length, Bool, true, false, cond, Option, Some, None, is_some, inl, inr, arith, slice_get, IsTrue, same_Some, chosen_from, and_then_is, is_some_there, append_from, map_from, slice_get_there, append_rel}
-use Rattle.wasm_tree_spec.specs.Prelude.{Functions, ExportDesc, ImportDesc, Module, func_of, funcs_of, imported_funcs}
+use Rattle.wasm_tree_spec.specs.Prelude.{Functions, Export, ExportDesc, ImportDesc, Module, func_of, funcs_of, imported_funcs}
 use Rattle.wasm_tree.specs.declared.module.ExportDesc.TheVariants as ex
 use Rattle.wasm_tree.specs.declared.module.ImportDesc.TheVariants as im
 use Rattle.wasm_tree.specs.declared.module.Func as tree
 use Rattle.wasm_valid.specs.Prelude.{IsValid}
-use Rattle.wasm_meaning.specs.Prelude.{Text, Inst, export_named, Environment, Filled, all_there, alone, begun, joined_stores, links, own_store, segments, start_in}
-use Rattle.wasm_meaning.proofs.Exports.{exported_there}
+use Rattle.wasm_meaning.specs.Prelude.{Text, Inst, export_named, same_text, Environment, Filled, all_there, alone, begun, joined_stores, links, own_store, segments, start_in}
 use Rattle.index_remap.specs.Prelude.{ListRel, cons, nil}
 use Rattle.index_remap_proof.specs.Indices.{ExportNamesOnly, ImportNamesOnly, TreeNamesOnly, with_entry}
-use Rattle.world_simulation.specs.Prelude.{one}
-use Rattle.world_simulation.proofs.Instancing.{IsInst}
+use Rattle.world_simulation.specs.Prelude.{one, IsInst}
 use Rattle.eval_spec.specs.declared.limits.TheConstants.{MOST_TURNS}
 use Rattle.eval_spec.specs.Prelude.{State, Stage, Going, Stopped, Finished, called_in_order, evaluated, after_start, instantiated}
 use Rattle.eval_snapshot_spec.specs.Evaluated.{first_missing, func_exported, func_named, funcs_named}
@@ -43,11 +41,20 @@ module _ (m : Module) (names : TreeNamesOnly (with_entry (each_index m)) m) wher
   exported_func (ex.Memory n) f h e = absurd (let k = e in cc)
   exported_func (ex.Global n) f h e = absurd (let k = e in cc)
 
+  -- what is found under a name names an index that is there, where all exports do
+  found_named : (es : List Export) (name : Text) (d : ExportDesc) → ((n : ℕ) (e : Export) → slice_get es n ≡ Some e → ExportNamesOnly (with_entry (each_index m)) e.desc) → export_named es name ≡ Some d →
+      ExportNamesOnly (with_entry (each_index m)) d
+  found_named [] name d each h = absurd (let k = h in cc)
+  found_named (e ∷ es) name d each h = by (found_named es name d (λ n. each (suc n))) (same_text e.name name) h
+    where
+      by : (export_named es name ≡ Some d → ExportNamesOnly (with_entry (each_index m)) d) → (b : Bool) → cond b (Some e.desc) (export_named es name) ≡ Some d → ExportNamesOnly (with_entry (each_index m)) d
+      by later true q = subst (ExportNamesOnly (with_entry (each_index m))) (same_Some e.desc d q) (each 0 e refl)
+      by later false q = later q
+
   pub named_func : (name : Text) (f : ℕ) → func_named m name ≡ Some f → f < length (funcs_of m)
   named_func name f h =
       let d = and_then_is (export_named m.exports name) func_exported f h in
-      let e = exported_there m.exports name d.0 d.1 in
-      exported_func d.0 f (subst (ExportNamesOnly (with_entry (each_index m))) e.3 (names.exports e.0 e.1 e.2)) d.2
+      exported_func d.0 f (found_named m.exports name d.0 names.exports d.1) d.2
 
   named_funcs : (constructors : List Text) (k f : ℕ) → slice_get (funcs_named m constructors) k ≡ Some f → f < length (funcs_of m)
   named_funcs constructors k f h = let x = chosen_from (func_named m) constructors k f h in named_func x.0 f x.2
@@ -99,11 +106,11 @@ module _ (m : Module) (names : TreeNamesOnly (with_entry (each_index m)) m) wher
 -- ---- both ----
 
 module _ (env : Environment) (m : Module) (constructors kept : List Text) (t : State) where
-  made_both : (names : TreeNamesOnly (with_entry (each_index m)) m) → MoreMade env m constructors kept → (s : State) → instantiated m MOST_TURNS ≡ Finished s → BothInstantiated env m constructors kept
-  made_both names made s h =
+  made_both : NamingLaws → (names : TreeNamesOnly (with_entry (each_index m)) m) → MoreMade env m constructors kept → (s : State) → instantiated m MOST_TURNS ≡ Finished s → BothInstantiated env m constructors kept
+  made_both laws names made s h =
       let more = empty_func m ∷ [] in
       let i = made.inst in
-      let both = both_filled env m more i made.shape (apart m i (rows env m more i made.shape)) names made.defined made.is_defined MOST_TURNS s h in
+      let both = both_filled env m more i made.shape (apart m i (rows env m more i made.shape)) laws names made.defined made.is_defined MOST_TURNS s h in
       let called = have_addresses m names env more i made.shape (funcs_named m constructors) (named_funcs m names constructors) in
       let filled = segments env (one (with_empty_func m)) (i ∷ []) (joined_stores (own_store env) made.defined) in
       let left = both.left in
@@ -130,4 +137,4 @@ pub both_instantiated : NamingLaws → (env : Environment) (m : Module) (name : 
 both_instantiated laws env m name names kept t valid none e linked =
     let there = names_there laws m valid in
     let s = instantiated_first m (instantiated m MOST_TURNS) m.start (funcs_named m (name ∷ names)) t e in
-    made_both env m (name ∷ names) kept t there (more_made env m there (first_there m there name names none) (name ∷ names) kept linked) s.0 s.1
+    made_both env m (name ∷ names) kept t laws there (more_made env m there (first_there m there name names none) (name ∷ names) kept linked) s.0 s.1

@@ -6,10 +6,8 @@ use Rattle.wasm_tree.specs.declared.module.ConstExpr.TheVariants as const
 use Rattle.wasm_num.specs.Operations.{W32, W64, wrapped}
 use Rattle.wasm_meaning.specs.Prelude.{FuncRef, ExternRef, RefVal, Val, Num, Ref, Text, Inst, Global, null_of, Environment}
 use Rattle.index_remap.specs.Prelude.{Pairing, none, some, func, extern, RefRel, ValRel, number, reference, passed}
-use Rattle.world_simulation.specs.Prelude.{one}
+use Rattle.world_simulation.specs.Prelude.{one, IsInst}
 use Rattle.world_contents_proof.specs.Leaves.{is_address}
-use Rattle.world_simulation.proofs.Instancing.{IsInst}
-use Rattle.world_contents_proof.proofs.OwnValues.{const_same}
 use Rattle.eval_numbers_proof.specs.Ranges.{GlobalsAreExpressible, IsExpressible}
 use Rattle.eval_spec.specs.Prelude.{State, own_inst, constant, is_unknown_global, value_of_global}
 use Rattle.eval_snapshot_spec.specs.Snapshot.{snapshot}
@@ -56,8 +54,7 @@ module _ (env : Environment) (m : Module) (s : State) (name : Text) (names kept 
       let p = func_at m i f x h in
       let o = func_shared env m s name names kept i j a b f p.0 in
       let same : o.address ≡ x = same_Some _ _ (sym o.first ∙ p.1) in (
-        const_same env (snapshot m s (name ∷ names) kept) j b (const.Func f)
-            ∙ ap (λ o. o >>= λ y. Some (Ref (FuncRef (Some y)))) (o.second ∙ ap Some same),
+        ap (λ o. o >>= λ y. Some (Ref (FuncRef (Some y)))) (o.second ∙ ap Some same),
         subst (λ x. Q.of Functions x x) same (to_itself (bound m s name names kept env) Functions o.address o.low),
       )
 
@@ -74,13 +71,13 @@ module _ (env : Environment) (m : Module) (s : State) (name : Text) (names kept 
   both_values _ _ _ (reference h) (reference k) = reference (both_refs _ _ _ h k)
 
   i32 : (c : ℤ) → second (const.I32 c) ≡ Some (Num W32 (wrapped 32 c))
-  i32 c = const_same env (snapshot m s (name ∷ names) kept) j b (const.I32 c)
+  i32 c = refl
 
   i64 : (c : ℤ) → second (const.I64 c) ≡ Some (Num W64 (wrapped 64 c))
-  i64 c = const_same env (snapshot m s (name ∷ names) kept) j b (const.I64 c)
+  i64 c = refl
 
   null : (ty : RefType) → second (const.Null ty) ≡ Some (Ref (null_of ty))
-  null ty = const_same env (snapshot m s (name ∷ names) kept) j b (const.Null ty)
+  null ty = refl
 
   stands_again : (x y : Val) → IsExpressible x → ValRel (Run m i) x y → Stands (Run m i) second i32 i64 null x
   stands_again (Num W32 n) y h r = h

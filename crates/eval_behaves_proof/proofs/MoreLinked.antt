@@ -8,11 +8,9 @@ use Rattle.wasm_tree.specs.declared.module.ExportDesc.TheVariants as ex
 use Rattle.wasm_meaning.specs.Prelude.{Text, Inst, Func, Code, Global, Elem, Store, declared, ref_of, Entity, sites, Environment, ExternalValue, FuncAt, TableAt, MemoryAt, GlobalAt, all_of, Begun, address_in, all_there, alone, begun, elem_of, insts_from, instantiate, is_matched, joined_stores, links, new_elem, new_func, new_global, own_count, own_store, part_store, seen_as, segments, stores_from, value_of, inst_of, World}
 use Rattle.index_remap.specs.Prelude.{Pairing, passed}
 use Rattle.index_remap_proof.specs.Indices.{ExportNamesOnly, TreeNamesOnly, with_entry}
-use Rattle.world_simulation.specs.Prelude.{one, SharesOwn, DefinitionsCorrespond, Instantiated, IsInstantiated}
+use Rattle.world_simulation.specs.Prelude.{one, SharesOwn, DefinitionsCorrespond, Instantiated, IsInstantiated, Adds, IsInst}
 use Rattle.world_simulation.specs.Definitions as partners
-use Rattle.world_simulation.proofs.Allocated.{Adds, adds, part_there}
-use Rattle.world_simulation.proofs.Instancing.{IsInst}
-use Rattle.world_simulation.proofs.Single.{all_matched, one_inst}
+use Rattle.world_simulation.proofs.Single.{all_matched}
 use Rattle.world_simulation.proofs.Stored.{stores_rel}
 use Rattle.eval_spec.specs.Prelude.{takes_and_gives_nothing}
 use Rattle.eval_snapshot_spec.specs.Snapshot.{empty_func, export_left, is_among_names}
@@ -103,7 +101,7 @@ module _ (env : Environment) (m : Module) (names : TreeNamesOnly (with_entry (ea
 
     module _ (added : Store) (made : part_store env (one m) (i ∷ []) 0 m i ≡ Some added) where
       what : Adds env (one m) (i ∷ []) 0 m i added
-      what = adds env (one m) (i ∷ []) 0 m i added made
+      what = search (arith, made)
 
       global_there : (n : ℕ) (g : GlobalDef) → slice_get more.globals n ≡ Some g → (x : Global) × (new_global env (one more) (j ∷ []) 0 g ≡ Some x)
       global_there n g h =
@@ -120,7 +118,8 @@ module _ (env : Environment) (m : Module) (names : TreeNamesOnly (with_entry (ea
           (new_elem e.mode v.0, rw w refl)
 
       store_there : (t : Store) × (part_store env (one more) (j ∷ []) 0 more j ≡ Some t)
-      store_there = part_there env (one more) (j ∷ []) 0 more j func_there global_there elem_there
+      store_there =
+          is_some_there (part_store env (one more) (j ∷ []) 0 more j) (rw ((all_there_from _ more.funcs func_there).are, (all_there_from _ more.globals global_there).are, (all_there_from _ more.elems elem_there).are))
 
     -- ---- names ----
 
@@ -185,11 +184,12 @@ module _ (env : Environment) (m : Module) (names : TreeNamesOnly (with_entry (ea
   more_made evaluated kept h =
       let o = is_some_there (instantiate env (alone m)) h in
       let x = what_is_made env (alone m) o.0 o.1 in
-      let i = one_inst env m x.insts x.are_insts in
+      let i : (i : Inst) × (x.insts ≡ i ∷ []) × IsInst env (one m) 0 m i = search (arith, x.are_insts) in
       let a = i.2 in
       let f = space_more env m Functions i.0.funcs a.funcs in
       let t = space_more env m Tables i.0.tables a.tables in
       let s = space_more env m Memories i.0.mems a.mems in
       let g = space_more env m Globals i.0.globals a.globals in
       let j = is_some_there (inst_of env (one more) 0 more) (rw (f.1, t.1, s.1, g.1)) in
-      made_with evaluated kept i.0 j.0 a (search (arith, j.1)) o.0 x i.1 (ap (option_and_then (λ i. option_and_then (λ is. Some (i ∷ is)) (Some []))) j.1)
+      let holds : (v : Module) (j : Inst) → inst_of env (one v) 0 v ≡ Some j → IsInst env (one v) 0 v j = λ v j e. search arith in
+      made_with evaluated kept i.0 j.0 a (holds more j.0 j.1) o.0 x i.1 (ap (option_and_then (λ i. option_and_then (λ is. Some (i ∷ is)) (Some []))) j.1)

@@ -1,15 +1,13 @@
 -- A module and the same with one function more, in an environment: each index of the first has the address in the second that it has in the first, and constant expressions
 -- have the values in the second that they have in the first.
-use Rattle.base_lists.proofs.Common.{◌≡◌, ◌∙◌, sym, ap, ℕ, ◌+◌, ◌≤◌, List, [], ◌∷◌, ◌++◌, map, length, Option, Some, None, inl, inr, arith, slice_get, option_and_then, length-append, same_Some, numbers_at, and_then_is, append_at_left, append_from, append_right, length-map, number_is}
+use Rattle.base_lists.proofs.Common.{◌≡◌, ◌∙◌, sym, ap, refl, add-zero, ℕ, ◌+◌, ◌≤◌, List, [], ◌∷◌, ◌++◌, map, length, Option, Some, None, inl, inr, arith, slice_get, option_and_then, length-append, length-numbers, all_there_length, places_many, same_Some, numbers_at, and_then_is, append_at_left, append_from, append_right, length-map, number_is}
 use Rattle.base_lists.specs.Places.{numbers}
 use Rattle.wasm_tree_spec.specs.Prelude.{Space, Types, Functions, Tables, Memories, Globals, ElementSegments, DataSegments, ConstExpr, Module, imported_funcs, imported_tables, imported_memories, imported_globals, funcs_of, tables_of, memories_of, globals_of}
 use Rattle.wasm_tree.specs.declared.module.ConstExpr.TheVariants as const
 use Rattle.wasm_tree.specs.declared.module.Func as tree
-use Rattle.wasm_meaning.specs.Prelude.{Val, Ref, FuncRef, Inst, Environment, own_globals, defined_count, own_count, space, value_of, value_of_read, read_of}
-use Rattle.world_simulation.specs.Prelude.{addresses, one}
+use Rattle.wasm_meaning.specs.Prelude.{Val, Ref, FuncRef, Inst, Environment, own_globals, defined_count, imported_external_value, imports_of, own_count, space, value_of, value_of_read, read_of}
+use Rattle.world_simulation.specs.Prelude.{addresses, external_value_in, one, site, IsInst}
 use Rattle.world_simulation.specs.Alone.{read_place, read_in}
-use Rattle.world_simulation.proofs.Alone.{funcs_counted, tables_counted, memories_counted, globals_counted, space_is}
-use Rattle.world_simulation.proofs.Instancing.{IsInst, is_space}
 use Rattle.eval_snapshot_spec.specs.Snapshot.{empty_func}
 use Rattle.eval_behaves_proof.specs.Worlds.{with_empty_func}
 
@@ -17,13 +15,26 @@ use Rattle.eval_behaves_proof.specs.Worlds.{with_empty_func}
 abbrev pub with_funcs : Module → List tree.Func → Module
 with_funcs m fs = record m { funcs = m.funcs ++ fs }
 
+-- ---- index spaces of a module alone ----
+
+module _ (env : Environment) (t : Module) (k : Space) where
+  -- the addresses of the imports, then those of what is defined
+  abbrev pub from_imports : Option (List ℕ) → Option (List ℕ)
+  from_imports o = option_and_then (λ l. Some (l ++ numbers (own_count k env) (defined_count k t))) o
+
+  pub space_from : (o : Option (List ℕ)) → addresses env t.types t.imports k ≡ o → space env (one t) k 0 t ≡ from_imports o
+  space_from o h =
+      let denoted : (n : ℕ) → imported_external_value env (one t) (site n) ≡ external_value_in env t.types (slice_get t.imports n) = λ n. grind arith in
+      let is : space env (one t) k 0 t ≡ from_imports (addresses env t.types t.imports k) = simp (denoted, add-zero) in
+      is ∙ ap from_imports h
+
 -- ---- how many there are ----
 
 module _ (env : Environment) (m : Module) (fs : List tree.Func) (i : Inst) (is : IsInst env (one (with_funcs m fs)) 0 (with_funcs m fs) i) where
   pub funcs_many : length i.funcs ≡ length (funcs_of m) + length fs
   funcs_many =
-      let s = (is_space env (one (with_funcs m fs)) Functions 0 (with_funcs m fs) i.funcs is.funcs).size in
-      let e = funcs_counted m.imports 0 in
+      let s : length i.funcs ≡ length (imports_of Functions m) + length (m.funcs ++ fs) = search (arith, is.funcs, length-append, length-numbers, all_there_length) in
+      let e : length (imports_of Functions m) ≡ length (imported_funcs m.imports) = places_many _ _ m.imports (grind arith) 0 in
       let f = length-append (imported_funcs m.imports) (map (λ f. f.ty) m.funcs) in
       let g = length-map m.funcs (λ f. f.ty) in
       let k = length-append m.funcs fs in
@@ -31,22 +42,22 @@ module _ (env : Environment) (m : Module) (fs : List tree.Func) (i : Inst) (is :
 
   pub tables_many : length i.tables ≡ length (tables_of m)
   tables_many =
-      let s = (is_space env (one (with_funcs m fs)) Tables 0 (with_funcs m fs) i.tables is.tables).size in
-      let e = tables_counted m.imports 0 in
+      let s : length i.tables ≡ length (imports_of Tables m) + length m.tables = search (arith, is.tables, length-append, length-numbers, all_there_length) in
+      let e : length (imports_of Tables m) ≡ length (imported_tables m.imports) = places_many _ _ m.imports (grind arith) 0 in
       let f = length-append (imported_tables m.imports) m.tables in
       omega (arith, s, e, f)
 
   pub mems_many : length i.mems ≡ length (memories_of m)
   mems_many =
-      let s = (is_space env (one (with_funcs m fs)) Memories 0 (with_funcs m fs) i.mems is.mems).size in
-      let e = memories_counted m.imports 0 in
+      let s : length i.mems ≡ length (imports_of Memories m) + length m.mems = search (arith, is.mems, length-append, length-numbers, all_there_length) in
+      let e : length (imports_of Memories m) ≡ length (imported_memories m.imports) = places_many _ _ m.imports (grind arith) 0 in
       let f = length-append (imported_memories m.imports) m.mems in
       omega (arith, s, e, f)
 
   pub globals_many : length i.globals ≡ length (globals_of m)
   globals_many =
-      let s = (is_space env (one (with_funcs m fs)) Globals 0 (with_funcs m fs) i.globals is.globals).size in
-      let e = globals_counted m.imports 0 in
+      let s : length i.globals ≡ length (imports_of Globals m) + length m.globals = search (arith, is.globals, length-append, length-numbers, all_there_length) in
+      let e : length (imports_of Globals m) ≡ length (imported_globals m.imports) = places_many _ _ m.imports (grind arith) 0 in
       let f = length-append (imported_globals m.imports) (map (λ g. g.ty) m.globals) in
       let g = length-map m.globals (λ g. g.ty) in
       omega (arith, s, e, f, g)
@@ -59,8 +70,8 @@ module _ (env : Environment) (m : Module) where
 
   pub space_more : (k : Space) (xs : List ℕ) → space env (one m) k 0 m ≡ Some xs → (ys : List ℕ) × (space env (one more) k 0 more ≡ Some ys)
   space_more k xs h =
-      let x = and_then_is (addresses env m.types m.imports k) _ xs (sym (space_is env m k) ∙ h) in
-      (x.0 ++ numbers (own_count k env) (defined_count k more), space_is env more k ∙ ap (λ o. option_and_then (λ l. Some (l ++ numbers (own_count k env) (defined_count k more))) o) x.1)
+      let x = and_then_is (addresses env m.types m.imports k) _ xs (sym (space_from env m k _ refl) ∙ h) in
+      (x.0 ++ numbers (own_count k env) (defined_count k more), space_from env more k (Some x.0) x.1)
 
   no_fewer : (k : Space) → defined_count k m ≤ defined_count k more
   no_fewer Types = omega arith
@@ -73,8 +84,8 @@ module _ (env : Environment) (m : Module) where
 
   pub address_stays : (k : Space) (xs ys : List ℕ) → space env (one m) k 0 m ≡ Some xs → space env (one more) k 0 more ≡ Some ys → (n a : ℕ) → slice_get xs n ≡ Some a → slice_get ys n ≡ Some a
   address_stays k xs ys f g n a h =
-      let x = and_then_is (addresses env m.types m.imports k) _ xs (sym (space_is env m k) ∙ f) in
-      let y = and_then_is (addresses env m.types m.imports k) _ ys (sym (space_is env more k) ∙ g) in
+      let x = and_then_is (addresses env m.types m.imports k) _ xs (sym (space_from env m k _ refl) ∙ f) in
+      let y = and_then_is (addresses env m.types m.imports k) _ ys (sym (space_from env more k _ refl) ∙ g) in
       let both : x.0 ≡ y.0 = same_Some x.0 y.0 (sym x.1 ∙ y.1) in
       let first : x.0 ++ numbers (own_count k env) (defined_count k m) ≡ xs = cc in
       let second : y.0 ++ numbers (own_count k env) (defined_count k more) ≡ ys = cc in

@@ -1,10 +1,9 @@
 -- At the address that an imported function denotes, the environment has its own function of that pair and type.
-use Rattle.base_lists.proofs.Common.{◌≡◌, ◌∙◌, sym, ap, ap₂, refl, ℕ, suc, ◌+◌, List, [], ◌∷◌, ◌++◌, map, append-nil, Option, Some, None, Bool, true, false, cond, arith, slice_get, and_parts, append_rel, self_rel, maps_rel}
+use Rattle.base_lists.proofs.Common.{◌≡◌, ◌∙◌, sym, ap, ap₂, refl, ℕ, suc, ◌+◌, List, [], ◌∷◌, ◌++◌, map, append-nil, Option, Some, None, Bool, true, false, cond, arith, slice_get, and_parts, append_rel, self_rel, maps_rel, each_same_is}
 use Rattle.base_lists.proofs.Same.{text_is}
-use Rattle.wasm_tree_spec.specs.Prelude.{FuncType, same_func_type}
+use Rattle.wasm_tree_spec.specs.Prelude.{FuncType, same_type, same_func_type}
 use Rattle.wasm_meaning.specs.Prelude.{Pair, Func, Own, same_pair, same_text, Environment, Offer, OwnKey, FuncKey, TableKey, MemoryKey, GlobalKey, ExternalValue, FuncAt, TableAt, MemoryAt, GlobalAt, Owned, same_key, look_up, owned_at, owned_of, addressed, flat, one_if, own_funcs}
 use Rattle.index_remap.specs.Prelude.{ListRel, nil, cons}
-use Rattle.index_remap.proofs.SlotCalls.{func_type_is}
 
 -- a key and the function that is allocated for it
 abbrev IsOwn : OwnKey → Func → Type 0
@@ -55,7 +54,9 @@ module _ (pair : Pair) (t : FuncType) where
           let first = text_is pair.0 h.0.0 c.0 in
           let second = text_is pair.1 h.0.1 c.1 in
           let p : h.0 ≡ pair = sym (ap₂ (λ x y. (x, y)) first second) in
-          ap₂ Own p (sym (func_type_is t h.1 b.1))
+          let equal = b.1 in
+          let type : t ≡ h.1 = grind (arith, each_same_is same_type (λ a b e. grind arith)) in
+          ap₂ Own p (sym type)
 
       go : (b : Bool) → is key ≡ b → cond b (Some (FuncAt n)) (look_up is (addressed FuncAt (suc n) keys ++ rest)) ≡ Some x →
           (look_up is (addressed FuncAt (suc n) keys ++ rest) ≡ Some x → FoundOwn (suc n) fs x) → FoundOwn n (f ∷ fs) x

@@ -4,11 +4,11 @@ use Rattle.std.proofs.lemmas.Bool.{true≢false}
 use Rattle.base_lists.specs.Places.{numbers}
 use Rattle.wasm_tree_spec.specs.Prelude.{Memories, ConstExpr, DataMode, DataSeg, Module, imported_memories, memories_of}
 use Rattle.wasm_tree.specs.declared.module.DataMode.TheVariants as data'
-use Rattle.wasm_meaning.specs.Prelude.{Outcome, Gives, Inst, Store, Touched, Bytes, Added, Filled, PlacedSegment, and_then, const_value, joined_stores, run_data_with, run_elem_with, segments_in, store_with}
+use Rattle.wasm_meaning.specs.Prelude.{Outcome, Gives, Inst, Store, Touched, Bytes, Added, Filled, PlacedSegment, and_then, const_value, joined_stores, run_data_with, segments_in, store_with}
+use Rattle.world_simulation.specs.Prelude.{AddsWith, new_memory}
 use Rattle.world_contents_proof.specs.Leaves.{elem_copies, data_copies}
-use Rattle.world_simulation.proofs.Allocated.{adds_with, new_memory}
-use Rattle.world_contents_proof.proofs.Copies.{all_stay, runs, then_went}
-use Rattle.world_contents_proof.proofs.Leaves.{copies_in_turn, memories, tables}
+use Rattle.world_contents_proof.proofs.Copies.{all_stay}
+use Rattle.world_contents_proof.specs.Copies.{OwnSegmentsRunAsCopies, memories, runs, tables}
 use Rattle.eval_spec.specs.declared.stop.Stop.TheVariants as why
 use Rattle.eval_spec.specs.Prelude.{State, Stage, Going, Stopped, Finished, Test, first_held, stopped_or, is_imported, test, writes_too_many, written_after, filled_from, imported_store, in_order, instantiated, own_inst, place_in, reads_global, state_at_first, value_in, with_data, with_data_mode, with_elem, with_segments}
 use Rattle.eval_proof.specs.Machines.{InstantiatedAs}
@@ -95,22 +95,22 @@ module _ (m : Module) where
 
   -- ---- how many memories ----
 
-  pub memory_count : (q : State) → InstantiatedAs m q → length q.store.mems ≡ length (memories_of m)
-  memory_count q is =
+  pub memory_count : OwnSegmentsRunAsCopies → (q : State) → InstantiatedAs m q → length q.store.mems ≡ length (memories_of m)
+  memory_count run_own q is =
       let i = own_inst m in
       let before = imported_store m in
       let value = const_value before.globals i in
       let made = and_then_is (store_with value m i) _ is.added is.is in
       let same : record { inst = i; filled = _ } ≡ is.added = same_Some _ _ made.2 in
       let start = joined_stores before made.0 in
-      let turn = copies_in_turn value m i (λ s task. run_elem_with value s task task.segment.mode) (λ s task. run_data_with value s task task.segment.mode)
-      (λ s n e. grind arith) (λ s n d. grind arith) 0 0 refl refl start in
+      let turn = run_own value m i 0 0 refl refl start in
       let filled = ap (λ (a : Added). a.filled) same in
       let good : (and_then (runs tables start 0 (elem_copies value i m.elems)) (λ s. runs memories s 0 (data_copies value i m.datas))).trapped ≡ false =
       ap (λ (f : Filled). f.trapped) (sym turn ∙ filled) ∙ is.untrapped in
-      let went = then_went (runs tables start 0 (elem_copies value i m.elems)) (λ s. runs memories s 0 (data_copies value i m.datas)) good in
+      let both_went : (f : Filled) (g : Store → Filled) → (and_then f g).trapped ≡ false → (f.trapped ≡ false) × ((g f.store).trapped ≡ false) × ((and_then f g).store ≡ (g f.store).store) = λ f g h. grind arith in
+      let went = both_went (runs tables start 0 (elem_copies value i m.elems)) (λ s. runs memories s 0 (data_copies value i m.datas)) good in
       let half = (runs tables start 0 (elem_copies value i m.elems)).store in
-      let adds = adds_with value m i made.0 made.1 in
+      let adds : AddsWith value m i made.0 = search (arith, made.1) in
       let count : length start.mems ≡ length (memories_of m) =
       length-append before.mems made.0.mems ∙ ap₂ (λ x y. x + y) (length-map (imported_memories m.imports) _) (ap length adds.mems ∙ length-map m.mems new_memory)
       ∙ sym (length-append (imported_memories m.imports) m.mems) in

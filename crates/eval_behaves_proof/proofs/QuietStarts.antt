@@ -7,9 +7,7 @@ use Rattle.wasm_valid.specs.Prelude.{IsValid}
 use Rattle.wasm_meaning.specs.Prelude.{Inst, Store, Environment, Begun, alone, begun, insts_from, instantiate, joined_stores, links, own_store, part_store, segments, start_in, stores_from}
 use Rattle.index_remap.specs.Prelude.{Pairing, ListRel, OneToOneWhereWritten, nil, passed, StoreRelOff, StepsAgreeOff, RunsAgreeOff}
 use Rattle.index_remap_proof.specs.Indices.{TreeNamesOnly, with_entry}
-use Rattle.world_simulation.specs.Prelude.{one}
-use Rattle.world_simulation.proofs.Instancing.{IsInst}
-use Rattle.world_simulation.proofs.Single.{one_inst}
+use Rattle.world_simulation.specs.Prelude.{one, IsInst}
 use Rattle.eval_spec.specs.declared.limits.TheConstants.{MOST_TURNS}
 use Rattle.eval_spec.specs.Prelude.{State, Stage, Finished, after_start, instantiated, own_inst, called_in_order, evaluated}
 use Rattle.eval_proof.specs.Known.{FuncsOf, QuietCallsAreKnown}
@@ -25,7 +23,7 @@ use Rattle.eval_behaves_proof.proofs.QuietRuns.{start_first, start_of}
 use Rattle.eval_behaves_proof.proofs.Related.{apart, relates}
 use Rattle.eval_behaves_proof.proofs.Rows.{rows}
 
-module _ (env : Environment) (m : Module) (names : TreeNamesOnly (with_entry (each_index m)) m) (s : State) (quiet : instantiated m MOST_TURNS ≡ Finished s) where
+module _ (naming : NamingLaws) (env : Environment) (m : Module) (names : TreeNamesOnly (with_entry (each_index m)) m) (s : State) (quiet : instantiated m MOST_TURNS ≡ Finished s) where
   abbrev R : Inst → Pairing
   R i = passed (stands_at m i) (names_at m i) []
 
@@ -44,7 +42,7 @@ module _ (env : Environment) (m : Module) (names : TreeNamesOnly (with_entry (ea
 
   with_none : FilledIn (with_funcs m [])
   with_none i is there made =
-      let both = both_filled env m [] i is (apart m i (rows env m [] i is)) names there made MOST_TURNS s quiet in
+      let both = both_filled env m [] i is (apart m i (rows env m [] i is)) naming names there made MOST_TURNS s quiet in
       let left = both.left in
       record {
         store = both.store;
@@ -77,7 +75,7 @@ module _ (env : Environment) (m : Module) (names : TreeNamesOnly (with_entry (ea
   both_started linked =
       let o = is_some_there (instantiate env (alone m)) linked in
       let x = what_is_made env (alone m) o.0 o.1 in
-      let i = one_inst env m x.insts x.are_insts in
+      let i : (i : Inst) × (x.insts ≡ i ∷ []) × IsInst env (one m) 0 m i = search (arith, x.are_insts) in
       let first : stores_from env (one m) (i.0 ∷ []) (own_store env) 0 (one m) (i.0 ∷ []) ≡ Some x.allocated =
       subst (λ is. stores_from env (one m) is (own_store env) 0 (one m) is ≡ Some x.allocated) i.1 x.is_allocated in
       let p = and_then_is (part_store env (one m) (i.0 ∷ []) 0 m i.0) _ x.allocated first in
@@ -99,7 +97,7 @@ module _ (env : Environment) (m : Module) (names : TreeNamesOnly (with_entry (ea
 module _ (known : QuietCallsAreKnown) (lead : QuietCallsSimulate) (agree : StepsAgreeOff) (runs : RunsAgreeOff) (reached : EndsAreReached) (naming : NamingLaws)
     (env : Environment) (m : Module) (t : State) where
   -- then the start comes to its end in both
-  start_run : (names : TreeNamesOnly (with_entry (each_index m)) m) (s : State) (quiet : instantiated m MOST_TURNS ≡ Finished s) → BothStarted env m names s quiet →
+  start_run : (names : TreeNamesOnly (with_entry (each_index m)) m) (s : State) (quiet : instantiated m MOST_TURNS ≡ Finished s) → BothStarted naming env m names s quiet →
       evaluated m [] ≡ Finished t → StartIsTheMachines env m t
   start_run names s quiet b e =
       let in_order : called_in_order m (Finished s) (start_of m.start ++ []) ≡ Finished t =
@@ -119,4 +117,4 @@ module _ (known : QuietCallsAreKnown) (lead : QuietCallsSimulate) (agree : Steps
   start_is valid e linked =
       let names = names_there naming m valid in
       let s = instantiated_first m (instantiated m MOST_TURNS) m.start [] t e in
-      start_run names s.0 s.1 (both_started env m names s.0 s.1 linked) e
+      start_run names s.0 s.1 (both_started naming env m names s.0 s.1 linked) e

@@ -5,18 +5,16 @@ use Rattle.wasm_tree_spec.specs.Prelude.{Space, Types, Functions, Tables, Memori
 use Rattle.wasm_tree.specs.declared.module.Func as tree
 use Rattle.wasm_meaning.specs.Prelude.{Inst, imports_of, Environment, defined_count, own_count, space}
 use Rattle.index_remap.specs.Prelude.{is_written}
-use Rattle.world_simulation.specs.Prelude.{addresses, import_places, one}
-use Rattle.world_simulation.proofs.Alone.{space_is}
-use Rattle.world_simulation.proofs.Instancing.{IsInst}
+use Rattle.world_simulation.specs.Prelude.{addresses, import_places, one, IsInst}
 use Rattle.eval_behaves_proof.specs.Addresses.{addresses_in}
-use Rattle.eval_behaves_proof.proofs.OneMore.{with_funcs}
+use Rattle.eval_behaves_proof.proofs.OneMore.{space_from, with_funcs}
 use Rattle.eval_behaves_proof.proofs.Related.{InARow}
 
 module _ (env : Environment) (m : Module) (fs : List tree.Func) (i : Inst) (is : IsInst env (one (with_funcs m fs)) 0 (with_funcs m fs) i) where
   in_space : (k : Space) → imports_of k (with_funcs m fs) ≡ imports_of k m → space env (one (with_funcs m fs)) k 0 (with_funcs m fs) ≡ Some (addresses_in i k) → InARow m i k
   in_space k same h =
       let t = with_funcs m fs in
-      let x = and_then_is (addresses env t.types t.imports k) _ (addresses_in i k) (sym (space_is env t k) ∙ h) in
+      let x = and_then_is (addresses env t.types t.imports k) _ (addresses_in i k) (sym (space_from env t k _ refl) ∙ h) in
       let all : x.0 ++ numbers (own_count k env) (defined_count k t) ≡ addresses_in i k = cc in
       record { imported = x.0; many = let size = all_there_length _ (import_places k t.imports) x.0 x.1 ∙ ap length same in omega (arith, size); base = own_count k env; count = defined_count k t; all = sym all }
 

@@ -10,8 +10,7 @@ use Rattle.wasm_meaning.specs.Prelude.{Gives, overwrite, RefVal, Inst, Store, Ta
 use Rattle.index_remap.specs.Prelude.{Pairing, OneToOneWhereWritten, set_memory, drop_data, drop_elem, RefsOff, StoreRelOff, TableOff, is_place_among, known}
 use Rattle.index_remap.proofs.Rel.{write_each}
 use Rattle.index_remap.proofs.Unknown.{changed_off}
-use Rattle.world_simulation.specs.Prelude.{one, offset_in}
-use Rattle.world_simulation.proofs.Instancing.{IsInst}
+use Rattle.world_simulation.specs.Prelude.{one, offset_in, IsInst}
 use Rattle.index_remap.specs.Related as related
 use Rattle.eval_spec.specs.Prelude.{State, Finished, is_imported, written_after, copied_slots, data_tests, elem_tests, own_inst, place_in, reads_global, value_in, with_data_mode, with_elem_mode}
 use Rattle.eval_behaves_proof.proofs.OneMore.{with_funcs}

@@ -1,19 +1,17 @@
 -- The snapshot is instantiated where the module with one more function is, and none of its segments traps.
-use Rattle.base_lists.proofs.Common.{◌≡◌, ◌∙◌, sym, ap, ap₂, refl, subst, ℕ, zero, suc, ◌+◌, List, [], ◌∷◌, ◌++◌, map, length, false, cond, Option, Some, ⊎_elim, arith, append-nil, slice_get, length-append, same_Some, all_there_at, and_then_is, append_from, map_from, length-map}
+use Rattle.base_lists.proofs.Common.{◌≡◌, ◌∙◌, sym, ap, refl, subst, ℕ, zero, suc, ◌+◌, List, [], ◌∷◌, ◌++◌, map, length, false, cond, Option, Some, ⊎_elim, arith, slice_get, length-append, same_Some, all_there_at, and_then_is, append_from, map_from, length-map}
 use Rattle.base_lists.specs.Options.{◌>>=◌}
 use Rattle.wasm_tree_spec.specs.Prelude.{Tables, ConstExpr, ElemMode, ElemSeg, DataSeg, Module, tables_of}
 use Rattle.wasm_tree.specs.declared.module.ElemMode.TheVariants as elem
-use Rattle.wasm_meaning.specs.Prelude.{Text, Inst, RefVal, Val, Table, Elem, Store, ref_of, Environment, own_memories, own_tables, Filled, all_there, and_then, elem_with, joined_stores, new_elem, one_by_one, own_count, own_store, part_store, run_data, run_elem, segments, segments_in}
+use Rattle.wasm_meaning.specs.Prelude.{Text, Inst, RefVal, Val, Table, Elem, Store, ref_of, Environment, own_memories, own_tables, Filled, all_there, and_then, elem_with, joined_stores, new_elem, own_count, own_store, part_store, segments}
 use Rattle.index_remap_proof.specs.Indices.{ElemModeNamesOnly, TreeNamesOnly, with_entry}
-use Rattle.world_simulation.specs.Prelude.{one, new_memory, new_table}
+use Rattle.world_simulation.specs.Prelude.{one, new_memory, new_table, Adds, IsInst, last_segments, new_data}
 use Rattle.world_contents_proof.specs.Leaves.{Copy, Leaves, all_over, data_copies, elem_copies, elem_copy, table_left}
-use Rattle.world_simulation.proofs.Allocated.{Adds, adds, new_data}
-use Rattle.world_contents_proof.proofs.Copies.{AreOf, IsOf, all_stay, runs}
-use Rattle.world_simulation.proofs.Declared.{last_segments}
-use Rattle.world_simulation.proofs.Instancing.{IsInst}
-use Rattle.world_contents_proof.proofs.Leaves.{copies_in_turn, memories, tables}
+use Rattle.world_contents_proof.proofs.Copies.{all_stay}
+use Rattle.world_contents_proof.specs.Copies.{AreOf, IsOf, SegmentsAloneRunAsCopies, memories, runs, tables}
 use Rattle.eval_spec.specs.Prelude.{State}
 use Rattle.eval_snapshot_spec.specs.Snapshot.{snapshot}
+use Rattle.world_contents_proof.specs.OwnValues.{ConstantsAloneReadTheEnvironment}
 use Rattle.eval_behaves_proof.specs.Worlds.{with_empty_func}
 use Rattle.eval_behaves_proof.proofs.StatesAgree.{first_value, second_value, table_shared}
 use Rattle.eval_behaves_proof.proofs.InRange.{below, each_index}
@@ -23,7 +21,7 @@ use Rattle.eval_behaves_proof.proofs.Fit.{Fit, GoesSomewhere, runs_fit}
 use Rattle.eval_behaves_proof.proofs.QuietSegments.{IsQuietlyMade}
 use Rattle.eval_behaves_proof.proofs.SnapshotHas.{refs, shape}
 
-module _ (env : Environment) (m : Module) (s : State) (name : Text) (names kept : List Text) (i j : Inst) (a : IsInst env (one (with_empty_func m)) 0 (with_empty_func m) i)
+module _ (constants : ConstantsAloneReadTheEnvironment) (env : Environment) (m : Module) (s : State) (name : Text) (names kept : List Text) (i j : Inst) (a : IsInst env (one (with_empty_func m)) 0 (with_empty_func m) i)
     (b : IsInst env (one (snapshot m s (name ∷ names) kept)) 0 (snapshot m s (name ∷ names) kept) j)
     (made : IsQuietlyMade m) (named : TreeNamesOnly (with_entry (each_index m)) m) (are : AreBytesOf m (bytes env m s name names kept i j a b made named)) where
   abbrev first : Module
@@ -46,7 +44,7 @@ module _ (env : Environment) (m : Module) (s : State) (name : Text) (names kept 
     start = joined_stores (own_store env) z
 
     added : Adds env (one second) (j ∷ []) 0 second j z
-    added = adds env (one second) (j ∷ []) 0 second j z z_is
+    added = search (arith, z_is)
 
     -- ---- element segments ----
 
@@ -95,7 +93,7 @@ module _ (env : Environment) (m : Module) (s : State) (name : Text) (names kept 
         let r = and_then_is (all_over address (elem_copies value i m.elems) x.slots) _ o h in (
           r.0,
           ap (λ es. all_over address (elem_copies again j es) x.slots) (shape m s name names kept).elems
-              ∙ copies_same env m s name names kept i j a b address (refs m s name names kept) m.elems (segments_name m named) x.slots ∙ r.1,
+              ∙ copies_same constants env m s name names kept i j a b address (refs m s name names kept) m.elems (segments_name m named) x.slots ∙ r.1,
         )
 
     elems_fit : Fit tables start cs
@@ -134,10 +132,6 @@ module _ (env : Environment) (m : Module) (s : State) (name : Text) (names kept 
     both_went f g h k = ap (λ b. (cond b f (g f.store)).trapped) h ∙ k
 
     -- no segment traps
-    pub untrapped : (segments env (one second) (j ∷ []) start).trapped ≡ false
-    untrapped =
-        let plain = ap₂ (λ xs ys. and_then (one_by_one (run_elem env (one second) (j ∷ [])) start xs) (λ s. one_by_one (run_data env (one second) (j ∷ [])) s ys))
-        (append-nil (segments_in 0 j j.elems second.elems)) (append-nil (segments_in 0 j j.datas second.datas)) in
-        let turn = copies_in_turn again second j (run_elem env (one second) (j ∷ [])) (run_data env (one second) (j ∷ [])) (λ s n e. grind arith)
-        (λ s n d. grind arith) 0 0 b.elems b.datas start in
-        ap (λ (f : Filled). f.trapped) (plain ∙ turn) ∙ both_went (runs tables start 0 cs) (λ s. runs memories s 0 (data_copies again j second.datas)) elems_went datas_went
+    pub untrapped : SegmentsAloneRunAsCopies → (segments env (one second) (j ∷ []) start).trapped ≡ false
+    untrapped run_alone =
+        ap (λ (f : Filled). f.trapped) (run_alone env second j 0 0 b.elems b.datas start) ∙ both_went (runs tables start 0 cs) (λ s. runs memories s 0 (data_copies again j second.datas)) elems_went datas_went

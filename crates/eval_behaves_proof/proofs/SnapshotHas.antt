@@ -1,9 +1,9 @@
 -- What the snapshot of a module has, and how many addresses of each space it shares with the module in an environment.
-use Rattle.base_lists.proofs.Common.{◌≡◌, ◌∙◌, ap, refl, ℕ, suc, ◌+◌, ◌≤◌, List, [], ◌∷◌, length, Bool, true, false, cond, arith, list_any, length-append}
+use Rattle.base_lists.proofs.Common.{◌≡◌, ◌∙◌, ap, sym, refl, ℕ, suc, ◌+◌, ◌≤◌, List, [], ◌∷◌, length, Bool, true, false, cond, arith, list_any, append-nil, length-append}
 use Rattle.wasm_tree_spec.specs.Prelude.{any_uses_data, Space, Types, Functions, Tables, Memories, Globals, ElementSegments, DataSegments, Func, GlobalDef, Module, imported_globals}
 use Rattle.wasm_meaning.specs.Prelude.{Text, Environment, own_count}
-use Rattle.index_remap.specs.Prelude.{declared_refs}
-use Rattle.world_simulation.proofs.Declared.{IsWithDeclared, is_with_declared, last_segments}
+use Rattle.index_remap.specs.Prelude.{declared_refs, with_declared}
+use Rattle.world_simulation.specs.Prelude.{IsWithDeclared, last_segments}
 use Rattle.eval_spec.specs.Prelude.{State}
 use Rattle.eval_snapshot_spec.specs.Snapshot.{added_funcs, declared_snapshot, empty_func, globals_left, is_kept, memory_segments, old_segments, segments_left, snapshot, snapshot_tree}
 use Rattle.eval_snapshot_proof.proofs.Trees.{segments_many}
@@ -29,7 +29,11 @@ module _ (m : Module) (s : State) (name : Text) (names kept : List Text) where
 
   pub shape : IsWithDeclared plain taken refs
   unfolding declared_snapshot
-  shape = is_with_declared plain refs
+  shape = by refs
+    where
+      by : (fs : List ℕ) → IsWithDeclared plain (with_declared plain fs) fs
+      by [] = assumption (sym (append-nil plain.elems))
+      by (f ∷ fs) = assumption
 
   pub funcs_many : length taken.funcs ≡ length m.funcs + length more
   funcs_many = ap length shape.funcs ∙ length-append m.funcs more

@@ -1,26 +1,24 @@
 -- In an environment where a module with one more function is instantiated, its snapshot is allocated, its imports match and its names denote what the module's names denote.
-use Rattle.base_lists.proofs.Common.{◌≡◌, ◌∙◌, sym, ap, ap₂, refl, subst, ℕ, zero, suc, ◌+◌, List, [], ◌∷◌, ◌++◌, map, length, Bool, true, false, cond, Some, None, ⊎_elim, arith, option_and_then, slice_get, list_any, length-append, any_passes_from_place, same_Some, chosen_from, all_there_at, and_then_is, append_at_left, append_from, push_last, length-map, then_rel, is_some_there}
+use Rattle.base_lists.proofs.Common.{◌≡◌, ◌∙◌, sym, ap, ap₂, refl, subst, ℕ, zero, suc, ◌+◌, List, [], ◌∷◌, map, length, Bool, true, false, cond, Some, None, ⊎_elim, arith, slice_get, list_any, length-append, any_passes_from_place, same_Some, chosen_from, all_there_at, all_there_from, all_there_length, length-numbers, places_many, and_then_is, append_at_left, append_from, push_last, length-map, then_rel, is_some_there}
 use Rattle.base_lists.specs.Options.{◌>>=◌}
 use Rattle.wasm_tree_spec.specs.Prelude.{Space, Functions, Tables, Memories, Globals, ElementSegments, DataSegments, ElemSeg, Export, ExportDesc, GlobalDef, Module, imported_funcs, funcs_of, tables_of, memories_of, globals_of}
 use Rattle.wasm_tree.specs.declared.module.ExportDesc.TheVariants as ex
 use Rattle.wasm_tree.specs.declared.module.Func as tree
-use Rattle.wasm_meaning.specs.Prelude.{Text, Inst, Val, Func, Code, Global, Elem, Store, Entity, sites, Environment, all_of, address_in, alone, defined_count, elem_of, inst_of, is_matched, joined_stores, new_func, new_global, numbers, own_count, own_store, part_store, seen_as, space, stores_from}
+use Rattle.wasm_meaning.specs.Prelude.{Text, Inst, Val, Func, Code, Global, Elem, Store, Entity, sites, Environment, all_of, address_in, alone, elem_of, imports_of, inst_of, is_matched, joined_stores, new_func, new_global, own_count, own_store, part_store, seen_as, space, stores_from}
 use Rattle.wasm_meaning.specs.Values as values
 use Rattle.index_remap.specs.Prelude.{Pairing, OptRel, some, ListRel, nil, cons, ExternalValueRel, KeyRel, a_func, a_table, a_memory, a_global}
 use Rattle.index_remap_proof.specs.Indices.{ExportNamesOnly, TreeNamesOnly, with_entry}
-use Rattle.world_simulation.specs.Prelude.{one, addresses, DefinitionsCorrespond, Instantiated, SharesOwn}
+use Rattle.world_simulation.specs.Prelude.{DeclaringSegmentsAreAllocated, one, addresses, DefinitionsCorrespond, Instantiated, SharesOwn, Adds, IsInst, last_segments}
 use Rattle.world_simulation.specs.Definitions.{own}
-use Rattle.world_simulation.proofs.Alone.{space_is, funcs_counted}
-use Rattle.world_simulation.proofs.Allocated.{Adds, adds, part_there}
-use Rattle.world_simulation.proofs.Declared.{last_elems, last_segments}
-use Rattle.world_simulation.proofs.Instancing.{IsInst, is_space}
 use Rattle.world_simulation.proofs.Single.{all_matched, space_at}
 use Rattle.world_simulation.proofs.Stored.{stores_rel}
 use Rattle.eval_spec.specs.Prelude.{State}
 use Rattle.eval_snapshot_spec.specs.Snapshot.{empty_func, export_left, is_among_names, is_kept, snapshot}
+use Rattle.world_contents_proof.specs.OwnValues.{ConstantsAloneReadTheEnvironment}
 use Rattle.eval_behaves_proof.specs.Worlds.{evaluated_world, exports_left, with_empty_func}
 use Rattle.eval_behaves_proof.proofs.StatesAgree.{R, enough, func_shared, global_shared, last_shared, memory_shared, second_value, table_shared}
 use Rattle.eval_behaves_proof.proofs.InRange.{below, each_index}
+use Rattle.eval_behaves_proof.proofs.OneMore.{space_from}
 use Rattle.eval_behaves_proof.proofs.CopiesAlike.{elem_same, segments_name}
 use Rattle.eval_behaves_proof.proofs.Shared.{Itself, one_named, same, shares_own, within}
 use Rattle.eval_behaves_proof.proofs.SnapshotHas.{more, plain, refs, shape, bound}
@@ -60,8 +58,7 @@ module _ (env : Environment) (m : Module) (s : State) (name : Text) (names kept 
       let sx = space_at (O env) env (shares env) first k xs h in
       let has = shape m s name names kept in (
         _,
-        space_is env second k ∙ ap (λ o. option_and_then (λ l. Some (l ++ numbers (own_count k env) (defined_count k second))) o) (ap₂ (λ ts is. addresses env ts is k) has.types has.imports
-            ∙ sx.are),
+        space_from env second k (Some sx.imported) (ap₂ (λ ts is. addresses env ts is k) has.types has.imports ∙ sx.are),
       )
 
   pub second_inst : (j : Inst) × (inst_of env (one second) 0 second ≡ Some j) × IsInst env (one second) 0 second j
@@ -101,7 +98,7 @@ module _ (env : Environment) (m : Module) (s : State) (name : Text) (names kept 
     module _ (added : Store) (made : part_store env (one first) (i ∷ []) 0 first i ≡ Some added) (inits : (n : ℕ) (g : GlobalDef) → slice_get second.globals n ≡ Some g →
         (x : Val) × (second_value env m s name names kept i j a b g.init ≡ Some x)) where
       adds_first : Adds env (one first) (i ∷ []) 0 first i added
-      adds_first = adds env (one first) (i ∷ []) 0 first i added made
+      adds_first = search (arith, made)
 
       func_there : (n : ℕ) (f : tree.Func) → slice_get second.funcs n ≡ Some f → (x : Func) × (new_func j f ≡ Some x)
       func_there n f h =
@@ -115,26 +112,27 @@ module _ (env : Environment) (m : Module) (s : State) (name : Text) (names kept 
 
       func_space : length j.funcs ≡ length (funcs_of second)
       func_space =
-          let n = (is_space env (one second) Functions 0 second j.funcs b.funcs).size in
-          let e = funcs_counted second.imports 0 in
+          let n : length j.funcs ≡ length (imports_of Functions second) + length second.funcs = search (arith, b.funcs, length-append, length-numbers, all_there_length) in
+          let e : length (imports_of Functions second) ≡ length (imported_funcs second.imports) = places_many _ _ second.imports (grind arith) 0 in
           let f = length-append (imported_funcs second.imports) (map (λ f. f.ty) second.funcs) in
           let g = length-map second.funcs (λ (f : tree.Func). f.ty) in
           omega (arith, n, e, f, g)
 
-      elem_there : (n : ℕ) (e : ElemSeg) → slice_get second.elems n ≡ Some e → (x : Elem) × (elem_of env (one second) (j ∷ []) 0 e ≡ Some x)
-      elem_there n e h =
+      elem_there : ConstantsAloneReadTheEnvironment → DeclaringSegmentsAreAllocated → (n : ℕ) (e : ElemSeg) → slice_get second.elems n ≡ Some e → (x : Elem) × (elem_of env (one second) (j ∷ []) 0 e ≡ Some x)
+      elem_there constants declared n e h =
           ⊎_elim
           (λ old.
           let x = all_there_at (elem_of env (one first) (i ∷ []) 0) first.elems added.elems adds_first.elems n e old in
-          (x.0, sym (elem_same env m s name names kept i j a b e (segments_name m named n e old).0) ∙ x.1))
+          (x.0, sym (elem_same constants env m s name names kept i j a b e (segments_name m named n e old).0) ∙ x.1))
           (λ new.
-          let es = last_elems env second j (plain m s name names kept) (func_space ∙ ap length (shape m s name names kept).func_space) in
+          let es = declared env second j (plain m s name names kept) (func_space ∙ ap length (shape m s name names kept).func_space) in
           let x = all_there_at (elem_of env (one second) (j ∷ []) 0) (last_segments (refs m s name names kept)) es.0 es.1 new.0 e new.2 in
           (x.0, x.1))
           (append_from m.elems (last_segments (refs m s name names kept)) n e (ap (λ l. slice_get l n) (sym (shape m s name names kept).elems) ∙ h))
 
-      pub second_store : (z : Store) × (part_store env (one second) (j ∷ []) 0 second j ≡ Some z)
-      second_store = part_there env (one second) (j ∷ []) 0 second j func_there global_there elem_there
+      pub second_store : ConstantsAloneReadTheEnvironment → DeclaringSegmentsAreAllocated → (z : Store) × (part_store env (one second) (j ∷ []) 0 second j ≡ Some z)
+      second_store constants declared =
+          is_some_there (part_store env (one second) (j ∷ []) 0 second j) (rw ((all_there_from _ second.funcs func_there).are, (all_there_from _ second.globals global_there).are, (all_there_from _ second.elems (elem_there constants declared)).are))
 
       -- and its imports match
       pub second_matched : (z : Store) → part_store env (one second) (j ∷ []) 0 second j ≡ Some z →

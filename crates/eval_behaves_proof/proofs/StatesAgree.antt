@@ -1,20 +1,17 @@
 -- The instances of a module with one more function and of its snapshot: each index that the module names denotes one address in both, and its code does the same.
-use Rattle.base_lists.proofs.Common.{◌≡◌, ◌∙◌, sym, ap, refl, subst, ℕ, ◌+◌, ◌<◌, ◌≤◌, List, [], ◌∷◌, length, true, cond, not, ◌||◌, Option, Some, None, arith, option_and_then, slice_get, length-append, any_passes_from_place, same_Some, numbers_at, length-map, get_rel, opt_both, opt_self}
-use Rattle.wasm_tree_spec.specs.Prelude.{Space, Types, Functions, Tables, Memories, Globals, ElementSegments, DataSegments, ConstExpr, Module, any_uses_data, uses_data, operands, same_space, imported_funcs, imported_tables, imported_memories, imported_globals, funcs_of, tables_of, memories_of, globals_of}
+use Rattle.base_lists.proofs.Common.{◌≡◌, ◌∙◌, sym, ap, refl, subst, ℕ, ◌+◌, ◌<◌, ◌≤◌, List, [], ◌∷◌, length, true, cond, not, ◌||◌, Option, Some, None, arith, option_and_then, slice_get, length-append, any_passes_from_place, places_many, same_Some, numbers_at, length-map, get_rel, opt_both, opt_self}
+use Rattle.wasm_tree_spec.specs.Prelude.{AnyInside, PassesInside, PassesLayerByLayer, Space, Types, Functions, Tables, Memories, Globals, ElementSegments, DataSegments, ConstExpr, Module, any_uses_data, uses_data, operands, same_space, imported_funcs, imported_tables, imported_memories, imported_globals, funcs_of, tables_of, memories_of, globals_of}
 use Rattle.wasm_tree.specs.declared.module.ConstExpr.TheVariants as const
 use Rattle.wasm_tree.specs.declared.module.Func as tree
 use Rattle.wasm_num.specs.Operations.{W32, W64, wrapped}
-use Rattle.wasm_meaning.specs.Prelude.{FuncRef, Text, Inst, Val, Num, Ref, Global, null_of, Environment, own_globals, const_value, own_count, value_of}
+use Rattle.wasm_meaning.specs.Prelude.{FuncRef, Text, Inst, Val, Num, Ref, Global, null_of, Environment, own_globals, const_value, imports_of, own_count, value_of}
 use Rattle.index_remap.specs.Prelude.{Pairing, OptRel, some, CodeRel, ValRel, GlobalRel, number, reference, func}
 use Rattle.index_remap_proof.specs.Indices.{ConstNamesOnly, LayerNamesOnly, TreeNamesOnly, with_entry}
-use Rattle.world_simulation.specs.Prelude.{one}
-use Rattle.world_simulation.proofs.Alone.{funcs_counted, tables_counted, memories_counted, globals_counted}
-use Rattle.world_simulation.proofs.Instancing.{IsInst}
-use Rattle.world_contents_proof.proofs.OwnValues.{const_same}
+use Rattle.world_simulation.specs.Prelude.{one, IsInst}
+use Rattle.world_contents_proof.specs.OwnValues.{ConstantsAloneReadTheEnvironment}
 use Rattle.world_simulation.proofs.Owned.{null_rel, own_globals_rel}
 use Rattle.eval_spec.specs.Prelude.{State}
 use Rattle.eval_snapshot_spec.specs.Snapshot.{empty_func, snapshot}
-use Rattle.eval_snapshot_proof.proofs.Trees.{CodeLaws}
 use Rattle.eval_snapshot_proof.proofs.Typed.{code_passes, no_data_or}
 use Rattle.eval_behaves_proof.specs.Worlds.{with_empty_func}
 use Rattle.eval_behaves_proof.proofs.InRange.{below, each_index}
@@ -22,6 +19,13 @@ use Rattle.eval_behaves_proof.proofs.CodeAlike.{IndexAlike, LayerAlike, code_ali
 use Rattle.eval_behaves_proof.proofs.Shared.{Itself, NamesOne, names_one, one_named, shares_own, to_itself}
 use Rattle.eval_behaves_proof.proofs.SnapshotHas.{bound, datas_more, elems_more, funcs_many, more, more_few, room, shape, left_globals_many}
 use Rattle.eval_behaves_proof.proofs.Zipped.{code_both, every_both}
+
+-- what the laws on code and on constant expressions say
+pub record SnapshotLaws : Type 0 where
+  pub inside : PassesInside
+  pub any : AnyInside
+  pub layers : PassesLayerByLayer
+  pub constants : ConstantsAloneReadTheEnvironment
 
 module _ (env : Environment) (m : Module) (s : State) (name : Text) (names kept : List Text) where
   abbrev first : Module
@@ -51,7 +55,7 @@ module _ (env : Environment) (m : Module) (s : State) (name : Text) (names kept 
 
     func_one : (n : ℕ) → n < length (imported_funcs m.imports) + length second.funcs → One Functions i.funcs j.funcs n
     func_one n lt =
-        let c = funcs_counted m.imports 0 in
+        let c : length (imports_of Functions m) ≡ length (imported_funcs m.imports) = places_many _ _ m.imports (grind arith) 0 in
         let many = funcs_many m s name names kept in
         let few = more_few m s name names kept in
         let all = length-append m.funcs (empty_func m ∷ []) in
@@ -76,7 +80,7 @@ module _ (env : Environment) (m : Module) (s : State) (name : Text) (names kept 
 
     pub table_shared : (n : ℕ) → n < length (tables_of m) → One Tables i.tables j.tables n
     table_shared n lt =
-        let c = tables_counted m.imports 0 in
+        let c : length (imports_of Tables m) ≡ length (imported_tables m.imports) = places_many _ _ m.imports (grind arith) 0 in
         let all = length-append (imported_tables m.imports) m.tables in
         let same : length second.tables ≡ length m.tables = ap length (shape m s name names kept).tables in
         names_one below_these env enough first second same_types same_imports Tables i.tables j.tables a.tables b.tables (length m.tables) (omega arith) (omega (arith, same)) (omega arith) n
@@ -84,7 +88,7 @@ module _ (env : Environment) (m : Module) (s : State) (name : Text) (names kept 
 
     pub memory_shared : (n : ℕ) → n < length (memories_of m) → One Memories i.mems j.mems n
     memory_shared n lt =
-        let c = memories_counted m.imports 0 in
+        let c : length (imports_of Memories m) ≡ length (imported_memories m.imports) = places_many _ _ m.imports (grind arith) 0 in
         let all = length-append (imported_memories m.imports) m.mems in
         let same : length second.mems ≡ length m.mems = ap length (shape m s name names kept).mems in
         names_one below_these env enough first second same_types same_imports Memories i.mems j.mems a.mems b.mems (length m.mems) (omega arith) (omega (arith, same)) (omega arith) n
@@ -92,7 +96,7 @@ module _ (env : Environment) (m : Module) (s : State) (name : Text) (names kept 
 
     pub global_shared : (n : ℕ) → n < length (globals_of m) → One Globals i.globals j.globals n
     global_shared n lt =
-        let c = globals_counted m.imports 0 in
+        let c : length (imports_of Globals m) ≡ length (imported_globals m.imports) = places_many _ _ m.imports (grind arith) 0 in
         let f = length-map m.globals (λ g. g.ty) in
         let size : length (globals_of m) ≡ length (imported_globals m.imports) + length m.globals =
         length-append (imported_globals m.imports) _ ∙ ap (λ z. length (imported_globals m.imports) + z) f in
@@ -134,7 +138,7 @@ module _ (env : Environment) (m : Module) (s : State) (name : Text) (names kept 
     index_alike ElementSegments n h d = one_named below_these env enough (elem_shared n (below (length m.elems) n h))
     index_alike DataSegments n h d = one_named below_these env enough (data_shared d n (below (length m.datas) n h))
 
-    pub code_same : CodeLaws → TreeNamesOnly (with_entry (each_index m)) m → (n : ℕ) (f : tree.Func) → slice_get m.funcs n ≡ Some f → CodeRel R i j f.body f.body
+    pub code_same : SnapshotLaws → TreeNamesOnly (with_entry (each_index m)) m → (n : ℕ) (f : tree.Func) → slice_get m.funcs n ≡ Some f → CodeRel R i j f.body f.body
     code_same laws named n f at =
         let so = any_uses_data m.funcs in
         let passes = code_passes laws.inside laws.any so f.body (λ h. any_passes_from_place (λ f. uses_data f.body) m.funcs n f at h) in
@@ -159,8 +163,8 @@ module _ (env : Environment) (m : Module) (s : State) (name : Text) (names kept 
     constants_same (const.Global x) h = let x = global_shared x (below (length (globals_of m)) x h) in rw (x.first, x.second) refl
 
     -- they have the same values in both,
-    pub values_same : (e : ConstExpr) → ConstNamesOnly (with_entry (each_index m)) e → first_value e ≡ second_value e
-    values_same e h = const_same env first i a e ∙ constants_same e h ∙ sym (const_same env second j b e)
+    pub values_same : ConstantsAloneReadTheEnvironment → (e : ConstExpr) → ConstNamesOnly (with_entry (each_index m)) e → first_value e ≡ second_value e
+    values_same constants e h = constants env first i a e ∙ constants_same e h ∙ sym (constants env second j b e)
 
     constant_itself : (e : ConstExpr) (x : Val) → ConstNamesOnly (with_entry (each_index m)) e → const_value (own_globals env) i e ≡ Some x → ValRel R x x
     constant_itself (const.I32 c) x h is = let r : OptRel (ValRel R) (Some (Num W32 (wrapped 32 c))) (Some (Num W32 (wrapped 32 c))) = some number in opt_both r is is
@@ -182,5 +186,5 @@ module _ (env : Environment) (m : Module) (s : State) (name : Text) (names kept 
         own_value (Some g) r e = subst (λ x. ValRel R x x) (same_Some _ _ e) (opt_self r refl).value
 
     -- which refer only to functions below the bound
-    pub value_itself : (e : ConstExpr) (x : Val) → ConstNamesOnly (with_entry (each_index m)) e → first_value e ≡ Some x → ValRel R x x
-    value_itself e x h is = constant_itself e x h (sym (const_same env first i a e) ∙ is)
+    pub value_itself : ConstantsAloneReadTheEnvironment → (e : ConstExpr) (x : Val) → ConstNamesOnly (with_entry (each_index m)) e → first_value e ≡ Some x → ValRel R x x
+    value_itself constants e x h is = constant_itself e x h (sym (constants env first i a e) ∙ is)

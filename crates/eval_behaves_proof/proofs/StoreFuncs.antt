@@ -5,24 +5,21 @@ use Rattle.wasm_tree.specs.declared.module.Func as tree
 use Rattle.wasm_meaning.specs.Prelude.{Text, Inst, Table, Store, null_of, Environment, own_funcs, own_tables, own_count, own_store}
 use Rattle.index_remap.specs.Prelude.{Pairing, BothRel, CodeRel, end, ListRel, RefRel, FuncRel, TableRel, ElemRel}
 use Rattle.index_remap_proof.specs.Indices.{TreeNamesOnly, with_entry}
-use Rattle.world_simulation.specs.Prelude.{one, FuncsCorrespond, new_table}
+use Rattle.world_simulation.specs.Prelude.{one, FuncsCorrespond, new_table, IsInst, last_segments}
 use Rattle.world_contents_proof.specs.Leaves.{Leaves, Stands, all_over, elem_copies, table_left}
-use Rattle.world_simulation.proofs.Declared.{last_segments}
-use Rattle.world_simulation.proofs.Instancing.{IsInst}
 use Rattle.world_simulation.proofs.Owned.{null_rel, own_funcs_rel, own_tables_rel}
 use Rattle.world_simulation.proofs.Stored.{func_rel}
 use Rattle.eval_spec.specs.Prelude.{State}
-use Rattle.eval_snapshot_proof.proofs.Trees.{CodeLaws}
 use Rattle.eval_snapshot_spec.specs.Snapshot.{snapshot}
 use Rattle.eval_behaves_proof.specs.Worlds.{with_empty_func}
-use Rattle.eval_behaves_proof.proofs.StatesAgree.{R, code_same, enough, first_value, second_value}
+use Rattle.eval_behaves_proof.proofs.StatesAgree.{SnapshotLaws, R, code_same, enough, first_value, second_value}
 use Rattle.eval_behaves_proof.proofs.InRange.{each_index}
 use Rattle.eval_behaves_proof.proofs.CopiesAlike.{copies_itself, copies_same, left_itself, left_same, segments_name}
 use Rattle.eval_behaves_proof.proofs.Shared.{shares_own}
 use Rattle.eval_behaves_proof.proofs.SnapshotHas.{more, refs, shape, bound}
 use Rattle.eval_behaves_proof.proofs.SnapshotMade.{func_also, last_place}
 
-module _ (env : Environment) (m : Module) (s : State) (name : Text) (names kept : List Text) (i j : Inst) (a : IsInst env (one (with_empty_func m)) 0 (with_empty_func m) i)
+module _ (laws : SnapshotLaws) (env : Environment) (m : Module) (s : State) (name : Text) (names kept : List Text) (i j : Inst) (a : IsInst env (one (with_empty_func m)) 0 (with_empty_func m) i)
     (b : IsInst env (one (snapshot m s (name ∷ names) kept)) 0 (snapshot m s (name ∷ names) kept) j)
     (named : TreeNamesOnly (with_entry (each_index m)) m) (x y : Store) (left : Leaves (first_value env m s name names kept i j a b) (with_empty_func m) i (own_store env) x)
     (right : Leaves (second_value env m s name names kept i j a b) (snapshot m s (name ∷ names) kept) j (own_store env) y) where
@@ -37,14 +34,14 @@ module _ (env : Environment) (m : Module) (s : State) (name : Text) (names kept 
 
   -- ---- functions ----
 
-  code_alike : CodeLaws → (n : ℕ) (f : tree.Func) → slice_get second.funcs n ≡ Some f → CodeRel Q i j f.body f.body
-  code_alike laws n f h = ⊎_elim
+  code_alike : (n : ℕ) (f : tree.Func) → slice_get second.funcs n ≡ Some f → CodeRel Q i j f.body f.body
+  code_alike n f h = ⊎_elim
       (λ old. code_same env m s name names kept i j a b laws named n f old)
       (λ new. subst (λ (f : tree.Func). CodeRel Q i j f.body f.body) (last_place env m s name names kept i a new.0 f new.2).1 end)
       (append_from m.funcs (more m s name names kept) n f (ap (λ l. slice_get l n) (sym (shape m s name names kept).funcs) ∙ h))
 
-  pub funcs_alike : CodeLaws → (n : ℕ) → n < bound m s name names kept env Functions → BothRel (FuncRel Q) (slice_get x.funcs n) (slice_get y.funcs n)
-  funcs_alike laws n lt = elim (cases_lt n (own_count Functions env)) [
+  pub funcs_alike : (n : ℕ) → n < bound m s name names kept env Functions → BothRel (FuncRel Q) (slice_get x.funcs n) (slice_get y.funcs n)
+  funcs_alike n lt = elim (cases_lt n (own_count Functions env)) [
     | inl own ↦
         let f = slice_get_there (own_funcs env) n own in
         both_at x.funcs y.funcs n n f.0 f.0 (left.earlier_funcs n f.0 f.1) (right.earlier_funcs n f.0 f.1) (opt_both (get_rel (own_funcs_rel Q env) n) f.1 f.1)
@@ -55,7 +52,7 @@ module _ (env : Environment) (m : Module) (s : State) (name : Text) (names kept 
         let p = left.funcs k f.0 (func_also env m s name names kept i a k f.0 f.1) in
         let q = right.funcs k f.0 f.1 in
         let types : i.types ≡ j.types = a.types ∙ sym (shape m s name names kept).types ∙ sym b.types in
-        let same : FuncsCorrespond Q i j f.0 f.0 = record { type = ap (λ ts. slice_get ts f.0.ty) types; locals = refl; code = code_alike laws k f.0 f.1 } in
+        let same : FuncsCorrespond Q i j f.0 f.0 = record { type = ap (λ ts. slice_get ts f.0.ty) types; locals = refl; code = code_alike k f.0 f.1 } in
         both_at x.funcs y.funcs n n p.0 q.0 (ap (slice_get x.funcs) n_is ∙ p.2) (ap (slice_get y.funcs) n_is ∙ q.2) (opt_both (func_rel Q same) p.1 q.1)
   ]
 
@@ -67,10 +64,10 @@ module _ (env : Environment) (m : Module) (s : State) (name : Text) (names kept 
       BothRel (TableRel Q) (slice_get x.tables n) (slice_get y.tables n)
   table_alike n u r p q =
       let same = ap (λ es. all_over n (elem_copies (second_value env m s name names kept i j a b) j es) u.slots) (shape m s name names kept).elems
-      ∙ copies_same env m s name names kept i j a b n (refs m s name names kept) m.elems (segments_name m named) u.slots in
+      ∙ copies_same laws.constants env m s name names kept i j a b n (refs m s name names kept) m.elems (segments_name m named) u.slots in
       let one_table : q.0 ≡ p.0 = same_Some _ _ (sym q.1 ∙ ap (table_left u) same ∙ p.1) in
       let zs = and_then_is (all_over n (elem_copies (first_value env m s name names kept i j a b) i m.elems) u.slots) _ p.0 p.1 in
-      let slots = copies_itself env m s name names kept i j a b n m.elems (segments_name m named) u.slots zs.0 r zs.1 in
+      let slots = copies_itself laws.constants env m s name names kept i j a b n m.elems (segments_name m named) u.slots zs.0 r zs.1 in
       let itself : TableRel Q (record u { slots = zs.0 }) (record u { slots = zs.0 }) = record { type = refl; most = refl; slots = slots } in
       both_at x.tables y.tables n n p.0 p.0 p.2 (q.2 ∙ ap Some one_table) (subst (λ z. TableRel Q z z) (same_Some _ _ zs.2) itself)
 
@@ -99,5 +96,5 @@ module _ (env : Environment) (m : Module) (s : State) (name : Text) (names kept 
       let q = right.elems n e.0 again in
       let items = (segments_name m named n e.0 e.1).0 in
       let z : n ≡ 0 + n = omega arith in
-      let one_elem : q.0 ≡ p.0 = same_Some _ _ (sym q.1 ∙ sym (left_same env m s name names kept i j a b e.0 e.0.mode items) ∙ p.1) in
-      both_at x.elems y.elems n n p.0 p.0 (ap (slice_get x.elems) z ∙ p.2) (ap (slice_get y.elems) z ∙ q.2 ∙ ap Some one_elem) (left_itself env m s name names kept i j a b e.0 e.0.mode p.0 items p.1)
+      let one_elem : q.0 ≡ p.0 = same_Some _ _ (sym q.1 ∙ sym (left_same laws.constants env m s name names kept i j a b e.0 e.0.mode items) ∙ p.1) in
+      both_at x.elems y.elems n n p.0 p.0 (ap (slice_get x.elems) z ∙ p.2) (ap (slice_get y.elems) z ∙ q.2 ∙ ap Some one_elem) (left_itself laws.constants env m s name names kept i j a b e.0 e.0.mode p.0 items p.1)

@@ -1,5 +1,5 @@
 -- Globals of the machine's run and of the snapshot: each known one holds its constant's value, and each unknown one what its initialiser gives in both.
-use Rattle.base_lists.proofs.Common.{◌≡◌, ◌∙◌, sym, ap, refl, subst, ℕ, zero, suc, ◌+◌, ◌-◌, ◌<◌, List, [], ◌∷◌, length, Bool, true, false, not, ◌||◌, Option, Some, None, inl, inr, arith, slice_get, cases_lt, length-append, length-map, same_Some, slice_get_within, and_then_is, slice_get_there, get_rel, both_at, opt_both}
+use Rattle.base_lists.proofs.Common.{◌≡◌, ◌∙◌, sym, ap, refl, subst, ℕ, zero, suc, ◌+◌, ◌-◌, ◌<◌, List, [], ◌∷◌, length, Bool, true, false, not, ◌||◌, Option, Some, None, inl, inr, arith, slice_get, cases_lt, places_many, length-append, length-map, same_Some, slice_get_within, and_then_is, slice_get_there, get_rel, both_at, opt_both}
 use Rattle.base_lists.specs.Members.{is_among}
 use Rattle.std.specs.Prelude.{unwrap_or}
 use Rattle.base_lists.specs.Options.{◌>>=◌}
@@ -7,18 +7,18 @@ use Rattle.wasm_tree_spec.specs.Prelude.{Globals, ConstExpr, GlobalDef, Module, 
 use Rattle.wasm_meaning.specs.Prelude.{Text, Inst, Val, Global, Store, imports_of, Environment, own_globals, own_count, own_store}
 use Rattle.index_remap.specs.Prelude.{Pairing, BothRel, both, ValRel, GlobalRel, GlobalOff, StoreRelOff}
 use Rattle.index_remap_proof.specs.Indices.{TreeNamesOnly, with_entry}
-use Rattle.world_simulation.specs.Prelude.{one}
+use Rattle.world_simulation.specs.Prelude.{one, IsInst}
 use Rattle.world_contents_proof.specs.Leaves.{Leaves}
-use Rattle.world_simulation.proofs.Alone.{globals_counted}
-use Rattle.world_simulation.proofs.Instancing.{IsInst, is_space}
 use Rattle.world_simulation.proofs.Owned.{own_globals_rel}
 use Rattle.eval_numbers_proof.specs.Ranges.{GlobalsAreExpressible}
 use Rattle.eval_spec.specs.Prelude.{State, is_imported, imported_store, own_inst, value_in, value_of_global}
 use Rattle.eval_proof.specs.Alone.{LeavesAlone}
 use Rattle.eval_snapshot_spec.specs.After.{TellsTheSame}
-use Rattle.eval_snapshot_spec.specs.Snapshot.{global_left, globals_left, snapshot}
+use Rattle.eval_snapshot_spec.specs.Snapshot.{empty_func, global_left, globals_left, snapshot}
 use Rattle.eval_snapshot_proof.proofs.Trees.{global_from}
+use Rattle.world_contents_proof.specs.OwnValues.{ConstantsAloneReadTheEnvironment}
 use Rattle.eval_behaves_proof.specs.Worlds.{with_empty_func}
+use Rattle.eval_behaves_proof.proofs.OneMore.{globals_many}
 use Rattle.eval_behaves_proof.proofs.StatesAgree.{R, enough, first_value, same_imports, same_types, second_value, value_itself, values_same}
 use Rattle.eval_behaves_proof.proofs.InRange.{each_index}
 use Rattle.eval_behaves_proof.proofs.KnownValues.{Run, constant_again, told_known, untold_unknown}
@@ -38,7 +38,7 @@ globals_at m s from (x ∷ xs) (suc n) g h = let z : suc from + n ≡ from + suc
 or_true : (b c : Bool) → b ≡ false → b || c ≡ true → c ≡ true
 or_true b c f e = ap (λ b. b || c) (sym f) ∙ e
 
-module _ (env : Environment) (m : Module) (s : State) (name : Text) (names kept : List Text) (i j : Inst) (a : IsInst env (one (with_empty_func m)) 0 (with_empty_func m) i)
+module _ (constants : ConstantsAloneReadTheEnvironment) (env : Environment) (m : Module) (s : State) (name : Text) (names kept : List Text) (i j : Inst) (a : IsInst env (one (with_empty_func m)) 0 (with_empty_func m) i)
     (b : IsInst env (one (snapshot m s (name ∷ names) kept)) 0 (snapshot m s (name ∷ names) kept) j)
     (named : TreeNamesOnly (with_entry (each_index m)) m) (begun after : Store) (q e : State)
     (left : Leaves (first_value env m s name names kept i j a b) (with_empty_func m) i (own_store env) begun) (quiet : Leaves (value_in m) m (own_inst m) (imported_store m) q.store)
@@ -66,7 +66,7 @@ module _ (env : Environment) (m : Module) (s : State) (name : Text) (names kept 
   own = own_count Globals env
 
   counted : length (imports_of Globals m) ≡ place
-  counted = globals_counted m.imports 0
+  counted = places_many _ _ m.imports (grind arith) 0
 
   many : length (globals_of m) ≡ place + length m.globals
   many = length-append (imported_globals m.imports) _ ∙ ap (λ z. place + z) (length-map m.globals (λ g. g.ty))
@@ -111,24 +111,26 @@ module _ (env : Environment) (m : Module) (s : State) (name : Text) (names kept 
   only_index : (n z : ℕ) → ((Run m i).of Globals z (own + n)) → z ≡ place + n
   only_index n z r =
       let c = counted in
-      let size = (is_space env (one first) Globals 0 first i.globals a.globals).size in
+      let size = globals_many env m (empty_func m ∷ []) i a in
+      let all = many in
       let within = slice_get_within i.globals z (own + n) (address m i Globals z (own + n) r) in
       let least = defined m i Globals refl z (own + n) r in
       let k = z - place in
       let z_is : z ≡ place + k = omega (arith, c, least) in
-      let at = defined_at k (omega (arith, within, size, c, z_is)) in
+      let at = defined_at k (omega (arith, within, size, all, c, z_is)) in
       let same : own + k ≡ own + n = same_Some _ _ (sym at ∙ ap (slice_get i.globals) (sym z_is) ∙ (address m i Globals z (own + n) r)) in
       omega (arith, same, z_is)
 
   none_below : (x z : ℕ) → x < own → ((Run m i).of Globals z x) → ⊥
   none_below x z low r =
       let c = counted in
-      let size = (is_space env (one first) Globals 0 first i.globals a.globals).size in
+      let size = globals_many env m (empty_func m ∷ []) i a in
+      let all = many in
       let within = slice_get_within i.globals z x (address m i Globals z x r) in
       let least = defined m i Globals refl z x r in
       let k = z - place in
       let z_is : z ≡ place + k = omega (arith, c, least) in
-      let at = defined_at k (omega (arith, within, size, c, z_is)) in
+      let at = defined_at k (omega (arith, within, size, all, c, z_is)) in
       let same : own + k ≡ x = same_Some _ _ (sym at ∙ ap (slice_get i.globals) (sym z_is) ∙ (address m i Globals z x r)) in
       omega (arith, same, low)
 
@@ -159,7 +161,7 @@ module _ (env : Environment) (m : Module) (s : State) (name : Text) (names kept 
           let same : x.0 ≡ h.now = same_Some x.0 h.now (sym x.2 ∙ sym stays ∙ h.now_is) in
           let init = named.globals n g at in
           let is : w.0 ≡ h.now.value = ap (λ (x : Global). x.value) (same_Some _ _ w.2 ∙ same) in
-          (w.0, sym (values_same env m s name names kept i j a b g.init init) ∙ w.1, subst (λ x. ValRel Q x w.0) is (value_itself env m s name names kept i j a b g.init w.0 init w.1))
+          (w.0, sym (values_same env m s name names kept i j a b constants g.init init) ∙ w.1, subst (λ x. ValRel Q x w.0) is (value_itself env m s name names kept i j a b constants g.init w.0 init w.1))
 
   -- so each initialiser of the snapshot has a value
   pub inits_there : (n : ℕ) (g : GlobalDef) → slice_get second.globals n ≡ Some g → (x : Val) × (again g.init ≡ Some x)

@@ -1,5 +1,5 @@
 -- The store after the machine's run and that of the snapshot: all that both have stands at the same addresses and is related.
-use Rattle.base_lists.proofs.Common.{◌≡◌, ◌∙◌, sym, ap, refl, subst, ℕ, ◌+◌, ◌-◌, ◌<◌, List, [], length, Bool, true, false, cond, not, ◌&&◌, Option, Some, inl, inr, arith, slice_get, ◌∷◌, cases_lt, length-append, same_Some, slice_get_within, append_at_left, slice_get_there, numbers_at, same_there, both_at}
+use Rattle.base_lists.proofs.Common.{◌≡◌, ◌∙◌, sym, ap, refl, subst, ℕ, ◌+◌, ◌-◌, ◌<◌, List, [], length, Bool, true, false, cond, not, ◌&&◌, Option, Some, inl, inr, arith, slice_get, ◌∷◌, cases_lt, length-append, places_many, same_Some, slice_get_within, append_at_left, slice_get_there, numbers_at, same_there, both_at}
 use Rattle.std.specs.Prelude.{unwrap_or}
 use Rattle.base_lists.specs.Options.{◌>>=◌}
 use Rattle.wasm_tree_spec.specs.Prelude.{any_uses_data, Functions, Tables, Memories, Globals, ElementSegments, DataSegments, ConstExpr, DataMode, DataSeg, Module, imported_memories}
@@ -7,19 +7,17 @@ use Rattle.wasm_tree.specs.declared.module.DataMode.TheVariants as data'
 use Rattle.wasm_meaning.specs.Prelude.{Text, Inst, Val, Data, Store, imports_of, Environment, own_memories, own_store}
 use Rattle.index_remap.specs.Prelude.{Pairing, BothRel, both, FuncRel, TableRel, GlobalRel, ElemRel, StoreRel, StoreRelOff}
 use Rattle.index_remap_proof.specs.Indices.{TreeNamesOnly, with_entry}
-use Rattle.world_simulation.specs.Prelude.{one, new_memory}
+use Rattle.world_simulation.specs.Prelude.{one, new_memory, IsInst}
 use Rattle.world_contents_proof.specs.Leaves.{Leaves, all_over, data_copies, data_left, memory_left}
-use Rattle.world_simulation.proofs.Alone.{memories_counted}
-use Rattle.world_simulation.proofs.Instancing.{IsInst, is_space}
 use Rattle.world_simulation.proofs.Stored.{own_same, type_same}
 use Rattle.eval_numbers_proof.specs.Ranges.{GlobalsAreExpressible}
 use Rattle.eval_spec.specs.Prelude.{State, imported_store, own_inst, value_in, is_dropped, memory_bytes}
 use Rattle.eval_proof.specs.Alone.{LeavesAlone}
 use Rattle.eval_snapshot_spec.specs.After.{TellsTheSame}
-use Rattle.eval_snapshot_spec.specs.Snapshot.{emptied, is_passive, memory_segments, old_segments, segment_left, segments_left, snapshot}
-use Rattle.eval_snapshot_proof.proofs.Trees.{CodeLaws}
+use Rattle.eval_snapshot_spec.specs.Snapshot.{empty_func, emptied, is_passive, memory_segments, old_segments, segment_left, segments_left, snapshot}
 use Rattle.eval_behaves_proof.specs.Worlds.{with_empty_func}
-use Rattle.eval_behaves_proof.proofs.StatesAgree.{R, first_value, second_value}
+use Rattle.eval_behaves_proof.proofs.OneMore.{mems_many}
+use Rattle.eval_behaves_proof.proofs.StatesAgree.{SnapshotLaws, R, first_value, second_value}
 use Rattle.eval_behaves_proof.proofs.InRange.{each_index}
 use Rattle.eval_behaves_proof.proofs.DatasAlike.{AreBytesOf, all_is, bytes, first_own_stays, memory_at, own, place, second_defined, second_own_stays}
 use Rattle.eval_behaves_proof.proofs.KnownValues.{Run}
@@ -64,17 +62,18 @@ module _ (env : Environment) (m : Module) (s : State) (name : Text) (names kept 
   -- ---- memories ----
 
   counted : length (imports_of Memories m) ≡ here
-  counted = memories_counted m.imports 0
+  counted = places_many _ _ m.imports (grind arith) 0
 
   none_below : (n z : ℕ) → n < base → (Run m i).of Memories z n → ⊥
   none_below n z low r =
       let c = counted in
-      let size = (is_space env (one first) Memories 0 first i.mems a.mems).size in
+      let size = mems_many env m (empty_func m ∷ []) i a in
+      let all = length-append (imported_memories m.imports) m.mems in
       let inside = slice_get_within i.mems z n (address m i Memories z n r) in
       let least = defined m i Memories refl z n r in
       let k = z - here in
       let z_is : z ≡ here + k = omega (arith, c, least) in
-      let at = memory_at env m s name names kept i j a b made named k (omega (arith, inside, size, c, z_is)) in
+      let at = memory_at env m s name names kept i j a b made named k (omega (arith, inside, size, all, c, z_is)) in
       let same : base + k ≡ n = same_Some _ _ (sym at.0 ∙ ap (slice_get i.mems) (sym z_is) ∙ (address m i Memories z n r)) in
       omega (arith, same, low)
 
@@ -162,21 +161,21 @@ module _ (env : Environment) (m : Module) (s : State) (name : Text) (names kept 
 
   -- ---- all ----
 
-  pub stores_alike : CodeLaws → GlobalsAreExpressible e.store → StoreRel Q after other
+  pub stores_alike : SnapshotLaws → GlobalsAreExpressible e.store → StoreRel Q after other
   stores_alike laws fit = record {
     types = λ {a = x} {b = y} r. type_same Q (func x y r);
     owns = λ {a = x} {b = y} r. own_same Q (func x y r);
     funcs = λ {a = x} {b = y} r free. func x y r;
     tables = λ {a = x} {b = y} r. subst (λ y. BothRel (TableRel Q) (slice_get after.tables x) (slice_get other.tables y)) (same (bound m s name names kept env) Tables x y r)
         (subst (λ ts. BothRel (TableRel Q) (slice_get ts x) (slice_get other.tables x)) (sym alone.tables)
-        (tables_alike env m s name names kept i j a b named begun other left right x (within (bound m s name names kept env) Tables x y r)));
+        (tables_alike laws env m s name names kept i j a b named begun other left right x (within (bound m s name names kept env) Tables x y r)));
     mems = λ {a = x} {b = y} r. subst (λ y. BothRel (λ x y. x ≡ y) (slice_get after.mems x) (slice_get other.mems y)) (same (bound m s name names kept env) Memories x y r)
         (mems_alike x (within (bound m s name names kept env) Memories x y r));
     globals = λ {a = x} {b = y} r. subst (λ y. BothRel (GlobalRel Q) (slice_get after.globals x) (slice_get other.globals y)) (same (bound m s name names kept env) Globals x y r)
-        (globals_alike env m s name names kept i j a b named begun after q e left quiet steady related alone told fit other right x (within (bound m s name names kept env) Globals x y r));
+        (globals_alike laws.constants env m s name names kept i j a b named begun after q e left quiet steady related alone told fit other right x (within (bound m s name names kept env) Globals x y r));
     elems = λ {a = x} {b = y} r. subst (λ y. BothRel (ElemRel Q) (slice_get after.elems x) (slice_get other.elems y)) (same (bound m s name names kept env) ElementSegments x y r)
         (subst (λ es. BothRel (ElemRel Q) (slice_get es x) (slice_get other.elems x)) (sym alone.elems)
-        (elems_alike env m s name names kept i j a b named begun other left right x (within (bound m s name names kept env) ElementSegments x y r)));
+        (elems_alike laws env m s name names kept i j a b named begun other left right x (within (bound m s name names kept env) ElementSegments x y r)));
     datas = λ {a = x} {b = y} r. subst (λ y. BothRel (λ (x y : Data). x.bytes ≡ y.bytes) (slice_get after.datas x) (slice_get other.datas y)) (same (bound m s name names kept env) DataSegments x y r)
         (datas_alike x (within (bound m s name names kept env) DataSegments x y r));
   }
@@ -184,4 +183,4 @@ module _ (env : Environment) (m : Module) (s : State) (name : Text) (names kept 
       func : (x y : ℕ) → Q.of Functions x y → BothRel (FuncRel Q) (slice_get after.funcs x) (slice_get other.funcs y)
       func x y r = subst (λ y. BothRel (FuncRel Q) (slice_get after.funcs x) (slice_get other.funcs y)) (same (bound m s name names kept env) Functions x y r)
           (subst (λ fs. BothRel (FuncRel Q) (slice_get fs x) (slice_get other.funcs x)) (sym alone.funcs)
-          (funcs_alike env m s name names kept i j a b named begun other left right laws x (within (bound m s name names kept env) Functions x y r)))
+          (funcs_alike laws env m s name names kept i j a b named begun other left right x (within (bound m s name names kept env) Functions x y r)))

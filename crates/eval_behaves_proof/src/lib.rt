@@ -16,7 +16,14 @@ use index_remap_proof::renumbering_keeps_typing;
 use wasm_meaning::steps_write_only_touched_places;
 use wasm_tree::operands_pass_layer_by_layer;
 use wasm_valid::valid_where_items_hold;
-use world_simulation::related_instances_have_equal_traces;
+use world_contents_proof::{
+    constants_of_one_module_read_the_environment, instantiated_stores_match_their_modules,
+    segments_run_as_copies,
+};
+use world_simulation::{
+    declared_references_are_one_more_segment, index_spaces_list_imports_and_definitions,
+    related_instances_have_equal_traces,
+};
 
 /// States that a run of a module after its evaluated constructors is determined by the module, the
 /// names of the constructors, the kept names, the environment, the embedder's moves and the number
@@ -42,6 +49,7 @@ pub fn quiet_runs_are_the_machines()
     quiet_calls_simulate();
     steps_agree_off_unknown_places();
     quiet_runs_end();
+    index_spaces_list_imports_and_definitions();
 }
 
 /// States that, in each environment that links a valid module, the module after its evaluated
@@ -63,5 +71,10 @@ pub fn snapshot_equivalent()
     operands_pass_layer_by_layer();
     valid_where_items_hold();
     evaluated_numbers_are_in_range();
+    index_spaces_list_imports_and_definitions();
+    constants_of_one_module_read_the_environment();
+    segments_run_as_copies();
+    instantiated_stores_match_their_modules();
+    declared_references_are_one_more_segment();
     related_instances_have_equal_traces();
 }

@@ -12,7 +12,8 @@ returns c =
     let off = c.steps_agree_off_unknown_places.ensures in
     let reached = c.quiet_runs_end.ensures.reached in
     let typing = c.renumbering_keeps_typing.ensures in
-    let naming : NamingLaws = record { entries = typing.tree_entries; named = typing.tree_named } in
+    let places = c.index_spaces_list_imports_and_definitions.ensures in
+    let naming : NamingLaws = record { entries = typing.tree_entries; named = typing.tree_named; spaces = places.spaces; indices = places.indices } in
     record {
       machines = λ m name names kept t valid none quiet env is linked.
           let b = both_instantiated naming env m name names kept t valid none quiet linked in
