@@ -2,7 +2,7 @@
 use Rattle.base_lists.proofs.Common.{◌≡◌, ◌≢◌, ℕ, suc, ◌+◌, ◌-◌, ◌<◌, List, [], ◌∷◌, Option, Some, false, refl, ap, ◌∙◌, arith, add-zero, nat_tests, slice_get, slice_get_within, is_some_there, set_at, set_other}
 use Rattle.wasm_meaning.specs.Prelude.{Store, Filled, and_then}
 use Rattle.world_contents_proof.specs.Leaves.{Copy, over, all_over}
-pub use Rattle.world_contents_proof.specs.Copies.{AreOf, IsOf, Kind, left, run, runs}
+use Rattle.world_contents_proof.specs.Copies.{AreOf, IsOf, Kind, left, run, runs}
 
 -- where two runs, one after the other, do not trap, neither traps, and what the second leaves is left
 pub then_went : (f : Filled) (g : Store → Filled) → (and_then f g).trapped ≡ false → (f.trapped ≡ false) × ((g f.store).trapped ≡ false) × ((and_then f g).store ≡ (g f.store).store)

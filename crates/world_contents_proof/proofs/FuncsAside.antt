@@ -2,7 +2,7 @@
 use Rattle.base_lists.proofs.Common.{◌≡◌, List, [], ◌∷◌, Option, refl, ap, arith}
 use Rattle.wasm_tree_spec.specs.Prelude.{ConstExpr, Module}
 use Rattle.wasm_meaning.specs.Prelude.{Val, Inst, Func, Store, Filled, segments_in, run_elem_with, run_data_with, one_by_one, own_segments}
-pub use Rattle.world_contents_proof.specs.FuncsAside.{filled_with, with_funcs}
+use Rattle.world_contents_proof.specs.FuncsAside.{filled_with, with_funcs}
 
 module _ (fs : List Func) where
   -- runs one after the other do the same whatever the functions are, if each run does

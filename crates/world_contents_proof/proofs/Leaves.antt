@@ -5,13 +5,12 @@ use Rattle.wasm_tree_spec.specs.Prelude.{ConstExpr, ElemMode, ElemSeg, DataMode,
 use Rattle.wasm_tree.specs.declared.module.ElemMode.TheVariants as elem
 use Rattle.wasm_tree.specs.declared.module.DataMode.TheVariants as data'
 use Rattle.wasm_meaning.specs.Prelude.{Text, Entity, Val, Inst, Elem, Store, ref_of, Begun, Filled, PlacedSegment, address_in, all_there, const_value, value_of, elem_with, store_with, part_store, joined_stores, numbers, segments_in, run_elem_with, run_elem, run_data_with, run_data, and_then, one_by_one, segments, insts_from, stores_from, begun, own_store, alone, Added, added, next_inst, LoaderWorld, store_under, supplied, primary_added, begun_under, Environment, ExternalValue}
-pub use Rattle.world_contents_proof.specs.Copies.{memories, tables}
+use Rattle.world_contents_proof.specs.Copies.{IsOf, Kind, left, memories, run, runs, tables}
 use Rattle.world_contents_proof.specs.Copies.{OwnSegmentsLeave, OwnSegmentsRunAsCopies, SegmentsAloneRunAsCopies}
 use Rattle.world_contents_proof.specs.Leaves.{Copy, all_over, elem_copy, elem_copies, data_copy, data_copies, Stands, elem_left, data_left, Leaves, ModulesAloneLeave, WorldsOfOneModuleLeave}
-use Rattle.world_simulation.proofs.Simulated.{what_is_made}
 use Rattle.world_simulation.specs.Prelude.{one, WhatIsInstantiated, AddsWith, IsInst, IsInstantiated, new_data, new_memory, new_table}
 use Rattle.world_contents_proof.proofs.Added.{added_is}
-use Rattle.world_contents_proof.proofs.Copies.{Kind, run, runs, left, IsOf, all_ran, all_stay, then_went}
+use Rattle.world_contents_proof.proofs.Copies.{all_ran, all_stay, then_went}
 
 -- ---- runs of copies ----
 
@@ -150,8 +149,8 @@ world_left env m view b i s names made is inst good =
     (segments env (one m) (i ∷ []) s) (rw (same, append-nil, append-nil)) (rw (← is) at good))
 
 module _ (made : WhatIsInstantiated) where
-  pub world_leaves_by : WorldsOfOneModuleLeave
-  world_leaves_by env m view b h good = by (let are = w.are_insts in search arith)
+  pub world_leaves : WorldsOfOneModuleLeave
+  world_leaves env m view b h good = by (let are = w.are_insts in search arith)
     where
       w : IsInstantiated env (record { parts = one m; view = view }) b
       w = made env (record { parts = one m; view = view }) b h
@@ -163,10 +162,7 @@ module _ (made : WhatIsInstantiated) where
           (x.0, subst (λ is. insts_from env (one m) 0 (one m) ≡ Some is) x.1 w.are_insts, world_left env m view b x.0 w.allocated w.view s is x.2 good)
 
   pub alone_leaves : ModulesAloneLeave
-  alone_leaves env m = world_leaves_by env m (alone m).view
-
-pub world_leaves : WorldsOfOneModuleLeave
-world_leaves = world_leaves_by what_is_made
+  alone_leaves env m = world_leaves env m (alone m).view
 
 pub primary_leaves : (env : Environment) (w : LoaderWorld) (b : Begun) → begun_under env w ≡ Some b → b.trapped ≡ false → (a : Added) × (primary_added env w ≡ Some a) × Leaves (const_value (store_under env w).globals a.inst) w.primary a.inst (store_under env w) b.store
 primary_leaves env w b h good =

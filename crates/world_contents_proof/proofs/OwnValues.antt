@@ -4,7 +4,6 @@ use Rattle.wasm_tree_spec.specs.Prelude.{Space, Globals, ConstExpr, Import, Modu
 use Rattle.wasm_tree.specs.declared.module.ConstExpr.TheVariants as const
 use Rattle.wasm_meaning.specs.Prelude.{Inst, Val, has_kind, places, space_index, imports_of, Environment, own_globals, const_value, value_of, value_of_read, read_of}
 use Rattle.world_simulation.specs.Prelude.{one, read_in, IsInst, imports, defines, IndicesNameImportsOrDefinitions, SpacesAreImportsAndDefinitions}
-use Rattle.world_simulation.proofs.Instancing.{is_space, entry_at}
 
 -- an import of the list has the place `n`, counted from `from`, and the index `x` among those of its kind
 abbrev Indexed : Space → List Import → (from x n : ℕ) → Type 0
@@ -45,6 +44,3 @@ module _ (spaces : SpacesAreImportsAndDefinitions) (indices : IndicesNameImports
           let z : n ≡ r.0 = omega (arith, r.1) in
           rw (e, z, r.3, r.4) f
   const_reads _ = refl
-
-pub const_same : (env : Environment) (m : Module) (i : Inst) → IsInst env (one m) 0 m i → (e : ConstExpr) → value_of env (one m) (i ∷ []) 0 e ≡ const_value (own_globals env) i e
-const_same = const_reads is_space entry_at

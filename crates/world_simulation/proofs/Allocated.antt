@@ -4,8 +4,7 @@ use native.Mathlib.Nat.{add_assoc}
 use Rattle.wasm_tree_spec.specs.Prelude.{Space, Functions, Tables, Memories, Globals, ElementSegments, DataSegments, ConstExpr, GlobalDef, ElemSeg, Module}
 use Rattle.wasm_tree.specs.declared.module.Func as tree
 use Rattle.wasm_meaning.specs.Prelude.{Val, Inst, Func, Global, Elem, Store, Part, module_at, Environment, defined_before, new_func, new_global, elem_of, value_of, store_with, part_store, stores_from}
-pub use Rattle.world_simulation.specs.NewContents.{new_data, new_memory, new_table}
-pub use Rattle.world_simulation.specs.Allocated.{Adds, AddsWith, Allocates, with_elems}
+use Rattle.world_simulation.specs.Allocated.{Adds, AddsWith, Allocates}
 
 -- ---- what one part adds ----
 

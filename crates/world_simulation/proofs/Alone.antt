@@ -1,7 +1,7 @@
 -- A module alone: its imports all stay, so what they denote and what is read through them is a matter of its types and imports.
-use Rattle.base_lists.proofs.Common.{◌≡◌, arith, ℕ, List, ◌++◌, length, Option, Some, add-zero, option_and_then, slice_get, places_many}
-use Rattle.wasm_tree_spec.specs.Prelude.{Space, Functions, Tables, Memories, Globals, Import, ImportDesc, ConstExpr, Module, imported_funcs, imported_tables, imported_memories, imported_globals}
-use Rattle.wasm_meaning.specs.Prelude.{Pair, Outside, places, has_kind, end_of, read_of, Environment, own_key_of, imported_external_value, numbers, own_count, defined_count, space}
+use Rattle.base_lists.proofs.Common.{◌≡◌, arith, ℕ, ◌++◌, Option, Some, add-zero, option_and_then, slice_get}
+use Rattle.wasm_tree_spec.specs.Prelude.{Space, ImportDesc, ConstExpr, Module}
+use Rattle.wasm_meaning.specs.Prelude.{Pair, Outside, end_of, read_of, Environment, own_key_of, imported_external_value, numbers, own_count, defined_count, space}
 use Rattle.world_simulation.specs.Prelude.{one, site, key_in, external_value_in, addresses, read_in}
 
 -- ---- what an import denotes ----
@@ -22,21 +22,6 @@ thing_is env t n = grind (arith, ends_outside, key_is)
 
 pub space_is : (env : Environment) (t : Module) (k : Space) → space env (one t) k 0 t ≡ option_and_then (λ l. Some (l ++ numbers (own_count k env) (defined_count k t))) (addresses env t.types t.imports k)
 space_is env t k = simp (thing_is env t, add-zero)
-
--- ---- how many are imported ----
-
-module _ (is : List Import) (n : ℕ) where
-  pub funcs_counted : length (places (has_kind Functions) is n) ≡ length (imported_funcs is)
-  funcs_counted = places_many _ _ is (grind arith) n
-
-  pub tables_counted : length (places (has_kind Tables) is n) ≡ length (imported_tables is)
-  tables_counted = places_many _ _ is (grind arith) n
-
-  pub memories_counted : length (places (has_kind Memories) is n) ≡ length (imported_memories is)
-  memories_counted = places_many _ _ is (grind arith) n
-
-  pub globals_counted : length (places (has_kind Globals) is n) ≡ length (imported_globals is)
-  globals_counted = places_many _ _ is (grind arith) n
 
 -- ---- what is read ----
 

@@ -5,7 +5,7 @@ use Rattle.wasm_tree_spec.specs.Prelude.{Space, Tables, Memories, ElementSegment
 use Rattle.wasm_meaning.specs.Prelude.{Store, Environment, Filled, or_trapped}
 use Rattle.base_lists.proofs.Related.{at_put_here}
 use Rattle.world_simulation.specs.Prelude.{Instantiated, DefinedAt}
-pub use Rattle.world_simulation.specs.Segments.{Kept}
+use Rattle.world_simulation.specs.Segments.{Kept}
 
 -- ---- lists ----
 

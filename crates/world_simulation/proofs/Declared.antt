@@ -6,7 +6,7 @@ use Rattle.wasm_meaning.specs.Prelude.{Inst, Elem, Environment, all_there, elem_
 use Rattle.wasm_meaning.specs.World.{ref_value}
 use Rattle.index_remap.specs.Prelude.{declared_refs, with_declared}
 use Rattle.world_simulation.specs.Prelude.{one}
-pub use Rattle.world_simulation.specs.Declared.{IsWithDeclared, last_segments}
+use Rattle.world_simulation.specs.Declared.{IsWithDeclared, last_segments}
 
 pub is_with_declared : (m : Module) (fs : List ℕ) → IsWithDeclared m (with_declared m fs) fs
 is_with_declared m [] = assumption (sym (append-nil m.elems))

@@ -1,8 +1,8 @@
 -- What an instance holds, and the instances of several parts one after the other.
-use Rattle.base_lists.proofs.Common.{◌≡◌, ap, ℕ, zero, suc, List, [], ◌∷◌, Some, arith, add-zero, inl, inr, slice_get, length-append, same_Some, length-numbers, and_then_is, is_some_there, all_there_length, append_from, all_there_back, number_is, add_next}
-use Rattle.wasm_tree_spec.specs.Prelude.{Space, Functions, Tables, Memories, Globals, Module}
+use Rattle.base_lists.proofs.Common.{◌≡◌, ap, ℕ, zero, suc, List, [], ◌∷◌, Some, arith, add-zero, inl, inr, slice_get, length-append, same_Some, length-numbers, and_then_is, all_there_length, append_from, all_there_back, number_is, add_next}
+use Rattle.wasm_tree_spec.specs.Prelude.{Space, Module}
 use Rattle.wasm_meaning.specs.Prelude.{Inst, Part, module_at, imports_of, Environment, space, numbers, inst_of, insts_from, defined_count, base}
-pub use Rattle.world_simulation.specs.IndexSpaces.{EachInst, Entry, IsInst, IsSpace, defines, import_address, imports}
+use Rattle.world_simulation.specs.IndexSpaces.{EachInst, Entry, IsInst, IsSpace, defines, import_address, imports}
 
 -- ---- an index space ----
 
@@ -22,10 +22,6 @@ module _ (env : Environment) (parts : List Part) (k : Space) (p : ℕ) (m : Modu
 module _ (env : Environment) (parts : List Part) (p : ℕ) (m : Module) where
   pub inst_is : (i : Inst) → inst_of env parts p m ≡ Some i → IsInst env parts p m i
   inst_is i h = search arith
-
-  -- where its index spaces are there, so is the instance
-  pub inst_there : (fs ts ms gs : List ℕ) → space env parts Functions p m ≡ Some fs → space env parts Tables p m ≡ Some ts → space env parts Memories p m ≡ Some ms → space env parts Globals p m ≡ Some gs → (i : Inst) × (inst_of env parts p m ≡ Some i)
-  inst_there fs ts ms gs f t s g = is_some_there _ (rw (f, t, s, g))
 
 -- ---- several ----
 

@@ -5,12 +5,12 @@ use Rattle.wasm_meaning.specs.Prelude.{overwrite, no_items, no_bytes, RefVal, Va
 use Rattle.index_remap.specs.Prelude.{Pairing, OneToOne, OptRel, none, some, StoreRel, set_table, set_memory, drop_elem, drop_data, turned, HasNoPartner}
 use Rattle.index_remap.proofs.Rel.{written}
 use Rattle.index_remap.proofs.StepsAgree.{changed_rel}
-use Rattle.world_simulation.specs.Prelude.{Instantiated, DefinedAt, values_in, InOrder, both, ends, only_second, ElemsPartner, ElemAlone, DatasPartner, DataAlone, offset_in}
+use Rattle.world_simulation.specs.Prelude.{Instantiated, DefinedAt, values_in, InOrder, both, ends, only_second, ElemsPartner, ElemAlone, DatasPartner, DataAlone, offset_in, IsInst, Kept}
 use Rattle.world_simulation.specs.Segments as segments
-pub use Rattle.world_simulation.specs.Segments.{in_first, in_second}
-pub use Rattle.world_simulation.specs.ByPart.{tasks_by}
-use Rattle.world_simulation.proofs.Instancing.{IsInst, inst_in}
-use Rattle.world_simulation.proofs.Copied.{set_holds, HasRoom, Kept, nothing_kept}
+use Rattle.world_simulation.specs.Segments.{in_first, in_second}
+use Rattle.world_simulation.specs.ByPart.{tasks_by}
+use Rattle.world_simulation.proofs.Instancing.{inst_in}
+use Rattle.world_simulation.proofs.Copied.{set_holds, HasRoom, nothing_kept}
 
 -- ---- each segment is one that its part defines ----
 

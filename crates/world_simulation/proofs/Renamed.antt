@@ -7,10 +7,9 @@ use Rattle.wasm_meaning.specs.Prelude.{Val, Inst, num_of, PlacedSegment, start_i
 use Rattle.index_remap.specs.declared.remap.Remap.{Remap}
 use Rattle.index_remap.specs.Prelude.{new_func, new_const, new_elem, new_elem_mode, new_data_mode, new_export_desc, new_start, Pairing, OptRel, none, some, ListRel, nil, cons, ValRel, ExternalValueRel, a_func, a_table, a_memory, a_global, passed, RenumberedCodeIsRelated}
 use Rattle.index_remap_proof.specs.Indices.{Indices, ConstNamesOnly, FuncNamesOnly, ExportNamesOnly, ElemModeNamesOnly, DataModeNamesOnly}
-use Rattle.world_simulation.specs.Prelude.{EntriesName, FuncsCorrespond, ElemsPartner, DatasPartner}
+use Rattle.world_simulation.specs.Prelude.{EntriesName, FuncsCorrespond, ElemsPartner, DatasPartner, ElemsAlike}
 use Rattle.world_simulation.proofs.Named.{all_named}
 use Rattle.base_lists.proofs.Related.{placed_rel}
-use Rattle.world_simulation.proofs.Stored.{ElemsAlike}
 
 -- the offset of a segment, by values that are related
 pub offset_same : (R : Pairing) {o p : Option Val} → OptRel (ValRel R) o p → option_and_then (num_of W32) o ≡ option_and_then (num_of W32) p

@@ -1,14 +1,12 @@
 -- Worlds of one module each: their instances, what their imports denote, and whether these match.
-use Rattle.base_lists.proofs.Common.{◌≡◌, arith, ℕ, zero, suc, List, [], ◌∷◌, ◌++◌, length, Option, Some, false, refl, sym, ap, ◌∙◌, slice_get, unwrap_or, and_then_is, all_there_length, fun_ext, length_rel, same_there, there, then_rel, then_same_is, then_eq, opt_self, self_rel, all_rel}
+use Rattle.base_lists.proofs.Common.{◌≡◌, ℕ, zero, suc, List, [], ◌++◌, length, Option, Some, false, refl, sym, ap, ◌∙◌, slice_get, unwrap_or, and_then_is, all_there_length, fun_ext, length_rel, same_there, there, then_rel, then_same_is, then_eq, opt_self, self_rel, all_rel}
 use Rattle.wasm_tree_spec.specs.Prelude.{Space, FuncType, Import, ImportDesc, Module}
 use Rattle.wasm_tree.specs.declared.module.ImportDesc.TheVariants as im
-use Rattle.wasm_meaning.specs.Prelude.{Inst, Store, Site, has_kind, places, sites, Environment, ExternalValue, all_of, space, sites_in, is_match, is_matched, insts_from}
+use Rattle.wasm_meaning.specs.Prelude.{Store, Site, has_kind, places, sites, Environment, ExternalValue, all_of, space, sites_in, is_match, is_matched}
 use Rattle.index_remap.specs.Prelude.{Pairing, OptRel, StoreRel, ExternalValueRel, a_func, a_table, a_memory, a_global}
 use Rattle.world_simulation.specs.Prelude.{one, external_value_in, addresses, SharesOwn, SpaceAt}
 use Rattle.world_simulation.proofs.Alone.{space_is, thing_is, on_some}
-use Rattle.world_simulation.proofs.Owned.{owned_rel, look_rel}
-pub use Rattle.world_simulation.proofs.Owned.{address_rel}
-use Rattle.world_simulation.proofs.Instancing.{IsInst, inst_is}
+use Rattle.world_simulation.proofs.Owned.{owned_rel, look_rel, address_rel}
 
 module _ (R : Pairing) (env : Environment) (own : SharesOwn R env) where
   pub thing_rel : (types : List FuncType) (o : Option Import) → OptRel (ExternalValueRel R) (external_value_in env types o) (external_value_in env types o)
@@ -44,8 +42,3 @@ module _ (R : Pairing) (env : Environment) (own : SharesOwn R env) where
     -- the same imports match in both or in neither
     pub all_matched : all_of (is_matched env (one t) s) (sites (one t)) ≡ all_of (is_matched env (one u) z) (sites (one u))
     all_matched = rw (fun_ext (λ (x : Site). matched_same x.part x.import)) (ap (λ (is : List Import). all_of (is_matched env (one u) z) (sites_in 0 (length is) 0 ++ [])) (sym imports))
-
-module _ (env : Environment) (t : Module) (is : List Inst) where
-  -- the one instance of a module alone
-  pub one_inst : insts_from env (one t) 0 (one t) ≡ Some is → (i : Inst) × (is ≡ i ∷ []) × IsInst env (one t) 0 t i
-  one_inst h = search (arith, inst_is)

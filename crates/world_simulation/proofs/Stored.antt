@@ -4,11 +4,11 @@ use Rattle.wasm_tree_spec.specs.Prelude.{Space, Functions, Tables, Memories, Glo
 use Rattle.wasm_tree.specs.declared.module.Func as tree
 use Rattle.wasm_meaning.specs.Prelude.{Val, Inst, Func, Global, Elem, Store, ref_of, type_of_func, own_of, Environment, own_memories, new_func, new_global, global_with, elem_with, elem_of, own_store, stores_from}
 use Rattle.index_remap.specs.Prelude.{Pairing, OptRel, none, some, BothRel, both, ListRel, nil, RefRel, ValRel, number, reference, FuncRel, defined, GlobalRel, ElemRel, StoreRel}
-use Rattle.world_simulation.specs.Prelude.{SharesOwn, Instantiated, DefinedAt, FuncsCorrespond, FuncsAt, GlobalsCorrespond, ElemsCorrespond, Partners, DefinitionsCorrespond, HasDefinitions}
+use Rattle.world_simulation.specs.Prelude.{SharesOwn, Instantiated, DefinedAt, FuncsCorrespond, FuncsAt, GlobalsCorrespond, ElemsCorrespond, Partners, DefinitionsCorrespond, HasDefinitions, Adds, Allocates, new_data, new_memory, new_table}
 use Rattle.world_simulation.specs.Definitions.{alike, set_apart, declared, kept}
 use Rattle.world_simulation.specs.Definitions as partners
-pub use Rattle.world_simulation.specs.Definitions.{ElemsAlike}
-use Rattle.world_simulation.proofs.Allocated.{new_table, new_memory, new_data, Adds, Allocates, funcs_allocate, tables_allocate, mems_allocate, globals_allocate, elems_allocate, datas_allocate, keeps, stands}
+use Rattle.world_simulation.specs.Definitions.{ElemsAlike}
+use Rattle.world_simulation.proofs.Allocated.{funcs_allocate, tables_allocate, mems_allocate, globals_allocate, elems_allocate, datas_allocate, keeps, stands}
 use Rattle.world_simulation.proofs.Owned.{null_rel, own_funcs_rel, own_tables_rel, own_globals_rel}
 
 -- ---- what stands at an address ----
