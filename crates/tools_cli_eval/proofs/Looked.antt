@@ -8,7 +8,7 @@ use Rattle.wasm_valid.specs.declared.kinds.ItemKind.{ItemKind}
 use Rattle.wasm_valid.specs.declared.kinds.ItemKind.TheVariants as kind
 use Rattle.wasm_valid.specs.Prelude.{InSpace, ItemsHold}
 use Rattle.wasm_meaning.specs.Prelude.{Text, export_named, same_text}
-use Rattle.wasm_meaning.proofs.Exports.{exported_there}
+use Rattle.wasm_meaning.specs.Counted.{FoundExportsAreThere}
 use Rattle.eval_snapshot_spec.specs.Evaluated.{first_missing, func_exported, func_named, funcs_named}
 use Rattle.tools_cli_eval.specs.Named.{AreFuncsOf}
 
@@ -23,8 +23,8 @@ export_before es at e name above within is =
     at_drop_more (λ l. export_named l name) es (at - 1) e (omega (arith, above, within))
     ∙ (ap (λ x. export_named (x ∷ drop (at - 1 + 1) es) name) (sym is) ∙ (ap (λ n. export_named (e ∷ drop n es) name) same ∙ ap (λ b. cond b (Some e.desc) (export_named (drop at es) name)) (same_bytes e.name name)))
 
-pub func_there : (m : Module) → ItemsHold m → (name : Text) (func : ℕ) → func_named m name ≡ Some func → func < length (funcs_of m)
-func_there m hold name func h = by (export_named m.exports name) refl h
+func_there : FoundExportsAreThere → (m : Module) → ItemsHold m → (name : Text) (func : ℕ) → func_named m name ≡ Some func → func < length (funcs_of m)
+func_there exported m hold name func h = by (export_named m.exports name) refl h
   where
     by : (o : Option ExportDesc) → export_named m.exports name ≡ o → (o >>= func_exported) ≡ Some func → func < length (funcs_of m)
     by None e k = absurd (cc)
@@ -33,7 +33,7 @@ func_there m hold name func h = by (export_named m.exports name) refl h
     by (Some (ex.Global t)) e k = absurd (cc)
     by (Some (ex.Func f)) e k =
         let is : f ≡ func = same_Some f func k in
-        let (n, x, at, desc) = exported_there m.exports name (ex.Func f) e in
+        let (n, x, at, desc) = exported m.exports name (ex.Func f) e in
         let item = hold kind.Export n (slice_get_within m.exports n x at) in
         let same : item.0 ≡ x = same_Some item.0 x (sym item.1 ∙ at) in
         let space : InSpace m (ex.Func f) = subst (InSpace m) (ap (λ (y : Export). y.desc) same ∙ desc) item.2 in
@@ -63,11 +63,11 @@ module _ (m : Module) (names : List Text) (n : ℕ) (x : Text) (funcs : List ℕ
   next : drop n names ≡ x ∷ rest
   next = drop_more names n x inside ∙ ap (λ y. y ∷ rest) (sym is)
 
-  pub found_more : ItemsHold m → (func : ℕ) → func_named m x ≡ Some func → Found m names (n + 1) (funcs ++ func ∷ [])
-  found_more hold func e = record {
+  pub found_more : FoundExportsAreThere → ItemsHold m → (func : ℕ) → func_named m x ≡ Some func → Found m names (n + 1) (funcs ++ func ∷ [])
+  found_more exported hold func e = record {
     named =
         let one : funcs_named m (x ∷ rest) ≡ func ∷ funcs_named m rest = rw e refl in
         append_assoc funcs (func ∷ []) (funcs_named m rest) ∙ (ap (λ l. funcs ++ l) (sym one ∙ ap (funcs_named m) (sym next)) ∙ h.named);
     missing = h.missing ∙ (ap (first_missing m) next ∙ ap (λ o. cond (is_some o) (first_missing m rest) (Some x)) e);
-    there = added_there m funcs func h.there (func_there m hold x func e);
+    there = added_there m funcs func h.there (func_there exported m hold x func e);
   }

@@ -10,6 +10,7 @@ use crate::evaluation::EvalFault;
 use std::alloc::Global;
 use std::collections::BTreeMap;
 use wasm_bytes::{Items, Name, NoMemory};
+use wasm_meaning::found_exports_are_there;
 use wasm_tree::{Export, ExportDesc, Module};
 use wasm_valid::valid_where_items_hold;
 
@@ -53,6 +54,7 @@ pub(crate) fn funcs_named(
     ensures fault { IfErr result (λ f. (f ≡ OutOfMemory) ⊎ ((name : Text) × (first_missing «module».now names.now ≡ Some name) × (f ≡ Missing name))) }
 {
     valid_where_items_hold();
+    found_exports_are_there();
     let table = exports_named(alloc, module.exports.as_slice())?;
     let mut funcs = Items::new(alloc);
     for name in names {
