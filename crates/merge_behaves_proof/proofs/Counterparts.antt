@@ -1,6 +1,6 @@
 -- For what each entry of a part's index space stands, in the parts' world and in the merged module: for what a part defines, with its number among all
 -- definitions, or for an import that stays.
-use Rattle.base_lists.proofs.Common.{◌≡◌, ℕ, ◌+◌, ◌-◌, ◌<◌, ◌≤◌, List, [], ◌∷◌, length, Option, Some, None, true, arith, option_and_then, slice_get, place_back, slice_get_past, opt_self, then_same_is, then_rel, numbers_at}
+use Rattle.base_lists.proofs.Common.{◌≡◌, ℕ, ◌+◌, ◌-◌, ◌<◌, List, length, Option, Some, None, true, arith, option_and_then, slice_get, place_back, slice_get_past, opt_self, then_same_is, then_rel, numbers_at}
 use Rattle.wasm_tree_spec.specs.Prelude.{Space, Module, index_of_export, space_of_import, space_of_export}
 use Rattle.wasm_meaning.specs.Prelude.{Part, Site, Defined, Outside, has_kind, module_at, import_at, imports_of, Environment, owned_of, same_key, own_count, defined_count, defined_before, address_of, own_key, outside_external_value, base, external_value_at, defined_external_value}
 use Rattle.merge_spec.specs.Prelude.{link_fault, staying_of, new_index}
@@ -11,11 +11,6 @@ use Rattle.world_simulation.specs.Prelude.{OwnEntitiesCorrespond, import_address
 use Rattle.merge_behaves_proof.specs.Shared.{shared_count, is_shared, sharing}
 use Rattle.merge_behaves_proof.proofs.SpaceLaws.{SpaceLaws}
 use Rattle.merge_behaves_proof.proofs.ValueShared.{is_same, shares_own}
-
--- what the parts up to one define is no more than what all parts define
-pub defined_low : (k : Space) (parts : List Part) (p : ℕ) (m : Module) → module_at parts p ≡ Some m → defined_before k parts p + defined_count k m ≤ defined_before k parts (length parts)
-defined_low k [] p m e = cc
-defined_low k (part ∷ parts) p m e = grind (arith, defined_low k parts (p - 1) m)
 
 -- ---- the environment's own ----
 
