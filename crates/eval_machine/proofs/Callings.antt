@@ -3,7 +3,7 @@ use Rattle.base_lists.proofs.Common.{◌≡◌, ℕ, ◌+◌, ◌-◌, ◌/◌, 
 use Rattle.wasm_tree_spec.specs.Prelude.{ValType, FuncType, Instr, out-Instr, Module, funcs_of, imported_funcs}
 use Rattle.wasm_tree.specs.declared.instr.Instr.TheVariants as i
 use Rattle.wasm_tree.specs.declared.instr.Instr.TheOpen.{Instr-F}
-use Rattle.wasm_valid.specs.Prelude.{IsValid}
+use Rattle.eval_references_proof.specs.Imports.{ImportsAreTyped}
 use Rattle.wasm_meaning.specs.Prelude.{Outcome, Gives, Traps, IllTyped, Pair, Val, Func, Code, Own, Entry, declared, pop_typed}
 use Rattle.eval_spec.specs.declared.limits.TheConstants.{MOST_DEPTH}
 use Rattle.eval_spec.specs.Prelude.{own_inst}
@@ -48,7 +48,7 @@ module _ (m : Module) (r : Registers) (o : Instr) (n : ℕ) (rest : List Instr) 
   call_code t locals body e f (Gives q) g false h true k = rw (e, f, g, h, k)
   call_code t locals body e f (Gives q) g false h false k = rw (e, f, g, h, k)
 
-pub call_begins : (m : Module) (o : Instr) (r : Registers) (n : ℕ) → IsValid m → Fits m r.kept → o ≡ i.Call n → ComesToAct m o r (act.Calls n) r
+pub call_begins : (m : Module) (o : Instr) (r : Registers) (n : ℕ) → ImportsAreTyped m → Fits m r.kept → o ≡ i.Call n → ComesToAct m o r (act.Calls n) r
 call_begins m o r n v f e = λ rest p es. by_layer m r o (Instr-F.Call n) rest p es _ (ap out-Instr e ∙ i.outs-Call n) (by rest p es (slice_get (store_in m r.kept).funcs n) refl)
   where
     fs : List Func

@@ -4,8 +4,6 @@ use Rattle.std.specs.Prelude.{unwrap_or}
 use Rattle.base_lists.specs.Options.{◌>>=◌, all_there}
 use Rattle.wasm_tree_spec.specs.Prelude.{FuncType, Import, ElemSeg, ElemMode, DataSeg, DataMode, Module, func_of, funcs_of, imported_funcs, memories_of}
 use Rattle.wasm_tree.specs.declared.module.Func.{Func as FuncDef}
-use Rattle.wasm_valid.specs.Prelude.{IsValid}
-use Rattle.wasm_valid.proofs.Order.{each_item}
 use Rattle.wasm_tree.specs.declared.module.ElemMode.TheVariants as elem
 use Rattle.wasm_tree.specs.declared.module.DataMode.TheVariants as data'
 use Rattle.wasm_num.specs.Operations.{W32}
@@ -13,7 +11,7 @@ use Rattle.wasm_meaning.specs.Prelude.{overwrite, Pair, RefVal, Func, Code, Own,
 use Rattle.eval_spec.specs.declared.limits.TheConstants.{MOST_TURNS}
 use Rattle.eval_spec.specs.declared.stop.Stop.TheVariants as why
 use Rattle.eval_spec.specs.Prelude.{State, Stage, Going, Stopped, Finished, Test, first_held, is_finished, state_of, stopped_or, written_after, copied_slots, data_tests, elem_tests, imported_func, place_in, in_order, instantiated, filled_from, own_inst, state_at_first, value_in, with_data, with_data_mode, with_elem, with_elem_mode, with_segments}
-use Rattle.eval_references_proof.proofs.Imports.{ImportsTyped, imports_many, imports_typed}
+use Rattle.eval_references_proof.specs.Imports.{ImportsAreTyped}
 use Rattle.eval_machine.specs.declared.kept.Kept.{Kept}
 use Rattle.eval_machine.specs.Prelude.{Fits, store_in}
 use Rattle.eval_machine.specs.Kept.{base_of, no_state}
@@ -193,10 +191,10 @@ code_of : (m : Module) (f : FuncDef) (o : Option FuncType) (y : Func) → slice_
 code_of m f None y e g = absurd (let k = rw e at g in cc)
 code_of m f (Some t) y e g = let k = rw e at g in (t, e, cc)
 
-pub funcs_are : (m : Module) (fs : List Func) → ImportsTyped m m.imports → FuncsBegin m fs → FuncsAre m fs
+pub funcs_are : (m : Module) (fs : List Func) → ImportsAreTyped m → FuncsBegin m fs → FuncsAre m fs
 funcs_are m fs h b =
     let imports = filter_map (imported_func m) m.imports in
-    let n = imports_many m m.imports h in
+    let n = h.many in
     let whole : length fs ≡ length imports + length b.defined = ap length b.is ∙ length-append imports b.defined in
     let defs : length b.defined ≡ length m.funcs = all_there_length (new_func (own_inst m)) m.funcs b.defined b.code in
     record {
@@ -213,12 +211,12 @@ funcs_are m fs h b =
 
 -- ---- as the machine calls them ----
 
-module _ (m : Module) (k : Kept) (v : IsValid m) (f : Fits m k) where
+module _ (m : Module) (k : Kept) (v : ImportsAreTyped m) (f : Fits m k) where
   abbrev pub funcs_now : List Func
   funcs_now = (store_in m k).funcs
 
   pub funcs_now_are : FuncsAre m funcs_now
-  funcs_now_are = funcs_are m funcs_now (imports_typed m (each_item m v)) (funcs_begin m f.ready)
+  funcs_now_are = funcs_are m funcs_now v (funcs_begin m f.ready)
 
   counted : k.imports.funcs ≡ length (imported_funcs m.imports)
   counted = ap (λ i. i.funcs) f.imports

@@ -1,11 +1,10 @@
 -- A call that the host makes, as the machine makes it.
 use Rattle.base_lists.proofs.Common.{◌≡◌, ℕ, zero, suc, ◌+◌, ◌-◌, ◌/◌, ◌<◌, ◌≤◌, List, [], ◌∷◌, map, length, Bool, true, false, Option, Some, None, refl, sym, ap, ◌∙◌, inl, inr, arith, slice_get, nat_lt, IsSome, filter_map, option_and_then, option_map, cases_lt, same_Some, slice_get_within, slice_get-map, length-map, and_then_is, chosen_from, append_at_left, append_left, append_right, map_at, slice_get_none, slice_get_there}
 use Rattle.std.proofs.Common.{length-append}
-use Rattle.wasm_tree_spec.specs.Prelude.{FuncType, ValType, Instr, Import, ImportDesc, Module, func_of, funcs_of, imported_funcs, type_of_func}
+use Rattle.wasm_tree_spec.specs.Prelude.{FuncType, ValType, Instr, Import, Module, func_of, funcs_of, imported_funcs, type_of_func}
 use Rattle.wasm_tree.specs.declared.module.Func.{Func as FuncDef}
-use Rattle.wasm_tree.specs.declared.module.ImportDesc.TheVariants as im
 use Rattle.wasm_valid.specs.declared.kinds.ItemKind.TheVariants as kind
-use Rattle.wasm_valid.specs.Prelude.{ImportHolds, IsValid, ItemsHold}
+use Rattle.wasm_valid.specs.Prelude.{IsValid, ItemsHold}
 use Rattle.wasm_meaning.specs.Prelude.{pair_of, Pair, Func, Code, Own, Mark, declared}
 use Rattle.wasm_meaning.specs.Control.{type_of_func as type_of}
 use Rattle.eval_spec.specs.declared.limits.TheConstants.{MOST_TURNS}
@@ -21,22 +20,10 @@ use Rattle.block_pool.specs.Pages.{Pages}
 use Rattle.eval_machine.proofs.Stays.{fits_still}
 use Rattle.eval_machine.proofs.References.{is_ready}
 use Rattle.eval_references_proof.specs.References.{EvaluatedGlobalsAreTyped, EvaluatedRefsAreThere}
-use Rattle.eval_references_proof.proofs.Imports.{ImportsTyped}
+use Rattle.eval_references_proof.specs.Imports.{ImportsAreTyped, ImportsTyped}
 use Rattle.eval_machine.proofs.Funcs.{FuncsAre, FuncsBegin, funcs_are, funcs_begin}
 
 -- ---- the function at an index ----
-
-pub imports_typed : (m : Module) → ItemsHold m → ImportsTyped m m.imports
-imports_typed m hold n i at ty is =
-    let h = hold kind.Import n (slice_get_within m.imports n i at) in
-    let same : h.0 ≡ i = same_Some h.0 i (sym h.1 ∙ at) in
-    by i.desc refl is (rw same at h.2)
-  where
-    by : (d : ImportDesc) → i.desc ≡ d → func_of d ≡ Some ty → ImportHolds m d → ty < length m.types
-    by (im.Func t) e f h = rw (← same_Some t ty f) h
-    by (im.Table t) e f h = absurd (let k = f in cc)
-    by (im.Memory t) e f h = absurd (let k = f in cc)
-    by (im.Global t) e f h = absurd (let k = f in cc)
 
 own_typed : (m : Module) (is : List Import) → ImportsTyped m is → (n ty : ℕ) (t : FuncType) → slice_get (imported_funcs is) n ≡ Some ty → slice_get m.types ty ≡ Some t → (p : Pair) × (slice_get (filter_map (imported_func m) is) n ≡ Some (Own p t))
 own_typed m [] h n ty t e f = absurd (let k = e in cc)
@@ -67,18 +54,18 @@ pub own_type : (m : Module) (func : ℕ) → length (imported_funcs m.imports) �
 own_type m func le None at = ap (option_and_then (slice_get m.types)) (own_index m func le ∙ ap (option_map (λ f. f.ty)) at)
 own_type m func le (Some f) at = ap (option_and_then (slice_get m.types)) (own_index m func le ∙ ap (option_map (λ f. f.ty)) at)
 
-module _ (m : Module) (hold : ItemsHold m) (k : Kept) (fits : Fits m k) (func : ℕ) (t : FuncType) (typed : type_of_func m func ≡ Some t) where
+module _ (m : Module) (imports : ImportsAreTyped m) (k : Kept) (fits : Fits m k) (func : ℕ) (t : FuncType) (typed : type_of_func m func ≡ Some t) where
   begin : FuncsBegin m (base_of m).store.funcs
   begin = funcs_begin m fits.ready
 
   are : FuncsAre m (base_of m).store.funcs
-  are = funcs_are m (base_of m).store.funcs (imports_typed m hold) begin
+  are = funcs_are m (base_of m).store.funcs imports begin
 
   pub own_func : func < length (imported_funcs m.imports) → (p : Pair) × (slice_get (state_in m k).store.funcs func ≡ Some (Own p t))
   own_func lt =
       let ty = and_then_is (slice_get (funcs_of m) func) (slice_get m.types) t typed in
       let at : slice_get (imported_funcs m.imports) func ≡ Some ty.0 = sym (append_left (imported_funcs m.imports) _ func lt) ∙ ty.1 in
-      let r = own_typed m m.imports (imports_typed m hold) func ty.0 t at ty.2 in
+      let r = own_typed m m.imports imports.typed func ty.0 t at ty.2 in
       (r.0, ap (λ fs. slice_get fs func) begin.is ∙ append_at_left (filter_map (imported_func m) m.imports) begin.defined func (Own r.0 t) r.1)
 
   pub code_func : (f : FuncDef) → length (imported_funcs m.imports) ≤ func → slice_get m.funcs (func - length (imported_funcs m.imports)) ≡ Some f → slice_get (state_in m k).store.funcs func ≡ Some (Code t (own_inst m) (declared f.locals) f.body)
@@ -119,22 +106,22 @@ module _ (unique : QuietEndsAreUnique) (m : Module) (func : ℕ) where
   frame_ends old new t locals body (Some x) at e runs =
       ends_at (state_in m old.kept) (entered m old t [] locals body (Mark ∷ [])) (Stopped x new.kept.turns) (rw at (opened_is old t locals body e)) (runs (Mark ∷ []) refl) refl
 
-module _ (unique : QuietEndsAreUnique) (m : Module) (hold : ItemsHold m) (k : Kept) (fits : Fits m k) (func : ℕ) (t : FuncType) (typed : type_of_func m func ≡ Some t) where
+module _ (unique : QuietEndsAreUnique) (m : Module) (imports : ImportsAreTyped m) (k : Kept) (fits : Fits m k) (func : ℕ) (t : FuncType) (typed : type_of_func m func ≡ Some t) where
   func_there : (f : Func) × (slice_get (state_in m k).store.funcs func ≡ Some f) × (type_of f ≡ t)
   func_there = elim (cases_lt func (length (imported_funcs m.imports))) [
-    | inl lt ↦ let r = own_func m hold k fits func t typed lt in (Own r.0 t, r.1, refl)
+    | inl lt ↦ let r = own_func m imports k fits func t typed lt in (Own r.0 t, r.1, refl)
     | inr le ↦
         let ty = and_then_is (slice_get (funcs_of m) func) (slice_get m.types) t typed in
         let many : length (funcs_of m) ≡ length (imported_funcs m.imports) + length m.funcs = length-append (imported_funcs m.imports) (map (λ f. f.ty) m.funcs) ∙ ap (λ n. length (imported_funcs m.imports) + n) (length-map m.funcs (λ f. f.ty)) in
         let f = slice_get_there m.funcs (func - length (imported_funcs m.imports)) (omega (arith, le, many, slice_get_within (funcs_of m) func ty.0 ty.1)) in
-        (Code t (own_inst m) (declared f.0.locals) f.0.body, code_func m hold k fits func t typed f.0 le f.1, refl)
+        (Code t (own_inst m) (declared f.0.locals) f.0.body, code_func m imports k fits func t typed f.0 le f.1, refl)
   ]
 
   pub wrong : takes_and_gives_nothing t ≡ false → CallEnds m func k (Some why.Signature) k
   wrong e = let f = func_there in wrong_signature unique m func k k f.0 f.1 (ap takes_and_gives_nothing f.2 ∙ e) refl
 
   pub own_called : func < length (imported_funcs m.imports) → takes_and_gives_nothing t ≡ true → CallEnds m func k (Some why.Import) k
-  own_called lt e = let r = own_func m hold k fits func t typed lt in is_own unique m func k k r.0 t r.1 e refl
+  own_called lt e = let r = own_func m imports k fits func t typed lt in is_own unique m func k k r.0 t r.1 e refl
 
 -- ---- the start ----
 
@@ -169,12 +156,12 @@ start_typed m hold func some =
     rw at refl
 
 -- the function at an index of a valid module has its type
-pub type_there : (m : Module) → ItemsHold m → (func : ℕ) → func < length (funcs_of m) → IsSome (type_of_func m func)
-type_there m hold func lt = elim (cases_lt func (length (imported_funcs m.imports))) [
+pub type_there : (m : Module) → ImportsAreTyped m → ItemsHold m → (func : ℕ) → func < length (funcs_of m) → IsSome (type_of_func m func)
+type_there m imports hold func lt = elim (cases_lt func (length (imported_funcs m.imports))) [
   | inl less ↦
       let ty = slice_get_there (imported_funcs m.imports) func less in
       let i = chosen_from (λ i. func_of i.desc) m.imports func ty.0 ty.1 in
-      let t = slice_get_there m.types ty.0 (imports_typed m hold i.1.0 i.0 i.1.1 ty.0 i.2) in
+      let t = slice_get_there m.types ty.0 (imports.typed i.1.0 i.0 i.1.1 ty.0 i.2) in
       let at : slice_get (funcs_of m) func ≡ Some ty.0 = append_at_left (imported_funcs m.imports) (map (λ f. f.ty) m.funcs) func ty.0 ty.1 in
       let is : type_of_func m func ≡ Some t.0 = rw at t.1 in
       rw is refl

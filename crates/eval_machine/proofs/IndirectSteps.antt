@@ -5,7 +5,7 @@ use Rattle.wasm_tree_spec.specs.Prelude.{Types, FuncType, ValType, Instr, Module
 use Rattle.wasm_tree.specs.declared.instr.Instr.TheVariants as i
 use Rattle.wasm_tree.specs.declared.instr.Instr.TheOpen.{Instr-F}
 use Rattle.wasm_num.specs.Operations.{W32, W64}
-use Rattle.wasm_valid.specs.Prelude.{IsValid}
+use Rattle.eval_references_proof.specs.Imports.{ImportsAreTyped}
 use Rattle.wasm_meaning.specs.Prelude.{own_at, type_at, Outcome, Gives, Traps, IllTyped, RefVal, FuncRef, ExternRef, Val, Num, Ref, Table, Func, Code, Entry, Act, Calls, pop_num, pop_typed}
 use Rattle.eval_spec.specs.declared.limits.TheConstants.{MOST_DEPTH}
 use Rattle.eval_spec.specs.declared.stop.Stop.TheVariants as why
@@ -141,7 +141,7 @@ module _ (m : Module) (r new : Registers) (f : Fits m r.kept) (ty n : ℕ) (same
                   entered : Enters
                   entered = rw done_is (enters (pop_typed has.params new.operands) refl (nat_lt r.kept.turns (length locals / 64)) refl (nat_le MOST_DEPTH (depth p es)) refl)
 
-                module _ (valid : IsValid m) (matches : type_matches m ty func ≡ Some true) where
+                module _ (valid : ImportsAreTyped m) (matches : type_matches m ty func ≡ Some true) where
                   by_asked : (has : FuncType) (locals : List ValType) (body : List Instr) → slice_get (store_in m r.kept).funcs func ≡ Some (Code has (own_inst m) locals body) → (asked : Option FuncType) → slice_get m.types ty ≡ asked → Enters
                   by_asked has locals body e None g = absurd (let k = rw g at matches in cc)
                   by_asked has locals body e (Some asked) g = entered asked has locals body g e (same_Some (same_func_type asked has) true (rw (g, e) at matches))
@@ -153,14 +153,14 @@ module _ (m : Module) (r new : Registers) (f : Fits m r.kept) (ty n : ℕ) (same
                     | inr q ↦ by_asked q.0.0 q.0.1 q.0.2 (e ∙ ap Some q.1) (slice_get m.types ty) refl
                   ]
 
-            pub indirect_reaches : IsValid m → new.locals ≡ r.locals → (a : MachineAct) → Reaches m ty func a → ComesToAct m calls r a new
+            pub indirect_reaches : ImportsAreTyped m → new.locals ≡ r.locals → (a : MachineAct) → Reaches m ty func a → ComesToAct m calls r a new
             indirect_reaches valid here (act.Calls x) (e, own, matches) = λ rest p es. rw e (by_layer m r calls layer rest p es _ (i.outs-CallIndirect ty n) (by_func own here rest p es valid matches (slice_get (store_in m r.kept).funcs func) refl))
             indirect_reaches valid here (act.Leaves (flow.Stopped why.Import)) h = indirect_import h
             indirect_reaches valid here (act.Leaves (flow.Stopped why.Trap)) h = indirect_other h.0 h.1
             indirect_reaches valid here _ h = elim h [ ]
 
           -- as the machine finds it
-          pub indirect_at : IsValid m → new.locals ≡ r.locals → (v : Value) (func : ℕ) → IsSlot (base_of m) n place (slot.Known v) → func_of (val_of v) ≡ Some func → (a : MachineAct) → Reaches m ty func a → ComesToAct m calls r a new
+          pub indirect_at : ImportsAreTyped m → new.locals ≡ r.locals → (v : Value) (func : ℕ) → IsSlot (base_of m) n place (slot.Known v) → func_of (val_of v) ≡ Some func → (a : MachineAct) → Reaches m ty func a → ComesToAct m calls r a new
           indirect_at valid here v func h g a reaches = by (ref_in (base_of m) n place) refl h.1
             where
               by_ref : (x : RefVal) → ref_in (base_of m) n place ≡ Some x → func_of (Ref x) ≡ Some func → ComesToAct m calls r a new

@@ -1,10 +1,9 @@
 -- What a call through a table reaches.
-use Rattle.base_lists.proofs.Common.{◌≡◌, ℕ, ◌-◌, ◌<◌, ◌≤◌, slice_get, true, false, Option, Some, None, refl, sym, ap}
+use Rattle.base_lists.proofs.Common.{◌≡◌, ℕ, ◌-◌, ◌<◌, ◌≤◌, slice_get, true, false, Option, Some, None, refl, sym, ap, arith, each_same_self}
 use Rattle.base_lists.specs.Options.{◌>>=◌}
-use Rattle.index_remap.proofs.SlotCalls.{func_type_self}
-use Rattle.wasm_tree_spec.specs.Prelude.{FuncType, Module, same_func_type}
+use Rattle.wasm_tree_spec.specs.Prelude.{FuncType, Module, same_func_type, same_type}
 use Rattle.wasm_tree.specs.declared.module.Func.{Func as FuncDef}
-use Rattle.wasm_valid.specs.Prelude.{IsValid}
+use Rattle.eval_references_proof.specs.Imports.{ImportsAreTyped}
 use Rattle.wasm_meaning.specs.Prelude.{own_at, type_at}
 use Rattle.eval_spec.specs.declared.stop.Stop.TheVariants as why
 use Rattle.eval_machine.specs.declared.kept.Kept.{Kept}
@@ -19,7 +18,7 @@ pub unmatched : (o x : Option FuncType) → x ≡ None → (o >>= λ t. x >>= λ
 unmatched None x e h = absurd (let k = h in cc)
 unmatched (Some t) x e h = absurd (let k = rw e at h in cc)
 
-module _ (m : Module) (k : Kept) (v : IsValid m) (f : Fits m k) (ty func : ℕ) where
+module _ (m : Module) (k : Kept) (v : ImportsAreTyped m) (f : Fits m k) (ty func : ℕ) where
   pub reaches_import : func < k.imports.funcs → Reaches m ty func (act.Leaves (flow.Stopped why.Import))
   reaches_import lt = let o = own_call m k v f func lt in rw o.1
 
@@ -42,7 +41,7 @@ module _ (m : Module) (k : Kept) (v : IsValid m) (f : Fits m k) (ty func : ℕ) 
     -- the type that is asked for
     module _ (asked : FuncType) (e : slice_get m.types ty ≡ Some asked) where
       pub reaches_same_index : g.ty ≡ ty → Reaches m ty func (act.Calls func)
-      reaches_same_index s = (refl, own_none, rw (matches_as, s, e) (ap Some (func_type_self asked)))
+      reaches_same_index s = (refl, own_none, rw (matches_as, s, e) (ap Some (simp (each_same_self same_type (λ a. grind arith)))))
 
       pub reaches_unknown : slice_get m.types g.ty ≡ None → Reaches m ty func (act.Leaves (flow.Stopped why.Trap))
       reaches_unknown h = (own_none, λ q. absurd (let r = rw (matches_as, e, h) at q in cc))

@@ -17,6 +17,7 @@ use crate::plain::plain;
 use crate::registers::{Act, Flow, Opening, Registers};
 use crate::slots::Slot;
 use crate::value::Value;
+use eval_references_proof::imported_functions_are_typed;
 use eval_spec::Stop;
 use wasm_bytes::{Items, NoMemory};
 use wasm_tree::{BlockType, FuncType, Instr, Module, RefType, ValType};
@@ -64,6 +65,7 @@ impl Registers {
         requires fits { Fits input.now self.now.kept }
         ensures { Reaches input.now ty func result }
     {
+        imported_functions_are_typed();
         let imported = self.kept.imports.funcs;
         if (func as usize) < imported {
             return stopped(Stop::Import);
@@ -105,7 +107,10 @@ impl Registers {
         match self.kept.slot(input, table, place) {
             Slot::Unknown => stopped(Stop::Unknown),
             Slot::Known(value) => match referred(value) {
-                Some(func) => self.reached(input, ty, func),
+                Some(func) => {
+                    imported_functions_are_typed();
+                    self.reached(input, ty, func)
+                }
                 None => stopped(Stop::Trap),
             },
             Slot::OutOfBounds => stopped(Stop::Trap),
@@ -180,7 +185,10 @@ impl Registers {
                 None => Ok(stopped(Stop::Trap)),
             },
             Instr::Return => Ok(Act::Leaves(Flow::Return)),
-            Instr::Call(func) => Ok(Act::Calls(*func)),
+            Instr::Call(func) => {
+                imported_functions_are_typed();
+                Ok(Act::Calls(*func))
+            }
             Instr::CallIndirect { ty, table } => Ok(self.call_indirect(input, *ty, *table)),
             _ => match self.simple(input, instr)? {
                 Some(stop) => Ok(stopped(stop)),

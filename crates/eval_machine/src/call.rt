@@ -15,11 +15,11 @@ use crate::locals::Locals;
 use crate::operands::Operands;
 use crate::registers::Registers;
 use eval_proof::quiet_runs_end;
+use eval_references_proof::imported_functions_are_typed;
 use eval_spec::Stop;
 use std::alloc::Global;
 use wasm_bytes::NoMemory;
 use wasm_tree::{FuncType, Module};
-use wasm_valid::valid_where_items_hold;
 
 // Returns whether a function of this type has no parameters and no results.
 fn is_bare(ty: &FuncType) -> bool
@@ -60,7 +60,7 @@ impl Registers {
         ensures ends { IfOk result (λ stop. CallEnds input.now func self.old.kept stop self.new.kept) }
         ensures stays { Stays self.old.kept self.new.kept }
     {
-        valid_where_items_hold();
+        imported_functions_are_typed();
         quiet_runs_end();
         let Some(ty) = self.kept.type_of_func(input, func) else {
             return Ok(Some(Stop::Trap));

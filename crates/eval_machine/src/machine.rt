@@ -16,6 +16,7 @@ use crate::registers::Registers;
 use block_pool::Paged;
 use eval_references_proof::{
     calls_keep_values_of_globals, evaluated_globals_are_typed, evaluated_references_are_there,
+    imported_functions_are_typed,
 };
 use eval_spec::Stop;
 use std::alloc::Global;
@@ -113,6 +114,7 @@ impl Machine {
         ensures rests { Rests input.now self.new }
     {
         valid_where_items_hold();
+        imported_functions_are_typed();
         calls_keep_values_of_globals();
         let alloc = self.alloc;
         self.registers.kept.mark(alloc);

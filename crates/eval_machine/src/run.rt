@@ -15,6 +15,7 @@ ghost use Rattle.eval_machine.specs.Stays.{Stays};
 use crate::locals::{Locals, turns_after};
 use crate::operands::Operands;
 use crate::registers::{Act, Flow, Next, Opening, Registers};
+use eval_references_proof::imported_functions_are_typed;
 use eval_spec::{MOST_DEPTH, Stop};
 use std::alloc::Global;
 use std::mem;
@@ -138,6 +139,7 @@ impl Registers {
         ensures runs { IfOk result (λ next. RunsCall input.now func depth self.old next self.new) }
         ensures stays { Stays self.old.kept self.new.kept }
     {
+        imported_functions_are_typed();
         let func = func as usize;
         if func < self.kept.imports.funcs {
             return Ok(Next::Out(Flow::Stopped(Stop::Import)));

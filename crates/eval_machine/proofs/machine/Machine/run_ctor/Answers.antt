@@ -8,7 +8,7 @@ use Rattle.eval_machine.proofs.machine.Machine.run_ctor.Goals as goal
 
 pub call-requires-clause-there : goal.call-requires-clause-there
 call-requires-clause-there c =
-    type_there c.module.result.now ((c.valid_where_items_hold.ensures c.module.result.now).0 c.module.ensures.valid) c.args.func (rw c.module.ensures.value c.requires.there)
+    type_there c.module.result.now (c.imported_functions_are_typed.ensures c.module.result.now c.module.ensures.valid) ((c.valid_where_items_hold.ensures c.module.result.now).0 c.module.ensures.valid) c.args.func (rw c.module.ensures.value c.requires.there)
 
 pub returns-in-Ok-None-clause-done : goal.returns-in-Ok-None-clause-done
 returns-in-Ok-None-clause-done c =

@@ -241,24 +241,24 @@ run_frame-returns-in-None-clause-runs t c = λ es d.
 -- ---- a call ----
 
 pub run_call-returns-then-func-self-clause-runs : goal.run_call-returns-then-func-self-clause-runs
-run_call-returns-then-func-self-clause-runs t c = λ o rest p es d. let own = own_call c.args.input.now c.args.self.now.kept c.requires.valid c.requires.fits c.args.func c.if-func-self.true in call_import c.args.input.now c.args.self.now c.args.func rest p es own.0.0 own.0.1 own.1
+run_call-returns-then-func-self-clause-runs t c = λ o rest p es d. let own = own_call c.args.input.now c.args.self.now.kept (c.imported_functions_are_typed.ensures c.args.input.now c.requires.valid) c.requires.fits c.args.func c.if-func-self.true in call_import c.args.input.now c.args.self.now c.args.func rest p es own.0.0 own.0.1 own.1
 
 pub run_call-returns-in_default-clause-runs : goal.run_call-returns-in_default-clause-runs
-run_call-returns-in_default-clause-runs t c = λ o rest p es d. call_none c.args.input.now c.args.self.now c.args.func rest p es (no_call c.args.input.now c.args.self.now.kept c.requires.valid c.requires.fits c.args.func c.if-func-self.false (sym c.in_default.ensures.value))
+run_call-returns-in_default-clause-runs t c = λ o rest p es d. call_none c.args.input.now c.args.self.now c.args.func rest p es (no_call c.args.input.now c.args.self.now.kept (c.imported_functions_are_typed.ensures c.args.input.now c.requires.valid) c.requires.fits c.args.func c.if-func-self.false (sym c.in_default.ensures.value))
 
 pub run_call-returns-in_default-get-clause-runs : goal.run_call-returns-in_default-get-clause-runs
-run_call-returns-in_default-get-clause-runs t c = λ o rest p es d. absurd (callee_typed c.args.input.now c.args.self.now.kept c.requires.valid c.requires.fits c.args.func c.in-Some.callee.now c.if-func-self.false (sym c.in-Some.ensures.value) (sym c.in_default-get.ensures.value))
+run_call-returns-in_default-get-clause-runs t c = λ o rest p es d. absurd (callee_typed c.args.input.now c.args.self.now.kept (c.imported_functions_are_typed.ensures c.args.input.now c.requires.valid) c.requires.fits c.args.func c.in-Some.callee.now c.if-func-self.false (sym c.in-Some.ensures.value) (sym c.in_default-get.ensures.value))
 
 pub run_call-returns-in_default-2-clause-runs : goal.run_call-returns-in_default-2-clause-runs
 run_call-returns-in_default-2-clause-runs t c = λ o rest p es d.
-    let is = callee_is c.args.input.now c.args.self.now.kept c.requires.valid c.requires.fits c.args.func c.in-Some.callee.now c.if-func-self.false (sym c.in-Some.ensures.value) c.in-Some-get.ty.now
+    let is = callee_is c.args.input.now c.args.self.now.kept (c.imported_functions_are_typed.ensures c.args.input.now c.requires.valid) c.requires.fits c.args.func c.in-Some.callee.now c.if-func-self.false (sym c.in-Some.ensures.value) c.in-Some-get.ty.now
     (sym c.in-Some-get.ensures.value) in
     call_short c.args.input.now c.args.self.now c.args.func rest p es c.in-Some-get.ty.now (declared c.in-Some.callee.now.locals) c.in-Some.callee.now.body is
     (rw (c.in_default-2.is, c.as_slice.ensures) at c.in_ok-args.ensures)
 
 pub run_call-returns-in-Some-3-clause-runs : goal.run_call-returns-in-Some-3-clause-runs
 run_call-returns-in-Some-3-clause-runs t c = λ o rest p es d.
-    let is = callee_is c.args.input.now c.args.self.now.kept c.requires.valid c.requires.fits c.args.func c.in-Some.callee.now c.if-func-self.false (sym c.in-Some.ensures.value) c.in-Some-get.ty.now
+    let is = callee_is c.args.input.now c.args.self.now.kept (c.imported_functions_are_typed.ensures c.args.input.now c.requires.valid) c.requires.fits c.args.func c.in-Some.callee.now c.if-func-self.false (sym c.in-Some.ensures.value) c.in-Some-get.ty.now
     (sym c.in-Some-get.ensures.value) in
     let cut = rw (c.in-Some-2.is, c.as_slice.ensures) at c.in_ok-args.ensures in
     call_in c.args.input.now c.args.self.now c.args.func rest p es c.in-Some-get.ty.now
@@ -268,7 +268,7 @@ run_call-returns-in-Some-3-clause-runs t c = λ o rest p es d.
 
 pub run_call-returns-in_ok-put_back-in-None-clause-runs : goal.run_call-returns-in_ok-put_back-in-None-clause-runs
 run_call-returns-in_ok-put_back-in-None-clause-runs t c = λ o rest p es d.
-    let is = callee_is c.args.input.now c.args.self.now.kept c.requires.valid c.requires.fits c.args.func c.in-Some.callee.now c.if-func-self.false (sym c.in-Some.ensures.value) c.in-Some-get.ty.now
+    let is = callee_is c.args.input.now c.args.self.now.kept (c.imported_functions_are_typed.ensures c.args.input.now c.requires.valid) c.requires.fits c.args.func c.in-Some.callee.now c.if-func-self.false (sym c.in-Some.ensures.value) c.in-Some-get.ty.now
     (sym c.in-Some-get.ensures.value) in
     let cut = rw (c.in-Some-2.is, c.as_slice.ensures) at c.in_ok-args.ensures in
     let run = rw c.in-None.is at c.in_ok-stop.ensures.runs in

@@ -26,7 +26,7 @@ pub returns-in-None-clause-begins : goal.returns-in-None-clause-begins
 returns-in-None-clause-begins c = rw c.stopped.ensures (if_traps c.args.input.now c.args.instr.now c.args.self.now c.in-If.ty [] c.in-If.body c.in-If.other (record c.args.self.now { operands = c.pop_narrow.new.self }) c.in-If.is (c.in-None.ensures.none refl) refl)
 
 pub returns-in-Call-clause-begins : goal.returns-in-Call-clause-begins
-returns-in-Call-clause-begins c = call_begins c.args.input.now c.args.instr.now c.args.self.now c.in-Call.func c.requires.valid c.requires.fits c.in-Call.is
+returns-in-Call-clause-begins c = call_begins c.args.input.now c.args.instr.now c.args.self.now c.in-Call.func (c.imported_functions_are_typed.ensures c.args.input.now c.requires.valid) c.requires.fits c.in-Call.is
 
 pub returns-in-Some-2 : goal.returns-in-Some-2
 returns-in-Some-2 c =

@@ -25,7 +25,7 @@ pub returns-in-Some-referred-clause-begins : goal.returns-in-Some-referred-claus
 returns-in-Some-referred-clause-begins c =
     indirect_at c.args.input.now c.args.self.now (record c.args.self.now { operands = c.pop_narrow.new.self }) c.requires.fits c.args.ty c.args.table refl c.if-table-self.false c.in-Some.field-0
     (table_found c.args.input.now c.args.self.now.kept c.requires.fits c.args.table c.if-table-self.false c.in-Some.field-0 (sym c.in-Some.ensures)) c.in-Some-pop_narrow.place c.in-Some-pop_narrow.ensures.some c.in-Known.ensures.0
-    c.requires.valid refl c.in-Known.value c.in-Some-referred.func c.in-Known.ensures (sym c.in-Some-referred.ensures) c.reached.result c.reached.ensures
+    (c.imported_functions_are_typed.ensures c.args.input.now c.requires.valid) refl c.in-Known.value c.in-Some-referred.func c.in-Known.ensures (sym c.in-Some-referred.ensures) c.reached.result c.reached.ensures
 
 pub returns-in-None-clause-begins : goal.returns-in-None-clause-begins
 returns-in-None-clause-begins c =
