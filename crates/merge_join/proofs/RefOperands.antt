@@ -1,40 +1,34 @@
 -- What `ref.func` names in code, as operands of the code, and in code with other indices.
-use Rattle.base_lists.proofs.Common.{◌≡◌, ◌∙◌, refl, sym, ap, ap₂, ℕ, Bool, true, false, ◌&&◌, ◌||◌, not, List, [], ◌∷◌, ◌++◌, map, slice_index, flat_map, list_all, list_all-append, and_from, and_parts}
+use Rattle.base_lists.proofs.Common.{◌≡◌, ◌∙◌, refl, sym, ap, ap₂, ℕ, Bool, true, false, ◌&&◌, ◌||◌, not, List, [], ◌∷◌, ◌++◌, map, slice_index, flat_map, list_all, list_all-append, and_from, and_parts, cond, Option, Some, None, cons_option, filter_map}
 use Rattle.base_lists.specs.Every.{Every}
-use Rattle.wasm_tree_spec.specs.Prelude.{Space, Functions, Operand, BlockType, Instr, fold_out-Instr, map-Instr, out-Instr, same_space, operands, operands_of, block_operands, held, operands_pass, all_operands_pass}
-use Rattle.wasm_tree.specs.declared.types.BlockType.TheVariants as block
+use Rattle.wasm_tree_spec.specs.Prelude.{Space, Functions, Operand, Instr, fold_out-Instr, map-Instr, out-Instr, same_space, operands, operands_of, held, operands_pass, all_operands_pass}
 use Rattle.wasm_tree.specs.declared.instr.Instr.TheOpen.{Instr-F}
 use Rattle.wasm_tree.specs.OperandLaws.{moved, MappedCodePasses, PassesInside}
 use Rattle.wasm_tree.proofs.OperandLaws.{operands_map, held_map, by_held}
 use Rattle.index_remap.specs.declared.remap.Remap.{Remap}
-use Rattle.index_remap.specs.Prelude.{entry, entries, has, has_entry, fits_all, renumbered_all, refs, refs_all, refs_step}
+use Rattle.index_remap.specs.Prelude.{entry, entries, has, has_entry, fits_all, renumbered_all, refs, refs_all, refs_step, referred}
 
 -- whether a function passes, where the operand is one that `ref.func` names
 abbrev ref_passes : (ℕ → Bool) → Operand → Bool
 ref_passes test o = o.called || (not (same_space o.space Functions) || test o.index)
 
 module _ (passes_inside : PassesInside) (test : ℕ → Bool) where
-  no_refs : (ty : BlockType) → list_all (ref_passes test) (block_operands ty) ≡ true
-  no_refs block.Empty = refl
-  no_refs (block.Value t) = refl
-  no_refs (block.Index ty) = refl
-
   all_joined : (xs : List (List ℕ)) → list_all test (flat_map (λ x. x) xs) ≡ list_all (list_all test) xs
   all_joined [] = refl
   all_joined (x ∷ xs) = list_all-append test x (flat_map (λ y. y) xs) ∙ ap (λ b. list_all test x && b) (all_joined xs)
 
-  and_once : (b : Bool) → b && true ≡ (b && true) && true
-  and_once true = refl
-  and_once false = refl
+  own_refs : (os : List Operand) → list_all test (filter_map referred os) ≡ list_all (ref_passes test) os
+  own_refs [] = refl
+  own_refs (o ∷ os) = by (same_space o.space Functions) o.called
+    where
+      by : (s c : Bool) → list_all test (cons_option (cond (s && not c) (Some o.index) None) (filter_map referred os)) ≡ (c || (not s || test o.index)) && list_all (ref_passes test) os
+      by true true = own_refs os
+      by true false = ap (λ b. test o.index && b) (own_refs os)
+      by false true = own_refs os
+      by false false = own_refs os
 
   layer_refs : (layer : Instr-F (List ℕ)) → list_all test (refs_step layer) ≡ list_all (ref_passes test) (operands layer) && list_all (list_all test) (held layer)
-  layer_refs (Instr-F.Block ty body) = all_joined body ∙ sym (ap (λ b. b && list_all (list_all test) body) (no_refs ty))
-  layer_refs (Instr-F.Loop ty body) = all_joined body ∙ sym (ap (λ b. b && list_all (list_all test) body) (no_refs ty))
-  layer_refs (Instr-F.If ty body other) =
-      list_all-append test (flat_map (λ x. x) body) (flat_map (λ x. x) other) ∙ ap₂ (λ a b. a && b) (all_joined body) (all_joined other) ∙ sym (list_all-append (list_all test) body other)
-      ∙ sym (ap (λ b. b && list_all (list_all test) (body ++ other)) (no_refs ty))
-  layer_refs (Instr-F.RefFunc func) = and_once (test func)
-  layer_refs layer = refl
+  layer_refs layer = list_all-append test (filter_map referred (operands layer)) (flat_map (λ x. x) (held layer)) ∙ ap₂ (λ a b. a && b) (own_refs (operands layer)) (all_joined (held layer))
 
   abbrev Same : Instr → Type 0
   Same i = list_all test (refs i) ≡ operands_pass (ref_passes test) i

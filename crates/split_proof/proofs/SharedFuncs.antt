@@ -1,16 +1,15 @@
 -- A function that a secondary module imports is left in the primary one: one that moves is imported only where a body names it by `ref.func`.
-use Rattle.base_lists.proofs.Common.{◌≡◌, ◌∙◌, ap, sym, refl, ℕ, ◌-◌, ◌<◌, Some, arith, length, List, [], ◌∷◌, ◌++◌, map, Bool, true, false, ◌&&◌, ◌||◌, not, nat_eq, ⊎_elim, slice_get, true≢false, cons_option, flat_map, list_any, flat_map-append, map-append, list_any_there, chosen_from, place_back, numbers_is, map_from, cases_Bool, either_true, left_either, right_either, same_number, among_left, among_right, among_joined}
+use Rattle.base_lists.proofs.Common.{◌≡◌, ◌∙◌, ap, sym, refl, ℕ, ◌-◌, ◌<◌, Some, arith, length, List, [], ◌∷◌, ◌++◌, map, Bool, true, false, ◌&&◌, ◌||◌, not, nat_eq, ⊎_elim, slice_get, true≢false, cons_option, flat_map, list_any, flat_map-append, map-append, list_any_there, chosen_from, place_back, numbers_is, map_from, cases_Bool, either_true, left_either, right_either, same_number, among_left, among_right, among_joined, ap₂, cond, Option, None, filter_map}
 use Rattle.base_lists.specs.Members.{is_among}
 use Rattle.std.proofs.Common.{eq-eqb}
 use Rattle.base_lists.specs.Every.{Every}
 use Rattle.base_lists.specs.Places.{numbers}
-use Rattle.wasm_tree_spec.specs.Prelude.{Operand, Space, Functions, BlockType, Instr, fold_out-Instr, map-Instr, out-Instr, Module, any_operand_passes, block_operands, held, operand_passes, imported_funcs}
-use Rattle.wasm_tree.specs.declared.types.BlockType.TheVariants as block
+use Rattle.wasm_tree_spec.specs.Prelude.{Operand, Space, Functions, Instr, fold_out-Instr, map-Instr, out-Instr, Module, any_operand_passes, held, operand_passes, imported_funcs, same_space}
 use Rattle.wasm_tree.specs.declared.instr.Instr.TheOpen.{Instr-F}
 use Rattle.wasm_tree.specs.Operands.{any_pass_step}
-use Rattle.wasm_tree.proofs.OperandLaws.{by_held}
+use Rattle.wasm_tree.proofs.OperandLaws.{by_held, operands_map, held_map}
 use Rattle.wasm_valid.specs.Prelude.{refs_of}
-use Rattle.index_remap.specs.Prelude.{body_refs, refs, refs_all, refs_step}
+use Rattle.index_remap.specs.Prelude.{body_refs, refs, refs_all, refs_step, referred}
 use Rattle.split_spec.specs.Prelude.{defined_at, is_needed, entities, from_primary, is_from_primary, is_named_from_primary, marks_from_primary, is_left}
 
 module _ (moved : List ℕ) (x : ℕ) (moves : is_among moved x ≡ true) where
@@ -26,34 +25,24 @@ module _ (moved : List ℕ) (x : ℕ) (moves : is_among moved x ≡ true) where
   all_named (i ∷ is) p h =
       ⊎_elim (λ e. among_left (refs i) (refs_all is) x (p.0 e)) (λ e. among_right (refs i) (refs_all is) x (all_named is p.1 e)) (either_true (operand_passes test i) (list_any (λ b. b) (map (operand_passes test) is)) h)
 
-  no_type : (ty : BlockType) (b : Bool) → (list_any test (block_operands ty) || b) ≡ true → b ≡ true
-  no_type block.Empty b h = h
-  no_type (block.Value t) b h = h
-  no_type (block.Index i) b h = h
-
-  -- a call of a function that moves does not share it
-  no_call : (b c : Bool) → c ≡ true → ((b && not c) || false) ≡ true → ⊥
-  no_call true true e h = true≢false (sym h)
-  no_call true false e h = true≢false (sym e)
-  no_call false c e h = true≢false (sym h)
-
-  layer_named : (l : Instr-F Instr) → any_pass_step test (map-Instr Instr Bool (operand_passes test) l) ≡ true → Every Named (held l) → is_among (refs_step (map-Instr Instr (List ℕ) refs l)) x ≡ true
-  layer_named (Instr-F.Block ty body) h p = all_named body p (no_type ty (list_any (λ b. b) (map (operand_passes test) body)) h)
-  layer_named (Instr-F.Loop ty body) h p = all_named body p (no_type ty (list_any (λ b. b) (map (operand_passes test) body)) h)
-  layer_named (Instr-F.If ty body other) h p =
-      let both : refs_all (body ++ other) ≡ refs_all body ++ refs_all other = ap (flat_map (λ xs. xs)) (map-append refs body other) ∙ flat_map-append (λ xs. xs) (map refs body) (map refs other) in
-      sym (ap (λ xs. is_among xs x) both) ∙ all_named (body ++ other) p (ap (list_any (λ b. b)) (map-append (operand_passes test) body other) ∙ no_type ty (list_any (λ b. b) (map (operand_passes test) body ++ map (operand_passes test) other)) h)
-  layer_named (Instr-F.Call f) h p = absurd (no_call (nat_eq f x) (is_among moved x) moves (no_more _ h))
+  -- an operand that shares the function is one of `ref.func`, since calls of functions that move do not share them
+  own_named : (os : List Operand) → list_any test os ≡ true → is_among (filter_map referred os) x ≡ true
+  own_named [] h = cc
+  own_named (o ∷ os) h = by (same_space o.space Functions) (nat_eq o.index x) refl o.called h
     where
-      no_more : (b : Bool) → (b || false) ≡ true → b ≡ true
-      no_more true h = refl
-      no_more false h = h
-  layer_named (Instr-F.RefFunc f) h p = same (nat_eq f x) refl h
-    where
-      same : (b : Bool) → nat_eq f x ≡ b → (((b && true) || false) || false) ≡ true → is_among (f ∷ []) x ≡ true
-      same true e h = let is : x ≡ f = sym (same_number f x e) in left_either (nat_eq x f) false (eq-eqb x f is)
-      same false e h = absurd (true≢false (sym h))
-  layer_named _ h p = cc
+      by : (s e : Bool) → nat_eq o.index x ≡ e → (c : Bool) → ((s && (e && not (c && is_among moved x))) || list_any test os) ≡ true → is_among (cons_option (cond (s && not c) (Some o.index) None) (filter_map referred os)) x ≡ true
+      by false e q c h = own_named os h
+      by true true q true h = own_named os (rw moves at h)
+      by true false q true h = own_named os h
+      by true true q false h = left_either (nat_eq x o.index) (is_among (filter_map referred os) x) (eq-eqb x o.index (sym (same_number o.index x q)))
+      by true false q false h = right_either (nat_eq x o.index) (is_among (filter_map referred os) x) (own_named os h)
+
+  layer_named : (l : Instr-F Instr) → (list_any test (operands l) || any_operand_passes test (held l)) ≡ true → Every Named (held l) → is_among (refs_step (map-Instr Instr (List ℕ) refs l)) x ≡ true
+  layer_named l h p =
+      let same : refs_step (map-Instr Instr (List ℕ) refs l) ≡ filter_map referred (operands l) ++ refs_all (held l) = ap₂ (λ os xs. filter_map referred os ++ flat_map (λ xs. xs) xs) (operands_map refs l) (held_map refs l) in
+      ap (λ xs. is_among xs x) same
+      ∙ ⊎_elim (λ e. among_left (filter_map referred (operands l)) (refs_all (held l)) x (own_named (operands l) e)) (λ e. among_right (filter_map referred (operands l)) (refs_all (held l)) x (all_named (held l) p e))
+      (either_true (list_any test (operands l)) (any_operand_passes test (held l)) h)
 
   instr_named : (i : Instr) → Named i
   instr_named = by_held Named (λ i p h. ap (λ xs. is_among xs x) (fold_out-Instr (List ℕ) refs_step i) ∙ layer_named (out-Instr i) (sym (fold_out-Instr Bool (any_pass_step test) i) ∙ h) p)
