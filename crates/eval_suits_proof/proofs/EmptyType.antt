@@ -4,7 +4,7 @@ use Rattle.base_lists.specs.Options.{all_there}
 use Rattle.wasm_tree.specs.declared.module.Func.{Func as FuncDef}
 use Rattle.wasm_tree_spec.specs.Prelude.{Import, Module, func_of}
 use Rattle.wasm_meaning.specs.Prelude.{Gives, Func, Mark, Store, own_of, type_of_func, enter, Added, const_value, elem_with, global_with, joined_stores, new_func, store_with}
-use Rattle.world_contents_proof.proofs.FuncsAside.{segments_funcs}
+use Rattle.world_contents_proof.specs.FuncsAside.{SegmentsKeepFunctions}
 use Rattle.eval_spec.specs.declared.limits.TheConstants.{MOST_TURNS}
 use Rattle.eval_spec.specs.declared.stop.Stop.{Stop}
 use Rattle.eval_spec.specs.declared.stop.Stop.TheVariants as why
@@ -40,8 +40,8 @@ each_typed m fs made n f e = elim (append_from (filter_map (imported_func m) m.i
       defined_typed m d.0 f (y.1 ∙ (sym y.2 ∙ h.2))
 ]
 
-instantiated_typed : InstantiationsAreTheMachines → (m : Module) (turns : ℕ) (s : State) → instantiated m turns ≡ Finished s → (n : ℕ) (f : Func) → slice_get s.store.funcs n ≡ Some f → HasTypeIn m f
-instantiated_typed machines m turns s e n f at =
+instantiated_typed : SegmentsKeepFunctions → InstantiationsAreTheMachines → (m : Module) (turns : ℕ) (s : State) → instantiated m turns ≡ Finished s → (n : ℕ) (f : Func) → slice_get s.store.funcs n ≡ Some f → HasTypeIn m f
+instantiated_typed kept machines m turns s e n f at =
     let i = machines m turns s e in
     let value = const_value (imported_store m).globals (own_inst m) in
     let t = and_then_is (store_with value m (own_inst m)) _ i.added i.is in
@@ -50,7 +50,7 @@ instantiated_typed machines m turns s e n f at =
     let es = and_then_is (all_there (elem_with value) m.elems) _ t.0 gs.2 in
     let defined : fs.0 ≡ t.0.funcs = ap (λ (x : Store). x.funcs) (same_Some _ t.0 es.2) in
     let filled : (joined_stores (imported_store m) t.0).funcs ≡ i.added.filled.store.funcs =
-    sym (segments_funcs value m (own_inst m) (joined_stores (imported_store m) t.0)) ∙ ap (λ (x : Added). x.filled.store.funcs) (same_Some _ i.added t.2) in
+    sym (kept value m (own_inst m) (joined_stores (imported_store m) t.0)) ∙ ap (λ (x : Added). x.filled.store.funcs) (same_Some _ i.added t.2) in
     let funcs : filter_map (imported_func m) m.imports ++ fs.0 ≡ s.store.funcs =
     ap (λ xs. filter_map (imported_func m) m.imports ++ xs) defined ∙ (filled ∙ ap (λ (x : Store). x.funcs) i.store) in
     each_typed m fs.0 fs.1 n f (ap (λ xs. slice_get xs n) funcs ∙ at)
@@ -67,13 +67,13 @@ host_passed m s t f h =
     passed m (takes_and_gives_nothing (type_of_func f)) why.Signature s.turns (test (is_some (own_of f)) why.Import s.turns ∷ test (nat_lt s.turns (frame_turns f)) why.Steps s.turns ∷ [])
     (came_to (record s { turns = s.turns - frame_turns f }) (Gives (enter s.store f [] (Mark ∷ [])))) t h
 
-call_has_type : InstantiationsAreTheMachines → (m : Module) (turns : ℕ) (s t : State) (func : ℕ) → instantiated m turns ≡ Finished s → call_end m s func ≡ Finished t → HasEmptyType m
-call_has_type machines m turns s t func made e = by (slice_get s.store.funcs func) refl e
+call_has_type : SegmentsKeepFunctions → InstantiationsAreTheMachines → (m : Module) (turns : ℕ) (s t : State) (func : ℕ) → instantiated m turns ≡ Finished s → call_end m s func ≡ Finished t → HasEmptyType m
+call_has_type kept machines m turns s t func made e = by (slice_get s.store.funcs func) refl e
   where
     by : (o : Option Func) → slice_get s.store.funcs func ≡ o → run_end m (host_opened_if_there s o) ≡ Finished t → HasEmptyType m
     by None is h = absurd (let z = h in cc)
     by (Some f) is h =
-        let ty = instantiated_typed machines m turns s made func f is in
+        let ty = instantiated_typed kept machines m turns s made func f is in
         (ty.0, type_of_func f, ty.1, host_passed m s t f h)
 
 -- what comes before calls that come to their end came to its own
@@ -85,22 +85,22 @@ first_finished m (Going u es) [] s e = absurd (let z = e in cc)
 first_finished m (Going u es) (func ∷ funcs) s e = absurd (let z = e in cc)
 
 -- The first call is that of the start, or of the first function where there is no start.
-evaluation_has_type : InstantiationsAreTheMachines → (m : Module) (turns : ℕ) (func : ℕ) (funcs : List ℕ) (s : State) → evaluated_within m turns (func ∷ funcs) ≡ Finished s → HasEmptyType m
-evaluation_has_type machines m turns func funcs s e = by (instantiated m turns) refl e
+evaluation_has_type : SegmentsKeepFunctions → InstantiationsAreTheMachines → (m : Module) (turns : ℕ) (func : ℕ) (funcs : List ℕ) (s : State) → evaluated_within m turns (func ∷ funcs) ≡ Finished s → HasEmptyType m
+evaluation_has_type kept machines m turns func funcs s e = by (instantiated m turns) refl e
   where
     by_start : (base : State) (start : Option ℕ) → instantiated m turns ≡ Finished base → called_in_order m (after_start m (Finished base) start) (func ∷ funcs) ≡ Finished s → HasEmptyType m
-    by_start base None made h = let u = first_finished m (call_end m base func) funcs s h in call_has_type machines m turns base u.0 func made u.1
-    by_start base (Some start) made h = let u = first_finished m (call_end m base start) (func ∷ funcs) s h in call_has_type machines m turns base u.0 start made u.1
+    by_start base None made h = let u = first_finished m (call_end m base func) funcs s h in call_has_type kept machines m turns base u.0 func made u.1
+    by_start base (Some start) made h = let u = first_finished m (call_end m base start) (func ∷ funcs) s h in call_has_type kept machines m turns base u.0 start made u.1
 
     by : (i : Stage) → instantiated m turns ≡ i → called_in_order m (after_start m i m.start) (func ∷ funcs) ≡ Finished s → HasEmptyType m
     by (Finished base) made h = by_start base m.start made h
     by (Stopped x left) made h = absurd (let z = h in cc)
     by (Going u es) made h = absurd (let z = h in cc)
 
-pub empty_types_there : InstantiationsAreTheMachines → EmptyTypesAreThere
-empty_types_there machines m [] s after = tt
-empty_types_there machines m (name ∷ names) s after = by (func_named m name) after.named after.quiet
+pub empty_types_there : SegmentsKeepFunctions → InstantiationsAreTheMachines → EmptyTypesAreThere
+empty_types_there kept machines m [] s after = tt
+empty_types_there kept machines m (name ∷ names) s after = by (func_named m name) after.named after.quiet
   where
     by : (o : Option ℕ) → cond (is_some o) (first_missing m names) (Some name) ≡ None → evaluated_within m MOST_TURNS (cons_option o (funcs_named m names)) ≡ Finished after.end → HasEmptyType m
     by None h e = absurd (let z = h in cc)
-    by (Some func) h e = evaluation_has_type machines m MOST_TURNS func (funcs_named m names) after.end e
+    by (Some func) h e = evaluation_has_type kept machines m MOST_TURNS func (funcs_named m names) after.end e

@@ -6,6 +6,7 @@ ghost use Rattle.eval_suits_proof.specs.Typed.{EmptyTypesAreThere, ValuesAreType
 
 use eval_proof::quiet_instantiations_are_instantiations;
 use eval_references_proof::{evaluated_globals_are_typed, evaluated_references_are_there};
+use world_contents_proof::segments_leave_functions_alone;
 
 /// States that, in the state after named constructors of a valid module, the constant of a defined
 /// global has the type of the global, so that a function that it names exists (`typed`, WebAssembly
@@ -15,6 +16,7 @@ pub fn evaluated_states_suit()
     ensures typed { ValuesAreTyped }
     ensures empty_type { EmptyTypesAreThere }
 {
+    segments_leave_functions_alone();
     quiet_instantiations_are_instantiations();
     evaluated_references_are_there();
     evaluated_globals_are_typed();
