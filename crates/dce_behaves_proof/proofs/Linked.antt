@@ -1,6 +1,6 @@
 -- An environment that links a module links what is left of it.
 use Rattle.base_lists.proofs.Common.{◌≡◌, ◌∙◌, ap, ap₂, sym, subst, refl, ℕ, zero, suc, ◌+◌, ◌<◌, ◌⊎◌, inl, inr, List, [], ◌∷◌, ◌++◌, map, length, Some, true, false, arith, option_and_then, slice_get, unwrap_or, length-append, length-map, slice_get_within, and_then_is, is_some_there, all_there_at, all_there_from, all_there_length, length-numbers, append_from, map_at, map_from, slice_get_there, list_all_each, places_many, all_rel, right_there, then_eq, then_rel}
-use Rattle.wasm_tree_spec.specs.Prelude.{Functions, ConstExpr, ElemSeg, GlobalDef, Import, ImportDesc, Module, imported_funcs, funcs_of}
+use Rattle.wasm_tree_spec.specs.Prelude.{Functions, ConstExpr, ElemMode, ElemSeg, GlobalDef, Import, ImportDesc, Module, imported_funcs, funcs_of}
 use Rattle.wasm_tree.specs.declared.module.Func as tree
 use Rattle.wasm_tree.specs.declared.module.ImportDesc.TheVariants as im
 use Rattle.wasm_meaning.specs.Prelude.{Text, Inst, Func, Global, Elem, Store, RefVal, Environment, ExternalValue, imported_external_value, imports_of, all_of, sites, own_store, joined_stores, part_store, stores_from, insts_from, is_match, is_matched, all_there, seen_as, links, alone, Begun}
@@ -9,10 +9,10 @@ use Rattle.wasm_meaning.specs.World as world
 use Rattle.index_remap.specs.declared.remap.Remap.{Remap}
 use Rattle.index_remap.specs.Prelude.{declared_refs, new_func, new_global, new_const, Pairing, StoreRel, OptRel, RefRel, RenumberedCodeIsRelated}
 use Rattle.index_remap_proof.specs.Indices.{TreeNamesOnly}
-use Rattle.world_simulation.specs.Prelude.{one, site, external_value_in, Instantiated, values_in, IsInstantiated}
-use Rattle.world_simulation.proofs.Allocated.{Adds}
-use Rattle.world_simulation.proofs.Declared.{last_segments, last_elems}
-use Rattle.world_simulation.proofs.Instancing.{IsInst}
+use Rattle.world_simulation.specs.Prelude.{DeclaringSegmentsAreAllocated, WhatIsInstantiated, one, site, external_value_in, Instantiated, values_in, IsInstantiated, Adds, IsInst, last_segments}
+use Rattle.world_simulation.specs.Alone.{SpacesAreImportsAndOwn}
+use Rattle.world_simulation.specs.Simulation.{CorrespondingWorldsHaveEqualTraces}
+use Rattle.world_contents_proof.specs.OwnValues.{ConstantsAloneReadTheEnvironment}
 use Rattle.world_simulation.proofs.Renamed.{funcs_correspond}
 use Rattle.world_simulation.proofs.Single.{thing_rel, match_same}
 use Rattle.world_simulation.proofs.Stored.{func_rel, global_rel, ref_rel, stores_rel}
@@ -22,7 +22,6 @@ use Rattle.dce_sweep_spec.specs.Marks.{Marks}
 use Rattle.dce_sweep_spec.specs.Closed.{AreClosed}
 use Rattle.dce_sweep_spec.specs.Swept.{defined_funcs, defined_globals, kept_elem, kept_items, kept_tree, renumbered_kept, sweep_map, swept}
 use Rattle.dce_sweep_spec.specs.Unswept.{unswept}
-use Rattle.dce_sweep_proof.proofs.ComesFrom.{item_there}
 use Rattle.dce_behaves_proof.proofs.Swept.{kept_indices, same, moved_elem, elems_mapped, R, own, names, consts, definitions, view}
 
 -- a module alone is linked if its instance, its store and its view are there and its imports match
@@ -31,7 +30,16 @@ module _ (env : Environment) (t : Module) (is : List Inst) where
       all_of (is_matched env (one t) s) (sites (one t)) ≡ true → links env (alone t) ≡ true
   made_there s view e f g h = rw (e, f, g, h)
 
-module _ (k : Marks) (t : Module) (c : AreClosed k t) (env : Environment) (imports : (swept k t).imports ≡ kept k.imports t.imports) (i j : Inst) (a : IsInst env (one t) 0 t i) (b : IsInst env (one (swept k t)) 0 (swept k t) j) (named : TreeNamesOnly (kept_indices k t) (kept_tree k t)) (code : RenumberedCodeIsRelated) where
+-- what the laws of the crates below say
+pub record Laws : Type 0 where
+  pub spaces : SpacesAreImportsAndOwn
+  pub constants : ConstantsAloneReadTheEnvironment
+  pub declared : DeclaringSegmentsAreAllocated
+  pub items : (k : Marks) (mode : ElemMode) (items : List ConstExpr) (p : ℕ) (e : ConstExpr) → slice_get (kept_items k mode items) p ≡ Some e → (q : ℕ) × (slice_get items q ≡ Some e)
+  pub made : WhatIsInstantiated
+  pub equal_traces : CorrespondingWorldsHaveEqualTraces
+
+module _ (laws : Laws) (k : Marks) (t : Module) (c : AreClosed k t) (env : Environment) (imports : (swept k t).imports ≡ kept k.imports t.imports) (i j : Inst) (a : IsInst env (one t) 0 t i) (b : IsInst env (one (swept k t)) 0 (swept k t) j) (named : TreeNamesOnly (kept_indices k t) (kept_tree k t)) (code : RenumberedCodeIsRelated) where
   abbrev r : Remap
   r = sweep_map k t
 
@@ -61,7 +69,7 @@ module _ (k : Marks) (t : Module) (c : AreClosed k t) (env : Environment) (impor
         let g = map_from (new_func r) (kept (defined_funcs k t) t.funcs) y f (subst (λ xs. slice_get xs y ≡ Some f) (same k t c).funcs h) in
         let p = kept_from (defined_funcs k t) t.funcs y g.0 g.1 in
         let s = all_there_at (world.new_func i) t.funcs added.funcs first.funcs p.place g.0 p.is in
-        let q = right_there (func_rel Q (funcs_correspond _ r (kept_indices k t) i j (names k t c env imports i j a b) code g.0 (named.funcs y g.0 g.1))) s.1 in
+        let q = right_there (func_rel Q (funcs_correspond _ r (kept_indices k t) i j (names k t c env imports laws.constants i j a b) code g.0 (named.funcs y g.0 g.1))) s.1 in
         (q.0, ap (world.new_func j) (sym g.2) ∙ q.1)
 
     global_there : (y : ℕ) (g : GlobalDef) → slice_get u.globals y ≡ Some g → (x : Global) × (world.new_global env (one u) (j ∷ []) 0 g ≡ Some x)
@@ -69,7 +77,7 @@ module _ (k : Marks) (t : Module) (c : AreClosed k t) (env : Environment) (impor
         let d = map_from (new_global r) (kept (defined_globals k t) t.globals) y g (subst (λ xs. slice_get xs y ≡ Some g) (same k t c).globals h) in
         let p = kept_from (defined_globals k t) t.globals y d.0 d.1 in
         let s = all_there_at (world.new_global env (one t) (i ∷ []) 0) t.globals added.globals first.globals p.place d.0 p.is in
-        let q = right_there (global_rel Q (values_in env v 0) (values_in env w 0) {g = d.0} {h = new_global r d.0} (record { type = refl; init = consts k t c env imports i j a b d.0.init (named.globals y d.0 d.1) })) s.1 in
+        let q = right_there (global_rel Q (values_in env v 0) (values_in env w 0) {g = d.0} {h = new_global r d.0} (record { type = refl; init = consts k t c env imports laws.constants i j a b d.0.init (named.globals y d.0 d.1) })) s.1 in
         (q.0, ap (world.new_global env (one u) (j ∷ []) 0) (sym d.2) ∙ q.1)
 
     -- the references of the items that are kept
@@ -85,9 +93,9 @@ module _ (k : Marks) (t : Module) (c : AreClosed k t) (env : Environment) (impor
         each : (n : ℕ) (y : ConstExpr) → slice_get (map (new_const r) (kept_items k e.mode e.items)) n ≡ Some y → (x : RefVal) × (world.ref_value env (one u) (j ∷ []) 0 y ≡ Some x)
         each n y g =
             let d = map_from (new_const r) (kept_items k e.mode e.items) n y g in
-            let p = item_there k e.mode e.items n d.0 d.1 in
+            let p = laws.items k e.mode e.items n d.0 d.1 in
             let s = all_there_at (world.ref_value env (one t) (i ∷ []) 0) e.items items.0 items.1 p.0 d.0 p.1 in
-            right_there (subst (λ c. OptRel (RefRel Q) (world.ref_value env (one t) (i ∷ []) 0 d.0) (world.ref_value env (one u) (j ∷ []) 0 c)) d.2 (then_rel (consts k t c env imports i j a b d.0 (named.items x n (kept_elem k e) d.0 (map_at (kept_elem k) t.elems x e h) d.1)) (λ _ _ q. ref_rel Q q))) s.1
+            right_there (subst (λ c. OptRel (RefRel Q) (world.ref_value env (one t) (i ∷ []) 0 d.0) (world.ref_value env (one u) (j ∷ []) 0 c)) d.2 (then_rel (consts k t c env imports laws.constants i j a b d.0 (named.items x n (kept_elem k e) d.0 (map_at (kept_elem k) t.elems x e h) d.1)) (λ _ _ q. ref_rel Q q))) s.1
 
     func_space : length j.funcs ≡ length (funcs_of u)
     func_space =
@@ -106,7 +114,7 @@ module _ (k : Marks) (t : Module) (c : AreClosed k t) (env : Environment) (impor
             let rs = items_there y d.0 d.1 in
             (_, ap (world.elem_of env (one u) (j ∷ []) 0) (sym d.2) ∙ ap (λ o. option_and_then (λ items. Some (world.new_elem (moved_elem k t c d.0).mode items)) o) rs.1)
         by (inr l) =
-            let last = last_elems env u j (renumbered_kept k t) (func_space ∙ ap length (same k t c).func_space) in
+            let last = laws.declared env u j (renumbered_kept k t) (func_space ∙ ap length (same k t c).func_space) in
             let x = all_there_at (world.elem_of env (one u) (j ∷ []) 0) (last_segments fs) last.0 last.1 l.0 e l.2 in
             (x.0, x.1)
 
@@ -158,6 +166,6 @@ module _ (k : Marks) (t : Module) (c : AreClosed k t) (env : Environment) (impor
       let q = store_there p.0 p.1 in
       let z = joined_stores (own_store env) q.0 in
       let second : stores_from env (one u) (j ∷ []) (own_store env) 0 (one u) (j ∷ []) ≡ Some z = rw q.1 refl in
-      let seen = right_there (all_rel (view k t c env imports i j a b named)) (ap (λ is. all_there (seen_as is) (unswept k t).view) (sym is) ∙ x.is_view) in
+      let seen = right_there (all_rel (view k t c env imports laws.constants i j a b named)) (ap (λ is. all_there (seen_as is) (unswept k t).view) (sym is) ∙ x.is_view) in
       made_there env u (j ∷ []) z seen.0 there second seen.1
-      (all_matched x.allocated z (stores_rel Q env v w (own k t c env) (definitions k t c env imports i j a b named code) x.allocated z first second) x.matched)
+      (all_matched x.allocated z (stores_rel Q env v w (own k t c env) (definitions k t c env imports laws.constants i j a b named code) x.allocated z first second) x.matched)

@@ -4,25 +4,16 @@ use Rattle.wasm_tree_spec.specs.Prelude.{Functions, Tables, Memories, Globals, M
 use Rattle.wasm_meaning.specs.Prelude.{Inst, Environment, insts_from, inst_of, starts_of, instantiate, links, alone, Move, events}
 use Rattle.index_remap.specs.Prelude.{ListRel, RenumberedCodeIsRelated}
 use Rattle.index_remap_proof.specs.Indices.{TreeNamesOnly}
-use Rattle.world_simulation.specs.Prelude.{one, AreSimilar, StartsCorrespond, WorldsCorrespond}
-use Rattle.world_simulation.specs.Alone.{SpacesAreImportsAndOwn}
-use Rattle.world_simulation.specs.Simulation.{CorrespondingWorldsHaveEqualTraces, WhatIsInstantiated}
-use Rattle.world_simulation.proofs.Instancing.{IsInst}
+use Rattle.world_simulation.specs.Prelude.{one, AreSimilar, StartsCorrespond, WorldsCorrespond, IsInst}
 use Rattle.base_kept.specs.Kept.{kept}
 use Rattle.dce_sweep_spec.specs.Marks.{Marks}
 use Rattle.dce_sweep_spec.specs.Closed.{AreClosed}
 use Rattle.dce_sweep_spec.specs.Swept.{kept_tree, swept}
 use Rattle.dce_sweep_spec.specs.Unswept.{unswept}
 use Rattle.dce_behaves_proof.proofs.Swept.{kept_indices, R, of, one_to_one, space_there, worlds, starts}
-use Rattle.dce_behaves_proof.proofs.Linked.{linked_with}
+use Rattle.dce_behaves_proof.proofs.Linked.{Laws, linked_with}
 
--- what the laws of world_simulation say
-pub record Laws : Type 0 where
-  pub spaces : SpacesAreImportsAndOwn
-  pub made : WhatIsInstantiated
-  pub equal_traces : CorrespondingWorldsHaveEqualTraces
-
-module _ (k : Marks) (t : Module) (c : AreClosed k t) (imports : (swept k t).imports ≡ kept k.imports t.imports) (named : TreeNamesOnly (kept_indices k t) (kept_tree k t)) (code : RenumberedCodeIsRelated) where
+module _ (laws : Laws) (k : Marks) (t : Module) (c : AreClosed k t) (imports : (swept k t).imports ≡ kept k.imports t.imports) (named : TreeNamesOnly (kept_indices k t) (kept_tree k t)) (code : RenumberedCodeIsRelated) where
   abbrev u : Module
   u = swept k t
 
@@ -35,13 +26,13 @@ module _ (k : Marks) (t : Module) (c : AreClosed k t) (imports : (swept k t).imp
         rw (i.1, j.1) (h i.0 j.0 i.2 j.2)
 
     similar : AreSimilar (R k t c env) env (unswept k t) (alone u)
-    similar = for_instances (WorldsCorrespond (R k t c env) env (unswept k t) (alone u)) (λ i j a b. worlds k t c env imports i j a b named code)
+    similar = for_instances (WorldsCorrespond (R k t c env) env (unswept k t) (alone u)) (λ i j a b. worlds k t c env imports laws.constants i j a b named code)
 
     start_alike : StartsCorrespond (R k t c env) env (unswept k t) (alone u)
-    start_alike = for_instances (λ is js. ListRel ((R k t c env).of Functions) (starts_of (one t) is) (starts_of (one u) js)) (λ i j a b. starts k t c env imports i j a b named)
+    start_alike = for_instances (λ is js. ListRel ((R k t c env).of Functions) (starts_of (one t) is) (starts_of (one u) js)) (λ i j a b. starts k t c env imports laws.constants i j a b named)
 
-    linked : Laws → links env (unswept k t) ≡ true → links env (alone u) ≡ true
-    linked laws h =
+    linked : links env (unswept k t) ≡ true → links env (alone u) ≡ true
+    linked h =
         let o = is_some_there (instantiate env (unswept k t)) h in
         let x = laws.made env (unswept k t) o.0 o.1 in
         let i : (i : Inst) × (x.insts ≡ i ∷ []) × IsInst env (one t) 0 t i = search (arith, x.are_insts) in
@@ -53,7 +44,7 @@ module _ (k : Marks) (t : Module) (c : AreClosed k t) (imports : (swept k t).imp
         let j = is_some_there (inst_of env (one u) 0 u) (rw (f.1, ts.1, ms.1, gs.1)) in
         let made : (v : Module) (j : Inst) → inst_of env (one v) 0 v ≡ Some j → IsInst env (one v) 0 v j = λ v j e. search arith in
         let b = made u j.0 j.1 in
-        linked_with k t c env imports i.0 j.0 a b named code o.0 x i.1 (ap (option_and_then (λ i. option_and_then (λ is. Some (i ∷ is)) (Some []))) j.1)
+        linked_with laws k t c env imports i.0 j.0 a b named code o.0 x i.1 (ap (option_and_then (λ i. option_and_then (λ is. Some (i ∷ is)) (Some []))) j.1)
 
-    pub shows_the_same : Laws → links env (unswept k t) ≡ true → (moves : List Move) (n : ℕ) → events (unswept k t) env moves n ≡ events (alone u) env moves n
-    shows_the_same laws h = laws.equal_traces (of k t c env) (one_to_one k t c env) env (unswept k t) (alone u) (h ∙ sym (linked laws h)) similar start_alike
+    pub shows_the_same : links env (unswept k t) ≡ true → (moves : List Move) (n : ℕ) → events (unswept k t) env moves n ≡ events (alone u) env moves n
+    shows_the_same h = laws.equal_traces (of k t c env) (one_to_one k t c env) env (unswept k t) (alone u) (h ∙ sym (linked h)) similar start_alike

@@ -10,13 +10,11 @@ use Rattle.wasm_meaning.specs.World as world
 use Rattle.index_remap.specs.declared.remap.Remap.{Remap}
 use Rattle.index_remap.specs.Prelude.{declared_refs, with_declared, entries, has, new_func, new_elem, new_elem_mode, new_data, new_global, new_const, new_export, Pairing, OneToOne, OptRel, none, some, ListRel, cons, nil, ValRel, number, reference, func, KeyRel, passed, RenumberedCodeIsRelated}
 use Rattle.index_remap_proof.specs.Indices.{Indices, with_entry, ConstNamesOnly, ExportNamesOnly, FuncNamesOnly, TreeNamesOnly}
-use Rattle.world_simulation.specs.Prelude.{one, addresses, FuncsAt, GlobalsCorrespond, ElemsCorrespond, Partners, DefinitionsCorrespond, Instantiated, values_in, is_declarative, EntriesName, SharesOwn, ElemsInOrder, DatasInOrder, WorldsCorrespond}
+use Rattle.world_simulation.specs.Prelude.{one, addresses, FuncsAt, GlobalsCorrespond, ElemsCorrespond, Partners, DefinitionsCorrespond, Instantiated, values_in, is_declarative, EntriesName, SharesOwn, ElemsInOrder, DatasInOrder, WorldsCorrespond, IsInst, IsWithDeclared, last_segments}
 use Rattle.world_simulation.specs.Definitions as partners
 use Rattle.world_simulation.specs.Alone.{SpacesAreImportsAndOwn}
-use Rattle.world_simulation.proofs.Declared.{IsWithDeclared, last_segments}
 use Rattle.world_contents_proof.proofs.Grown.{no_more, declared_alone, all_in_step}
-use Rattle.world_simulation.proofs.Instancing.{IsInst}
-use Rattle.world_contents_proof.proofs.OwnValues.{const_same}
+use Rattle.world_contents_proof.specs.OwnValues.{ConstantsAloneReadTheEnvironment}
 use Rattle.world_simulation.proofs.Owned.{null_rel, own_globals_rel}
 use Rattle.world_simulation.proofs.Renamed.{funcs_correspond, elems_alike, elem_mode_named, data_mode_named, export_named, start_named, func_named}
 use Rattle.world_simulation.proofs.Single.{space_at}
@@ -233,7 +231,7 @@ module _ (k : Marks) (t : Module) (c : AreClosed k t) where
           let sx = space_at R env own t space xs h in
           (_, spaces env u space ∙ ap (λ o. option_and_then (λ l. Some (l ++ world.numbers (own_count space env) (defined_count space u))) o) (addresses_kept space sx.imported imports sx.are))
 
-      module _ (i j : Inst) (a : IsInst env (one t) 0 t i) (b : IsInst env (one u) 0 u j) where
+      module _ (constants : ConstantsAloneReadTheEnvironment) (i j : Inst) (a : IsInst env (one t) 0 t i) (b : IsInst env (one u) 0 u j) where
         -- an index that is kept names what its entry names
         space_rel : (space : Space) (xs ys : List ℕ) → world.space env (one t) space 0 t ≡ Some xs → world.space env (one u) space 0 u ≡ Some ys → (x : ℕ) → IsTrue (kept_indices k t space x) → OptRel (R.of space) (slice_get xs x) (slice_get ys (slice_index (entries r space) x))
         space_rel space xs ys hx hy x h =
@@ -288,7 +286,7 @@ module _ (k : Marks) (t : Module) (c : AreClosed k t) where
         consts (const.I64 n) h = some number
         consts (const.Null ty) h = some (reference (null_rel R ty))
         consts (const.Func f) h = then_rel (func_named of r (kept_indices k t) i j names f h) (λ _ _ q. some (reference (func (some q))))
-        consts (const.Global x) h = opt_at (const_same env t i a (const.Global x)) (const_same env u j b (const.Global (slice_index r.globals x))) (then_rel (names Globals x h) look)
+        consts (const.Global x) h = opt_at (constants env t i a (const.Global x)) (constants env u j b (const.Global (slice_index r.globals x))) (then_rel (names Globals x h) look)
           where
             value : ℕ → Option Val
             value a = option_and_then (λ g. Some g.value) (slice_get (own_globals env) a)

@@ -10,8 +10,10 @@ use dce_sweep_proof::what_is_kept_fits;
 use index_remap::steps_agree;
 use index_remap_proof::renumbering_keeps_typing;
 use wasm_tree::operands_pass_layer_by_layer;
+use world_contents_proof::constants_of_one_module_read_the_environment;
 use world_simulation::{
-    corresponding_worlds_have_equal_traces, imports_of_one_module_denote_the_environment,
+    corresponding_worlds_have_equal_traces, declared_references_are_one_more_segment,
+    imports_of_one_module_denote_the_environment,
 };
 
 /// What closed marks leave of a valid module is observationally equivalent, step by step, to the
@@ -25,6 +27,8 @@ pub fn swept_module_equivalent()
     operands_pass_layer_by_layer();
     steps_agree();
     imports_of_one_module_denote_the_environment();
+    constants_of_one_module_read_the_environment();
+    declared_references_are_one_more_segment();
     corresponding_worlds_have_equal_traces();
 }
 
@@ -35,8 +39,11 @@ pub fn swept_module_equivalent()
 pub fn unreachable_function_removal_equivalent()
     ensures equivalent { UnreachableFunctionRemovalEquivalent }
 {
+    what_is_kept_fits();
     operands_pass_layer_by_layer();
     steps_agree();
     imports_of_one_module_denote_the_environment();
+    constants_of_one_module_read_the_environment();
+    declared_references_are_one_more_segment();
     corresponding_worlds_have_equal_traces();
 }
