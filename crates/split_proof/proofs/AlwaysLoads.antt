@@ -11,7 +11,7 @@ use Rattle.world_contents_proof.specs.Leaves.{AddedModulesLeave}
 use Rattle.world_extension_proof.specs.Extends.{CallsExtend, LoadersExtend}
 use Rattle.world_extension_proof.specs.Typed.{IsTyped, AddedModulesAreTyped, InstancesStayTyped}
 use Rattle.world_extension_proof.specs.Over.{IsOver, RunsThatAreOverStaySo}
-use Rattle.world_extension_proof.proofs.LoadExtends.{stays_in}
+use Rattle.world_extension_proof.specs.Extends.{ExtensionsKeepWhatIsThere}
 use Rattle.split_spec.specs.declared.names.SplitNames.{SplitNames}
 use Rattle.split_spec.specs.Prelude.{prefix_taken, primary_with, secondary_with}
 use Rattle.split_proof.specs.Premises.{CanMove}
@@ -34,6 +34,7 @@ pub record LoadLaws : Type 0 where
   pub calls : CallsExtend
   pub loaders : LoadersExtend
   pub over : RunsThatAreOverStaySo
+  pub kept : ExtensionsKeepWhatIsThere
 
 pub secondaries_load : LoadLaws → SecondariesLoad
 secondaries_load laws namespace names m moved own before valid few can small free slots i s typed =
@@ -75,7 +76,7 @@ module _ (laws : LoadLaws) (namespace : ℕ → List ℕ) (names : SplitNames) (
       let differ : Makes o.0 ≡ Steps r (Gives (CallsPlaceholder slot vs s es)) = sym o.1 ∙ is in
       absurd (let k = differ in cc)
   stage_loads q (going begun i is_inst typed) r slot vs s es is j place loaded =
-      can_be_loaded q i is_inst s (laws.stays w.primary i q.run.store s (stays_in q.run.store s (laws.calls q.run r slot vs s es begun is)) typed) slot j place
+      can_be_loaded q i is_inst s (laws.stays w.primary i q.run.store s (laws.kept q.run.store s (laws.calls q.run r slot vs s es begun is)) typed) slot j place
 
   next_stage : (q : LoaderRun) → Stage q → Stage (tick_loader w q).0
   next_stage q (over h) = let o = laws.over q.run h in subst (λ t. Stage (loader_made w q t).0) (sym o.1) (over o.2)

@@ -7,8 +7,6 @@ use Rattle.index_remap.specs.declared.remap.Remap.{Remap}
 use Rattle.index_remap.specs.Prelude.{renumbered_all, gets, slot_call, trampoline}
 use Rattle.index_remap.specs.Renumbered as tree_with
 use Rattle.world_simulation.specs.Prelude.{one, AddsWith, IsInst}
-use Rattle.world_contents_proof.proofs.Added.{added_is}
-use Rattle.world_contents_proof.proofs.FuncsAside.{segments_funcs}
 use Rattle.split_spec.specs.declared.names.SplitNames.{SplitNames}
 use Rattle.split_spec.specs.Prelude.{primary_func, params_of, place_among, slot_table, trampoline_body, type_index}
 use Rattle.split_proof.proofs.PrimarySpaces as spaces
@@ -23,39 +21,7 @@ use Rattle.split_proof.proofs.Placeholders.{imports_them_last, moved_typed, plac
 use Rattle.split_proof.proofs.Entries.{Laws, Q, holds, k, left_there, r, split, types_are, types_moved}
 use Rattle.split_proof.proofs.BeginRelated.{stubs}
 use Rattle.split_proof.proofs.RelatedBodies.{moved_defined}
-use Rattle.split_proof.proofs.Begins.{begun_store, slots_many}
-
--- ---- what a loader begins as ----
-
--- its instance, and its functions: the environment's own, the placeholders, then what the primary module defines
-pub record BeginsWith (env : Environment) (w : LoaderWorld) (c : Begun) : Type 0 where
-  pub made : Added
-  pub is_made : primary_added env w ≡ Some made
-  pub store : made.filled.store ≡ c.store
-  pub things : List _
-  pub is_added : added (store_under env w) w.primary things ≡ Some made
-  pub defined : List Func
-  pub are_defined : all_there (new_func made.inst) w.primary.funcs ≡ Some defined
-  pub funcs : c.store.funcs ≡ (own_funcs env ++ placeholders_from 0 (placeholders_of w)) ++ defined
-
-pub begins_with : (env : Environment) (w : LoaderWorld) (c : Begun) → begun_under env w ≡ Some c → BeginsWith env w c
-begins_with env w c h =
-    let a = and_then_is (primary_added env w) (begun_of env w) c h in
-    let things = and_then_is (all_there (supplied env w) w.primary.imports) (added (store_under env w) w.primary) a.0 a.1 in
-    let made = added_is (store_under env w) w.primary things.0 a.0 things.2 in
-    let i = next_inst (store_under env w) w.primary things.0 in
-    let adds : AddsWith (const_value (store_under env w).globals i) w.primary i made.0 = search (arith, made.1) in
-    let inst : i ≡ a.0.inst = ap (λ (x : Added). x.inst) made.2 in
-    record {
-      made = a.0;
-      is_made = a.1;
-      store = begun_store env w a.0 c a.2;
-      things = things.0;
-      is_added = things.2;
-      defined = made.0.funcs;
-      are_defined = ap (λ i. all_there (new_func i) w.primary.funcs) (sym inst) ∙ adds.funcs;
-      funcs = ap (λ (s : Store). s.funcs) (sym (begun_store env w a.0 c a.2)) ∙ ap (λ (x : Added). x.filled.store.funcs) (sym made.2) ∙ segments_funcs (const_value (store_under env w).globals i) w.primary i (joined_stores (store_under env w) made.0);
-    }
+use Rattle.split_proof.proofs.Begins.{BeginsWith, begins_with, slots_many}
 
 -- ---- lists ----
 
@@ -102,7 +68,7 @@ module _ (laws : Laws) (namespace : ℕ → List ℕ) (names : SplitNames) (m : 
 
   module _ (b : Begun) (h : instantiate env (alone m) ≡ Some b) where
     pub first_begins : BeginsWith env lone b
-    first_begins = begins_with env lone b (lone_is b h)
+    first_begins = begins_with laws.segments env lone b (lone_is b h)
 
     pub first_insts : insts_from env (one m) 0 (one m) ≡ Some (first_begins.made.inst ∷ [])
     first_insts = laws.inst env lone refl first_begins.made first_begins.is_made
@@ -138,7 +104,7 @@ module _ (laws : Laws) (namespace : ℕ → List ℕ) (names : SplitNames) (m : 
 
   module _ (c : Begun) (h : begun_under env w ≡ Some c) where
     pub second_begins : BeginsWith env w c
-    second_begins = begins_with env w c h
+    second_begins = begins_with laws.segments env w c h
 
     pub second_inst : IsInst env (one (Q laws namespace names m moved owns g)) 0 (Q laws namespace names m moved owns g) second_begins.made.inst
     second_inst =

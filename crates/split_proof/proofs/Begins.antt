@@ -2,12 +2,12 @@
 use Rattle.base_lists.proofs.Common.{◌≡◌, ◌∙◌, ap, sym, subst, refl, ℕ, suc, ◌+◌, ◌-◌, ◌<◌, ◌≤◌, ◌⊎◌, inl, inr, List, [], ◌∷◌, ◌++◌, drop, length, Option, Some, None, Bool, true, false, arith, slice_get, same_Some, and_then_is, append_at_left, append_right, drop_at, slice_get_there}
 use Rattle.base_lists.specs.Options.{◌>>=◌}
 use Rattle.wasm_tree_spec.specs.Prelude.{Functions, Module}
-use Rattle.wasm_meaning.specs.Prelude.{Entry, Func, Store, Text, Environment, ExternalValue, own_funcs, owned_of, Added, added, next_inst, LoaderWorld, begun_of, begun_under, placeholders_from, placeholders_of, primary_added, store_under, supplied, Move, began, fresh_run, tick, Begun, address_in, all_there, alone, const_value, instantiate, joined_stores, own_count, start_in}
+use Rattle.wasm_meaning.specs.Prelude.{Entry, Func, Store, Text, Environment, ExternalValue, own_funcs, owned_of, Added, added, next_inst, LoaderWorld, begun_of, begun_under, placeholders_from, placeholders_of, primary_added, store_under, supplied, Move, began, fresh_run, tick, Begun, address_in, all_there, alone, const_value, instantiate, joined_stores, new_func, own_count, own_segments, start_in, store_with}
 use Rattle.index_remap.specs.Prelude.{Pairing, OptRel, none, some, ListRel, nil, cons, EntryRel, StoreRel, BegunRel, closed, pending, EntryByEntry, FramesBetween, WithPassing}
 use Rattle.index_remap.specs.Trampolines as between
-use Rattle.world_loader_proof.specs.Stubbed.{placeholders_begun, with_placeholders}
-use Rattle.world_contents_proof.proofs.Added.{added_is}
-use Rattle.world_contents_proof.proofs.FuncsAside.{segments_funcs}
+use Rattle.world_simulation.specs.Prelude.{AddsWith}
+use Rattle.world_loader_proof.specs.Stubbed.{PlaceholdersAreCounted, placeholders_begun, with_placeholders}
+use Rattle.world_contents_proof.specs.FuncsAside.{SegmentsKeepFunctions}
 use Rattle.split_spec.specs.declared.names.SplitNames.{SplitNames}
 use Rattle.wasm_valid.specs.Prelude.{ItemsHold}
 use Rattle.split_proof.specs.Worlds.{placeholders_for}
@@ -19,7 +19,6 @@ use Rattle.split_proof.proofs.Placeholders.{imports_them_last, placeholders_are}
 use Rattle.split_proof.proofs.Entries.{Laws, holds, split, types_moved}
 use Rattle.split_proof.proofs.BeginRelated.{stubs}
 use Rattle.split_proof.proofs.Linked.{instantiated}
-use Rattle.world_loader_proof.proofs.Stubbed.{placeholders_many}
 
 -- ---- placeholders in place of stubs ----
 
@@ -28,7 +27,7 @@ slots_many namespace m n [] = refl
 slots_many namespace m n (f ∷ fs) = ap suc (slots_many namespace m (suc n) fs)
 
 -- elsewhere the functions are those that were there, where the environment's own are
-module _ (env : Environment) (w : LoaderWorld) (z : Store) (own : (n : ℕ) (f : Func) → slice_get (own_funcs env) n ≡ Some f → slice_get z.funcs n ≡ Some f) where
+module _ (counted : PlaceholdersAreCounted) (env : Environment) (w : LoaderWorld) (z : Store) (own : (n : ℕ) (f : Func) → slice_get (own_funcs env) n ≡ Some f → slice_get z.funcs n ≡ Some f) where
   abbrev slots : List Func
   slots = placeholders_from 0 (placeholders_of w)
 
@@ -38,7 +37,7 @@ module _ (env : Environment) (w : LoaderWorld) (z : Store) (own : (n : ℕ) (f :
   elsewhere : (b : ℕ) → (b < own_count Functions env) ⊎ (own_count Functions env + length (placeholders_of w) ≤ b) → slice_get (with_placeholders env w z).funcs b ≡ slice_get z.funcs b
   elsewhere b (inl lt) = let f = slice_get_there (own_funcs env) b lt in append_at_left (own_funcs env) (slots ++ rest) b f.0 f.1 ∙ sym (own b f.0 f.1)
   elsewhere b (inr le) =
-      let many = placeholders_many 0 (placeholders_of w) in
+      let many = counted 0 (placeholders_of w) in
       let from = own_count Functions env + length (placeholders_of w) in
       let c = b - from in
       let back : from + c ≡ b = omega (arith, le) in
@@ -65,16 +64,44 @@ begun_store env w a c h = by (all_there (λ v. address_in a.inst v.1 >>= λ x. S
     by None e = absurd (let z = e in cc)
     by (Some view) e = ap (λ (b : Begun). b.store) (same_Some _ _ e)
 
--- what a loader begins as has the environment's own functions
-own_there : (env : Environment) (w : LoaderWorld) (c : Begun) → begun_under env w ≡ Some c → (n : ℕ) (f : Func) → slice_get (own_funcs env) n ≡ Some f → slice_get c.store.funcs n ≡ Some f
-own_there env w c h n f at =
+-- ---- what a loader begins as ----
+
+-- its instance, and its functions: the environment's own, the placeholders, then what the primary module defines
+pub record BeginsWith (env : Environment) (w : LoaderWorld) (c : Begun) : Type 0 where
+  pub made : Added
+  pub is_made : primary_added env w ≡ Some made
+  pub store : made.filled.store ≡ c.store
+  pub things : List _
+  pub is_added : added (store_under env w) w.primary things ≡ Some made
+  pub defined : List Func
+  pub are_defined : all_there (new_func made.inst) w.primary.funcs ≡ Some defined
+  pub funcs : c.store.funcs ≡ (own_funcs env ++ placeholders_from 0 (placeholders_of w)) ++ defined
+
+pub begins_with : SegmentsKeepFunctions → (env : Environment) (w : LoaderWorld) (c : Begun) → begun_under env w ≡ Some c → BeginsWith env w c
+begins_with segments env w c h =
     let a = and_then_is (primary_added env w) (begun_of env w) c h in
     let things = and_then_is (all_there (supplied env w) w.primary.imports) (added (store_under env w) w.primary) a.0 a.1 in
-    let made = added_is (store_under env w) w.primary things.0 a.0 things.2 in
+    let is_added = things.2 in
     let i = next_inst (store_under env w) w.primary things.0 in
-    let funcs : c.store.funcs ≡ (joined_stores (store_under env w) made.0).funcs =
-    ap (λ (s : Store). s.funcs) (sym (begun_store env w a.0 c a.2)) ∙ ap (λ (x : Added). x.filled.store.funcs) (sym made.2) ∙ segments_funcs (const_value (store_under env w).globals i) w.primary i (joined_stores (store_under env w) made.0) in
-    ap (λ fs. slice_get fs n) funcs ∙ append_at_left (own_funcs env ++ placeholders_from 0 (placeholders_of w)) made.0.funcs n f (append_at_left (own_funcs env) (placeholders_from 0 (placeholders_of w)) n f at)
+    let made : (t : Store) × (store_with (const_value (store_under env w).globals i) w.primary i ≡ Some t) × (record { inst = i; filled = own_segments (const_value (store_under env w).globals i) w.primary i (joined_stores (store_under env w) t) } ≡ a.0) = grind (arith, is_added) in
+    let adds : AddsWith (const_value (store_under env w).globals i) w.primary i made.0 = search (arith, made.1) in
+    let inst : i ≡ a.0.inst = ap (λ (x : Added). x.inst) made.2 in
+    record {
+      made = a.0;
+      is_made = a.1;
+      store = begun_store env w a.0 c a.2;
+      things = things.0;
+      is_added = things.2;
+      defined = made.0.funcs;
+      are_defined = ap (λ i. all_there (new_func i) w.primary.funcs) (sym inst) ∙ adds.funcs;
+      funcs = ap (λ (s : Store). s.funcs) (sym (begun_store env w a.0 c a.2)) ∙ ap (λ (x : Added). x.filled.store.funcs) (sym made.2) ∙ segments (const_value (store_under env w).globals i) w.primary i (joined_stores (store_under env w) made.0);
+    }
+
+-- among them the environment's own
+own_there : SegmentsKeepFunctions → (env : Environment) (w : LoaderWorld) (c : Begun) → begun_under env w ≡ Some c → (n : ℕ) (f : Func) → slice_get (own_funcs env) n ≡ Some f → slice_get c.store.funcs n ≡ Some f
+own_there segments env w c h n f at =
+    let b = begins_with segments env w c h in
+    ap (λ fs. slice_get fs n) b.funcs ∙ append_at_left (own_funcs env ++ placeholders_from 0 (placeholders_of w)) b.defined n f (append_at_left (own_funcs env) (placeholders_from 0 (placeholders_of w)) n f at)
 
 stacks : {R : Pairing} {es fs : List Entry} → ListRel (EntryRel R) es fs → WithPassing R es fs
 stacks nil = between.WithPassing.nil
@@ -108,7 +135,7 @@ module _ (laws : Laws) (namespace : ℕ → List ℕ) (names : SplitNames) (m : 
 
   begun_rel : (b c : Begun) → begun_under env stubbed_world ≡ Some c → BegunRel R (EntryByEntry R) b c → BegunRel R (FramesBetween R) b (placeholders_begun env w c)
   begun_rel b c is h = record {
-    store = with_slots env w c.store (own_there env stubbed_world c is) R b.store free h.store;
+    store = with_slots laws.counted env w c.store (own_there laws.segments env stubbed_world c is) R b.store free h.store;
     entries = stacks h.entries;
     closed = stacks h.closed;
     trapped = h.trapped;

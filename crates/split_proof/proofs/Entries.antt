@@ -18,13 +18,14 @@ use Rattle.index_remap.specs.declared.remap.Remap.{Remap}
 use Rattle.index_remap.specs.Prelude.{declared_refs, fits_tree, has, new_const, new_data, new_elem, new_func, new_global, new_start, Pairing, OptRel, some, ValRel, number, reference, func, passed}
 use Rattle.index_remap.specs.Laws.{ReplacedCodeIsRelated}
 use Rattle.index_remap_proof.specs.Indices.{Indices, with_entry, ConstNamesOnly, ImportNamesOnly, ExportNamesOnly, ElemModeNamesOnly, DataModeNamesOnly, TreeNamesOnly}
-use Rattle.world_simulation.specs.Prelude.{one, addresses, Instantiated, values_in, EntriesName, SharesOwn, IsInst, IsWithDeclared, last_segments}
+use Rattle.world_simulation.specs.Prelude.{DeclaringSegmentsAreAllocated, one, addresses, Instantiated, values_in, EntriesName, SharesOwn, IsInst, IsWithDeclared, last_segments}
 use Rattle.world_extension_proof.specs.Typed.{AddedModulesAreTyped}
 use Rattle.world_contents_proof.specs.Leaves.{PrimaryModulesLeave}
 use Rattle.world_loader_proof.specs.Loaded.{LoadersBeginAsTheirPrimary, LoadersHaveTheirPrimarysInstance}
-use Rattle.world_loader_proof.specs.Stubbed.{stub, stubbed, LoadersAddAsStubbed, LoadersBeginAsStubbed}
+use Rattle.world_loader_proof.specs.Stubbed.{stub, stubbed, LoadersAddAsStubbed, LoadersBeginAsStubbed, PlaceholdersAreCounted}
 use Rattle.world_contents_proof.proofs.Grown.{space_grows}
-use Rattle.world_contents_proof.proofs.OwnValues.{const_same}
+use Rattle.world_contents_proof.specs.FuncsAside.{SegmentsKeepFunctions}
+use Rattle.world_contents_proof.specs.OwnValues.{ConstantsAloneReadTheEnvironment}
 use Rattle.world_simulation.proofs.Owned.{null_rel, own_globals_rel}
 use Rattle.world_simulation.proofs.Renamed.{func_named}
 use Rattle.world_simulation.proofs.Single.{space_at}
@@ -53,6 +54,10 @@ pub record Laws : Type 0 where
   pub adds : LoadersAddAsStubbed
   pub leaves : PrimaryModulesLeave
   pub typed : AddedModulesAreTyped
+  pub segments : SegmentsKeepFunctions
+  pub counted : PlaceholdersAreCounted
+  pub constants : ConstantsAloneReadTheEnvironment
+  pub declared : DeclaringSegmentsAreAllocated
 
 module _ (laws : Laws) (namespace : ℕ → List ℕ) (names : SplitNames) (m : Module) (moved : List ℕ) (owns : List (List ℕ)) (g : CanBeSplit namespace names m moved owns) where
   abbrev pub holds : ItemsHold m
@@ -353,7 +358,7 @@ module _ (laws : Laws) (namespace : ℕ → List ℕ) (names : SplitNames) (m : 
       consts (const.I64 n) h = some number
       consts (const.Null ty) h = some (reference (null_rel P ty))
       consts (const.Func f) h = then_rel (func_named of r stay i j entries f h) (λ _ _ q. some (reference (func (some q))))
-      consts (const.Global x) h = opt_at (const_same env m i a (const.Global x)) (const_same env Q j b (const.Global (slice_index r.globals x))) (then_rel (entries Globals x h) look)
+      consts (const.Global x) h = opt_at (laws.constants env m i a (const.Global x)) (laws.constants env Q j b (const.Global (slice_index r.globals x))) (then_rel (entries Globals x h) look)
         where
           value : ℕ → Option Val
           value a = option_and_then (λ g. Some g.value) (slice_get (own_globals env) a)

@@ -11,7 +11,6 @@ use Rattle.index_remap_proof.specs.Indices.{Indices, TreeNamesOnly}
 use Rattle.world_simulation.specs.Prelude.{one, site, external_value_in, addresses, Instantiated, values_in, AreSimilar, StartsCorrespond, WorldsCorrespond, Adds, IsInst, last_segments}
 use Rattle.world_loader_proof.specs.Loaded.{primary_world}
 use Rattle.world_loader_proof.specs.Stubbed.{stub}
-use Rattle.world_simulation.proofs.Declared.{last_elems}
 use Rattle.world_simulation.proofs.Renamed.{elems_alike}
 use Rattle.world_simulation.proofs.Simulated.{instances_rel}
 use Rattle.world_simulation.proofs.Single.{all_matched}
@@ -173,7 +172,7 @@ module _ (laws : Laws) (namespace : ℕ → List ℕ) (names : SplitNames) (m : 
       more_there : (l : ℕ) (e : ElemSeg) → slice_get (slots ∷ last_segments (declared_refs undeclared)) l ≡ Some e → (x : Elem) × (world.elem_of env (one primary) (j ∷ []) 0 e ≡ Some x)
       more_there zero e h = let is : slots ≡ e = cc in (slots_are_there.0, ap (world.elem_of env (one primary) (j ∷ []) 0) (sym is) ∙ slots_are_there.1)
       more_there (suc l) e h =
-          let last = last_elems env primary j undeclared funcs_space in
+          let last = laws.declared env primary j undeclared funcs_space in
           let x = all_there_at (world.elem_of env (one primary) (j ∷ []) 0) (last_segments (declared_refs undeclared)) last.0 last.1 l e h in
           (x.0, x.1)
 

@@ -18,12 +18,19 @@ use index_remap::{
 use index_remap_proof::renumbering_keeps_typing;
 use wasm_tree::operands_pass_layer_by_layer;
 use wasm_valid::valid_where_items_hold;
-use world_contents_proof::instantiated_stores_match_their_modules;
-use world_extension_proof::{closed_runs_stay_closed, instances_stay_typed, stores_are_extended};
+use world_contents_proof::{
+    constants_of_one_module_read_the_environment, instantiated_stores_match_their_modules,
+    segments_leave_functions_alone,
+};
+use world_extension_proof::{
+    closed_runs_stay_closed, instances_stay_typed, store_extension_is_a_preorder,
+    stores_are_extended,
+};
 use world_loader_proof::{
     loaders_begin_as_their_primary, loaders_begin_as_with_defined_placeholders,
     loaders_step_as_their_run,
 };
+use world_simulation::declared_references_are_one_more_segment;
 
 /// Proves that a module alone, and its split under the loader of its secondary modules, begin alike
 /// in every environment (WebAssembly Core 2.0, section 4.5.4).
@@ -43,6 +50,9 @@ pub fn split_modules_begin_related()
     replacing_calls_commutes_with_renumbering();
     loaders_begin_as_their_primary();
     loaders_begin_as_with_defined_placeholders();
+    constants_of_one_module_read_the_environment();
+    segments_leave_functions_alone();
+    declared_references_are_one_more_segment();
     instantiated_stores_match_their_modules();
     instances_stay_typed();
 }
@@ -64,6 +74,7 @@ pub fn secondary_modules_load()
     secondary_modules_are_valid();
     instantiated_stores_match_their_modules();
     stores_are_extended();
+    store_extension_is_a_preorder();
     instances_stay_typed();
     closed_runs_stay_closed();
 }
@@ -88,6 +99,9 @@ pub fn loads_preserve_the_relation()
     loaders_begin_as_their_primary();
     loaders_begin_as_with_defined_placeholders();
     code_relation_is_monotone();
+    constants_of_one_module_read_the_environment();
+    segments_leave_functions_alone();
+    declared_references_are_one_more_segment();
     instantiated_stores_match_their_modules();
     instances_stay_typed();
 }
@@ -133,8 +147,12 @@ pub fn split_module_equivalent()
     loaders_begin_as_their_primary();
     loaders_begin_as_with_defined_placeholders();
     loaders_step_as_their_run();
+    constants_of_one_module_read_the_environment();
+    segments_leave_functions_alone();
+    declared_references_are_one_more_segment();
     instantiated_stores_match_their_modules();
     stores_are_extended();
+    store_extension_is_a_preorder();
     instances_stay_typed();
     closed_runs_stay_closed();
     loads_preserve_the_relation();

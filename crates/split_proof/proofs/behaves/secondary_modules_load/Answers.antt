@@ -13,5 +13,6 @@ returns c =
       calls = c.stores_are_extended.ensures.call;
       loaders = c.stores_are_extended.ensures.loader;
       over = c.closed_runs_stay_closed.ensures.over;
+      kept = c.store_extension_is_a_preorder.ensures.kept;
     } in
     record { load = secondaries_load laws; always = secondaries_always_load laws }

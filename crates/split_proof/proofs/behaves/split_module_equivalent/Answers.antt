@@ -24,6 +24,10 @@ begins c = record {
   adds = c.loaders_begin_as_with_defined_placeholders.ensures.added;
   leaves = c.instantiated_stores_match_their_modules.ensures.primary;
   typed = c.instances_stay_typed.ensures.made;
+  segments = c.segments_leave_functions_alone.ensures.kept;
+  counted = c.loaders_begin_as_with_defined_placeholders.ensures.counted;
+  constants = c.constants_of_one_module_read_the_environment.ensures.values;
+  declared = c.declared_references_are_one_more_segment.ensures.allocated;
 }
 
 loads : (c : goal.After-steps_call_moved_functions_together) → LoadLaws
@@ -37,6 +41,7 @@ loads c = record {
   calls = c.stores_are_extended.ensures.call;
   loaders = c.stores_are_extended.ensures.loader;
   over = c.closed_runs_stay_closed.ensures.over;
+  kept = c.store_extension_is_a_preorder.ensures.kept;
 }
 
 settles : (c : goal.After-steps_call_moved_functions_together) → SettleLaws

@@ -22,6 +22,10 @@ laws c = record {
   adds = c.loaders_begin_as_with_defined_placeholders.ensures.added;
   leaves = c.instantiated_stores_match_their_modules.ensures.primary;
   typed = c.instances_stay_typed.ensures.made;
+  segments = c.segments_leave_functions_alone.ensures.kept;
+  counted = c.loaders_begin_as_with_defined_placeholders.ensures.counted;
+  constants = c.constants_of_one_module_read_the_environment.ensures.values;
+  declared = c.declared_references_are_one_more_segment.ensures.allocated;
 }
 
 pub returns : goal.returns
