@@ -69,7 +69,7 @@ module _ (laws : Laws) (k : Marks) (t : Module) (c : AreClosed k t) (env : Envir
         let g = map_from (new_func r) (kept (defined_funcs k t) t.funcs) y f (subst (λ xs. slice_get xs y ≡ Some f) (same k t c).funcs h) in
         let p = kept_from (defined_funcs k t) t.funcs y g.0 g.1 in
         let s = all_there_at (world.new_func i) t.funcs added.funcs first.funcs p.place g.0 p.is in
-        let q = right_there (func_rel Q (funcs_correspond _ r (kept_indices k t) i j (names k t c env imports laws.constants i j a b) code g.0 (named.funcs y g.0 g.1))) s.1 in
+        let q = right_there (func_rel Q (funcs_correspond Q r (kept_indices k t) i j (names k t c env imports laws.constants i j a b) (code _ _ [] r i j) g.0 (named.funcs y g.0 g.1))) s.1 in
         (q.0, ap (world.new_func j) (sym g.2) ∙ q.1)
 
     global_there : (y : ℕ) (g : GlobalDef) → slice_get u.globals y ≡ Some g → (x : Global) × (world.new_global env (one u) (j ∷ []) 0 g ≡ Some x)

@@ -285,7 +285,7 @@ module _ (k : Marks) (t : Module) (c : AreClosed k t) where
         consts (const.I32 n) h = some number
         consts (const.I64 n) h = some number
         consts (const.Null ty) h = some (reference (null_rel R ty))
-        consts (const.Func f) h = then_rel (func_named of r (kept_indices k t) i j names f h) (λ _ _ q. some (reference (func (some q))))
+        consts (const.Func f) h = then_rel (func_named R r (kept_indices k t) i j names f h) (λ _ _ q. some (reference (func (some q))))
         consts (const.Global x) h = opt_at (constants env t i a (const.Global x)) (constants env u j b (const.Global (slice_index r.globals x))) (then_rel (names Globals x h) look)
           where
             value : ℕ → Option Val
@@ -344,7 +344,7 @@ module _ (k : Marks) (t : Module) (c : AreClosed k t) where
               as_kept same_items =
                   let all : kept_elem k e ≡ e = ap (λ xs. record e { items = xs }) same_items in
                   subst (λ z. ElemsCorrespond R (values_in env v 0) (values_in env w 0) z (moved_elem e)) all
-                  (alike_correspond R (values_in env v 0) (values_in env w 0) (elems_alike of r (kept_indices k t) i j names (values_in env v 0) (values_in env w 0) consts (kept_elem k e) (λ l y g. item_kept x l e y h g)))
+                  (alike_correspond R (values_in env v 0) (values_in env w 0) (elems_alike R r (kept_indices k t) i j names (values_in env v 0) (values_in env w 0) consts (kept_elem k e) (λ l y g. item_kept x l e y h g)))
 
               by : (mode : ElemMode) → e.mode ≡ mode → ElemsCorrespond R (values_in env v 0) (values_in env w 0) e (moved_elem e)
               by (elem.Active table offset) m = as_kept (ap (λ mode. kept_items k mode e.items) m)
@@ -353,7 +353,7 @@ module _ (k : Marks) (t : Module) (c : AreClosed k t) where
 
           pub definitions : RenumberedCodeIsRelated → DefinitionsCorrespond R env v w
           definitions code = record {
-            funcs = λ p q related. placed Functions (λ d. d.funcs) (new_func r) [] (λ d. refl) funcs_are (λ p2 i f q2 j g. FuncsAt R p i j f g) (λ x f h m. FuncsAt.alike (funcs_correspond of r (kept_indices k t) i j names code f (func_kept x f h m))) p q related;
+            funcs = λ p q related. placed Functions (λ d. d.funcs) (new_func r) [] (λ d. refl) funcs_are (λ p2 i f q2 j g. FuncsAt R p i j f g) (λ x f h m. FuncsAt.alike (funcs_correspond R r (kept_indices k t) i j names (code of of [] r i j) f (func_kept x f h m))) p q related;
             tables = placed Tables (λ d. d.tables) (λ x. x) [] (λ d. refl) tables_are (λ p i x q j y. x ≡ y) (λ x d h m. refl);
             mems = placed Memories (λ d. d.mems) (λ x. x) [] (λ d. refl) mems_are (λ p i x q j y. x ≡ y) (λ x d h m. refl);
             globals = placed Globals (λ d. d.globals) (new_global r) [] (λ d. refl) globals_are (λ p i g q j h. GlobalsCorrespond R (values_in env v p) (values_in env w q) g h) (λ x g h m. record { type = refl; init = consts g.init (global_kept x g h m) });
@@ -370,12 +370,12 @@ module _ (k : Marks) (t : Module) (c : AreClosed k t) where
           elems_in_order : ElemsInOrder R env v w
           elems_in_order =
               all_in_step _ _ _ i j moved_elem (last_segments fs) t.elems u.elems i.elems j.elems a.elems b.elems elems_mapped (declared_alone j fs (numbers (0 + length t.elems) (length (last_segments fs))))
-              (λ x e h. elem_mode_named of r (kept_indices k t) i j names (values_in env v 0) (values_in env w 0) consts _ _ refl refl (elem_shared x (slice_get_within t.elems x e h)) e.mode (named.elem_modes x (kept_elem k e) (map_at (kept_elem k) t.elems x e h)))
+              (λ x e h. elem_mode_named R r (kept_indices k t) i j names (values_in env v 0) (values_in env w 0) consts _ _ refl refl (elem_shared x (slice_get_within t.elems x e h)) e.mode (named.elem_modes x (kept_elem k e) (map_at (kept_elem k) t.elems x e h)))
 
           datas_in_order : DatasInOrder R env v w
           datas_in_order =
               all_in_step _ _ _ i j (new_data r) [] t.datas u.datas i.datas j.datas a.datas b.datas (same.datas ∙ sym (append-nil _)) (no_more j (numbers (0 + length t.datas) 0))
-              (λ x d h. data_mode_named of r (kept_indices k t) i j names (values_in env v 0) (values_in env w 0) consts _ _ refl refl (data_shared x (slice_get_within t.datas x d h)) d.mode (named.data_modes x d h))
+              (λ x d h. data_mode_named R r (kept_indices k t) i j names (values_in env v 0) (values_in env w 0) consts _ _ refl refl (data_shared x (slice_get_within t.datas x d h)) d.mode (named.data_modes x d h))
 
           pub view : ListRel (λ x y. OptRel (KeyRel R) (seen_as (i ∷ []) x) (seen_as (j ∷ []) y)) (unswept k t).view (alone u).view
           view = rw (kept_map seen k.exports t.exports, same.exports) (each (kept k.exports t.exports) named.exports)
@@ -385,10 +385,10 @@ module _ (k : Marks) (t : Module) (c : AreClosed k t) where
 
               each : (es : List Export) → ((x : ℕ) (e : Export) → slice_get es x ≡ Some e → ExportNamesOnly (kept_indices k t) e.desc) → ListRel (λ x y. OptRel (KeyRel R) (seen_as (i ∷ []) x) (seen_as (j ∷ []) y)) (map seen es) (map seen (map (new_export r) es))
               each [] h = nil
-              each (e ∷ es) h = cons (then_rel (export_named of r (kept_indices k t) i j names e.desc (h 0 e refl)) (λ _ _ q. some (record { key = refl; thing = q }))) (each es (λ x. h (suc x)))
+              each (e ∷ es) h = cons (then_rel (export_named R r (kept_indices k t) i j names e.desc (h 0 e refl)) (λ _ _ q. some (record { key = refl; thing = q }))) (each es (λ x. h (suc x)))
 
           pub starts : ListRel (R.of Functions) (starts_of (one t) (i ∷ [])) (starts_of (one u) (j ∷ []))
-          starts = append_rel (rw same.start (start_named of r (kept_indices k t) i j names t.start named.start)) nil
+          starts = append_rel (rw same.start (start_named R r (kept_indices k t) i j names t.start named.start)) nil
 
           pub worlds : RenumberedCodeIsRelated → WorldsCorrespond R env (unswept k t) (alone u) (i ∷ []) (j ∷ [])
           worlds code = record { own = own; definitions = definitions code; elems = elems_in_order; datas = datas_in_order; view = view }

@@ -81,7 +81,7 @@ module _ (env : Environment) (parts : List Part) (fit : AllFit parts) (insts js 
   exports_seen p m is [] h = nil
   exports_seen p m is (e ∷ es) h =
       let i = agree.each p m is in
-      let named = renamed.export_named (is_shared env parts) _ _ _ _ (entries_name env parts p m i.0 agree.merged i.2) e.desc (grind arith) in
+      let named = renamed.export_named (sharing env parts) _ _ _ _ (entries_name env parts p m i.0 agree.merged i.2) e.desc (grind arith) in
       cons (λ name. rw (i.1, agree.alone) (then_rel named (λ _ _ r. some (record { key = refl; thing = r })))) (exports_seen p m is es (grind arith))
 
   pub view_agrees : (mode : Mode) → ListRel AreSeenAlike (merge_view parts mode) (alone (joined_module parts mode)).view

@@ -189,7 +189,7 @@ module _ (laws : Laws) (namespace : ℕ → List ℕ) (names : SplitNames) (m : 
 
     elem_alike : (x : ℕ) (e : ElemSeg) → slice_get m.elems x ≡ Some e → ElemsCorrespond R (values_in env v 0) (values_in env w 0) e (new_elem map_of e)
     elem_alike x e h =
-        elems_as P R (λ space c d p. p) (alike_correspond P (values_in env v 0) (values_in env w 0) (elems_alike of map_of kept i j names_there (values_in env v 0) (values_in env w 0) const_values e (λ p c at. outside_named.items x p e c h at)))
+        elems_as P R (λ space c d p. p) (alike_correspond P (values_in env v 0) (values_in env w 0) (elems_alike P map_of kept i j names_there (values_in env v 0) (values_in env w 0) const_values e (λ p c at. outside_named.items x p e c h at)))
 
     pub definitions : DefinitionsCorrespond R env v w
     definitions = record {
@@ -232,7 +232,7 @@ module _ (laws : Laws) (namespace : ℕ → List ℕ) (names : SplitNames) (m : 
 
     elem_pairs : (x : ℕ) (e : ElemSeg) → slice_get m.elems x ≡ Some e → ElemPair (record { part = 0; inst = i; address = 0 + x; segment = e }) (record { part = 0; inst = j; address = 0 + x; segment = new_elem map_of e })
     elem_pairs x e h =
-        elem_partner_as P R (λ space c d p. p) (elem_mode_named of map_of kept i j names_there (values_in env v 0) (values_in env w 0) const_values _ _ refl refl
+        elem_partner_as P R (λ space c d p. p) (elem_mode_named P map_of kept i j names_there (values_in env v 0) (values_in env w 0) const_values _ _ refl refl
         (its_partner ElementSegments refl (0 + x) (let lt = slice_get_within m.elems x e h in omega (arith, lt))) e.mode (outside_named.elem_modes x e h))
 
     elems_in_order : ElemsInOrder R env v w
@@ -243,7 +243,7 @@ module _ (laws : Laws) (namespace : ℕ → List ℕ) (names : SplitNames) (m : 
     datas_in_order : DatasInOrder R env v w
     datas_in_order =
         all_in_step _ _ _ i j (new_data map_of) [] m.datas primary.datas i.datas j.datas a.datas b.datas (datas_are laws namespace names m moved owns g ∙ sym (append-nil _)) (no_more j (numbers (0 + length m.datas) 0))
-        (λ x d h. data_partner_as P R (λ space c d p. p) (data_mode_named of map_of kept i j names_there (values_in env v 0) (values_in env w 0) const_values _ _ refl refl
+        (λ x d h. data_partner_as P R (λ space c d p. p) (data_mode_named P map_of kept i j names_there (values_in env v 0) (values_in env w 0) const_values _ _ refl refl
         (its_partner DataSegments refl (0 + x) (let lt = slice_get_within m.datas x d h in omega (arith, lt))) d.mode (outside_named.data_modes x d h)))
 
     -- ---- views and starts ----
@@ -254,10 +254,10 @@ module _ (laws : Laws) (namespace : ℕ → List ℕ) (names : SplitNames) (m : 
         each : (es : List Export) → ((x : ℕ) (e : Export) → slice_get es x ≡ Some e → ExportNamesOnly kept e.desc) →
             ListRel (λ x y. OptRel (KeyRel R) (seen_as (i ∷ []) x) (seen_as (j ∷ []) y)) (map (λ e. (e.name, record { part = 0; what = e.desc })) es) (map (λ (v : Text × ExportDesc). (v.0, record { part = 0; what = v.1 })) (map (λ e. (e.name, new_export_desc map_of e.desc)) es))
         each [] h = nil
-        each (e ∷ es) h = cons (then_rel (renamed.export_named of map_of kept i j names_there e.desc (h 0 e refl)) (λ _ _ q. some (record { key = refl; thing = thing_as P R (λ space c d p. p) q }))) (each es (λ x. h (suc x)))
+        each (e ∷ es) h = cons (then_rel (renamed.export_named P map_of kept i j names_there e.desc (h 0 e refl)) (λ _ _ q. some (record { key = refl; thing = thing_as P R (λ space c d p. p) q }))) (each es (λ x. h (suc x)))
 
     pub starts : ListRel (R.of Functions) (starts_of (one m) (i ∷ [])) (starts_of (one primary) (j ∷ []))
-    starts = append_rel (rw (start_is laws namespace names m moved owns g) (start_named of map_of kept i j names_there m.start outside_named.start)) nil
+    starts = append_rel (rw (start_is laws namespace names m moved owns g) (start_named P map_of kept i j names_there m.start outside_named.start)) nil
 
     pub worlds : WorldsCorrespond R env (alone m) (primary_world stubs) (i ∷ []) (j ∷ [])
     worlds = record { own = shares_own namespace names.export_prefix m valid moved g.can_move env loaded; definitions = definitions; elems = elems_in_order; datas = datas_in_order; view = view }

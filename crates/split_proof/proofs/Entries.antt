@@ -357,7 +357,7 @@ module _ (laws : Laws) (namespace : ℕ → List ℕ) (names : SplitNames) (m : 
       consts (const.I32 n) h = some number
       consts (const.I64 n) h = some number
       consts (const.Null ty) h = some (reference (null_rel P ty))
-      consts (const.Func f) h = then_rel (func_named of r stay i j entries f h) (λ _ _ q. some (reference (func (some q))))
+      consts (const.Func f) h = then_rel (func_named P r stay i j entries f h) (λ _ _ q. some (reference (func (some q))))
       consts (const.Global x) h = opt_at (laws.constants env m i a (const.Global x)) (laws.constants env Q j b (const.Global (slice_index r.globals x))) (then_rel (entries Globals x h) look)
         where
           value : ℕ → Option Val

@@ -131,7 +131,7 @@ module _ (laws : Laws) (namespace : ℕ → List ℕ) (names : SplitNames) (m : 
       elems_rel : (n : ℕ) (e : ElemSeg) → slice_get m.elems n ≡ Some e → OptRel (ElemRel P) (world.elem_of env (one m) (i ∷ []) 0 e) (world.elem_of env (one primary) (j ∷ []) 0 (new_elem map_of e))
       elems_rel n e at =
           elem_rel P (values_in env v 0) (values_in env w 0) {d = e} {e = new_elem map_of e}
-          (elems_alike (is_partner env m moved) map_of kept i j (entries laws namespace names m moved owns g env i j a b) (values_in env v 0) (values_in env w 0) (consts laws namespace names m moved owns g env i j a b) e (λ p c h. outside_named.items n p e c at h))
+          (elems_alike P map_of kept i j (entries laws namespace names m moved owns g env i j a b) (values_in env v 0) (values_in env w 0) (consts laws namespace names m moved owns g env i j a b) e (λ p c h. outside_named.items n p e c at h))
 
       -- how many functions the primary module's instance names
       funcs_space : length j.funcs ≡ length (funcs_of undeclared)

@@ -10,16 +10,19 @@ use Rattle.merge_spec.specs.Prelude.{imports_kind}
 use Rattle.merge_spec.specs.Joined as joined
 use Rattle.tools_cli.specs.Prelude.{Source, parts_of, IsWithinLimits}
 use Rattle.tools_cli.specs.Job.{most_parts}
-use Rattle.merge_join.proofs.ByPart.{sites_in_length}
 
 abbrev pub EachWithin : List Part → Type 0
 EachWithin = Every (λ (p : Part). IsWithinLimits p.«module»)
+
+sites_within : (p count q : ℕ) → length (sites_in p count q) ≤ count
+sites_within p zero q = omega arith
+sites_within p (suc count) q = omega (arith, sites_within p count (suc q))
 
 sites_few : (n : ℕ) (ps : List Part) → EachWithin ps → length (sites_from n ps) ≤ limit which.Imports * length ps
 sites_few n [] h = omega arith
 sites_few n (p ∷ ps) h =
     let whole = length-append (sites_in n (length p.«module».imports) 0) (sites_from (suc n) ps) in
-    omega (arith, whole, sites_in_length n (length p.«module».imports) 0, h.0.imports, sites_few (suc n) ps h.1)
+    omega (arith, whole, sites_within n (length p.«module».imports) 0, h.0.imports, sites_few (suc n) ps h.1)
 
 -- the most that a module defines of an index space
 abbrev most_defined : Space → ℕ

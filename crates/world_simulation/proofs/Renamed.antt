@@ -1,11 +1,11 @@
 -- A module's items with other indices, where each index of a set names what its entry names: exports, starts, functions, constant expressions, and the modes of segments.
-use Rattle.base_lists.proofs.Common.{◌≡◌, arith, ℕ, [], Option, Some, refl, option_and_then, slice_get, slice_index, IsTrue, Bool}
-use Rattle.wasm_tree_spec.specs.Prelude.{Space, Types, Functions, ElementSegments, DataSegments, ConstExpr, ExportDesc, ElemMode, ElemSeg, DataMode, DataSeg}
+use Rattle.base_lists.proofs.Common.{◌≡◌, arith, ℕ, Option, Some, refl, option_and_then, slice_get, slice_index, IsTrue, List}
+use Rattle.wasm_tree_spec.specs.Prelude.{Space, Types, Functions, ElementSegments, DataSegments, ConstExpr, ExportDesc, ElemMode, ElemSeg, DataMode, DataSeg, Instr, ListLayers}
 use Rattle.wasm_tree.specs.declared.module.Func as tree
 use Rattle.wasm_num.specs.Operations.{W32}
 use Rattle.wasm_meaning.specs.Prelude.{Val, Inst, num_of, PlacedSegment, start_in, address_in}
 use Rattle.index_remap.specs.declared.remap.Remap.{Remap}
-use Rattle.index_remap.specs.Prelude.{new_func, new_const, new_elem, new_elem_mode, new_data_mode, new_export_desc, new_start, Pairing, OptRel, none, some, ListRel, nil, cons, ValRel, ExternalValueRel, a_func, a_table, a_memory, a_global, passed, RenumberedCodeIsRelated}
+use Rattle.index_remap.specs.Prelude.{new_func, new_const, new_elem, new_elem_mode, new_data_mode, new_export_desc, new_start, Pairing, OptRel, none, some, ListRel, nil, cons, ValRel, ExternalValueRel, a_func, a_table, a_memory, a_global, renumbered_all, CodeRel, LayerNames}
 use Rattle.index_remap_proof.specs.Indices.{Indices, ConstNamesOnly, FuncNamesOnly, ExportNamesOnly, ElemModeNamesOnly, DataModeNamesOnly}
 use Rattle.world_simulation.specs.Prelude.{EntriesName, FuncsCorrespond, ElemsPartner, DatasPartner, ElemsAlike}
 use Rattle.world_simulation.proofs.Named.{all_named}
@@ -15,10 +15,7 @@ use Rattle.base_lists.proofs.Related.{placed_rel}
 pub offset_same : (R : Pairing) {o p : Option Val} → OptRel (ValRel R) o p → option_and_then (num_of W32) o ≡ option_and_then (num_of W32) p
 offset_same R r = grind arith
 
-module _ (of : Space → ℕ → ℕ → Bool) (m : Remap) (kept : Indices) (i j : Inst) (names : EntriesName (passed of of []) m kept i j) where
-  abbrev R : Pairing
-  R = passed of of []
-
+module _ (R : Pairing) (m : Remap) (kept : Indices) (i j : Inst) (names : EntriesName R m kept i j) where
   pub func_named : (x : ℕ) → IsTrue (kept Functions x) → OptRel (R.of Functions) (slice_get i.funcs x) (slice_get j.funcs (slice_index m.funcs x))
   func_named = names Functions
 
@@ -28,8 +25,8 @@ module _ (of : Space → ℕ → ℕ → Bool) (m : Remap) (kept : Indices) (i j
   pub start_named : (start : Option ℕ) → ((f : ℕ) → start ≡ Some f → IsTrue (kept Functions f)) → ListRel (R.of Functions) (start_in i start) (start_in j (new_start m start))
   start_named start h = grind (arith, nil, cons, λ (f : ℕ) (e : start ≡ Some f). func_named f (h f e))
 
-  pub funcs_correspond : RenumberedCodeIsRelated → (f : tree.Func) → FuncNamesOnly kept f → FuncsCorrespond R i j f (new_func m f)
-  funcs_correspond law f h = record { type = names Types f.ty h.0; locals = refl; code = law of of [] m i j f.body (all_named R m kept i j names f.body h.1) }
+  pub funcs_correspond : ((code : List Instr) → ListLayers (LayerNames R m i j) code → CodeRel R i j code (renumbered_all m code)) → (f : tree.Func) → FuncNamesOnly kept f → FuncsCorrespond R i j f (new_func m f)
+  funcs_correspond related f h = record { type = names Types f.ty h.0; locals = refl; code = related f.body (all_named R m kept i j names f.body h.1) }
 
   -- ---- by values that are related ----
 
