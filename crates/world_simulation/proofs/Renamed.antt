@@ -15,7 +15,11 @@ use Rattle.base_lists.proofs.Related.{placed_rel}
 pub offset_same : (R : Pairing) {o p : Option Val} → OptRel (ValRel R) o p → option_and_then (num_of W32) o ≡ option_and_then (num_of W32) p
 offset_same R r = grind arith
 
-module _ (R : Pairing) (m : Remap) (kept : Indices) (i j : Inst) (names : EntriesName R m kept i j) where
+-- the relation of addresses is that of stores, for what code names too
+abbrev as_stored : Pairing → Pairing
+as_stored R = record R { named = R.of }
+
+module _ (R : Pairing) (m : Remap) (kept : Indices) (i j : Inst) (names : EntriesName (as_stored R) m kept i j) where
   pub func_named : (x : ℕ) → IsTrue (kept Functions x) → OptRel (R.of Functions) (slice_get i.funcs x) (slice_get j.funcs (slice_index m.funcs x))
   func_named = names Functions
 
@@ -25,8 +29,8 @@ module _ (R : Pairing) (m : Remap) (kept : Indices) (i j : Inst) (names : Entrie
   pub start_named : (start : Option ℕ) → ((f : ℕ) → start ≡ Some f → IsTrue (kept Functions f)) → ListRel (R.of Functions) (start_in i start) (start_in j (new_start m start))
   start_named start h = grind (arith, nil, cons, λ (f : ℕ) (e : start ≡ Some f). func_named f (h f e))
 
-  pub funcs_correspond : ((code : List Instr) → ListLayers (LayerNames R m i j) code → CodeRel R i j code (renumbered_all m code)) → (f : tree.Func) → FuncNamesOnly kept f → FuncsCorrespond R i j f (new_func m f)
-  funcs_correspond related f h = record { type = names Types f.ty h.0; locals = refl; code = related f.body (all_named R m kept i j names f.body h.1) }
+  pub funcs_correspond : ((code : List Instr) → ListLayers (LayerNames (as_stored R) m i j) code → CodeRel R i j code (renumbered_all m code)) → (f : tree.Func) → FuncNamesOnly kept f → FuncsCorrespond R i j f (new_func m f)
+  funcs_correspond related f h = record { type = names Types f.ty h.0; locals = refl; code = related f.body (all_named (as_stored R) m kept i j names f.body h.1) }
 
   -- ---- by values that are related ----
 
