@@ -1,11 +1,11 @@
 -- In an environment that links a module, what the first step makes of its constructors corresponds to what the snapshot is instantiated to.
-use Rattle.base_lists.proofs.Common.{◌≡◌, ◌∙◌, sym, ap, refl, subst, ℕ, List, [], ◌∷◌, ◌++◌, true, false, slice_get, Some, option_and_then, same_Some, and_then_is, all_rel, opt_at, opt_both, right_there, arith}
+use Rattle.base_lists.proofs.Common.{◌≡◌, ◌∙◌, sym, ap, refl, subst, ℕ, List, [], ◌∷◌, ◌++◌, true, false, slice_get, Some, option_and_then, same_Some, and_then_is, all_rel, opt_at, opt_both, right_there}
 use Rattle.wasm_tree_spec.specs.Prelude.{Functions, GlobalDef, Module}
 use Rattle.wasm_valid.specs.Prelude.{IsValid, ItemsHold}
 use Rattle.wasm_meaning.specs.Prelude.{Text, Inst, Val, Store, StepsWriteWhatTheyTouch, sites, Environment, ExternalValue, all_of, Begun, all_there, alone, begun, inst_of, insts_from, instantiate, is_matched, joined_stores, own_store, part_store, seen_as, segments, start_in, stores_from, value_of}
 use Rattle.index_remap.specs.Prelude.{Pairing, some, ListRel, nil, cons, opening, StoreRel, BegunRel, KeyRel, EntryByEntry, StoreRelOff, StepsAgreeOff, RunsAgreeOff}
 use Rattle.index_remap_proof.specs.Indices.{TreeNamesOnly, with_entry}
-use Rattle.world_simulation.specs.Prelude.{DeclaringSegmentsAreAllocated, one, IsInstantiated, IsInst}
+use Rattle.world_simulation.specs.Prelude.{DeclaringSegmentsAreAllocated, WhatIsInstantiated, one, IsInstantiated, IsInst}
 use Rattle.world_contents_proof.specs.Leaves.{Leaves, WorldsOfOneModuleLeave}
 use Rattle.world_simulation.proofs.Owned.{owned_rel}
 use Rattle.eval_spec.specs.declared.limits.TheConstants.{MOST_TURNS}
@@ -54,6 +54,7 @@ pub record Laws : Type 0 where
   pub leave : OwnSegmentsLeave
   pub worlds_leave : WorldsOfOneModuleLeave
   pub declared : DeclaringSegmentsAreAllocated
+  pub made : WhatIsInstantiated
 
 -- the one instance of a list is the one of an equal list
 same_inst : (i j : Inst) → i ∷ [] ≡ j ∷ [] → i ≡ j
@@ -117,7 +118,7 @@ module _ (laws : Laws) (env : Environment) (m : Module) (s : State) (name : Text
 
   module _ (j : Inst) (j_is : inst_of env (one second) 0 second ≡ Some j) (c : IsInst env (one second) 0 second j) where
     x : IsInstantiated env (evaluated_world m (name ∷ names) kept) b.begun
-    x = grind (arith, b.is_begun)
+    x = laws.made env (evaluated_world m (name ∷ names) kept) b.begun b.is_begun
 
     insts_are : x.insts ≡ i ∷ []
     insts_are = same_Some _ _ (sym x.are_insts ∙ b.is_inst)
@@ -129,7 +130,7 @@ module _ (laws : Laws) (env : Environment) (m : Module) (s : State) (name : Text
         (y.0, y.1, same_Some _ _ y.2)
 
     inits : (n : ℕ) (g : GlobalDef) → slice_get second.globals n ≡ Some g → (w : Val) × (value_of env (one second) (j ∷ []) 0 g.init ≡ Some w)
-    inits = inits_there laws.code.constants env m s name names kept i j b.shape c named b.begun.store run.machines.begun.store b.quiet after.end left quiet steady related run.alone after.told fit
+    inits = inits_there laws.code.constants env m s name names kept i j b.shape c named b.begun.store run.machines.begun.store b.quiet after.end left quiet steady related run.alone after.told fit laws.code.globals
 
     stored : (z : Store) × (part_store env (one second) (j ∷ []) 0 second j ≡ Some z)
     stored = second_store env m s name names kept i b.shape j c named added.0 added.1 inits laws.code.constants laws.declared

@@ -8,7 +8,7 @@ use Rattle.wasm_valid.specs.Prelude.{IsValid}
 use Rattle.wasm_meaning.specs.Prelude.{Text, Inst, export_named, same_text, Environment, Filled, all_there, alone, begun, joined_stores, links, own_store, segments, start_in}
 use Rattle.index_remap.specs.Prelude.{ListRel, cons, nil}
 use Rattle.index_remap_proof.specs.Indices.{ExportNamesOnly, ImportNamesOnly, TreeNamesOnly, with_entry}
-use Rattle.world_simulation.specs.Prelude.{one, IsInst}
+use Rattle.world_simulation.specs.Prelude.{one, WhatIsInstantiated, IsInst}
 use Rattle.eval_spec.specs.declared.limits.TheConstants.{MOST_TURNS}
 use Rattle.eval_spec.specs.Prelude.{State, Stage, Going, Stopped, Finished, called_in_order, evaluated, after_start, instantiated}
 use Rattle.eval_snapshot_spec.specs.Evaluated.{first_missing, func_exported, func_named, funcs_named}
@@ -131,10 +131,10 @@ module _ (env : Environment) (m : Module) (constructors kept : List Text) (t : S
         called = append_rel (started m names env more i made.shape m.start (started_func m names)) called.related;
       }
 
-pub both_instantiated : NamingLaws → (env : Environment) (m : Module) (name : Text) (names kept : List Text) (t : State) → IsValid m → first_missing m (name ∷ names) ≡ None →
+pub both_instantiated : NamingLaws → WhatIsInstantiated → (env : Environment) (m : Module) (name : Text) (names kept : List Text) (t : State) → IsValid m → first_missing m (name ∷ names) ≡ None →
     evaluated m (funcs_named m (name ∷ names)) ≡ Finished t →
     IsTrue (links env (alone m)) → BothInstantiated env m (name ∷ names) kept
-both_instantiated laws env m name names kept t valid none e linked =
+both_instantiated laws is_made env m name names kept t valid none e linked =
     let there = names_there laws m valid in
     let s = instantiated_first m (instantiated m MOST_TURNS) m.start (funcs_named m (name ∷ names)) t e in
-    made_both env m (name ∷ names) kept t laws there (more_made env m there (first_there m there name names none) (name ∷ names) kept linked) s.0 s.1
+    made_both env m (name ∷ names) kept t laws there (more_made env m there (first_there m there name names none) is_made (name ∷ names) kept linked) s.0 s.1

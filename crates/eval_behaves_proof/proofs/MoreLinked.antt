@@ -5,10 +5,10 @@ use Rattle.base_lists.specs.Places.{first_place}
 use Rattle.wasm_tree_spec.specs.Prelude.{Space, Functions, Tables, Memories, Globals, ElementSegments, DataSegments, FuncType, GlobalDef, ElemSeg, Export, ExportDesc, Module, funcs_of, tables_of, memories_of, globals_of}
 use Rattle.wasm_tree.specs.declared.module.Func as tree
 use Rattle.wasm_tree.specs.declared.module.ExportDesc.TheVariants as ex
-use Rattle.wasm_meaning.specs.Prelude.{Text, Inst, Func, Code, Global, Elem, Store, declared, ref_of, Entity, sites, Environment, ExternalValue, FuncAt, TableAt, MemoryAt, GlobalAt, all_of, Begun, address_in, all_there, alone, begun, elem_of, insts_from, instantiate, is_matched, joined_stores, links, new_elem, new_func, new_global, own_count, own_store, part_store, seen_as, segments, stores_from, value_of, inst_of, World}
+use Rattle.wasm_meaning.specs.Prelude.{Text, Inst, Func, Code, Global, Elem, Store, declared, ref_of, Entity, sites, Environment, ExternalValue, FuncAt, TableAt, MemoryAt, GlobalAt, all_of, Begun, address_in, all_there, alone, begun, elem_of, insts_from, instantiate, is_matched, joined_stores, links, new_elem, new_func, new_global, own_count, own_store, part_store, seen_as, segments, stores_from, value_of, inst_of}
 use Rattle.index_remap.specs.Prelude.{Pairing, passed}
 use Rattle.index_remap_proof.specs.Indices.{ExportNamesOnly, TreeNamesOnly, with_entry}
-use Rattle.world_simulation.specs.Prelude.{one, SharesOwn, DefinitionsCorrespond, Instantiated, IsInstantiated, Adds, IsInst}
+use Rattle.world_simulation.specs.Prelude.{one, SharesOwn, DefinitionsCorrespond, Instantiated, IsInstantiated, WhatIsInstantiated, Adds, IsInst}
 use Rattle.world_simulation.specs.Definitions as partners
 use Rattle.world_simulation.proofs.Single.{all_matched}
 use Rattle.world_simulation.proofs.Stored.{stores_rel}
@@ -45,9 +45,6 @@ pub record MoreMade (env : Environment) (m : Module) (evaluated kept : List Text
   pub view : List (Text × ExternalValue)
   pub is_begun : instantiate env (evaluated_world m evaluated kept) ≡ Some
       (begun env (evaluated_world m evaluated kept) (inst ∷ []) view (segments env (one (with_empty_func m)) (inst ∷ []) (joined_stores (own_store env) defined)))
-
-pub what_is_made : (env : Environment) (w : World) (b : Begun) → instantiate env w ≡ Some b → IsInstantiated env w b
-what_is_made env w b h = grind arith
 
 module _ (env : Environment) (m : Module) (names : TreeNamesOnly (with_entry (each_index m)) m) (typed : 0 < length m.types) where
   abbrev more : Module
@@ -180,10 +177,10 @@ module _ (env : Environment) (m : Module) (names : TreeNamesOnly (with_entry (ea
       let matched : all_of (is_matched env (one more) z) (sites (one more)) ≡ true = sym (all_matched R env shared x.allocated z related m more refl refl) ∙ x.matched in
       record { inst = j; is_inst = there; shape = b; defined = q.0; is_defined = q.1; view = v.results; is_begun = rw (there, second, v.are, matched) refl }
 
-  pub more_made : (evaluated kept : List Text) → IsTrue (links env (alone m)) → MoreMade env m evaluated kept
-  more_made evaluated kept h =
+  pub more_made : WhatIsInstantiated → (evaluated kept : List Text) → IsTrue (links env (alone m)) → MoreMade env m evaluated kept
+  more_made is_made evaluated kept h =
       let o = is_some_there (instantiate env (alone m)) h in
-      let x = what_is_made env (alone m) o.0 o.1 in
+      let x = is_made env (alone m) o.0 o.1 in
       let i : (i : Inst) × (x.insts ≡ i ∷ []) × IsInst env (one m) 0 m i = search (arith, x.are_insts) in
       let a = i.2 in
       let f = space_more env m Functions i.0.funcs a.funcs in

@@ -1,5 +1,4 @@
 -- A quiet instantiation and start are the machine's, of the module itself, in each environment that links it.
-use Rattle.eval_behaves_proof.proofs.MoreLinked.{what_is_made}
 use Rattle.base_lists.proofs.Common.{◌≡◌, ◌∙◌, sym, ap, ap₂, subst, refl, ◌≤◌, List, [], ◌∷◌, ◌++◌, append-nil, false, Some, arith, IsTrue, same_Some, and_then_is, is_some_there, append_rel}
 use Rattle.wasm_tree_spec.specs.Prelude.{Functions, Module}
 use Rattle.wasm_tree.specs.declared.module.Func as tree
@@ -7,7 +6,7 @@ use Rattle.wasm_valid.specs.Prelude.{IsValid}
 use Rattle.wasm_meaning.specs.Prelude.{Inst, Store, Environment, Begun, alone, begun, insts_from, instantiate, joined_stores, links, own_store, part_store, segments, start_in, stores_from}
 use Rattle.index_remap.specs.Prelude.{Pairing, ListRel, OneToOneWhereWritten, nil, passed, StoreRelOff, StepsAgreeOff, RunsAgreeOff}
 use Rattle.index_remap_proof.specs.Indices.{TreeNamesOnly, with_entry}
-use Rattle.world_simulation.specs.Prelude.{one, IsInst}
+use Rattle.world_simulation.specs.Prelude.{one, WhatIsInstantiated, IsInst}
 use Rattle.eval_spec.specs.declared.limits.TheConstants.{MOST_TURNS}
 use Rattle.eval_spec.specs.Prelude.{State, Stage, Finished, after_start, instantiated, own_inst, called_in_order, evaluated}
 use Rattle.eval_proof.specs.Known.{FuncsOf, QuietCallsAreKnown}
@@ -71,10 +70,10 @@ module _ (naming : NamingLaws) (env : Environment) (m : Module) (names : TreeNam
     pub apart : OneToOneWhereWritten (R inst)
     pub starts : ListRel ((R inst).of Functions) (start_of m.start) begun.starts
 
-  pub both_started : IsTrue (links env (alone m)) → BothStarted
-  both_started linked =
+  pub both_started : WhatIsInstantiated → IsTrue (links env (alone m)) → BothStarted
+  both_started is_made linked =
       let o = is_some_there (instantiate env (alone m)) linked in
-      let x = what_is_made env (alone m) o.0 o.1 in
+      let x = is_made env (alone m) o.0 o.1 in
       let i : (i : Inst) × (x.insts ≡ i ∷ []) × IsInst env (one m) 0 m i = search (arith, x.are_insts) in
       let first : stores_from env (one m) (i.0 ∷ []) (own_store env) 0 (one m) (i.0 ∷ []) ≡ Some x.allocated =
       subst (λ is. stores_from env (one m) is (own_store env) 0 (one m) is ≡ Some x.allocated) i.1 x.is_allocated in
@@ -113,8 +112,8 @@ module _ (known : QuietCallsAreKnown) (lead : QuietCallsSimulate) (agree : Steps
         related = r.related;
       }
 
-  pub start_is : IsValid m → evaluated m [] ≡ Finished t → IsTrue (links env (alone m)) → StartIsTheMachines env m t
-  start_is valid e linked =
+  pub start_is : WhatIsInstantiated → IsValid m → evaluated m [] ≡ Finished t → IsTrue (links env (alone m)) → StartIsTheMachines env m t
+  start_is is_made valid e linked =
       let names = names_there naming m valid in
       let s = instantiated_first m (instantiated m MOST_TURNS) m.start [] t e in
-      start_run names s.0 s.1 (both_started naming env m names s.0 s.1 linked) e
+      start_run names s.0 s.1 (both_started naming env m names s.0 s.1 is_made linked) e

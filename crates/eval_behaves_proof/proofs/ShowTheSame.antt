@@ -14,5 +14,5 @@ pub snapshot_equivalent : Laws → RelatedBegunHaveEqualTraces → EvaluatedGlob
 snapshot_equivalent laws same ranges m [] kept s valid begins after = none_evaluated m kept
 snapshot_equivalent laws same ranges m (name ∷ names) kept s valid begins after =
     alike_show_the_same same m name names kept (snapshot m s (name ∷ names) kept) (λ env is linked.
-    begin_alike laws env m s name names kept valid after (both_instantiated laws.naming env m name names kept after.end valid after.named after.quiet linked)
+    begin_alike laws env m s name names kept valid after (both_instantiated laws.naming laws.made env m name names kept after.end valid after.named after.quiet linked)
     (ranges m valid begins MOST_TURNS (funcs_named m (name ∷ names)) after.end after.quiet))

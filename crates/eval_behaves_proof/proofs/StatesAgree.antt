@@ -1,6 +1,6 @@
 -- The instances of a module with one more function and of its snapshot: each index that the module names denotes one address in both, and its code does the same.
 use Rattle.base_lists.proofs.Common.{◌≡◌, ◌∙◌, sym, ap, refl, subst, ℕ, ◌+◌, ◌<◌, ◌≤◌, List, [], ◌∷◌, length, true, cond, not, ◌||◌, Option, Some, None, arith, option_and_then, slice_get, length-append, any_passes_from_place, places_many, same_Some, numbers_at, length-map, get_rel, opt_both, opt_self}
-use Rattle.wasm_tree_spec.specs.Prelude.{AnyInside, PassesInside, PassesLayerByLayer, Space, Types, Functions, Tables, Memories, Globals, ElementSegments, DataSegments, ConstExpr, Module, any_uses_data, uses_data, operands, same_space, imported_funcs, imported_tables, imported_memories, imported_globals, funcs_of, tables_of, memories_of, globals_of}
+use Rattle.wasm_tree_spec.specs.Prelude.{PassesLayerByLayer, Space, Types, Functions, Tables, Memories, Globals, ElementSegments, DataSegments, ConstExpr, Module, any_uses_data, uses_data, operands, same_space, imported_funcs, imported_tables, imported_memories, imported_globals, funcs_of, tables_of, memories_of, globals_of}
 use Rattle.wasm_tree.specs.declared.module.ConstExpr.TheVariants as const
 use Rattle.wasm_tree.specs.declared.module.Func as tree
 use Rattle.wasm_num.specs.Operations.{W32, W64, wrapped}
@@ -12,7 +12,7 @@ use Rattle.world_contents_proof.specs.OwnValues.{ConstantsAloneReadTheEnvironmen
 use Rattle.world_simulation.proofs.Owned.{null_rel, own_globals_rel}
 use Rattle.eval_spec.specs.Prelude.{State}
 use Rattle.eval_snapshot_spec.specs.Snapshot.{empty_func, snapshot}
-use Rattle.eval_snapshot_proof.proofs.Typed.{code_passes, no_data_or}
+use Rattle.eval_snapshot_proof.specs.Left.{DataOperandsPass, EachGlobalIsLeft, NoSegmentIsLost, no_data_or}
 use Rattle.eval_behaves_proof.specs.Worlds.{with_empty_func}
 use Rattle.eval_behaves_proof.proofs.InRange.{below, each_index}
 use Rattle.eval_behaves_proof.proofs.CodeAlike.{IndexAlike, LayerAlike, code_alike}
@@ -20,11 +20,12 @@ use Rattle.eval_behaves_proof.proofs.Shared.{Itself, NamesOne, names_one, one_na
 use Rattle.eval_behaves_proof.proofs.SnapshotHas.{bound, datas_more, elems_more, funcs_many, more, more_few, room, shape, left_globals_many}
 use Rattle.eval_behaves_proof.proofs.Zipped.{code_both, every_both}
 
--- what the laws on code and on constant expressions say
+-- what the laws on code, on what is left of a module and on constant expressions say
 pub record SnapshotLaws : Type 0 where
-  pub inside : PassesInside
-  pub any : AnyInside
   pub layers : PassesLayerByLayer
+  pub globals : EachGlobalIsLeft
+  pub segments : NoSegmentIsLost
+  pub code : DataOperandsPass
   pub constants : ConstantsAloneReadTheEnvironment
 
 module _ (env : Environment) (m : Module) (s : State) (name : Text) (names kept : List Text) where
@@ -115,9 +116,9 @@ module _ (env : Environment) (m : Module) (s : State) (name : Text) (names kept 
           low = lt;
         }
 
-    pub data_shared : any_uses_data m.funcs ≡ true → (n : ℕ) → n < length m.datas → One DataSegments i.datas j.datas n
-    data_shared uses n lt =
-        let l = datas_more m s name names kept uses in
+    pub data_shared : NoSegmentIsLost → any_uses_data m.funcs ≡ true → (n : ℕ) → n < length m.datas → One DataSegments i.datas j.datas n
+    data_shared none_lost uses n lt =
+        let l = datas_more m s name names kept none_lost uses in
         let z : 0 + n ≡ n = omega arith in
         let most : below_these DataSegments ≡ length m.datas = ap (λ b. cond b (length m.datas) 0) uses in
         record {
@@ -129,22 +130,22 @@ module _ (env : Environment) (m : Module) (s : State) (name : Text) (names kept 
 
     -- ---- code ----
 
-    index_alike : (k : Space) (n : ℕ) → with_entry (each_index m) k n ≡ true → not (same_space k DataSegments) || any_uses_data m.funcs ≡ true → IndexAlike R i j k n
-    index_alike Types n h d = ap (λ ts. slice_get ts n) (a.types ∙ sym same_types ∙ sym b.types)
-    index_alike Functions n h d = one_named below_these env enough (func_shared n (below (length (funcs_of m)) n h))
-    index_alike Tables n h d = one_named below_these env enough (table_shared n (below (length (tables_of m)) n h))
-    index_alike Memories n h d = one_named below_these env enough (memory_shared n (below (length (memories_of m)) n h))
-    index_alike Globals n h d = one_named below_these env enough (global_shared n (below (length (globals_of m)) n h))
-    index_alike ElementSegments n h d = one_named below_these env enough (elem_shared n (below (length m.elems) n h))
-    index_alike DataSegments n h d = one_named below_these env enough (data_shared d n (below (length m.datas) n h))
+    index_alike : NoSegmentIsLost → (k : Space) (n : ℕ) → with_entry (each_index m) k n ≡ true → not (same_space k DataSegments) || any_uses_data m.funcs ≡ true → IndexAlike R i j k n
+    index_alike none_lost Types n h d = ap (λ ts. slice_get ts n) (a.types ∙ sym same_types ∙ sym b.types)
+    index_alike none_lost Functions n h d = one_named below_these env enough (func_shared n (below (length (funcs_of m)) n h))
+    index_alike none_lost Tables n h d = one_named below_these env enough (table_shared n (below (length (tables_of m)) n h))
+    index_alike none_lost Memories n h d = one_named below_these env enough (memory_shared n (below (length (memories_of m)) n h))
+    index_alike none_lost Globals n h d = one_named below_these env enough (global_shared n (below (length (globals_of m)) n h))
+    index_alike none_lost ElementSegments n h d = one_named below_these env enough (elem_shared n (below (length m.elems) n h))
+    index_alike none_lost DataSegments n h d = one_named below_these env enough (data_shared none_lost d n (below (length m.datas) n h))
 
     pub code_same : SnapshotLaws → TreeNamesOnly (with_entry (each_index m)) m → (n : ℕ) (f : tree.Func) → slice_get m.funcs n ≡ Some f → CodeRel R i j f.body f.body
     code_same laws named n f at =
         let so = any_uses_data m.funcs in
-        let passes = code_passes laws.inside laws.any so f.body (λ h. any_passes_from_place (λ f. uses_data f.body) m.funcs n f at h) in
+        let passes = laws.code so f.body (λ h. any_passes_from_place (λ f. uses_data f.body) m.funcs n f at h) in
         let layers = (laws.layers (no_data_or so) f.body).0 passes in
         code_alike R i j f.body
-        (code_both (LayerNamesOnly (with_entry (each_index m))) _ (LayerAlike R i j) (λ l p q. every_both _ _ _ (λ o p q. index_alike o.space o.index p q) (operands l) p q) f.body
+        (code_both (LayerNamesOnly (with_entry (each_index m))) _ (LayerAlike R i j) (λ l p q. every_both _ _ _ (λ o p q. index_alike laws.segments o.space o.index p q) (operands l) p q) f.body
         (named.funcs n f at).1 layers)
 
     -- ---- constant expressions ----

@@ -15,7 +15,7 @@ use Rattle.eval_spec.specs.Prelude.{State, is_imported, imported_store, own_inst
 use Rattle.eval_proof.specs.Alone.{LeavesAlone}
 use Rattle.eval_snapshot_spec.specs.After.{TellsTheSame}
 use Rattle.eval_snapshot_spec.specs.Snapshot.{empty_func, global_left, globals_left, snapshot}
-use Rattle.eval_snapshot_proof.proofs.Trees.{global_from}
+use Rattle.eval_snapshot_proof.specs.Left.{EachGlobalIsLeft}
 use Rattle.world_contents_proof.specs.OwnValues.{ConstantsAloneReadTheEnvironment}
 use Rattle.eval_behaves_proof.specs.Worlds.{with_empty_func}
 use Rattle.eval_behaves_proof.proofs.OneMore.{globals_many}
@@ -164,9 +164,9 @@ module _ (constants : ConstantsAloneReadTheEnvironment) (env : Environment) (m :
           (w.0, sym (values_same env m s name names kept i j a b constants g.init init) ∙ w.1, subst (λ x. ValRel Q x w.0) is (value_itself env m s name names kept i j a b constants g.init w.0 init w.1))
 
   -- so each initialiser of the snapshot has a value
-  pub inits_there : (n : ℕ) (g : GlobalDef) → slice_get second.globals n ≡ Some g → (x : Val) × (again g.init ≡ Some x)
-  inits_there n g h =
-      let k = global_from m s place m.globals n g (ap (λ l. slice_get l n) (sym (shape m s name names kept).globals) ∙ h) in
+  pub inits_there : EachGlobalIsLeft → (n : ℕ) (g : GlobalDef) → slice_get second.globals n ≡ Some g → (x : Val) × (again g.init ≡ Some x)
+  inits_there each_left n g h =
+      let k = each_left m s place m.globals n g (ap (λ l. slice_get l n) (sym (shape m s name names kept).globals) ∙ h) in
       let w = gives n k.0 k.1 (holds n k.0 k.1) in
       (w.0, ap (λ (g : GlobalDef). again g.init) k.2 ∙ w.1)
 

@@ -11,6 +11,7 @@ use eval_proof::{
     quiet_calls_simulate, quiet_instantiations_are_instantiations, quiet_runs_end,
     quiet_steps_are_known,
 };
+use eval_snapshot_proof::snapshots_have_what_is_left;
 use index_remap::steps_agree_off_unknown_places;
 use index_remap_proof::renumbering_keeps_typing;
 use wasm_meaning::steps_write_only_touched_places;
@@ -21,8 +22,8 @@ use world_contents_proof::{
     segments_run_as_copies,
 };
 use world_simulation::{
-    declared_references_are_one_more_segment, index_spaces_list_imports_and_definitions,
-    related_instances_have_equal_traces,
+    corresponding_worlds_have_equal_traces, declared_references_are_one_more_segment,
+    index_spaces_list_imports_and_definitions, related_instances_have_equal_traces,
 };
 
 /// States that a run of a module after its evaluated constructors is determined by the module, the
@@ -50,6 +51,7 @@ pub fn quiet_runs_are_the_machines()
     steps_agree_off_unknown_places();
     quiet_runs_end();
     index_spaces_list_imports_and_definitions();
+    corresponding_worlds_have_equal_traces();
 }
 
 /// States that, in each environment that links a valid module, the module after its evaluated
@@ -77,4 +79,6 @@ pub fn snapshot_equivalent()
     instantiated_stores_match_their_modules();
     declared_references_are_one_more_segment();
     related_instances_have_equal_traces();
+    corresponding_worlds_have_equal_traces();
+    snapshots_have_what_is_left();
 }

@@ -14,10 +14,11 @@ returns c =
     let typing = c.renumbering_keeps_typing.ensures in
     let places = c.index_spaces_list_imports_and_definitions.ensures in
     let naming : NamingLaws = record { entries = typing.tree_entries; named = typing.tree_named; spaces = places.spaces; indices = places.indices } in
+    let made = c.corresponding_worlds_have_equal_traces.ensures.made in
     record {
       machines = λ m name names kept t valid none quiet env is linked.
-          let b = both_instantiated naming env m name names kept t valid none quiet linked in
+          let b = both_instantiated naming made env m name names kept t valid none quiet linked in
           let r = quiet_run calls lead off.steps off.runs reached env m (name ∷ names) kept t b quiet in
           r.machines;
-      starts = λ m t valid quiet env is linked. start_is calls lead off.steps off.runs reached naming env m t valid quiet linked;
+      starts = λ m t valid quiet env is linked. start_is calls lead off.steps off.runs reached naming env m t made valid quiet linked;
     }

@@ -5,7 +5,7 @@ use Rattle.eval_behaves_proof.proofs.snapshot_equivalent.Goals as goal
 
 pub returns : goal.returns
 returns c =
-    let operands = c.operands_pass_layer_by_layer.ensures in
+    let left = c.snapshots_have_what_is_left.ensures in
     let typing = c.renumbering_keeps_typing.ensures in
     let places = c.index_spaces_list_imports_and_definitions.ensures in
     let off = c.steps_agree_off_unknown_places.ensures in
@@ -17,7 +17,13 @@ returns c =
       reached = c.quiet_runs_end.ensures.reached;
       machines = c.quiet_instantiations_are_instantiations.ensures.instantiations;
       writes = c.steps_write_only_touched_places.ensures.writes;
-      code = record { inside = operands.inside; any = operands.any; layers = operands.layers; constants = c.constants_of_one_module_read_the_environment.ensures.values };
+      code = record {
+        layers = c.operands_pass_layer_by_layer.ensures.layers;
+        globals = left.globals;
+        segments = left.segments;
+        code = left.code;
+        constants = c.constants_of_one_module_read_the_environment.ensures.values;
+      };
       items = λ m. (c.valid_where_items_hold.ensures m).0;
       naming = record { entries = typing.tree_entries; named = typing.tree_named; spaces = places.spaces; indices = places.indices };
       run_own = c.segments_run_as_copies.ensures.own;
@@ -25,5 +31,6 @@ returns c =
       leave = c.segments_run_as_copies.ensures.left;
       worlds_leave = c.instantiated_stores_match_their_modules.ensures.world;
       declared = c.declared_references_are_one_more_segment.ensures.allocated;
+      made = c.corresponding_worlds_have_equal_traces.ensures.made;
     } in
     record { equivalent = snapshot_equivalent laws c.related_instances_have_equal_traces.ensures.begun c.evaluated_numbers_are_in_range.ensures.expressible; none = none_evaluated }
