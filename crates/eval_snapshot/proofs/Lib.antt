@@ -5,3 +5,4 @@ mod ExportsLeft
 mod MemoryBytes
 mod Counted
 mod Parts
+mod HeldData

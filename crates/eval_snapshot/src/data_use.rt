@@ -1,13 +1,14 @@
 ghost use Rattle.std.specs.Prelude.{◌≡◌};
 ghost use Rattle.wasm_tree.specs.DataUse as spec;
 
-use wasm_tree::{Func, Instr};
+use wasm_tree::{Func, Instr, operands_pass_layer_by_layer};
 
 // Returns whether the instruction, or one inside it, names a data segment.
 #[cycle(uses)]
 fn uses_data_in(instr: &Instr) -> bool
     ensures { result ≡ spec.uses_data_in instr.now }
 {
+    operands_pass_layer_by_layer();
     match instr {
         Instr::Block(_, body) => uses_data(body.as_slice()),
         Instr::Loop(_, body) => uses_data(body.as_slice()),
