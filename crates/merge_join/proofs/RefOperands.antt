@@ -19,13 +19,14 @@ module _ (passes_inside : PassesInside) (test : ℕ → Bool) where
 
   own_refs : (os : List Operand) → list_all test (filter_map referred os) ≡ list_all (ref_passes test) os
   own_refs [] = refl
-  own_refs (o ∷ os) = by (same_space o.space Functions) o.called
+  own_refs (o ∷ os) = by (same_space o.space Functions) o.called (own_refs os)
     where
-      by : (s c : Bool) → list_all test (cons_option (cond (s && not c) (Some o.index) None) (filter_map referred os)) ≡ (c || (not s || test o.index)) && list_all (ref_passes test) os
-      by true true = own_refs os
-      by true false = ap (λ b. test o.index && b) (own_refs os)
-      by false true = own_refs os
-      by false false = own_refs os
+      by : (s c : Bool) → list_all test (filter_map referred os) ≡ list_all (ref_passes test) os →
+          list_all test (cons_option (cond (s && not c) (Some o.index) None) (filter_map referred os)) ≡ (c || (not s || test o.index)) && list_all (ref_passes test) os
+      by true true later = later
+      by true false later = ap (λ b. test o.index && b) later
+      by false true later = later
+      by false false later = later
 
   layer_refs : (layer : Instr-F (List ℕ)) → list_all test (refs_step layer) ≡ list_all (ref_passes test) (operands layer) && list_all (list_all test) (held layer)
   layer_refs layer = list_all-append test (filter_map referred (operands layer)) (flat_map (λ x. x) (held layer)) ∙ ap₂ (λ a b. a && b) (own_refs (operands layer)) (all_joined (held layer))

@@ -2,7 +2,7 @@
 use Rattle.base_lists.proofs.Common.{◌≡◌, ◌∙◌, ap, sym, subst, refl, ℕ, suc, ◌+◌, ◌-◌, ◌<◌, ◌≤◌, ◌⊎◌, inl, inr, List, [], ◌∷◌, ◌++◌, drop, length, Option, Some, None, Bool, true, false, arith, slice_get, same_Some, and_then_is, append_at_left, append_right, drop_at, slice_get_there}
 use Rattle.base_lists.specs.Options.{◌>>=◌}
 use Rattle.wasm_tree_spec.specs.Prelude.{Functions, Module}
-use Rattle.wasm_meaning.specs.Prelude.{Entry, Func, Store, Text, Environment, ExternalValue, own_funcs, owned_of, Added, added, next_inst, LoaderWorld, begun_of, begun_under, placeholders_from, placeholders_of, primary_added, store_under, supplied, Move, began, fresh_run, tick, Begun, address_in, all_there, alone, const_value, instantiate, joined_stores, new_func, own_count, own_segments, start_in, store_with}
+use Rattle.wasm_meaning.specs.Prelude.{Entry, Func, Store, Text, Environment, ExternalValue, own_funcs, owned_of, Added, added, next_inst, LoaderWorld, begun_of, begun_under, placeholders_from, placeholders_of, primary_added, store_under, supplied, Move, began, fresh_run, tick, Begun, address_in, all_there, alone, const_value, instantiate, joined_stores, new_func, own_count, own_segments, start_in, store_with, Inst}
 use Rattle.index_remap.specs.Prelude.{Pairing, OptRel, none, some, ListRel, nil, cons, EntryRel, StoreRel, BegunRel, closed, pending, EntryByEntry, FramesBetween, WithPassing}
 use Rattle.index_remap.specs.Trampolines as between
 use Rattle.world_simulation.specs.Prelude.{AddsWith}
@@ -77,6 +77,10 @@ pub record BeginsWith (env : Environment) (w : LoaderWorld) (c : Begun) : Type 0
   pub are_defined : all_there (new_func made.inst) w.primary.funcs ≡ Some defined
   pub funcs : c.store.funcs ≡ (own_funcs env ++ placeholders_from 0 (placeholders_of w)) ++ defined
 
+-- what the primary module adds to the store
+primary_adds : (env : Environment) (w : LoaderWorld) (i : Inst) (t : Store) → store_with (const_value (store_under env w).globals i) w.primary i ≡ Some t → AddsWith (const_value (store_under env w).globals i) w.primary i t
+primary_adds env w i t h = search arith
+
 pub begins_with : SegmentsKeepFunctions → (env : Environment) (w : LoaderWorld) (c : Begun) → begun_under env w ≡ Some c → BeginsWith env w c
 begins_with segments env w c h =
     let a = and_then_is (primary_added env w) (begun_of env w) c h in
@@ -84,7 +88,7 @@ begins_with segments env w c h =
     let is_added = things.2 in
     let i = next_inst (store_under env w) w.primary things.0 in
     let made : (t : Store) × (store_with (const_value (store_under env w).globals i) w.primary i ≡ Some t) × (record { inst = i; filled = own_segments (const_value (store_under env w).globals i) w.primary i (joined_stores (store_under env w) t) } ≡ a.0) = grind (arith, is_added) in
-    let adds : AddsWith (const_value (store_under env w).globals i) w.primary i made.0 = search (arith, made.1) in
+    let adds : AddsWith (const_value (store_under env w).globals i) w.primary i made.0 = primary_adds env w i made.0 made.1 in
     let inst : i ≡ a.0.inst = ap (λ (x : Added). x.inst) made.2 in
     record {
       made = a.0;

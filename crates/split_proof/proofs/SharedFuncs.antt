@@ -4,7 +4,7 @@ use Rattle.base_lists.specs.Members.{is_among}
 use Rattle.std.proofs.Common.{eq-eqb}
 use Rattle.base_lists.specs.Every.{Every}
 use Rattle.base_lists.specs.Places.{numbers}
-use Rattle.wasm_tree_spec.specs.Prelude.{Operand, Space, Functions, Instr, fold_out-Instr, map-Instr, out-Instr, Module, any_operand_passes, held, operand_passes, imported_funcs, same_space}
+use Rattle.wasm_tree_spec.specs.Prelude.{Operand, Space, Functions, Instr, fold_out-Instr, map-Instr, out-Instr, Module, any_operand_passes, held, operand_passes, imported_funcs, same_space, operands}
 use Rattle.wasm_tree.specs.declared.instr.Instr.TheOpen.{Instr-F}
 use Rattle.wasm_tree.specs.Operands.{any_pass_step}
 use Rattle.wasm_tree.proofs.OperandLaws.{by_held, operands_map, held_map}
@@ -28,21 +28,24 @@ module _ (moved : List ℕ) (x : ℕ) (moves : is_among moved x ≡ true) where
   -- an operand that shares the function is one of `ref.func`, since calls of functions that move do not share them
   own_named : (os : List Operand) → list_any test os ≡ true → is_among (filter_map referred os) x ≡ true
   own_named [] h = cc
-  own_named (o ∷ os) h = by (same_space o.space Functions) (nat_eq o.index x) refl o.called h
+  own_named (o ∷ os) h = by (same_space o.space Functions) (nat_eq o.index x) refl o.called (own_named os) h
     where
-      by : (s e : Bool) → nat_eq o.index x ≡ e → (c : Bool) → ((s && (e && not (c && is_among moved x))) || list_any test os) ≡ true → is_among (cons_option (cond (s && not c) (Some o.index) None) (filter_map referred os)) x ≡ true
-      by false e q c h = own_named os h
-      by true true q true h = own_named os (rw moves at h)
-      by true false q true h = own_named os h
-      by true true q false h = left_either (nat_eq x o.index) (is_among (filter_map referred os) x) (eq-eqb x o.index (sym (same_number o.index x q)))
-      by true false q false h = right_either (nat_eq x o.index) (is_among (filter_map referred os) x) (own_named os h)
+      by : (s e : Bool) → nat_eq o.index x ≡ e → (c : Bool) → (list_any test os ≡ true → is_among (filter_map referred os) x ≡ true) → ((s && (e && not (c && is_among moved x))) || list_any test os) ≡ true →
+          is_among (cons_option (cond (s && not c) (Some o.index) None) (filter_map referred os)) x ≡ true
+      by false e q c later h = later h
+      by true true q true later h = later (rw moves at h)
+      by true false q true later h = later h
+      by true true q false later h = left_either (nat_eq x o.index) (is_among (filter_map referred os) x) (eq-eqb x o.index (sym (same_number o.index x q)))
+      by true false q false later h = right_either (nat_eq x o.index) (is_among (filter_map referred os) x) (later h)
 
-  layer_named : (l : Instr-F Instr) → (list_any test (operands l) || any_operand_passes test (held l)) ≡ true → Every Named (held l) → is_among (refs_step (map-Instr Instr (List ℕ) refs l)) x ≡ true
+  layer_named : (l : Instr-F Instr) → any_pass_step test (map-Instr Instr Bool (operand_passes test) l) ≡ true → Every Named (held l) → is_among (refs_step (map-Instr Instr (List ℕ) refs l)) x ≡ true
   layer_named l h p =
       let same : refs_step (map-Instr Instr (List ℕ) refs l) ≡ filter_map referred (operands l) ++ refs_all (held l) = ap₂ (λ os xs. filter_map referred os ++ flat_map (λ xs. xs) xs) (operands_map refs l) (held_map refs l) in
+      let inside : list_any (λ b. b) (held (map-Instr Instr Bool (operand_passes test) l)) ≡ list_any (λ b. b) (map (operand_passes test) (held l)) = ap (list_any (λ b. b)) (held_map (operand_passes test) l) in
+      let own : list_any test (operands (map-Instr Instr Bool (operand_passes test) l)) ≡ list_any test (operands l) = ap (list_any test) (operands_map (operand_passes test) l) in
       ap (λ xs. is_among xs x) same
       ∙ ⊎_elim (λ e. among_left (filter_map referred (operands l)) (refs_all (held l)) x (own_named (operands l) e)) (λ e. among_right (filter_map referred (operands l)) (refs_all (held l)) x (all_named (held l) p e))
-      (either_true (list_any test (operands l)) (any_operand_passes test (held l)) h)
+      (either_true (list_any test (operands l)) (list_any (λ b. b) (map (operand_passes test) (held l))) (sym (ap₂ (λ a b. a || b) own inside) ∙ h))
 
   instr_named : (i : Instr) → Named i
   instr_named = by_held Named (λ i p h. ap (λ xs. is_among xs x) (fold_out-Instr (List ℕ) refs_step i) ∙ layer_named (out-Instr i) (sym (fold_out-Instr Bool (any_pass_step test) i) ∙ h) p)
