@@ -6,7 +6,7 @@ use Rattle.wasm_valid.specs.declared.kinds.ItemKind.TheVariants as kind
 use Rattle.wasm_valid.specs.Prelude.{ImportHolds, ItemsHold}
 use Rattle.eval_spec.specs.Prelude.{imported_func}
 use Rattle.eval_references_proof.specs.Imports.{ImportsAreTyped}
-pub use Rattle.eval_references_proof.specs.Imports.{ImportsTyped}
+use Rattle.eval_references_proof.specs.Imports.{ImportsTyped}
 
 module _ (m : Module) where
   -- of each imported function there is one

@@ -23,7 +23,7 @@ use Rattle.index_remap_proof.specs.ButForReferences.{HoldsButForReferences, any_
 use Rattle.eval_spec.specs.Prelude.{State, takes_and_gives_nothing, value_of_global, memory_bytes, is_dropped}
 use Rattle.eval_snapshot_spec.specs.Contents.{contents, stretches, stretch_segment}
 use Rattle.eval_snapshot_spec.specs.Snapshot.{added_funcs, empty_func, empty_type, export_left, global_left, globals_left, is_among_names, is_kept, is_passive, emptied, memory_segments, old_segments, segment_left, segments_left, snapshot_tree}
-pub use Rattle.eval_snapshot_proof.specs.Left.{CodeLaws}
+use Rattle.eval_snapshot_proof.specs.Left.{CodeLaws}
 use Rattle.eval_snapshot_proof.specs.Suits.{HasEmptyType, Suits}
 use Rattle.eval_snapshot_proof.proofs.Typed.{typed_wider}
 

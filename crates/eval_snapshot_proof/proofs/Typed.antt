@@ -7,7 +7,7 @@ use Rattle.wasm_tree.specs.declared.instr.Instr.TheOpen.{Instr-F}
 use Rattle.wasm_tree.proofs.OperandLaws.{by_held}
 use Rattle.wasm_valid_bodies.specs.Typing.{Context, Effect, Fits, Leads, LeadsAll, Stack, WellTyped, effect_of, gives_of, signature_in}
 use Rattle.index_remap.specs.Prelude.{Keeps, labelled}
-pub use Rattle.eval_snapshot_proof.specs.Left.{no_data_or}
+use Rattle.eval_snapshot_proof.specs.Left.{no_data_or}
 
 -- ---- code that names a data segment only where there are as many ----
 

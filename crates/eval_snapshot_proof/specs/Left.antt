@@ -9,16 +9,15 @@ use Rattle.eval_snapshot_spec.specs.Snapshot.{global_left, globals_left, segment
 abbrev pub EachGlobalIsLeft : Type 0
 EachGlobalIsLeft = (m : Module) (s : State) (n : ℕ) (gs : List GlobalDef) (i : ℕ) (h : GlobalDef) → slice_get (globals_left m s n gs) i ≡ Some h → (g : GlobalDef) × (slice_get gs i ≡ Some g) × (h ≡ global_left m s (n + i) g)
 
--- Of each data segment something is left.
+-- What is left of a list of data segments is a list of the same length.
 abbrev pub NoSegmentIsLost : Type 0
 NoSegmentIsLost = (s : State) (n : ℕ) (ds : List DataSeg) → length (segments_left s n ds) ≡ length ds
 
--- The operand names no data segment, or this is so.
+-- The operand names no data segment, unless `so`.
 abbrev pub no_data_or : Bool → Operand → Bool
 no_data_or so o = not (names_data o) || so
 
--- If something is so wherever the code names a data segment, it is so for each operand that names
--- one.
+-- If the code does not use data segments, none of its operands is one.
 abbrev pub DataOperandsPass : Type 0
 DataOperandsPass = (so : Bool) (is : List Instr) → (uses_data is ≡ true → so ≡ true) → all_operands_pass (no_data_or so) is ≡ true
 

@@ -31,12 +31,11 @@ pub fn snapshots_are_valid()
     counts_are_within_where_none_is_over();
 }
 
-/// States what a snapshot has of its module.
+/// States what is left of a module's globals and data segments.
 ///
-/// - `globals`: each of its globals is what is left of the global at its place.
-/// - `segments`: of each data segment something is left, if not only its place.
-/// - `code`: if something is so wherever code names a data segment, it is so for each operand of
-///   the code that names one.
+/// - `globals`: each global that is left is that of the global at its place.
+/// - `segments`: what is left of a list of data segments is a list of the same length.
+/// - `code`: if code does not use data segments, none of its operands is one.
 pub fn snapshots_have_what_is_left()
     ensures globals { EachGlobalIsLeft }
     ensures segments { NoSegmentIsLost }

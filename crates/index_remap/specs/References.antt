@@ -11,8 +11,8 @@ use Rattle.wasm_tree.specs.declared.module.ConstExpr.TheVariants as const
 use Rattle.wasm_tree.specs.declared.module.ElemMode.TheVariants as elem
 use Rattle.wasm_valid.specs.Prelude.{const_func, refs_of}
 
--- The function that an operand names, unless it is the operand of a `call`: then it is one of
--- `ref.func`, which alone names functions besides.
+-- The function that an operand names, if it is that of `ref.func`: besides `call`, only `ref.func`
+-- names functions.
 abbrev pub referred : Operand → Option ℕ
 referred o = cond (same_space o.space Functions && not o.called) (Some o.index) None
 

@@ -1,5 +1,6 @@
 //! Laws of what stays valid when indices are replaced by their entries in a map: bodies and
-//! constant expressions, items of a tree, whole trees, and trees whose references are declared.
+//! constant expressions, items of a tree, whole trees, and trees whose references are declared; and
+//! that a well-typed body names only functions that may be named.
 #![tactic(auto)]
 
 ghost use Rattle.std.specs.Prelude.{◌≡◌, ◌<◌, ◌+◌, ◌^◌, ℕ, List, IsTrue, Some, length, slice_get, true};
@@ -84,7 +85,7 @@ pub fn declared_trees_are_valid()
 }
 
 /// States that `ref.func` in a well-typed body names only functions that the context lets it name
-/// (WebAssembly Core 2.0, section 3.3.2.2: x is among C.refs).
+/// (WebAssembly Core 2.0, section 3.3.2.3: x is among C.refs).
 pub fn well_typed_bodies_name_declared_functions()
     ensures { (c : Context) (is : List Instr) (ps rs : List ValType) → WellTyped c is ps rs → (x : ℕ) → is_among (refs_all is) x ≡ true → slice_get c.named x ≡ Some true }
 {}

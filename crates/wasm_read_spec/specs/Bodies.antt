@@ -117,6 +117,6 @@ depth is = deepest (map depth_of is)
 abbrev pub SmallCode : Code → Type 0
 SmallCode c = (declared_count c.locals ≤ limit Locals) × (depth c.body ≤ limit Nesting)
 
--- So they are in the code of the function.
+-- The sum of the locals and the nesting of the function are within their limits.
 abbrev pub HasSmallCode : Func → Type 0
 HasSmallCode f = SmallCode (code_in f)

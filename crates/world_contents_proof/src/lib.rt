@@ -1,5 +1,6 @@
-//! Laws: what an instantiation leaves, entity by entity, and that two related stores stay related
-//! when a module is added to one of them.
+//! Laws: what an instantiation leaves, entity by entity; what active segments change; what the
+//! constant expressions of one module read; and that two related stores stay related when a module
+//! is added to one of them.
 #![tactic(auto)]
 
 ghost use Rattle.world_contents_proof.specs.Added.{AddedToTheFirstStayRelated, AddedToTheSecondStayRelated};

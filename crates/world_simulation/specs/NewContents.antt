@@ -1,5 +1,5 @@
--- Tables, memories and data segments as they are allocated (WebAssembly Core 2.0, sections 4.5.3.2,
--- 4.5.3.3 and 4.5.3.6).
+-- Tables, memories and data segments as they are allocated (WebAssembly Core 2.0, sections 4.5.3.3,
+-- 4.5.3.4 and 4.5.3.7).
 use Rattle.std.specs.Prelude.{◌*◌, false}
 use Rattle.wasm_tree_spec.specs.Prelude.{TableType, Limits, DataSeg}
 use Rattle.wasm_meaning.specs.Prelude.{copies, Table, Memory, Data, null_of}

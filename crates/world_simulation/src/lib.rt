@@ -1,5 +1,7 @@
-//! Laws about two worlds: they have equal traces if their definitions, segments, starts and views
-//! correspond, and one start may call several functions in place of several starts.
+//! Laws about worlds: what the index spaces, instances and stores of their parts contain, and in
+//! which order their segments are copied; that two worlds have equal traces if their definitions,
+//! segments, starts and views correspond; and that one start may call several functions in place of
+//! several starts.
 #![tactic(auto)]
 
 ghost use Rattle.world_simulation.specs.Alone.{
