@@ -104,12 +104,13 @@ pub contents_is : {c d : Contents} → c.bytes ≡ d.bytes → c.written ≡ d.w
 contents_is p q = ap₂ (λ b w. let c : Contents = record { bytes = b; written = w } in c) p q
 
 pub writes_nothing : (p : Pages) (at : ℕ) → Writes p p at []
-writes_nothing p at = record { now = contents_is (sym (part_none p.now.bytes at)) (sym (reached_none at 0 p.now.written)); size = refl; mark = refl; most = refl; blocks = refl }
+writes_nothing p at = record { now = contents_is (sym (part_none p.now.bytes at)) (sym (reached_none at 0 p.now.written)); size = refl; flags = refl; mark = refl; most = refl; blocks = refl }
 
 pub joined : (p q r : Pages) (at : ℕ) (ys zs : List ℕ) → at + length ys + length zs ≤ size p → Writes p q at ys → Writes q r (at + length ys) zs → Writes p r at (ys ++ zs)
 joined p q r at ys zs fits v w = record {
   now = w.now ∙ (ap (λ c. written_over c (at + length ys) zs) v.now ∙ contents_is (part_joined p.now.bytes at ys zs fits) (reached_joined at (length ys) (length zs) 0 p.now.written ∙ ap (λ n. with_reached at n 0 p.now.written) (sym (length-append ys zs))));
   size = w.size ∙ v.size;
+  flags = w.flags ∙ v.flags;
   mark = w.mark ∙ v.mark;
   most = w.most ∙ v.most;
   blocks = w.blocks ∙ v.blocks;
@@ -119,6 +120,7 @@ pub joined_back : (p q r : Pages) (at : ℕ) (ys zs : List ℕ) → at + length 
 joined_back p q r at ys zs fits v w = record {
   now = w.now ∙ (ap (λ c. written_over c at ys) v.now ∙ contents_is (part_back p.now.bytes at ys zs fits) (reached_back at (length ys) (length zs) 0 p.now.written ∙ ap (λ n. with_reached at n 0 p.now.written) (sym (length-append ys zs))));
   size = w.size ∙ v.size;
+  flags = w.flags ∙ v.flags;
   mark = w.mark ∙ v.mark;
   most = w.most ∙ v.most;
   blocks = w.blocks ∙ v.blocks;

@@ -148,6 +148,7 @@ block_written t u pool k b offset new sound claims fixed inside named private w 
             (block_bytes u k b offset new w.before sound inside named private w.there w.whole within small ∙ ap (λ xs. with_part xs (4096 * k + offset) new) claims.bytes)
             (claims.written ∙ reached_one k offset (length new) (map is_present t.slots.items) (rw (length-map t.slots.items is_present, ← fixed.slots) inside) some within);
         size = size_is (record u { pool = with_bytes u.pool b (with_part w.before offset new) }) ∙ (fixed.size ∙ sym (size_is t));
+        flags = length-map u.slots.items is_present ∙ (fixed.slots ∙ sym (length-map t.slots.items is_present));
         mark = block_mark u k b offset new w.before sound inside named private w.there w.whole within ∙ claims.mark;
         most = fixed.most;
         blocks = block_blocks u k b offset new w.before sound inside named private w.there w.whole within ∙ claims.blocks;

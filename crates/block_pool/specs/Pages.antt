@@ -49,10 +49,12 @@ with_reached at count block (w ∷ ws) = (w || reaches at count block) ∷ with_
 abbrev pub written_over : Contents → ℕ → List ℕ → Contents
 written_over c at bytes = record { bytes = with_part c.bytes at bytes; written = with_reached at (length bytes) 0 c.written }
 
--- The bytes are written, and nothing else changes, except how many blocks of the pool are used.
+-- The bytes are written, and nothing else changes, except how many blocks of the pool are used; so
+-- the memory has as many bytes and blocks as before.
 pub record Writes (old new : Pages) (at : ℕ) (bytes : List ℕ) : Type 0 where
   pub now : new.now ≡ written_over old.now at bytes
   pub size : size new ≡ size old
+  pub flags : length new.now.written ≡ length old.now.written
   pub mark : new.mark ≡ old.mark
   pub most : new.most ≡ old.most
   pub blocks : new.blocks ≡ old.blocks

@@ -5,7 +5,6 @@ use Rattle.wasm_tree_spec.specs.Prelude.{Memories, Limits, ConstExpr, Module, im
 use Rattle.wasm_tree.specs.declared.module.ConstExpr.TheVariants as const
 use Rattle.wasm_num.specs.Operations.{wrapped}
 use Rattle.block_pool.specs.Pages.{Pages, Passes, Writes, size, with_reached}
-use Rattle.block_pool.proofs.Reached.{reached_length}
 use Rattle.eval_spec.specs.declared.limits.TheConstants.{MOST_BLOCKS}
 use Rattle.eval_spec.specs.declared.stop.Stop.TheVariants as why
 use Rattle.eval_spec.specs.Prelude.{is_imported, too_many_blocks, reads_global}
@@ -96,7 +95,7 @@ module _ (m : Module) (p : Pages) (memory : ℕ) (v : ℤ) (place count : ℕ) (
 -- ---- what stays ----
 
 pub holds_still : (p q : Pages) (place : ℕ) (bytes : List ℕ) → Writes p q place bytes → HoldsMost p → HoldsMost q
-holds_still p q place bytes w h = w.most ∙ (h ∙ ap (min MOST_BLOCKS) (sym (ap (λ c. length c.written) w.now ∙ reached_length place (length bytes) 0 p.now.written)))
+holds_still p q place bytes w h = w.most ∙ (h ∙ ap (min MOST_BLOCKS) (sym w.flags))
 
 pub fits_still : (ls : List Limits) (p q : Pages) (place : ℕ) (bytes : List ℕ) → Writes p q place bytes → MemoryFits ls (Some p) → MemoryFits ls (Some q)
 fits_still [] p q place bytes w f = elim f [ ]

@@ -1,7 +1,6 @@
 -- What stays, step by step, and a machine of which it stays fits as before.
 use Rattle.base_lists.proofs.Common.{◌≡◌, ℕ, zero, suc, ◌≤◌, arith, List, [], ◌∷◌, length, map, Option, Some, None, refl, sym, ap, ◌∙◌, slice_get, min}
 use Rattle.block_pool.specs.Pages.{Pages, Writes}
-use Rattle.block_pool.proofs.Reached.{reached_length}
 use Rattle.wasm_tree_spec.specs.Prelude.{Limits, Module}
 use Rattle.eval_spec.specs.declared.limits.TheConstants.{MOST_BLOCKS}
 use Rattle.eval_machine.specs.declared.globals.GlobalSlot.{GlobalSlot}
@@ -80,4 +79,4 @@ fits_still m k j f a = record {
 -- ---- writes ----
 
 pub writes_stay : (p q : Pages) (at : ℕ) (bytes : List ℕ) → Writes p q at bytes → PagesStay p q
-writes_stay p q at bytes w = record { size = w.size; blocks = ap (λ c. length c.written) w.now ∙ reached_length at (length bytes) 0 p.now.written; most = w.most; mark = w.mark }
+writes_stay p q at bytes w = record { size = w.size; blocks = w.flags; most = w.most; mark = w.mark }

@@ -1,19 +1,27 @@
 -- Which blocks a write reaches, and the stops that it is tested for.
-use Rattle.base_lists.proofs.Common.{◌≡◌, ℕ, ◌+◌, ◌-◌, ◌/◌, ◌≤◌, arith, [], ◌∷◌, length, Bool, true, false, Some, None, ap, inl, inr, count_by, nat_lt, le-ltb, lt-ltb}
-use Rattle.std.proofs.lemmas.List.Sums.{count_by-le-length}
-use Rattle.block_pool.specs.Pages.{IsWidth, Pages, Passes, size, with_reached}
-use Rattle.block_pool.proofs.Reached.{reached_length}
+use Rattle.base_lists.proofs.Common.{◌≡◌, refl, ℕ, suc, ◌+◌, ◌-◌, ◌/◌, ◌≤◌, arith, List, [], ◌∷◌, length, Bool, true, false, cond, ◌||◌, Some, None, ap, inl, inr, count_by, nat_lt, le-ltb, lt-ltb}
+use Rattle.std.proofs.lemmas.List.Sums.{sum_by-cons}
+use Rattle.block_pool.specs.Pages.{IsWidth, Pages, Passes, reaches, size, with_reached}
 use Rattle.eval_spec.specs.declared.limits.TheConstants.{MOST_BLOCKS}
 use Rattle.eval_spec.specs.declared.stop.Stop.TheVariants as why
 use Rattle.eval_spec.specs.Prelude.{first_held, test, too_many_blocks}
 use Rattle.eval_machine.specs.Prelude.{HoldsMost, told_of, write_tests}
 use Rattle.eval_machine.specs.Written.{bounds_tests}
 
+-- no more blocks count as written than there are
+one_each : (b : Bool) → cond b 1 0 ≤ 1
+one_each true = omega arith
+one_each false = omega arith
+
+counted_within : (place count block : ℕ) (ws : List Bool) → count_by (λ w. w) (with_reached place count block ws) ≤ length ws
+counted_within place count block [] = let none : count_by {X = Bool} (λ w. w) [] ≡ 0 = refl in omega (arith, none)
+counted_within place count block (w ∷ ws) =
+    omega (arith, one_each (w || reaches place count block), sum_by-cons (λ (b : Bool). cond b 1 0) (w || reaches place count block) (with_reached place count (suc block) ws), counted_within place count (suc block) ws)
+
 -- more blocks than the pages may write are more than an evaluation may
 pub passes_too_many : (p : Pages) (place count : ℕ) → HoldsMost p → Passes p place count → too_many_blocks (with_reached place count 0 p.now.written) ≡ true
 passes_too_many p place count h q =
-    let le : count_by (λ w. w) (with_reached place count 0 p.now.written) ≤ length p.now.written = omega (arith, count_by-le-length (λ w. w) (with_reached place count 0 p.now.written), reached_length place count 0 p.now.written) in
-    lt-ltb MOST_BLOCKS (count_by (λ w. w) (with_reached place count 0 p.now.written)) (omega (arith, le, h, q))
+    lt-ltb MOST_BLOCKS (count_by (λ w. w) (with_reached place count 0 p.now.written)) (omega (arith, counted_within place count 0 p.now.written, h, q))
 
 told_at : (a b c : Bool) (turns left rest : ℕ) → (None, left) ≡ told_of (first_held (test a why.Trap turns ∷ test b why.Steps turns ∷ [])) rest → c ≡ true →
     (Some why.Memory, left) ≡ told_of (first_held (test a why.Trap turns ∷ test b why.Steps turns ∷ test c why.Memory rest ∷ [])) rest
