@@ -17,6 +17,6 @@ EachPartAddsItsDefinitions = (k : Space) (parts : List Part) (p : ℕ) (m : Modu
 abbrev pub NoPartDefinesMoreThanAll : Type 0
 NoPartDefinesMoreThanAll = (k : Space) (parts : List Part) (p : ℕ) (m : Module) → module_at parts p ≡ Some m → defined_before k parts p + defined_count k m ≤ defined_before k parts (length parts)
 
--- What is found under a name is what an export has.
+-- What is found under a name is what an export of that name has.
 abbrev pub FoundExportsAreThere : Type 0
-FoundExportsAreThere = (es : List Export) (name : Text) (d : ExportDesc) → export_named es name ≡ Some d → (n : ℕ) × (e : Export) × (slice_get es n ≡ Some e) × (e.desc ≡ d)
+FoundExportsAreThere = (es : List Export) (name : Text) (d : ExportDesc) → export_named es name ≡ Some d → (n : ℕ) × (e : Export) × (slice_get es n ≡ Some e) × (e.desc ≡ d) × (e.name ≡ name)

@@ -62,7 +62,7 @@ pub fn definitions_are_counted_by_part()
     ensures all { NoPartDefinesMoreThanAll }
 {}
 
-/// States that what is found under a name is what an export of the module has (`there`).
+/// States that what is found under a name is what an export of that name has (`there`).
 pub fn found_exports_are_there()
     ensures there { FoundExportsAreThere }
 {}
