@@ -1,8 +1,9 @@
 -- What a chain of look-ups found, and what it found for each element of a list.
 use Rattle.std.proofs.Common.{◌≡◌, ◌∙◌, ap, ap₂, sym, refl, ℕ, zero, suc, List, [], ◌∷◌, length, Option, Some, None, Bool, true, false, is_some, option_and_then, option_map, unwrap_or, slice_get, arith}
 use Rattle.std.proofs.lemmas.Option.{slice_get_within}
-use Rattle.base_lists.specs.Options.{all_there, Keeps, only}
+use Rattle.base_lists.specs.Options.{all_there, Keeps, first_given, only}
 use Rattle.base_lists.proofs.Places.{slice_get_there}
+use Rattle.std.specs.Option.{option_or}
 
 pub and_then_is : {A B : Type 0} (o : Option A) (f : A → Option B) (y : B) → option_and_then f o ≡ Some y → (x : A) × (o ≡ Some x) × (f x ≡ Some y)
 and_then_is None f y h = absurd (let k = h in cc)
@@ -24,6 +25,22 @@ unwrap_or_false_is (Some b) h = ap Some h
 pub is_some_there : {A : Type 0} (o : Option A) → is_some o ≡ true → (x : A) × (o ≡ Some x)
 is_some_there None h = absurd (let k = h in cc)
 is_some_there (Some x) h = (x, refl)
+
+-- ---- the first of several ----
+
+pub left_none : {A : Type 0} (x y : Option A) → option_or x y ≡ None → x ≡ None
+left_none None y h = refl
+left_none (Some a) y h = cc
+
+pub right_none : {A : Type 0} (x y : Option A) → option_or x y ≡ None → y ≡ None
+right_none None y h = h
+right_none (Some a) y h = cc
+
+-- if nothing is given, nothing is given for any element
+pub none_given : {A B : Type 0} (f : A → Option B) (xs : List A) (n : ℕ) (x : A) → first_given f xs ≡ None → slice_get xs n ≡ Some x → f x ≡ None
+none_given f [] n x h k = cc
+none_given f (y ∷ ys) zero x h k = let same : y ≡ x = cc in ap f (sym same) ∙ left_none (f y) (first_given f ys) h
+none_given f (y ∷ ys) (suc n) x h k = none_given f ys n x (right_none (f y) (first_given f ys) h) k
 
 -- ---- where there is something for all ----
 

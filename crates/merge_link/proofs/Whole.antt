@@ -1,7 +1,8 @@
 -- The stages of linking together.
 use Rattle.base_lists.proofs.Common.{◌≡◌, ◌∙◌, ◌⊎◌, inl, inr, sym, ap, refl, ℕ, zero, suc, List, [], ◌∷◌, Option, Some, None, true, false, map, length, slice_get, nat_lt, arith, length-append, slice_get-map, slice_get_within, slice_get_there, map_twice}
 use Rattle.wasm_tree_spec.specs.Prelude.{Globals, Limits}
-use Rattle.std.specs.Option.{option_map}
+use Rattle.std.specs.Option.{option_map, option_or}
+use Rattle.base_lists.proofs.Options.{none_given}
 use Rattle.wasm_meaning.specs.Linking as linking
 use Rattle.wasm_meaning.specs.Prelude.{defined_before}
 use Rattle.merge_spec.specs.declared.parts.Part.{Part}
@@ -9,7 +10,7 @@ use Rattle.merge_spec.specs.declared.faults.LinkFault.{LinkFault}
 use Rattle.merge_spec.specs.declared.faults.LinkFault.TheVariants.{ImportCycle, TooManyMemories}
 use Rattle.merge_spec.specs.declared.links.Read.{Read}
 use Rattle.merge_spec.specs.Faults as faults
-use Rattle.merge_spec.specs.Prelude.{or_else, first_fault, by_import, end_entry, read_at, named_modules}
+use Rattle.merge_spec.specs.Prelude.{first_fault, by_import, end_entry, read_at, named_modules}
 use Rattle.merge_link.specs.declared.globals.DefinedGlobal.{DefinedGlobal}
 use Rattle.merge_link.specs.declared.part_tables.Ending.{Ending}
 use Rattle.merge_link.specs.declared.sites.Site.{Site}
@@ -38,22 +39,13 @@ pub global_faults_are : (ps : List Part) (globals : List DefinedGlobal) → AreO
 unfolding global_faults
 global_faults_are ps globals are = sym (first_map (faults.global_fault (named_modules ps)) the_own globals) ∙ ap (first_fault (faults.global_fault (named_modules ps))) are
 
-none_each : {A : Type 0} (f : A → Option LinkFault) (xs : List A) (n : ℕ) (x : A) → first_fault f xs ≡ None → slice_get xs n ≡ Some x → f x ≡ None
-none_each f [] n x h k = cc
-none_each f (y ∷ xs) n x h k = by (f y) refl h n k (λ m. none_each f xs m x)
-  where
-    by : (o : Option LinkFault) → f y ≡ o → or_else o (first_fault f xs) ≡ None → (n : ℕ) → slice_get (y ∷ xs) n ≡ Some x → ((m : ℕ) → first_fault f xs ≡ None → slice_get xs m ≡ Some x → f x ≡ None) → f x ≡ None
-    by (Some e) is h n k more = absurd (cc)
-    by None is h zero k more = let same : y ≡ x = cc in ap f (sym same) ∙ is
-    by None is h (suc n) k more = more n h k
-
 -- no import's path goes on for ever
 pub all_end : (ps : List Part) (sites : List Site) (ends : List (Option Ending)) → map (option_map the_end) ends ≡ map (end_at ps) sites
     → first_fault (λ s. faults.import_fault (named_modules ps) (the_site s)) sites ≡ None → (n : ℕ) → slice_get ends n ≡ Some None → ⊥
 all_end ps sites ends same none n h =
     let within = lengths_same (option_map the_end) (end_at ps) ends sites same in
     let s = slice_get_there sites n (let w = slice_get_within ends n None h in omega arith) in
-    let a = none_each (λ t. faults.import_fault (named_modules ps) (the_site t)) sites n s.0 none s.1 in
+    let a = none_given (λ t. faults.import_fault (named_modules ps) (the_site t)) sites n s.0 none s.1 in
     let b = fault_at ps sites ends n s.0 None same s.1 h in
     apart (faults.import_fault (named_modules ps) (the_site s.0)) (ImportCycle (the_site s.0).part (the_site s.0).import) a b
   where

@@ -3,9 +3,10 @@ use Rattle.base_lists.proofs.Common.{◌≡◌, subst, ℕ, zero, suc, ◌+◌, 
 use Rattle.base_lists.proofs.Every.{every_append}
 use Rattle.base_lists.specs.Options.{◌>>=◌}
 use Rattle.base_lists.specs.Every.{Every}
+use Rattle.std.specs.Option.{option_or}
 use Rattle.wasm_tree_spec.specs.Prelude.{Globals, Limits, GlobalDef}
 use Rattle.wasm_meaning.specs.Prelude.{Part, Site, End, sites_in, sites_from, sites, end_of, imports_of, Read, read_of}
-use Rattle.merge_spec.specs.Prelude.{or_else, first_fault, end_fault, is_suited, is_under, kept_limits, memory_count, defined_globals_in, defined_globals_from, NamesPart, LinkFaultsNameParts, NoPartsWantMemory, SeveralMemoriesAddNoFault}
+use Rattle.merge_spec.specs.Prelude.{first_fault, end_fault, is_suited, is_under, kept_limits, memory_count, defined_globals_in, defined_globals_from, NamesPart, LinkFaultsNameParts, NoPartsWantMemory, SeveralMemoriesAddNoFault}
 use Rattle.merge_spec.specs.Faults.{import_fault, clash_fault, memory_fault, DefinedGlobal, defined_globals, value_fault, global_fault, link_fault}
 use Rattle.merge_spec.specs.declared.faults.LinkFault.{LinkFault}
 use Rattle.merge_spec.specs.declared.faults.LinkFault.TheVariants.{ImportMismatch, ImportCycle, LimitsClash, TooManyMemories, GlobalCycle, NoMemory}
@@ -19,13 +20,13 @@ IsOf n (LimitsClash part import) = part < n
 IsOf n TooManyMemories = Unit {0}
 IsOf n (GlobalCycle part global) = part < n
 
-or_else_is : (n : ℕ) (a b : Option LinkFault) → IfSome a (IsOf n) → IfSome b (IsOf n) → IfSome (or_else a b) (IsOf n)
-or_else_is n None b h k = k
-or_else_is n (Some fault) b h k = h
+option_or_is : (n : ℕ) (a b : Option LinkFault) → IfSome a (IsOf n) → IfSome b (IsOf n) → IfSome (option_or a b) (IsOf n)
+option_or_is n None b h k = k
+option_or_is n (Some fault) b h k = h
 
 first_is : {A : Type 0} (n : ℕ) (f : A → Option LinkFault) (P : A → Type 0) → ((x : A) → P x → IfSome (f x) (IsOf n)) → (xs : List A) → Every P xs → IfSome (first_fault f xs) (IsOf n)
 first_is n f P told [] h = tt
-first_is n f P told (x ∷ xs) h = or_else_is n (f x) (first_fault f xs) (told x h.0) (first_is n f P told xs h.1)
+first_is n f P told (x ∷ xs) h = option_or_is n (f x) (first_fault f xs) (told x h.0) (first_is n f P told xs h.1)
 
 -- ---- imports
 
@@ -109,9 +110,9 @@ unfolding link_fault defined_globals
 fault_is parts many =
     let n = length parts in
     let there : 0 + length parts ≤ n = omega arith in
-    or_else_is n _ _ (first_is n (import_fault parts) (HasPart n) (import_is n parts) (sites parts) (sites_have n 0 parts there))
-    (or_else_is n _ _ (first_is n (clash_fault parts) (HasPart n) (clash_is n parts) (sites parts) (sites_have n 0 parts there))
-    (or_else_is n _ _ (counted_is n parts many)
+    option_or_is n _ _ (first_is n (import_fault parts) (HasPart n) (import_is n parts) (sites parts) (sites_have n 0 parts there))
+    (option_or_is n _ _ (first_is n (clash_fault parts) (HasPart n) (clash_is n parts) (sites parts) (sites_have n 0 parts there))
+    (option_or_is n _ _ (counted_is n parts many)
     (first_is n (global_fault parts) (IsPartOf n) (global_is n parts) (defined_globals parts) (own_are n 0 parts there))))
 
 names_part : (n : ℕ) (fault : LinkFault) → IsOf n fault → NamesPart n fault
@@ -133,7 +134,7 @@ fault_not_memory parts many e = told parts many NoMemory e
 
 -- ---- where several memories may be
 
-others_none : (a b memories others : Option LinkFault) → or_else a (or_else b (or_else memories others)) ≡ None → or_else a (or_else b others) ≡ None
+others_none : (a b memories others : Option LinkFault) → option_or a (option_or b (option_or memories others)) ≡ None → option_or a (option_or b others) ≡ None
 others_none (Some f) b memories others h = absurd (cc)
 others_none None (Some f) memories others h = absurd (cc)
 others_none None None (Some f) others h = absurd (cc)

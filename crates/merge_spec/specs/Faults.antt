@@ -3,7 +3,8 @@
 -- globals are followed.
 use Rattle.std.specs.Prelude.{◌≡◌, ℕ, suc, ◌+◌, ◌<◌, List, [], ◌∷◌, ◌++◌, length, Option, Some, None, Bool, true, false, cond, nat_lt, slice_get, unwrap_or, ◌&&◌}
 use Rattle.wasm_tree_spec.specs.Prelude.{Memories, Globals, FuncType, Limits, TableType, GlobalType, ImportDesc, ExportDesc, ConstExpr, GlobalDef, Module, type_of_func, tables_of, memories_of, globals_of, same_func_type, same_ref, same_type}
-use Rattle.base_lists.specs.Options.{◌>>=◌}
+use Rattle.base_lists.specs.Options.{◌>>=◌, first_given}
+use Rattle.std.specs.Option.{option_or}
 use Rattle.wasm_tree.specs.declared.module.ImportDesc.TheVariants as im
 use Rattle.wasm_tree.specs.declared.module.ExportDesc.TheVariants as ex
 use Rattle.wasm_meaning.specs.Prelude.{same_bool, meets, defined_before, Part, Site, End, Defined, Outside, count_of, has_kind, module_at, import_at, imports_of, sites, end_of, is_outside, linked_end, limits_of, met_limits, Read, read_of}
@@ -64,14 +65,9 @@ is_suited parts s end = unwrap_or (asked_at parts s >>= λ d. found parts end >>
 
 -- ---- the faults ----
 
-abbrev pub or_else : Option LinkFault → Option LinkFault → Option LinkFault
-or_else None other = other
-or_else (Some fault) other = Some fault
-
 -- the first fault of an element of the list
 abbrev pub first_fault : {A : Type 0} → (A → Option LinkFault) → List A → Option LinkFault
-first_fault f [] = None
-first_fault f (x ∷ xs) = or_else (f x) (first_fault f xs)
+first_fault = first_given
 
 -- following the import never ends, or its end is not what the import asks for
 abbrev pub end_fault : List Part → Site → Option End → Option LinkFault
@@ -138,9 +134,9 @@ global_fault parts g = value_fault g (read_of parts g.part g.init)
 -- fault
 unfoldable pub link_fault : List Part → (many : Bool) → Option LinkFault
 link_fault parts many =
-    or_else (first_fault (import_fault parts) (sites parts))
-    (or_else (first_fault (clash_fault parts) (sites parts))
-    (or_else (cond many None (memory_fault parts))
+    option_or (first_fault (import_fault parts) (sites parts))
+    (option_or (first_fault (clash_fault parts) (sites parts))
+    (option_or (cond many None (memory_fault parts))
     (first_fault (global_fault parts) (defined_globals parts))))
 
 -- if the fault names a part, its number is below `parts`

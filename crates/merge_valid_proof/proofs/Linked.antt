@@ -1,10 +1,12 @@
 -- What it says that parts have no fault of linking: of each import, of the memories, and of each global that a part defines.
 use Rattle.base_lists.proofs.Common.{◌≡◌, ◌∙◌, ap, ap₂, sym, subst, refl, ℕ, zero, suc, ◌+◌, ◌<◌, List, [], ◌∷◌, length, Option, Some, None, Bool, true, false, cond, arith, option_and_then, slice_get, slice_get_within, Has, and_then_is, unwrap_or_false_is, and_parts}
+use Rattle.std.specs.Option.{option_or}
+use Rattle.base_lists.proofs.Options.{left_none, right_none, none_given}
 use Rattle.wasm_tree_spec.specs.Prelude.{Globals, Import, GlobalDef, Module}
 use Rattle.wasm_meaning.specs.Prelude.{Part, Site, End, Defined, Outside, Read, module_at, import_at, imports_of, sites_in, sites_from, sites, end_of, read_of}
 use Rattle.merge_spec.specs.declared.faults.LinkFault.{LinkFault}
 use Rattle.merge_spec.specs.declared.faults.LinkFault.TheVariants.{ImportMismatch}
-use Rattle.merge_spec.specs.Prelude.{External, asked_at, found, suits, same_but_limits, meets_limits, is_suited, or_else, first_fault, end_fault, clash_fault, memory_fault, defined_globals_in, defined_globals_from, by_part_from}
+use Rattle.merge_spec.specs.Prelude.{External, asked_at, found, suits, same_but_limits, meets_limits, is_suited, first_fault, end_fault, clash_fault, memory_fault, defined_globals_in, defined_globals_from, by_part_from}
 use Rattle.merge_spec.specs.Faults.{import_fault, DefinedGlobal, defined_globals, value_fault, global_fault, link_fault}
 use Rattle.merge_valid_proof.proofs.ByPart.{by_part_is, by_part_has}
 use Rattle.merge_valid_proof.proofs.Entities.{bare, bare_is}
@@ -41,19 +43,6 @@ own_in p n (x ∷ gs) zero g h = let same : x ≡ g = cc in let e : n ≡ n + 0 
 own_in p n (x ∷ gs) (suc j) g h = own_in p (suc n) gs j g h ∙ ap {A = ℕ} {B = Option DefinedGlobal} (λ n. Some (record { part = p; index = n; init = g.init })) (let e : suc n + j ≡ n + suc j = omega arith in e)
 
 -- ---- no fault ----
-
-pub left_none : (x y : Option LinkFault) → or_else x y ≡ None → x ≡ None
-left_none None y h = refl
-left_none (Some f) y h = cc
-
-pub right_none : (x y : Option LinkFault) → or_else x y ≡ None → y ≡ None
-right_none None y h = h
-right_none (Some f) y h = cc
-
-each_none : {A : Type 0} (f : A → Option LinkFault) (xs : List A) (n : ℕ) (x : A) → first_fault f xs ≡ None → slice_get xs n ≡ Some x → f x ≡ None
-each_none f [] n x h g = cc
-each_none f (y ∷ ys) zero x h g = let same : y ≡ x = cc in ap f (sym same) ∙ left_none (f y) (first_fault f ys) h
-each_none f (y ∷ ys) (suc n) x h g = each_none f ys n x (right_none (f y) (first_fault f ys) h) g
 
 -- an import ends, and what it asks for has the type of what is found there
 pub record Suited (parts : List Part) (s : Site) : Type 0 where
@@ -120,10 +109,10 @@ are_linked parts h =
     let more = right_none (first_fault (import_fault parts) (sites parts)) _ h in
     let rest : first_fault (global_fault parts) (defined_globals parts) ≡ None = right_none (first_fault (clash_fault parts) (sites parts)) _ more in
     record {
-      imports = λ s i e. let n = in_sites parts s i e in suited parts s (each_none (import_fault parts) (sites parts) n.0 s (left_none _ _ h) n.1);
-      limits = λ s i e. let n = in_sites parts s i e in each_none (clash_fault parts) (sites parts) n.0 s (left_none _ _ more) n.1;
+      imports = λ s i e. let n = in_sites parts s i e in suited parts s (none_given (import_fault parts) (sites parts) n.0 s (left_none _ _ h) n.1);
+      limits = λ s i e. let n = in_sites parts s i e in none_given (clash_fault parts) (sites parts) n.0 s (left_none _ _ more) n.1;
       globals = λ p m j g e k. let o = own_has parts p m j g e k in
-          let r = read_there parts o.0 (each_none (global_fault parts) (defined_globals parts) o.1.0 o.0 rest o.1.1) in
+          let r = read_there parts o.0 (none_given (global_fault parts) (defined_globals parts) o.1.0 o.0 rest o.1.1) in
           (r.0, ap₂ (λ q x. read_of parts q x) (sym o.2) (sym o.3) ∙ r.1);
     }
 

@@ -2,22 +2,23 @@
 use Rattle.base_lists.proofs.Common.{◌≡◌, ℕ, ◌≤◌, List, [], ◌∷◌, ◌++◌, length, Bool, true, false, cond, ◌⊎◌, inl, inr, ⊎_elim, Option, Some, None, refl, sym, ap, ◌∙◌, subst, arith, Result, Ok, Err, IfErr, IsOk, list_any}
 use Rattle.base_lists.proofs.Every.{every_with}
 use Rattle.base_lists.specs.Every.{Every}
+use Rattle.base_lists.specs.Options.{first_given}
+use Rattle.std.specs.Option.{option_or}
 use Rattle.wasm_tree_spec.specs.Prelude.{Module}
 use Rattle.wasm_names.specs.declared.func_name.FuncName.{FuncName}
-use Rattle.wasm_names.specs.Reading.{or_else}
 use Rattle.split_plan.specs.declared.fault.PlanFault.{PlanFault}
 use Rattle.split_plan.specs.declared.fault.PlanFault.TheVariants.{NoSuchFunction, AmbiguousFunction, KeptAndSplit, NoMemory}
 use Rattle.split_plan.specs.declared.plans.Plan.{Plan}
 use Rattle.split_plan.specs.NamedFunctions.{entries_with_name, exported_among, function_of, word_fault, names_func}
-use Rattle.split_plan.specs.Plans.{first_given, kept_fault, words_of, plan_fault}
+use Rattle.split_plan.specs.Plans.{kept_fault, words_of, plan_fault}
 use Rattle.split_plan.specs.Causes.{Names, NamesNone, IsShared, IsKept, Cause, FaultsHaveCauses, Told}
 
-or_else_twice : {A : Type 0} (a b c d : Option A) → d ≡ or_else b c → or_else a d ≡ or_else (or_else a b) c
+or_else_twice : {A : Type 0} (a b c d : Option A) → d ≡ option_or b c → option_or a d ≡ option_or (option_or a b) c
 or_else_twice (Some x) b c d e = refl
 or_else_twice None b c d e = e
 
 -- one of two
-either : {A : Type 0} (a b : Option A) (y : A) → or_else a b ≡ Some y → (a ≡ Some y) ⊎ ((a ≡ None) × (b ≡ Some y))
+either : {A : Type 0} (a b : Option A) (y : A) → option_or a b ≡ Some y → (a ≡ Some y) ⊎ ((a ≡ None) × (b ≡ Some y))
 either (Some x) b y h = inl h
 either None b y h = inr (refl, h)
 
@@ -32,7 +33,7 @@ module _ {A B : Type 0} (f : A → Option B) where
   first_at [] y h = cc
   first_at (x ∷ xs) y h = split (f x) refl (first_at xs y) h
     where
-      split : (o : Option B) → f x ≡ o → (first_given f xs ≡ Some y → First f xs y) → or_else (f x) (first_given f xs) ≡ Some y → First f (x ∷ xs) y
+      split : (o : Option B) → f x ≡ o → (first_given f xs ≡ Some y → First f xs y) → option_or (f x) (first_given f xs) ≡ Some y → First f (x ∷ xs) y
       split (Some z) e later k = let same : z ≡ y = (let t = rw e at k in cc) in ([], x, xs, refl, tt, e ∙ ap Some same)
       split None e later k = let t = later (rw e at k) in (x ∷ t.0, t.1, t.2, ap (λ ys. x ∷ ys) t.3, (e, t.4), t.5)
 
@@ -44,7 +45,7 @@ module _ {A B : Type 0} (f : A → Option B) where
   all_none [] h = tt
   all_none (x ∷ xs) h = split (f x) refl h (all_none xs)
     where
-      split : (o : Option B) → f x ≡ o → or_else (f x) (first_given f xs) ≡ None → (first_given f xs ≡ None → Every (λ z. f z ≡ None) xs) → Every (λ z. f z ≡ None) (x ∷ xs)
+      split : (o : Option B) → f x ≡ o → option_or (f x) (first_given f xs) ≡ None → (first_given f xs ≡ None → Every (λ z. f z ≡ None) xs) → Every (λ z. f z ≡ None) (x ∷ xs)
       split (Some z) e k later = absurd (let t = rw e at k in cc)
       split None e k later = (e, later (rw e at k))
 
@@ -52,7 +53,7 @@ module _ {A B : Type 0} (f : A → Option B) where
   none_all [] h = refl
   none_all (x ∷ xs) h = rw h.0 (none_all xs h.1)
 
-  in_two : (xs ys : List A) → first_given f (xs ++ ys) ≡ or_else (first_given f xs) (first_given f ys)
+  in_two : (xs ys : List A) → first_given f (xs ++ ys) ≡ option_or (first_given f xs) (first_given f ys)
   in_two [] ys = refl
   in_two (x ∷ xs) ys = or_else_twice (f x) (first_given f xs) (first_given f ys) (first_given f (xs ++ ys)) (in_two xs ys)
 
@@ -140,10 +141,10 @@ module _ (m : Module) (names : List FuncName) where
     last_fault = first_given (keeps (words_of keep)) (words_of split)
 
     -- the words' faults go first
-    in_order : plan_fault m names split keep ≡ or_else (first_given (word_fault m names) all_words) last_fault
+    in_order : plan_fault m names split keep ≡ option_or (first_given (word_fault m names) all_words) last_fault
     in_order =
         or_else_twice (first_given (word_fault m names) (words_of split)) (first_given (word_fault m names) (words_of keep)) last_fault _ refl
-        ∙ ap (λ o. or_else o last_fault) (sym (in_two (word_fault m names) (words_of split) (words_of keep)))
+        ∙ ap (λ o. option_or o last_fault) (sym (in_two (word_fault m names) (words_of split) (words_of keep)))
 
     word_cause : (e : PlanFault) → first_given (word_fault m names) all_words ≡ Some e → Cause m names split keep e
     word_cause e h =
@@ -166,7 +167,7 @@ module _ (m : Module) (names : List FuncName) where
     word_faults : (word : List ℕ) (e : PlanFault) (front back : List (List ℕ)) → all_words ≡ front ++ word ∷ back → Every (Names m names) front → word_fault m names word ≡ Some e → plan_fault m names split keep ≡ Some e
     word_faults word e front back is right h =
         let first = ap (first_given (word_fault m names)) is ∙ at_first (word_fault m names) front word back e (every_with _ _ front word_right right) h in
-        in_order ∙ ap (λ o. or_else o last_fault) first
+        in_order ∙ ap (λ o. option_or o last_fault) first
 
     faults : (e : PlanFault) → Cause m names split keep e → plan_fault m names split keep ≡ Some e
     faults (NoSuchFunction word) h = word_faults word (NoSuchFunction word) h.0 h.1 h.2 h.3 (none_at_fault word h.4)
@@ -175,7 +176,7 @@ module _ (m : Module) (names : List FuncName) where
         let none = none_all (word_fault m names) all_words (every_with _ _ all_words word_right h.0) in
         let t = h.1 in
         let kept = ap (first_given (keeps (words_of keep))) t.2 ∙ at_first (keeps (words_of keep)) t.0 word t.1 (KeptAndSplit word) (every_with _ _ t.0 (kept_not (words_of keep)) t.3) (kept_at_fault (words_of keep) word t.4) in
-        in_order ∙ ap (λ o. or_else o last_fault) none ∙ kept
+        in_order ∙ ap (λ o. option_or o last_fault) none ∙ kept
     faults NoMemory h = absurd h
 
 pub faults_have_causes : FaultsHaveCauses

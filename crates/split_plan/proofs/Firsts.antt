@@ -1,6 +1,6 @@
 -- The first that a function gives of a list, looked for from the left.
 use Rattle.base_lists.proofs.Common.{◌≡◌, ℕ, ◌+◌, ◌<◌, ◌≤◌, length, drop, get_or, List, Option, None, refl, ◌∙◌, at_drop_more}
-use Rattle.split_plan.specs.Plans.{first_given}
+use Rattle.base_lists.specs.Options.{first_given}
 
 module _ {A B : Type 0} (f : A → Option B) (xs : List A) where
   -- nothing is given here

@@ -2,15 +2,16 @@
 use Rattle.base_lists.proofs.Common.{◌≡◌, ℕ, ◌<◌, List, [], ◌∷◌, length, map, Bool, true, false, ◌&&◌, ◌⊎◌, inl, inr, ⊎_elim, Option, Some, None, refl, sym, ap, ◌∙◌, arith, slice_get, ◌==◌, not, find, list_any, option_map_or, bytes_eq, ltb-true, length-map, cond_is, right_true, kept_is, option_map_is, map_from}
 use Rattle.std.proofs.Common.{filter, length-append}
 use Rattle.std.specs.Prelude.{unwrap_or}
+use Rattle.base_lists.specs.Options.{first_given}
+use Rattle.std.specs.Option.{option_or}
 use Rattle.wasm_tree_spec.specs.Prelude.{Export, Func, Module, imported_funcs, funcs_of, index_of_export}
 use Rattle.wasm_names.specs.declared.func_name.FuncName.{FuncName}
-use Rattle.wasm_names.specs.Reading.{or_else}
 use Rattle.split_plan.specs.declared.fault.PlanFault.{PlanFault}
 use Rattle.split_plan.specs.declared.fault.PlanFault.TheVariants.{NoMemory}
 use Rattle.split_plan.specs.declared.named.Named.{Named}
 use Rattle.split_plan.specs.NamedFunctions.{is_defined, is_defined_export, entries_with_name, exported_among, one_of, function_of, word_fault, names_func}
 use Rattle.split_plan.specs.Looking.{AreMarks, entry_of, func_in, fault_in, enters_func, has_wanted_mark}
-use Rattle.split_plan.specs.Plans.{first_given, kept_fault, words_of, plan_fault, is_wanted, plan_for, plan_of}
+use Rattle.split_plan.specs.Plans.{kept_fault, words_of, plan_fault, is_wanted, plan_for, plan_of}
 use Rattle.split_plan.proofs.Tables.{entered_func, entered_fault}
 use Rattle.split_plan.proofs.Chosen.{plan_alike}
 
@@ -18,11 +19,11 @@ use Rattle.split_plan.proofs.Chosen.{plan_alike}
 same_function : {A B : Type 0} {f g : A → B} → ((x : A) → f x ≡ g x) → f ≡ g
 same_function h = λ i. λ x. h x i
 
-or_some : {A : Type 0} (a b : Option A) (x : A) → a ≡ Some x → or_else a b ≡ Some x
-or_some a b x e = ap (λ o. or_else o b) e
+or_some : {A : Type 0} (a b : Option A) (x : A) → a ≡ Some x → option_or a b ≡ Some x
+or_some a b x e = ap (λ o. option_or o b) e
 
-or_none : {A : Type 0} (a b r : Option A) → a ≡ None → b ≡ r → or_else a b ≡ r
-or_none a b r e h = ap (λ o. or_else o b) e ∙ h
+or_none : {A : Type 0} (a b r : Option A) → a ≡ None → b ≡ r → option_or a b ≡ r
+or_none a b r e h = ap (λ o. option_or o b) e ∙ h
 
 -- ---- what a word names is defined
 

@@ -3,12 +3,12 @@
 use Rattle.std.specs.Prelude.{◌≡◌, ℕ, ◌-◌, ◌&&◌, List, [], ◌∷◌, length, filter, Bool, true, false, not, Option, Some, None, slice_get, unwrap_or, if◌then◌else◌}
 use Rattle.std.specs.List.{list_any}
 use Rattle.std.specs.List.Sorted.{IsStrictlyIncreasing}
-use Rattle.std.specs.Option.{option_map_or}
+use Rattle.std.specs.Option.{option_map_or, option_or}
 use Rattle.base_lists.specs.Every.{Every}
 use Rattle.base_lists.specs.Places.{numbers}
+use Rattle.base_lists.specs.Options.{first_given}
 use Rattle.wasm_tree_spec.specs.Prelude.{Module, imported_funcs}
 use Rattle.wasm_names.specs.declared.func_name.FuncName.{FuncName}
-use Rattle.wasm_names.specs.Reading.{or_else}
 use Rattle.split_plan.specs.declared.fault.PlanFault.{PlanFault}
 use Rattle.split_plan.specs.declared.fault.PlanFault.TheVariants.{KeptAndSplit}
 use Rattle.split_plan.specs.declared.plans.Plan.{Plan}
@@ -16,11 +16,6 @@ use Rattle.split_plan.specs.Segments.{uses_segment}
 use Rattle.split_plan.specs.NamedFunctions.{is_defined, function_of, word_fault, names_func}
 
 -- ---- faults
-
--- the first result of `f` that is not `None`
-abbrev pub first_given : {A B : Type 0} → (A → Option B) → List A → Option B
-first_given f [] = None
-first_given f (x ∷ xs) = or_else (f x) (first_given f xs)
 
 -- the words, or no words for `None`
 abbrev pub words_of : Option (List (List ℕ)) → List (List ℕ)
@@ -35,8 +30,8 @@ kept_fault is_kept (Some func) word = if is_kept func then Some (KeptAndSplit wo
 -- word in `split` whose function a word in `keep` names too.
 abbrev pub plan_fault : Module → List FuncName → Option (List (List ℕ)) → Option (List (List ℕ)) → Option PlanFault
 plan_fault m names split keep =
-    or_else (first_given (word_fault m names) (words_of split))
-    (or_else (first_given (word_fault m names) (words_of keep))
+    option_or (first_given (word_fault m names) (words_of split))
+    (option_or (first_given (word_fault m names) (words_of keep))
     (first_given (λ word. kept_fault (λ func. list_any (names_func m names func) (words_of keep)) (function_of m names word) word) (words_of split)))
 
 -- ---- the plan

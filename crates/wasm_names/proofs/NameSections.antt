@@ -1,13 +1,14 @@
 -- What is found behind the name of the first section called `name` is what stands there.
 use Rattle.base_lists.proofs.Common.{◌≡◌, ℕ, ◌+◌, ◌<◌, ◌≤◌, length, drop, get_or, drop-cons, add-one, List, [], ◌∷◌, ◌++◌, Option, Some, None, Result, Ok, Err, true, false, ⊎_elim, refl, sym, ap, ◌∙◌, subst, eqb-true, drop_all, bytes_eq-Decides, Bor, ◌==◌, is_some, bytes_eq, cond_is}
 use Rattle.base_lists.specs.Every.{Every}
+use Rattle.std.specs.Option.{option_or}
 use Rattle.wasm_bytes.specs.Prelude.{Section, framed, framed_all, Takes, Named, IsBytes}
 use Rattle.wasm_bytes.specs.declared.framing.Frame.{Frame as Place}
 use Rattle.wasm_read_spec.specs.declared.fault.Fault.{Fault}
 use Rattle.wasm_read_spec.specs.Prelude.{name_at}
 use Rattle.wasm_read_spec.specs.Contents.{AreBytes}
 use Rattle.wasm_names.specs.NameList.{IsNameSection, IsCalledOtherwise, section_name}
-use Rattle.wasm_names.specs.Reading.{or_else, lent_option, behind_name, content_of_names, first_content}
+use Rattle.wasm_names.specs.Reading.{lent_option, behind_name, content_of_names, first_content}
 use Rattle.wasm_names.proofs.NameMaps.{ReadsExactly}
 
 named_sound : ReadsExactly → (bytes rest : List ℕ) (r : Result (List ℕ × List ℕ) Fault) → IsBytes bytes → name_at bytes ≡ r → behind_name r ≡ Some rest → Takes Named bytes section_name rest
@@ -49,7 +50,7 @@ pub record HasFirst (ss : List Section) (rest : List ℕ) : Type 0 where
   pub first : Every IsCalledOtherwise before
   pub called : IsNameSection section rest
 
-first_or_later : ReadsExactly → (s : Section) (ss : List Section) (rest : List ℕ) → IsBytes s.1 → (o : Option (List ℕ)) → content_of_names s ≡ o → (content_of_names s ≡ None → HasFirst ss rest) → or_else (content_of_names s) (first_content ss) ≡ Some rest → HasFirst (s ∷ ss) rest
+first_or_later : ReadsExactly → (s : Section) (ss : List Section) (rest : List ℕ) → IsBytes s.1 → (o : Option (List ℕ)) → content_of_names s ≡ o → (content_of_names s ≡ None → HasFirst ss rest) → option_or (content_of_names s) (first_content ss) ≡ Some rest → HasFirst (s ∷ ss) rest
 first_or_later reads s ss rest small (Some found) e behind h =
     let same : found ≡ rest = (let k = rw e at h in cc) in
     record { before = []; section = s; after = ss; all = refl; first = tt; called = content_sound reads s rest small (e ∙ ap Some same) }
@@ -76,7 +77,7 @@ first_complete reads (b ∷ before) s after rest small never h = rw (content_non
 
 -- ---- the loop over the frames
 
-first_step : (bytes : List ℕ) (fs : List Place) (i : ℕ) (d : Place) → i < length fs → first_content (framed_all bytes (drop i fs)) ≡ or_else (content_of_names (framed bytes (get_or fs i d))) (first_content (framed_all bytes (drop (i + 1) fs)))
+first_step : (bytes : List ℕ) (fs : List Place) (i : ℕ) (d : Place) → i < length fs → first_content (framed_all bytes (drop i fs)) ≡ option_or (content_of_names (framed bytes (get_or fs i d))) (first_content (framed_all bytes (drop (i + 1) fs)))
 unfolding first_content
 first_step bytes fs i d lt = rw (add-one, drop-cons fs i d) refl
 

@@ -3,6 +3,7 @@ use Rattle.std.specs.Prelude.{◌≡◌, ◌==◌, ℕ, zero, suc, ◌+◌, List
 use Rattle.std.specs.Result.{result_ok}
 use Rattle.std.specs.Str.{bytes_eq}
 use Rattle.std.specs.Borrow.{Bor}
+use Rattle.std.specs.Option.{option_or}
 use Rattle.wasm_bytes.specs.Prelude.{◌>>=◌, Section}
 use Rattle.wasm_read_spec.specs.declared.fault.Fault.{Fault}
 use Rattle.wasm_read_spec.specs.declared.fault.Fault.TheVariants.{Malformed}
@@ -55,15 +56,10 @@ behind_name (Err e) = None
 abbrev pub content_of_names : Section → Option (List ℕ)
 content_of_names s = if s.0 == 0 then behind_name (name_at s.1) else None
 
--- the first of both that is not `None`
-abbrev pub or_else : {A : Type 0} → Option A → Option A → Option A
-or_else (Some x) other = Some x
-or_else None other = other
-
 -- what follows the name of the first custom section named `name`
 unfoldable pub first_content : List Section → Option (List ℕ)
 first_content [] = None
-first_content (s ∷ ss) = or_else (content_of_names s) (first_content ss)
+first_content (s ∷ ss) = option_or (content_of_names s) (first_content ss)
 
 -- the names in the content of a name section after its name, unless that is malformed
 abbrev pub names_in : List ℕ → Option (List FuncName)
