@@ -1,9 +1,11 @@
 -- Options and lists that are related, and a property of what is there.
-use Rattle.std.proofs.Common.{◌≡◌, ℕ, zero, suc, ◌<◌, List, [], ◌∷◌, ◌++◌, map, length, drop, Option, Some, None, Bool, true, false, cond, is_some, option_and_then, slice_get, slice_set, refl, ap, subst, arith}
+use Rattle.std.proofs.Common.{◌≡◌, ℕ, zero, suc, ◌<◌, List, [], ◌∷◌, ◌++◌, map, length, drop, Option, Some, None, Bool, true, false, cond, is_some, option_and_then, slice_get, slice_set, nat_eq, ◌⊎◌, inl, inr, ◌∙◌, sym, refl, ap, subst, arith}
 use Rattle.base_lists.specs.Options.{all_there}
 use Rattle.base_lists.specs.Parts.{copies, onto, overwrite, split_at}
-use Rattle.base_lists.specs.Related.{OptRel, none, some, BothRel, both, ListRel, nil, cons, IfThere, absent, present, PairRel}
-use Rattle.base_lists.proofs.Places.{slice_get_there}
+use Rattle.base_lists.specs.Related.{OptRel, none, some, BothRel, both, ListRel, nil, cons, EachRelated, IfThere, absent, present, PairRel}
+use Rattle.std.proofs.lemmas.Bool.Decides.{eqb_tells}
+use Rattle.std.proofs.lemmas.Option.{slice_get_within}
+use Rattle.base_lists.proofs.Places.{set_at, set_other, slice_get_there}
 
 -- ---- options ----
 
@@ -181,3 +183,24 @@ pub at_put_here : {A : Type 0} (xs : List A) (n : ℕ) (v : A) → slice_get (sl
 at_put_here [] n v = refl
 at_put_here (x ∷ xs) zero v = refl
 at_put_here (x ∷ xs) (suc n) v = at_put_here xs n v
+
+-- ---- what is related place by place ----
+
+pub each_self : {A : Type 0} (P : A → A → Type 0) (xs : List A) → ((x : A) → P x x) → EachRelated P xs xs
+each_self P xs h a x e = (x, e, h x)
+
+pub each_then : {A : Type 0} (P : A → A → Type 0) (xs ys zs : List A) → ((x y z : A) → P x y → P y z → P x z) → EachRelated P xs ys → EachRelated P ys zs → EachRelated P xs zs
+each_then P xs ys zs trans h k a x e =
+    let y = h a x e in
+    let z = k a y.0 y.1 in
+    (z.0, z.1, trans x y.0 z.0 y.2 z.2)
+
+-- one place is written with what is related to what stands there, if anything does
+pub each_set : {A : Type 0} (P : A → A → Type 0) (xs : List A) (n : ℕ) (new : A) → ((x : A) → P x x) → ((old : A) → slice_get xs n ≡ Some old → P old new) → EachRelated P xs (slice_set xs n new)
+each_set {A} P xs n new self like a x e = by (eqb_tells n a)
+  where
+    by : ((nat_eq n a ≡ true) × (n ≡ a)) ⊎ ((nat_eq n a ≡ false) × (n ≡ a → ⊥)) → (y : A) × (slice_get (slice_set xs n new) a ≡ Some y) × P x y
+    by (inl h) =
+        let old : slice_get xs n ≡ Some x = ap (slice_get xs) h.1 ∙ e in
+        (new, ap (slice_get (slice_set xs n new)) (sym h.1) ∙ set_at xs n new (slice_get_within xs n x old), like x old)
+    by (inr h) = (x, set_other xs n a new (λ q. h.1 (sym q)) ∙ e, self x)

@@ -1,5 +1,5 @@
 -- Options and lists that are related by a relation of their elements.
-use Rattle.std.specs.Prelude.{List, [], ◌∷◌, Option, Some, None}
+use Rattle.std.specs.Prelude.{◌≡◌, ℕ, List, [], ◌∷◌, Option, Some, None, slice_get}
 
 -- Both are there and related, or neither is there.
 pub data OptRel {A B : Type 0} (P : A → B → Type 0) : Option A → Option B → Type 0 where
@@ -14,6 +14,10 @@ pub data BothRel {A B : Type 0} (P : A → B → Type 0) : Option A → Option B
 pub data ListRel {A B : Type 0} (P : A → B → Type 0) : List A → List B → Type 0 where
   nil : ListRel P [] []
   cons : {a : A} {b : B} {xs : List A} {ys : List B} → P a b → ListRel P xs ys → ListRel P (a ∷ xs) (b ∷ ys)
+
+-- At each place of the first list, the second has something too, and both are related.
+abbrev pub EachRelated : {A : Type 0} → (A → A → Type 0) → List A → List A → Type 0
+EachRelated {A} P xs ys = (a : ℕ) (x : A) → slice_get xs a ≡ Some x → (y : A) × (slice_get ys a ≡ Some y) × P x y
 
 -- What is there, if anything, has the property.
 pub data IfThere {A : Type 0} (P : A → Type 0) : Option A → Type 0 where

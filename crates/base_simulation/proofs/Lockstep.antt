@@ -1,8 +1,8 @@
 -- From a relation that each step keeps, with equal events: the same events.
 use Rattle.std.proofs.Common.{zero, suc, refl, ap₂}
-use Rattle.base_simulation.specs.Machines.{noted}
+use Rattle.std.specs.List.{cons_option}
 use Rattle.base_simulation.specs.Simulations.{LockstepTracesAreEqual}
 
 pub lockstep : {S T E : Type 0} → LockstepTracesAreEqual S T E
 lockstep t u R next s q r zero = refl
-lockstep t u R next s q r (suc n) = let o = next s q r in ap₂ noted o.event (lockstep t u R next _ _ o.states n)
+lockstep t u R next s q r (suc n) = let o = next s q r in ap₂ cons_option o.event (lockstep t u R next _ _ o.states n)

@@ -1,10 +1,11 @@
 -- What a machine shows: events of fewer steps come first in those of more.
 use Rattle.std.proofs.Common.{◌≡◌, ℕ, zero, suc, ◌+◌, ◌-◌, ◌≤◌, List, [], ◌++◌, Option, Some, None, refl, sym, ap, subst, ◌∙◌, arith, append_assoc}
-use Rattle.base_simulation.specs.Machines.{Machine, noted, events_of, state_after, IsPrefix, ShorterRunsArePrefixes}
+use Rattle.std.specs.List.{cons_option}
+use Rattle.base_simulation.specs.Machines.{Machine, events_of, state_after, IsPrefix, ShorterRunsArePrefixes}
 
 -- ---- prefixes ----
 
-noted_append : {E : Type 0} (e : Option E) (xs ys : List E) → noted e xs ++ ys ≡ noted e (xs ++ ys)
+noted_append : {E : Type 0} (e : Option E) (xs ys : List E) → cons_option e xs ++ ys ≡ cons_option e (xs ++ ys)
 noted_append None xs ys = refl
 noted_append (Some e) xs ys = refl
 
@@ -18,8 +19,8 @@ prefix_nil ys = record { rest = ys; is = refl }
 pub prefix_trans : {E : Type 0} {xs ys zs : List E} → Prefix xs ys → Prefix ys zs → Prefix xs zs
 prefix_trans {xs = xs} p q = record { rest = p.rest ++ q.rest; is = sym (append_assoc xs p.rest q.rest) ∙ ap (λ l. l ++ q.rest) p.is ∙ q.is }
 
-pub prefix_noted : {E : Type 0} {xs ys : List E} (e : Option E) → Prefix xs ys → Prefix (noted e xs) (noted e ys)
-prefix_noted {xs = xs} e p = record { rest = p.rest; is = noted_append e xs p.rest ∙ ap (noted e) p.is }
+pub prefix_noted : {E : Type 0} {xs ys : List E} (e : Option E) → Prefix xs ys → Prefix (cons_option e xs) (cons_option e ys)
+prefix_noted {xs = xs} e p = record { rest = p.rest; is = noted_append e xs p.rest ∙ ap (cons_option e) p.is }
 
 pub prefix_append : {E : Type 0} {xs ys : List E} (zs : List E) → Prefix xs ys → Prefix (zs ++ xs) (zs ++ ys)
 prefix_append {xs = xs} zs p = record { rest = p.rest; is = append_assoc zs xs p.rest ∙ ap (λ l. zs ++ l) p.is }
@@ -34,7 +35,7 @@ module _ {S E : Type 0} (t : Machine S E) where
   events_add zero m s = let e : zero + m ≡ m = omega arith in ap (events_of t s) e
   events_add (suc n) m s =
       let e : suc n + m ≡ suc (n + m) = omega arith in
-      ap (events_of t s) e ∙ ap (noted (t s).1) (events_add n m (t s).0) ∙ sym (noted_append (t s).1 (events_of t (t s).0 n) _)
+      ap (events_of t s) e ∙ ap (cons_option (t s).1) (events_add n m (t s).0) ∙ sym (noted_append (t s).1 (events_of t (t s).0 n) _)
 
   pub more_events : (n m : ℕ) (s : S) → Prefix (events_of t s n) (events_of t s (n + m))
   more_events n m s = record { rest = events_of t (state_after t s n) m; is = sym (events_add n m s) }

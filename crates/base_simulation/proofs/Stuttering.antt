@@ -1,7 +1,8 @@
 -- Machines of which one makes steps of its own.
 use Rattle.std.proofs.Common.{◌≡◌, ℕ, zero, suc, ◌+◌, ◌-◌, ◌*◌, ◌<◌, ◌≤◌, ◌++◌, ◌⊎◌, inl, inr, sym, ap, subst, ◌∙◌, arith}
 use Rattle.std.proofs.lemmas.Bool.{cases_lt}
-use Rattle.base_simulation.specs.Machines.{Machine, noted, events_of, state_after}
+use Rattle.std.specs.List.{cons_option}
+use Rattle.base_simulation.specs.Machines.{Machine, events_of, state_after}
 use Rattle.base_simulation.specs.Simulations.{Follows, both, second, first, BudgetedTracesAreBounded, Answers, by_some, StutteringTracesAreBounded}
 use Rattle.base_simulation.proofs.Prefixes.{Prefix, prefix_nil, prefix_trans, prefix_noted, prefix_append, is_prefix, events_add, later}
 
@@ -13,12 +14,12 @@ module _ {S T E : Type 0} (t : Machine S E) (u : Machine T E) where
   there (suc n) Follows.so_far h = absurd (omega arith)
   there (suc n) {d = d} {r = r} {q = q} (both p f) h =
       let more : suc (n + d) ≡ suc n + d = omega arith in
-      subst (λ m. Prefix (events_of t r (suc n)) (events_of u q m)) more (subst (λ x. Prefix (noted x (events_of t (t r).0 n)) (events_of u q (suc (n + d)))) (sym p) (prefix_noted (u q).1 (there n f (omega arith))))
+      subst (λ m. Prefix (events_of t r (suc n)) (events_of u q m)) more (subst (λ x. Prefix (cons_option x (events_of t (t r).0 n)) (events_of u q (suc (n + d)))) (sym p) (prefix_noted (u q).1 (there n f (omega arith))))
   there (suc n) {r = r} {q = q} (second {d = d} p f) h =
       let more : suc (suc n + d) ≡ suc n + suc d = omega arith in
-      subst (λ m. Prefix (events_of t r (suc n)) (events_of u q m)) more (subst (λ x. Prefix (events_of t r (suc n)) (noted x (events_of u (u q).0 (suc n + d)))) (sym p) (there (suc n) f (omega arith)))
+      subst (λ m. Prefix (events_of t r (suc n)) (events_of u q m)) more (subst (λ x. Prefix (events_of t r (suc n)) (cons_option x (events_of u (u q).0 (suc n + d)))) (sym p) (there (suc n) f (omega arith)))
   there (suc n) {d = d} {r = r} {q = q} (first p f) h =
-      subst (λ x. Prefix (noted x (events_of t (t r).0 n)) (events_of u q (suc n + d))) (sym p) (prefix_trans (there n f (omega arith)) (later u (n + d) (suc n + d) q (omega arith)))
+      subst (λ x. Prefix (cons_option x (events_of t (t r).0 n)) (events_of u q (suc n + d))) (sym p) (prefix_trans (there n f (omega arith)) (later u (n + d) (suc n + d) q (omega arith)))
 
   pub turned : {k d e : ℕ} {r : S} {q : T} → Follows t u k d e r q → Follows u t k e d q r
   turned Follows.so_far = Follows.so_far

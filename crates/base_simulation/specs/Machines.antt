@@ -1,19 +1,15 @@
 -- Machines that make steps, and their traces of events.
 use Rattle.std.specs.Prelude.{◌≡◌, ℕ, zero, suc, ◌+◌, List, [], ◌∷◌, ◌++◌, Option, None, Some}
+use Rattle.std.specs.List.{cons_option}
 
 -- A step gives the next state, and perhaps an event.
 abbrev pub Machine : Type 0 → Type 0 → Type 0
 Machine S E = S → S × Option E
 
--- The event, if there is one, before the others.
-abbrev pub noted : {E : Type 0} → Option E → List E → List E
-noted None es = es
-noted (Some e) es = e ∷ es
-
 -- The trace of the first n steps.
 abbrev pub events_of : {S E : Type 0} → Machine S E → S → ℕ → List E
 events_of t s zero = []
-events_of t s (suc n) = let o = t s in noted o.1 (events_of t o.0 n)
+events_of t s (suc n) = let o = t s in cons_option o.1 (events_of t o.0 n)
 
 -- The state after n steps.
 abbrev pub state_after : {S E : Type 0} → Machine S E → S → ℕ → S

@@ -1,5 +1,7 @@
 -- What a quiet run leaves as it was in its own store: memories keep their limits and sizes, globals their types, and data segments stay or are dropped.
 use Rattle.base_lists.proofs.Common.{◌≡◌, ◌∙◌, sym, ap, refl, subst, ℕ, zero, suc, List, [], ◌∷◌, length, Option, Some, None, ◌⊎◌, inl, inr, slice_get, slice_set, eqb_tells, length-set, same_Some, slice_get_within, true, false, nat_eq, set_at, set_other, overwritten_length}
+use Rattle.base_lists.specs.Related.{EachRelated}
+use Rattle.base_lists.proofs.Related.{each_self, each_then, each_set}
 use Rattle.wasm_tree_spec.specs.Prelude.{Module}
 use Rattle.wasm_meaning.specs.Prelude.{Outcome, Gives, Traps, IllTyped, Val, Func, Code, Own, Placeholder, Memory, Global, Data, Store, Level, Frame, Change, Entry, Running, Mark, Opening, Waiting, Ended, Growing, Act, Goes, Calls, AsksGrow, Ends, Next, Ran, CallsOwn, WaitsGrowth, CallsPlaceholder, EndsCall, pop_typed, type_at, act, changed, give, give_levels, enter, no_bytes, perform, step, Touched, Writes, StepsWriteWhatTheyTouch, ActWrites, touched}
 use Rattle.wasm_meaning.specs.Touched as what
@@ -17,21 +19,14 @@ pub record SameSize (m n : Memory) : Type 0 where
 abbrev pub StaysOrDropped : Data → Data → Type 0
 StaysOrDropped d e = (e ≡ d) ⊎ (e ≡ no_bytes)
 
--- what stands at a place of the first has its like at that place of the second
-abbrev pub EachLike : {A : Type 0} → (A → A → Type 0) → List A → List A → Type 0
-EachLike {A} P xs ys = (a : ℕ) (x : A) → slice_get xs a ≡ Some x → (y : A) × (slice_get ys a ≡ Some y) × P x y
-
 pub record Steady (s t : Store) : Type 0 where
-  pub mems : EachLike SameSize s.mems t.mems
-  pub globals : EachLike (λ g h. h.ty ≡ g.ty) s.globals t.globals
-  pub datas : EachLike StaysOrDropped s.datas t.datas
+  pub mems : EachRelated SameSize s.mems t.mems
+  pub globals : EachRelated (λ g h. h.ty ≡ g.ty) s.globals t.globals
+  pub datas : EachRelated StaysOrDropped s.datas t.datas
   pub memory_count : length t.mems ≡ length s.mems
 
 same_size : (m : Memory) → SameSize m m
 same_size m = record { most = refl; pages = refl; size = refl }
-
-each_self : {A : Type 0} (P : A → A → Type 0) (xs : List A) → ((x : A) → P x x) → EachLike P xs xs
-each_self P xs h a x e = (x, e, h x)
 
 pub steady_self : (s : Store) → Steady s s
 steady_self s = record {
@@ -41,9 +36,6 @@ steady_self s = record {
   memory_count = refl;
 }
 
-each_after : {A : Type 0} (P : A → A → Type 0) (xs ys zs : List A) → ((x y z : A) → P x y → P y z → P x z) → EachLike P xs ys → EachLike P ys zs → EachLike P xs zs
-each_after P xs ys zs both h k a x e = let y = h a x e in let z = k a y.0 y.1 in (z.0, z.1, both x y.0 z.0 y.2 z.2)
-
 stays_after : (d e f : Data) → StaysOrDropped d e → StaysOrDropped e f → StaysOrDropped d f
 stays_after d e f (inl p) (inl q) = inl (q ∙ p)
 stays_after d e f (inr p) (inl q) = inr (q ∙ p)
@@ -51,21 +43,11 @@ stays_after d e f h (inr q) = inr q
 
 pub steady_after : (s t u : Store) → Steady s t → Steady t u → Steady s u
 steady_after s t u h k = record {
-  mems = each_after SameSize s.mems t.mems u.mems (λ x y z p q. record { most = q.most ∙ p.most; pages = q.pages ∙ p.pages; size = q.size ∙ p.size }) h.mems k.mems;
-  globals = each_after (λ g h. h.ty ≡ g.ty) s.globals t.globals u.globals (λ x y z p q. q ∙ p) h.globals k.globals;
-  datas = each_after StaysOrDropped s.datas t.datas u.datas stays_after h.datas k.datas;
+  mems = each_then SameSize s.mems t.mems u.mems (λ x y z p q. record { most = q.most ∙ p.most; pages = q.pages ∙ p.pages; size = q.size ∙ p.size }) h.mems k.mems;
+  globals = each_then (λ g h. h.ty ≡ g.ty) s.globals t.globals u.globals (λ x y z p q. q ∙ p) h.globals k.globals;
+  datas = each_then StaysOrDropped s.datas t.datas u.datas stays_after h.datas k.datas;
   memory_count = k.memory_count ∙ h.memory_count;
 }
-
--- one place is written with the like of what stands there, if anything does
-each_set : {A : Type 0} (P : A → A → Type 0) (xs : List A) (n : ℕ) (new : A) → ((x : A) → P x x) → ((old : A) → slice_get xs n ≡ Some old → P old new) → EachLike P xs (slice_set xs n new)
-each_set {A} P xs n new self like a x e = by (eqb_tells n a)
-  where
-    by : ((nat_eq n a ≡ true) × (n ≡ a)) ⊎ ((nat_eq n a ≡ false) × (n ≡ a → ⊥)) → (y : A) × (slice_get (slice_set xs n new) a ≡ Some y) × P x y
-    by (inl h) =
-        let old : slice_get xs n ≡ Some x = ap (slice_get xs) h.1 ∙ e in
-        (new, ap (slice_get (slice_set xs n new)) (sym h.1) ∙ set_at xs n new (slice_get_within xs n x old), like x old)
-    by (inr h) = (x, set_other xs n a new (λ q. h.1 (sym q)) ∙ e, self x)
 
 steady_written : (s : Store) {t : Touched} {c : Change} → Writes s t c → Steady s (changed s c)
 steady_written s what.nothing = steady_self s

@@ -2,14 +2,13 @@
 use Rattle.base_lists.proofs.Common.{◌≡◌, ℕ, zero, suc, ◌+◌, ◌-◌, ◌/◌, ◌%◌, ◌<◌, ◌≤◌, arith, List, [], ◌∷◌, length, slice_get, false, Option, Some, None, Err, refl, ap}
 use Rattle.block_pool.specs.Pages.{Pages}
 use Rattle.block_pool.specs.Pages.{little_bytes as lowest_bytes}
-use Rattle.wasm_tree_spec.specs.Prelude.{Memories, StoreOp, MemArg, Instr, Module}
+use Rattle.wasm_tree_spec.specs.Prelude.{Memories, StoreOp, MemArg, Instr, Module, store_width}
 use Rattle.wasm_tree.specs.declared.instr.StoreOp.TheVariants as op
 use Rattle.wasm_tree.specs.declared.instr.Instr.TheVariants as i
 use Rattle.wasm_tree.specs.declared.instr.Instr.TheOpen.{Instr-F}
 use Rattle.wasm_num.specs.Operations.{W32}
 use Rattle.wasm_meaning.specs.Prelude.{Gives, IllTyped, overwrite, store_from, Val, Entry, num_of, pop_num}
 use Rattle.wasm_meaning.specs.Access.{little_bytes, stored}
-use Rattle.wasm_meaning.specs.Touched.{store_width}
 use Rattle.eval_spec.specs.declared.stop.Stop.{Stop}
 use Rattle.eval_spec.specs.declared.stop.Stop.TheVariants as why
 use Rattle.eval_spec.specs.Prelude.{first_held, is_imported, own_inst}

@@ -2,11 +2,11 @@
 
 ghost use Rattle.std.specs.Prelude.{◌≡◌, ◌^◌, ◌<◌, List, None, Some, IfOk, IfSome, IsNone};
 ghost use Rattle.wasm_tree.specs.declared.instr.Instr.TheVariants as i;
+ghost use Rattle.wasm_tree_spec.specs.Prelude.{store_width};
 ghost use Rattle.wasm_meaning.specs.Access.{load_to, load_width, store_from};
 ghost use Rattle.wasm_meaning.specs.Memory.{pop_three};
 ghost use Rattle.wasm_meaning.specs.Outcomes.{Gives, IllTyped};
 ghost use Rattle.wasm_meaning.specs.State.{Val};
-ghost use Rattle.wasm_meaning.specs.Touched.{store_width};
 ghost use Rattle.wasm_meaning.specs.Values.{num_of};
 ghost use Rattle.block_pool.specs.Pages.{IsWidth};
 ghost use Rattle.eval_machine.specs.Accesses.{bytes_in, loaded_from, val_at};

@@ -1,7 +1,7 @@
 -- Runs of which the second has frames between that only pass results on: one or two of its steps answer a step of the first.
 use Rattle.base_lists.proofs.Common.{◌≡◌, ℕ, zero, suc, ◌+◌, ◌≤◌, false, List, [], ◌∷◌, length, None, Some, refl, sym, ap, subst, ◌∙◌, arith, length_rel}
 use Rattle.wasm_tree_spec.specs.Prelude.{ValType}
-use Rattle.base_simulation.specs.Machines.{noted, events_of, state_after}
+use Rattle.base_simulation.specs.Machines.{events_of, state_after}
 use Rattle.wasm_meaning.specs.Prelude.{Outcome, Gives, Traps, IllTyped, bind, onto, split_at, Val, Inst, Store, Level, Frame, Entry, Running, Mark, Opening, Waiting, Ended, Growing, Caller, Host, Starter, Act, Ends, Next, Ran, CallsOwn, WaitsGrowth, CallsPlaceholder, EndsCall, pop_typed, act, give, give_levels, perform, step, to_mark, Run, Out, Steps, trapped_to, made, transition_at, run_after, transition, tick}
 use Rattle.wasm_meaning.proofs.Outcomes.{all_at}
 use Rattle.index_remap.specs.Prelude.{Pairing, OneToOne, ResRel, done, trap, wrong, ListRel, ValRel, FrameRel, EntryRel, running, mark, opening, waiting, ended, growing, goes, calls, asks_grow, ends, ActRel, NotOpaque, NextRel, RunRel, EntriesKnown, TickSkips, calls_placeholder, RunsStepTogether, passing, WithPassing, through, FramesBetween, AnsweredInTwo, HaveTypes}
@@ -9,6 +9,7 @@ use Rattle.index_remap.specs.Trampolines.{nil, cons}
 use Rattle.index_remap.specs.Related as related
 use Rattle.index_remap.proofs.Rel.{written, bind_rel_is}
 use Rattle.base_lists.specs.Related.{PairRel}
+use Rattle.std.specs.List.{cons_option}
 use Rattle.index_remap.proofs.ValueSteps.{pop_typed_all, pop_typed_rel}
 use Rattle.index_remap.proofs.StepsAgree.{TopView, top_none, top_mark, top_opening, top_waiting, top_ended, top_growing, top_running, act_rel}
 use Rattle.index_remap.proofs.Shapes.{IsEnd, Shape, Held, unchanged, perform_rel, together, same_kinds, given_together}
@@ -66,11 +67,11 @@ after_past r f es IllTyped e = ap (λ xs. trapped_to r (to_mark xs)) e ∙ same 
 running_tick : (r : Run) (f : Frame) (es : List Entry) → r.entries ≡ Running f ∷ es → tick r ≡ run_after r (step r.store r.entries)
 running_tick r f es e = ap (λ xs. made (transition_at r xs)) e
 
-one_event : (r : Run) (o : Out) → tick r ≡ o → events_of tick r 1 ≡ noted o.1 []
-one_event r o e = ap (λ (x : Out). noted x.1 []) e
+one_event : (r : Run) (o : Out) → tick r ≡ o → events_of tick r 1 ≡ cons_option o.1 []
+one_event r o e = ap (λ (x : Out). cons_option x.1 []) e
 
-two_events : (q p : Run) (o : Out) → tick q ≡ (p, None) → tick p ≡ o → events_of tick q 2 ≡ noted o.1 []
-two_events q p o e f = ap (λ (x : Out). noted x.1 (noted (tick x.0).1 [])) e ∙ ap (λ (x : Out). noted x.1 []) f
+two_events : (q p : Run) (o : Out) → tick q ≡ (p, None) → tick p ≡ o → events_of tick q 2 ≡ cons_option o.1 []
+two_events q p o e f = ap (λ (x : Out). cons_option x.1 (cons_option (tick x.0).1 [])) e ∙ ap (λ (x : Out). cons_option x.1 []) f
 
 two_states : (q p : Run) (o : Out) → tick q ≡ (p, None) → tick p ≡ o → state_after tick q 2 ≡ o.0
 two_states q p o e f = ap (λ (x : Out). (tick x.0).0) e ∙ ap (λ (x : Out). x.0) f
@@ -172,7 +173,7 @@ module _ (R : Pairing) (apart : OneToOne R) where
     from_one e f skips next =
         let o = together R apart (WithPassing R) between r q h skips (rw (e, f) next) in
         let kinds = same_kinds R apart (WithPassing R) between r q h skips (rw (e, f) next) in
-        record { further = 0; bound = omega arith; shown = ap (λ x. noted x []) (sym o.out.event); run = o.out.run; plain = λ plain k le. alone (sym kinds ∙ plain) k le; first = o.first; second = o.second }
+        record { further = 0; bound = omega arith; shown = ap (λ x. cons_option x []) (sym o.out.event); run = o.out.run; plain = λ plain k le. alone (sym kinds ∙ plain) k le; first = o.first; second = o.second }
       where
         alone : calls_placeholder (transition q) ≡ false → (k : ℕ) → k ≤ 0 → calls_placeholder (transition (state_after tick q k)) ≡ false
         alone plain zero le = plain
@@ -193,7 +194,7 @@ module _ (R : Pairing) (apart : OneToOne R) where
         record {
           further = 1;
           bound = omega arith;
-          shown = two_events q q1 _ silent two_is ∙ ap (λ x. noted x []) (sym o.out.event) ∙ sym (one_event r _ one_is);
+          shown = two_events q q1 _ silent two_is ∙ ap (λ x. cons_option x []) (sym o.out.event) ∙ sym (one_event r _ one_is);
           run = rw (one_is, end) o.out.run;
           plain = λ _ k le. both (ap (λ xs. calls_placeholder (transition_at q xs)) i ∙ ap (λ o. calls_placeholder (Steps q o)) second) (ap (λ (o : Out). calls_placeholder (transition o.0)) silent ∙ ap (λ o. calls_placeholder (Steps q1 o)) last ∙ given_plain q1 q.store ws ys) k le;
           first = λ b. rw one_is (o.first b);

@@ -1,10 +1,9 @@
 -- An instruction without a body keeps its type where each index that it names agrees with its entry, and a block the one of its block type.
 use Rattle.base_lists.proofs.Common.{◌≡◌, ℕ, ◌^◌, true, nat_lt, nat_le, List, [], ◌∷◌, Some, sym, ap, ◌∙◌, subst, option_and_then, option_map, slice_get, slice_index, ltb-true, lt-ltb, keeps_map, keeps_then, keeps_only}
-use Rattle.wasm_tree_spec.specs.Prelude.{ValType, BlockType, MemArg, Instr, fold_out-Instr, map-Instr, Block', Loop', If', Return, Call, CallIndirect, LocalGet, LocalSet, LocalTee, GlobalGet, GlobalSet, TableGet, TableSet, Load, Store, MemorySize, MemoryGrow, RefFunc, MemoryInit, DataDrop, MemoryCopy, MemoryFill, TableInit, ElemDrop, TableCopy, TableGrow, TableSize, TableFill, block_operands, map_operands}
+use Rattle.wasm_tree_spec.specs.Prelude.{ValType, BlockType, MemArg, Instr, fold_out-Instr, map-Instr, Block', Loop', If', Return, Call, CallIndirect, LocalGet, LocalSet, LocalTee, GlobalGet, GlobalSet, TableGet, TableSet, Load, Store, MemorySize, MemoryGrow, RefFunc, MemoryInit, DataDrop, MemoryCopy, MemoryFill, TableInit, ElemDrop, TableCopy, TableGrow, TableSize, TableFill, block_operands, map_operands, read_width, store_width}
 use Rattle.wasm_tree.specs.declared.types.BlockType.TheVariants as bt
 use Rattle.wasm_tree.specs.declared.instr.Instr.{out-Instr}
 use Rattle.base_lists.specs.Every.{Every}
-use Rattle.wasm_valid_bodies.specs.Ops.{load_width, store_width}
 use Rattle.wasm_valid_bodies.specs.Typing.{Stack, Effect, Gives, Leaves, Acts, Context, signature_of, fits_memory, effect_of, Fits}
 use Rattle.index_remap.specs.declared.remap.Remap.{Remap}
 use Rattle.index_remap.specs.Prelude.{entry, new_type, renumbered, Keeps, OperandAgrees, LayerAgrees, labelled}
@@ -50,7 +49,7 @@ module _ (m : Remap) (c d : Context) (locals : c.locals ≡ d.locals) (results :
   effect_at ls (GlobalSet x) q e h = keeps_then _ _ _ _ q.0 (λ g z p. p) e h
   effect_at ls (TableGet x) q e h = keeps_map _ _ _ q.0 e h
   effect_at ls (TableSet x) q e h = keeps_map _ _ _ q.0 e h
-  effect_at ls (Load op a) q e h = keeps_only (fits_memory (labelled c ls) (load_width op) a) (fits_memory (labelled d ls) (load_width op) (new_memarg m a)) _ _ (aligned_keeps ls (load_width op) a q.0) (λ z p. p) e h
+  effect_at ls (Load op a) q e h = keeps_only (fits_memory (labelled c ls) (read_width op) a) (fits_memory (labelled d ls) (read_width op) (new_memarg m a)) _ _ (aligned_keeps ls (read_width op) a q.0) (λ z p. p) e h
   effect_at ls (Store op a) q e h = keeps_only (fits_memory (labelled c ls) (store_width op) a) (fits_memory (labelled d ls) (store_width op) (new_memarg m a)) _ _ (aligned_keeps ls (store_width op) a q.0) (λ z p. p) e h
   effect_at ls (MemorySize x) q e h = keeps_only _ _ _ _ (memory_keeps x q.0) (λ z p. p) e h
   effect_at ls (MemoryGrow x) q e h = keeps_only _ _ _ _ (memory_keeps x q.0) (λ z p. p) e h

@@ -1,8 +1,9 @@
 -- The external type of an entity of the store (WebAssembly Core 2.0, section 4.5.1), when it is what an import asks for, and limits that are asked for together.
 use Rattle.base_lists.proofs.Common.{◌≡◌, ℕ, List, length, Option, Some, None, true, false, refl, ◌∙◌, option_map, slice_get, unwrap_or, [], ◌∷◌, Bool, cond, arith, ◌&&◌, is_some_there, nat_tests, list_all_each, list_all_from, length_rel, same_there, there, then_eq, each_same_is}
 use Rattle.base_lists.specs.Options.{◌>>=◌}
+use Rattle.std.specs.List.{cons_option}
 use Rattle.wasm_tree_spec.specs.Prelude.{Limits, Import, same_type}
-use Rattle.wasm_meaning.specs.Prelude.{Store, type_at, Part, Site, import_at, sites, limits_of, is_outside, linked_end, met_limits, consed, demands, met, Environment, ExternalValue, FuncAt, TableAt, MemoryAt, GlobalAt, meets, all_of, is_matched, imported_external_value}
+use Rattle.wasm_meaning.specs.Prelude.{Store, type_at, Part, Site, import_at, sites, limits_of, is_outside, linked_end, met_limits, demands, met, Environment, ExternalValue, FuncAt, TableAt, MemoryAt, GlobalAt, meets, all_of, is_matched, imported_external_value}
 use Rattle.index_remap.specs.Prelude.{Pairing, StoreRel, ExternalValueRel, a_func, a_table, a_memory, a_global}
 use Rattle.merge_spec.specs.Prelude.{External, FuncOf, TableOf, MemoryOf, GlobalOf, asked_at, same_but_limits, meets_limits}
 use Rattle.merge_valid_proof.specs.Ended.{SitesAreImports}
@@ -91,7 +92,7 @@ module _ (size : ℕ) (most : Option ℕ) where
   abbrev met_if : Bool → Option Limits → Bool
   met_if b o = cond b (unwrap_or (option_map (meets size most) o) true) true
 
-  consed_met : (b : Bool) (o : Option Limits) (ls : List Limits) → meets size most (met (cond b (consed o ls) ls)) ≡ met_if b o && meets size most (met ls)
+  consed_met : (b : Bool) (o : Option Limits) (ls : List Limits) → meets size most (met (cond b (cons_option o ls) ls)) ≡ met_if b o && meets size most (met ls)
   consed_met b o ls = grind (arith, nat_tests)
 
   module _ (parts : List Part) (s : Site) where

@@ -3,7 +3,8 @@ use Rattle.base_lists.proofs.Common.{◌≡◌, ℕ, ◌<◌, ◌^◌, Bool, tru
 use Rattle.wasm_tree_spec.specs.Prelude.{Limits, ImportDesc, Import, Module}
 use Rattle.wasm_tree.specs.declared.module.ImportDesc.TheVariants as im
 use Rattle.base_lists.specs.Every.{Every}
-use Rattle.wasm_meaning.specs.Prelude.{Part, Site, module_at, import_at, sites, linked_end, is_outside, limits_of, consed, demands, least, met, met_limits}
+use Rattle.std.specs.List.{cons_option}
+use Rattle.wasm_meaning.specs.Prelude.{Part, Site, module_at, import_at, sites, linked_end, is_outside, limits_of, demands, least, met, met_limits}
 use Rattle.wasm_write_proof.specs.Ranges.{MaxInRange, LimitsInRange, ImportDescInRange, ImportInRange, InRange}
 use Rattle.merge_encode_proof.proofs.Lists.{at_part}
 
@@ -28,7 +29,7 @@ demanded_in parts h t l e = found (and_then_is (import_at parts t) (λ (i : Impo
     found : (i : Import) × (import_at parts t ≡ Some i) × (limits_of i.desc ≡ Some l) → LimitsInRange l
     found (i, there, is) = limits_in i.desc l is (import_in parts h t i there).2
 
-consed_in : (o : Option Limits) (ls : List Limits) → ((l : Limits) → o ≡ Some l → LimitsInRange l) → Every LimitsInRange ls → Every LimitsInRange (consed o ls)
+consed_in : (o : Option Limits) (ls : List Limits) → ((l : Limits) → o ≡ Some l → LimitsInRange l) → Every LimitsInRange ls → Every LimitsInRange (cons_option o ls)
 consed_in None ls f h = h
 consed_in (Some l) ls f h = (f l refl, h)
 

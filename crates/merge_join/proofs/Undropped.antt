@@ -1,6 +1,6 @@
 -- Only a dropped export can leave a function undeclared that `ref.func` names in a body of the merged module: a part is valid, so what its bodies name it names outside
 -- them too, and there the merged module names it as well.
-use Rattle.base_lists.proofs.Common.{◌≡◌, ◌∙◌, refl, sym, ap, subst, ℕ, zero, suc, ◌+◌, ◌<◌, ◌≤◌, Bool, true, false, ◌&&◌, ◌||◌, not, nat_eq, nat_lt, List, [], ◌∷◌, ◌++◌, map, length, Option, Some, None, ◌⊎◌, inl, inr, ⊎_elim, arith, option_map, unwrap_or, slice_get, slice_index, filter, filter_map, flat_map, list_all, range_with_len, length-map, slice_get-get_or, eqb-true, eq-eqb, ltb-true, left_true, right_true, list_all_each, list_all_from, list_any_there, is_kept, chosen_from, has_chosen, length-numbers, Has, map_at, map_from, append_from, has_left, has_right}
+use Rattle.base_lists.proofs.Common.{◌≡◌, ◌∙◌, refl, sym, ap, subst, ℕ, zero, suc, ◌+◌, ◌<◌, ◌≤◌, Bool, true, false, ◌&&◌, ◌||◌, not, nat_eq, nat_lt, List, [], ◌∷◌, ◌++◌, map, length, Option, Some, None, ◌⊎◌, inl, inr, ⊎_elim, arith, option_map, unwrap_or, slice_get, slice_index, filter, filter_map, flat_map, list_all, range_with_len, length-map, slice_get-get_or, eqb-true, eq-eqb, ltb-true, left_true, right_true, list_all_each, list_all_from, list_any_there, is_kept, chosen_from, has_chosen, length-numbers, Has, map_at, map_from, append_from, has_left, has_right, right_either}
 use Rattle.base_lists.specs.Members.{is_among}
 use Rattle.std.proofs.Common.{length-append}
 use Rattle.std.proofs.lemmas.List.FromFn.{get_or-range_with_len, length-range_with_len}
@@ -42,10 +42,6 @@ has_among : (xs : List ℕ) (x : ℕ) → Has xs x → is_among xs x ≡ true
 has_among [] x (n, h) = cc
 has_among (y ∷ ys) x (zero, h) = let e : x ≡ y = cc in ap (λ b. b || is_among ys x) (eq-eqb x y e)
 has_among (y ∷ ys) x (suc n, h) = right_either (nat_eq x y) (is_among ys x) (has_among ys x (n, h))
-  where
-    right_either : (a b : Bool) → b ≡ true → (a || b) ≡ true
-    right_either true b h = refl
-    right_either false b h = h
 
 flat_has : {A B : Type 0} (f : A → List B) (xs : List A) (x : A) (y : B) → Has xs x → Has (f x) y → Has (flat_map f xs) y
 flat_has f [] x y (n, h) k = cc

@@ -1,11 +1,12 @@
 -- The imports of the merged module hold: their types are there, and the limits that they keep are limits.
 use Rattle.base_lists.proofs.Common.{◌≡◌, ◌∙◌, ap, sym, subst, refl, ℕ, ◌<◌, ◌≤◌, List, [], ◌∷◌, length, Option, Some, None, Bool, true, false, cond, arith, option_and_then, slice_get, slice_index, max, ltb-false, slice_get_within, slice_get_there, Has, kept_is, chosen_from, and_then_is}
+use Rattle.std.specs.List.{cons_option}
 use Rattle.wasm_tree_spec.specs.Prelude.{Memories, Limits, Import, ImportDesc, Module, space_of_import}
 use Rattle.wasm_tree.specs.declared.module.ImportDesc.TheVariants as im
 use Rattle.wasm_valid.specs.declared.kinds.ItemKind.TheVariants as kind
 use Rattle.wasm_valid.specs.Prelude.{HoldsAt, ImportHolds, LimitsHold, ItemsHold}
 use Rattle.wasm_valid.specs.Validity.{MostIsAtLeast, MostIsAtMost}
-use Rattle.wasm_meaning.specs.Prelude.{Text, EndsArePaths, Part, Site, module_at, import_at, sites, is_outside, linked_end, limits_of, consed, demands, least, met, met_limits}
+use Rattle.wasm_meaning.specs.Prelude.{Text, EndsArePaths, Part, Site, module_at, import_at, sites, is_outside, linked_end, limits_of, demands, least, met, met_limits}
 use Rattle.merge_spec.specs.declared.faults.LinkFault.{LinkFault}
 use Rattle.merge_spec.specs.declared.faults.LinkFault.TheVariants.{LimitsClash}
 use Rattle.merge_spec.specs.Prelude.{asked_at, stays, is_under, merged, map_of, merged_desc}
@@ -59,7 +60,7 @@ demands_few : (parts : List Part) (s : Site) (ts : List Site) → ((t : Site) (l
 demands_few parts s [] each = record { low = omega arith; high = tt }
 demands_few parts s (t ∷ ts) each = by (is_outside s (linked_end parts t)) refl (option_and_then (λ i. limits_of i.desc) (import_at parts t)) refl (demands_few parts s ts each)
   where
-    by : (b : Bool) → is_outside s (linked_end parts t) ≡ b → (o : Option Limits) → option_and_then (λ i. limits_of i.desc) (import_at parts t) ≡ o → Few (met (demands parts s ts)) → Few (met (cond b (consed o (demands parts s ts)) (demands parts s ts)))
+    by : (b : Bool) → is_outside s (linked_end parts t) ≡ b → (o : Option Limits) → option_and_then (λ i. limits_of i.desc) (import_at parts t) ≡ o → Few (met (demands parts s ts)) → Few (met (cond b (cons_option o (demands parts s ts)) (demands parts s ts)))
     by false e o is rest = rest
     by true e None is rest = rest
     by true e (Some l) is rest = more_few l (met (demands parts s ts)) (each t l e is) rest

@@ -1,7 +1,8 @@
 -- The runs stand at the same place again where a function that moves was entered: in its slot already, or loaded first.
 use Rattle.base_lists.proofs.Common.{◌≡◌, ◌∙◌, sym, ap, ap₂, subst, ℕ, zero, suc, ◌+◌, ◌^◌, ◌<◌, ◌≤◌, List, [], ◌∷◌, ◌++◌, Some, None, Bool, true, false, arith, slice_get, slice_set, pos, decimal, slice_get_within, same_Some, set_at}
 use Rattle.base_lists.specs.Options.{◌>>=◌}
-use Rattle.base_simulation.specs.Machines.{events_of, noted}
+use Rattle.std.specs.List.{cons_option}
+use Rattle.base_simulation.specs.Machines.{events_of}
 use Rattle.wasm_tree_spec.specs.Prelude.{FuncType, Module}
 use Rattle.wasm_meaning.specs.Prelude.{Gives, FuncRef, Val, Inst, Func, Store, Entry, Running, Ended, CallsPlaceholder, enter_at, step, Environment, Run, Out, Move, Steps, run_after, transition, tick, LoaderWorld, LoaderRun, tick_loader}
 use Rattle.wasm_meaning.specs.Control.{type_of_func as type_of}
@@ -67,7 +68,7 @@ module _ (laws : SettleLaws) (answered : PlaceholdersAreAnswered) (namespace : �
     stand = rw (first_enters r k ms vs es first_is) (stands_with env m moved world first second loaded h ms (Running (first_frame k vs) ∷ es) (Running (second_frame k ws) ∷ fs) (over_them k.first_inst k.second_inst vs ws k.locals k.locals k.first_code k.second_code below (frames_rel k v)))
 
     nothing_seen : events_of tick r 1 ≡ []
-    nothing_seen = ap (λ (o : Out). noted o.1 []) (first_enters r k ms vs es first_is)
+    nothing_seen = ap (λ (o : Out). cons_option o.1 []) (first_enters r k ms vs es first_is)
 
     -- after so many stuttering steps
     pub entered : (n : ℕ) → n ≤ most + 2 → StutteringSteps (tick_loader world) (suc n) q there → StepAnswered env m moved world first second most r q
@@ -163,7 +164,7 @@ module _ (laws : SettleLaws) (answered : PlaceholdersAreAnswered) (namespace : �
           (over_them in_place.code.first_inst in_place.code.second_inst vs ws in_place.code.locals in_place.code.locals in_place.code.first_code in_place.code.second_code below (frames_rel in_place.code values_still)))
 
       nothing_seen_then : events_of tick r 1 ≡ []
-      nothing_seen_then = ap (λ (o : Out). noted o.1 []) (first_enters r in_place.code ms vs es first_is)
+      nothing_seen_then = ap (λ (o : Out). cons_option o.1 []) (first_enters r in_place.code ms vs es first_is)
 
       -- after so many stuttering steps it is called
       pub loaded_first : (n : ℕ) → n ≤ most + 2 → (t : Store) (gs : List Entry) → StutteringSteps (tick_loader world) n q (calling t gs) → step t gs ≡ Gives (CallsPlaceholder p ws q.run.store fs) → StepAnswered env m moved world first second most r q

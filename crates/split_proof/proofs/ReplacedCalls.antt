@@ -2,7 +2,7 @@
 -- loaded for it.
 use Rattle.base_lists.proofs.Common.{◌≡◌, ◌∙◌, refl, sym, ap, ap₂, subst, ℕ, suc, ◌+◌, ◌≤◌, ◌&&◌, List, [], ◌∷◌, ◌++◌, Some, None, Bool, true, false, arith, slice_get, nat_eq, option_and_then, ℤ, and_parts, eqb-true, same_Some, and_then_is, map_from, unwrap_or_false_is, place_is, and_from, each_same_is, each_same_self}
 use Rattle.base_lists.specs.Options.{◌>>=◌}
-use Rattle.base_simulation.specs.Machines.{Machine, noted}
+use Rattle.base_simulation.specs.Machines.{Machine}
 use Rattle.wasm_num.specs.Operations.{W32, wrapped}
 use Rattle.wasm_tree_spec.specs.Prelude.{Functions, FuncType, Instr, Call, CallIndirect, I32Const, Module, same_type, same_types, same_func_type}
 use Rattle.wasm_tree.specs.declared.instr.Instr.{out-Instr}
@@ -10,6 +10,7 @@ use Rattle.wasm_meaning.specs.Prelude.{Outcome, Gives, bind, or_ill_typed, Calle
 use Rattle.index_remap.specs.Prelude.{FrameRel, LevelRel, ListRel, OneToOne, Pairing, ResRel, ValRel, cons, done, nil, trap, wrong, IsBegun, closed, CodeAt, InSlot, WithPassing, at_code}
 use Rattle.index_remap.specs.Trampolines as with_frames
 use Rattle.base_lists.specs.Related.{PairRel}
+use Rattle.std.specs.List.{cons_option}
 use Rattle.index_remap.proofs.ValueSteps.{pop_typed_rel}
 use Rattle.index_remap.proofs.FramesBetween.{again, between, frames}
 use Rattle.world_loader_proof.specs.LoaderSteps.{PlaceholdersAreAnswered}
@@ -145,7 +146,7 @@ module _ (laws : SettleLaws) (answered : PlaceholdersAreAnswered) (namespace : �
         record {
           further = n;
           bound = le;
-          shown = last_events (tick_loader w) silent second_is ∙ ap (λ e. noted e []) (sym t.event) ∙ sym (ap (λ (o : Out). noted o.1 []) first_is);
+          shown = last_events (tick_loader w) silent second_is ∙ ap (λ e. cons_option e []) (sym t.event) ∙ sym (ap (λ (o : Out). cons_option o.1 []) first_is);
           loaded = loaded;
           next = subst (Corresponds env m moved w first second loaded (tick r).0) (sym (last_state (tick_loader w) silent second_is)) (subst (λ (o : Out). Corresponds env m moved w first second loaded o.0 (record q { run = (trapped_to (reached gs).run (to_mark gs)).0 })) (sym first_is) (record {
             related = t.related;

@@ -1,6 +1,7 @@
 -- A split module shows under its loader what the module shows alone, where each call of a function that moves is answered.
 use Rattle.base_lists.proofs.Common.{◌≡◌, ◌∙◌, refl, ap, sym, subst, ℕ, ◌+◌, ◌*◌, List, [], Option, Some, None, Bool, true, false, arith}
-use Rattle.base_simulation.specs.Machines.{IsPrefix, events_of, noted}
+use Rattle.std.specs.List.{cons_option}
+use Rattle.base_simulation.specs.Machines.{IsPrefix, events_of}
 use Rattle.base_simulation.proofs.LedRuns.{LeadsSome, stuttering_simulation}
 use Rattle.base_simulation.proofs.Prefixes.{is_prefix, more_events, prefix_trans}
 use Rattle.wasm_tree_spec.specs.Prelude.{Module}
@@ -56,7 +57,7 @@ module _ (laws : Laws) (steps : StepLaws) (alike : InstancesOfSplitsAreRelated) 
         record {
           further = 0;
           bound = omega arith;
-          shown = ap (λ x. noted x.1 []) second ∙ sym (ap (λ (x : Out). noted x.1 []) first);
+          shown = ap (λ x. cons_option x.1 []) second ∙ sym (ap (λ (x : Out). cons_option x.1 []) first);
           states = subst (λ (x : Out). Place x.0 (tick_loader w q).0) (sym first) (subst (λ x. Place o.0.0 x.0) (sym second) (as_one o.2 refl));
         }
 

@@ -1,6 +1,7 @@
 -- Steps that begin no call of a function that moves, and steps in which both go wrong, are answered; and runs that are over.
 use Rattle.base_lists.proofs.Common.{◌≡◌, ◌∙◌, refl, ap, sym, subst, ℕ, zero, suc, List, [], ◌∷◌, false, arith, slice_get}
-use Rattle.base_simulation.specs.Machines.{noted, state_after}
+use Rattle.std.specs.List.{cons_option}
+use Rattle.base_simulation.specs.Machines.{state_after}
 use Rattle.wasm_tree_spec.specs.Prelude.{Module}
 use Rattle.wasm_meaning.specs.Prelude.{Entry, Inst, Running, Store, Environment, LoaderRun, LoaderWorld, tick_loader, Phase, Run, tick, transition}
 use Rattle.index_remap.specs.Prelude.{OneToOne, Pairing, IsBegun, PhaseRel, closed, fresh, opened, pending, EntriesKnown, TickSkips, calls_placeholder, AnsweredInTwo}
@@ -92,7 +93,7 @@ module _ (laws : StepLaws) (env : Environment) (m : Module) (moved : List ℕ) (
           record {
             further = 0;
             bound = omega arith;
-            shown = g.shown ∙ ap (λ e. noted e []) (sym b.event);
+            shown = g.shown ∙ ap (λ e. cons_option e []) (sym b.event);
             loaded = loaded;
             next = subst (Corresponds env m moved w first second loaded (tick r).0) (sym g.state) (record {
               related = b.runs;

@@ -1,6 +1,7 @@
 -- Stuttering steps of a run under a loader, and what so many steps of the machine are as steps of it.
 use Rattle.base_lists.proofs.Common.{◌≡◌, ◌∙◌, refl, ap, sym, ℕ, zero, suc, ◌≤◌, List, [], ◌∷◌, None, Option, arith}
-use Rattle.base_simulation.specs.Machines.{Machine, events_of, noted, state_after}
+use Rattle.std.specs.List.{cons_option}
+use Rattle.base_simulation.specs.Machines.{Machine, events_of, state_after}
 use Rattle.wasm_meaning.specs.Prelude.{Outcome, Gives, Traps, IllTyped, CallsOwn, CallsPlaceholder, Ended, EndsCall, Entry, Growing, Mark, Next, Opening, Ran, Running, Store, WaitsGrowth, Waiting, LoaderRun, LoaderWorld, loader_made, tick_loader, Run, Steps, transition, step}
 use Rattle.index_remap.specs.Prelude.{go_on}
 
@@ -17,16 +18,16 @@ module _ {S E : Type 0} (t : Machine S E) where
 
   pub stuttering_events : {n : ℕ} {s q : S} → StutteringSteps t n s q → events_of t s n ≡ []
   stuttering_events here = refl
-  stuttering_events {n = suc n} (before e rest) = ap (λ o. noted o.1 (events_of t o.0 n)) e ∙ stuttering_events rest
+  stuttering_events {n = suc n} (before e rest) = ap (λ o. cons_option o.1 (events_of t o.0 n)) e ∙ stuttering_events rest
 
   -- one step more
   pub last_state : {n : ℕ} {s q : S} {o : S × Option E} → StutteringSteps t n s q → t q ≡ o → state_after t s (suc n) ≡ o.0
   last_state here f = ap (λ o. o.0) f
   last_state {n = suc n} (before e rest) f = ap (λ o. state_after t o.0 (suc n)) e ∙ last_state rest f
 
-  pub last_events : {n : ℕ} {s q : S} {o : S × Option E} → StutteringSteps t n s q → t q ≡ o → events_of t s (suc n) ≡ noted o.1 []
-  last_events here f = ap (λ o. noted o.1 []) f
-  last_events {n = suc n} (before e rest) f = ap (λ o. noted o.1 (events_of t o.0 (suc n))) e ∙ last_events rest f
+  pub last_events : {n : ℕ} {s q : S} {o : S × Option E} → StutteringSteps t n s q → t q ≡ o → events_of t s (suc n) ≡ cons_option o.1 []
+  last_events here f = ap (λ o. cons_option o.1 []) f
+  last_events {n = suc n} (before e rest) f = ap (λ o. cons_option o.1 (events_of t o.0 (suc n))) e ∙ last_events rest f
 
 -- ---- steps of the machine ----
 

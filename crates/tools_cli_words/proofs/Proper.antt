@@ -1,5 +1,5 @@
 -- What is said has only what the vocabulary has.
-use Rattle.base_lists.proofs.Common.{◌≡◌, ◌∙◌, refl, sym, ap, subst, Bool, true, false, cond, List, [], ◌∷◌, Option, Some, None, option_map, option_and_then, codes, IfSome, ◌||◌, list_any, option_or, bytes_eq, nat_list_eq_equiv}
+use Rattle.base_lists.proofs.Common.{◌≡◌, ◌∙◌, refl, sym, ap, subst, Bool, true, false, cond, List, [], ◌∷◌, Option, Some, None, option_map, option_and_then, codes, IfSome, ◌||◌, list_any, option_or, bytes_eq, nat_list_eq_equiv, right_either}
 use Rattle.base_lists.specs.Every.{Every}
 use Rattle.tools_cli_words.specs.Words.{Text, Vocabulary, Argument, Value, Flag, Plain, OptionValue, Arguments, is_plain, behind, long_name, takes_value, own_value, some_value, value_behind, joined_value, other_word, next_argument, add_argument, said_from, arguments_of, add_to_arguments}
 
@@ -48,11 +48,7 @@ joined_among [] word all h = tt
 joined_among (option ∷ options) word all h =
     let first : list_any (bytes_eq option) all ≡ true = h option (ap (λ b. b || list_any (bytes_eq option) options) (nat_list_eq_equiv.refl option)) in
     or_among all (option_and_then (value_behind option) (behind option word)) (joined_value options word) (behind_among all option first (behind option word))
-    (joined_among options word all (λ other e. h other (later (bytes_eq other option) (list_any (bytes_eq other) options) e)))
-  where
-    later : (a b : Bool) → b ≡ true → (a || b) ≡ true
-    later true b e = refl
-    later false b e = e
+    (joined_among options word all (λ other e. h other (right_either (bytes_eq other option) (list_any (bytes_eq other) options) e)))
 
 among_proper : (v : Vocabulary) (o : Option Argument) → IfSome o (IsAmong v.options) → IfSome o (IsOf v)
 among_proper v None h = tt

@@ -2,7 +2,7 @@
 -- 2.0, section 4.4.7).
 use Rattle.std.specs.Prelude.{ℕ, zero, suc, ◌+◌, ◌*◌, ◌/◌, ◌%◌, List, [], ◌∷◌}
 use Rattle.wasm_num.specs.Operations.{Width, W32, W64, extended}
-use Rattle.wasm_tree_spec.specs.Prelude.{LoadOp, StoreOp}
+use Rattle.wasm_tree_spec.specs.Prelude.{LoadOp, StoreOp, read_width}
 use Rattle.wasm_tree.specs.declared.instr.LoadOp.TheVariants as load
 use Rattle.wasm_tree.specs.declared.instr.StoreOp.TheVariants as store
 
@@ -17,18 +17,7 @@ little_bytes zero n = []
 little_bytes (suc count) n = n % 256 ∷ little_bytes count (n / 256)
 
 unfoldable pub load_width : LoadOp → ℕ
-load_width load.I32Load = 4
-load_width load.I64Load = 8
-load_width load.I32Load8S = 1
-load_width load.I32Load8U = 1
-load_width load.I32Load16S = 2
-load_width load.I32Load16U = 2
-load_width load.I64Load8S = 1
-load_width load.I64Load8U = 1
-load_width load.I64Load16S = 2
-load_width load.I64Load16U = 2
-load_width load.I64Load32S = 4
-load_width load.I64Load32U = 4
+load_width op = read_width op
 
 unfoldable pub load_to : LoadOp → Width
 load_to load.I32Load = W32

@@ -7,6 +7,7 @@ use Rattle.base_lists.specs.Same.{each_same}
 use Rattle.base_lists.specs.Options.{◌>>=◌}
 pub use Rattle.base_lists.specs.Places.{first_place, places, count_of}
 use Rattle.std.specs.Prelude.{nat_eq, max, min}
+use Rattle.std.specs.List.{cons_option}
 use Rattle.wasm_tree.specs.declared.module.ImportDesc.TheVariants as im
 use Rattle.wasm_tree.specs.declared.module.ExportDesc.TheVariants as ex
 use Rattle.wasm_tree.specs.declared.module.ConstExpr.TheVariants as const
@@ -174,15 +175,11 @@ limits_of (im.Table t) = Some t.limits
 limits_of (im.Memory l) = Some l
 limits_of (im.Global t) = None
 
-abbrev pub consed : {A : Type 0} → Option A → List A → List A
-consed None xs = xs
-consed (Some x) xs = x ∷ xs
-
 -- The limits of those imports in the list that end at the staying import `s`.
 abbrev pub demands : List Part → Site → List Site → List Limits
 demands parts s [] = []
 demands parts s (t ∷ ts) =
-    cond (is_outside s (linked_end parts t)) (consed (import_at parts t >>= λ i. limits_of i.desc) (demands parts s ts)) (demands parts s ts)
+    cond (is_outside s (linked_end parts t)) (cons_option (import_at parts t >>= λ i. limits_of i.desc) (demands parts s ts)) (demands parts s ts)
 
 abbrev pub least : Option ℕ → Option ℕ → Option ℕ
 least None b = b

@@ -3,7 +3,7 @@ pub use Rattle.wasm_meaning.specs.Access.{little, little_bytes, load_to, load_wi
 pub use Rattle.wasm_meaning.specs.Control.{branch, call_slot, end_level, func_ref, level_here, open_block, open_level, own_at, own_of, resume, shape_of, type_at, type_of_func}
 pub use Rattle.wasm_meaning.specs.Environment.{Environment, ExternNumber, ExternalValue, FuncAt, FuncKey, Function, GlobalAt, GlobalKey, MemoryAt, MemoryKey, Null, Number, Offer, OwnFunc, OwnKey, Owned, Shown, TableAt, TableKey, addressed, all_of, flat, func_of, func_value, is_environment, look_up, one_if, own_funcs, own_globals, own_memories, own_tables, owned_at, owned_of, received, received_all, received_ref, same_key}
 pub use Rattle.wasm_meaning.specs.Laws.{EndsArePaths}
-pub use Rattle.wasm_meaning.specs.Linking.{Defined, End, Entity, Outside, Part, Read, Site, consed, count_of, demands, end_of, end_step, entity_step, export_named, first_place, gathered, global_import, has_kind, import_at, import_step, imported_as, imports_of, initial, initials_from, is_outside, joined, joined_step, least, limits_of, linked_end, met, met_limits, module_at, outside_read, pair_of, places, read_of, read_step, same_pair, same_site, same_text, sites, sites_from, sites_in, source_of, space_index}
+pub use Rattle.wasm_meaning.specs.Linking.{Defined, End, Entity, Outside, Part, Read, Site, count_of, demands, end_of, end_step, entity_step, export_named, first_place, gathered, global_import, has_kind, import_at, import_step, imported_as, imports_of, initial, initials_from, is_outside, joined, joined_step, least, limits_of, linked_end, met, met_limits, module_at, outside_read, pair_of, places, read_of, read_step, same_pair, same_site, same_text, sites, sites_from, sites_in, source_of, space_index}
 pub use Rattle.wasm_meaning.specs.Loader.{LoaderRun, LoaderWorld, Secondary, begun_of, begun_under, events_loaded, fresh_loader, loader_made, placeholders_from, placeholders_of, primary_added, secondary_of, slot_of, store_loaded, store_under, supplied, tick_loader}
 pub use Rattle.wasm_meaning.specs.Memory.{fill_memory, grow_memory, init_memory, load_from, memory_may_grow, pop_three, store_into, with_memory, writes, written}
 pub use Rattle.wasm_meaning.specs.Outcomes.{Gives, IllTyped, Outcome, ResRel, Traps, bind, copies, done, onto, or_ill_typed, or_trap, overwrite, slice, split_at, trap, with_entry, wrong}

@@ -1,8 +1,7 @@
 -- What a step writes into the store, computed from what is on top of the stack before it.
 use Rattle.std.proofs.Common.{◌≡◌, ℕ, ◌+◌, true, List, [], ◌∷◌, length, slice_get, Some}
-use Rattle.wasm_tree_spec.specs.Prelude.{Instr, out-Instr, StoreOp}
+use Rattle.wasm_tree_spec.specs.Prelude.{Instr, out-Instr, StoreOp, store_width}
 use Rattle.wasm_tree.specs.declared.instr.Instr.TheOpen.{Instr-F}
-use Rattle.wasm_tree.specs.declared.instr.StoreOp.TheVariants as op
 use Rattle.wasm_num.specs.Operations.{W32}
 use Rattle.wasm_meaning.specs.Outcomes.{Outcome, Gives, IllTyped, bind, overwrite, with_entry}
 use Rattle.wasm_meaning.specs.Access.{store_from}
@@ -20,16 +19,6 @@ pub data Touched : Type 0 where
   OneGlobal : (address : ℕ) → Touched
   OneElem : (address : ℕ) → Touched
   OneData : (address : ℕ) → Touched
-
--- How many bytes a store instruction writes.
-abbrev pub store_width : StoreOp → ℕ
-store_width op.I32Store = 4
-store_width op.I64Store = 8
-store_width op.I32Store8 = 1
-store_width op.I32Store16 = 2
-store_width op.I64Store8 = 1
-store_width op.I64Store16 = 2
-store_width op.I64Store32 = 4
 
 abbrev pub at_address : List ℕ → ℕ → (ℕ → Touched) → Outcome Touched
 at_address addresses n f = with_entry addresses n (λ a. Gives (f a))

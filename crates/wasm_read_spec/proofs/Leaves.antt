@@ -8,7 +8,7 @@ use Rattle.wasm_read_spec.specs.declared.token.Opener.TheVariants as opener
 use Rattle.wasm_read_spec.specs.declared.token.Token.{Token}
 use Rattle.wasm_read_spec.specs.declared.token.Token.TheVariants.{Plain}
 use Rattle.wasm_read_spec.specs.Prelude.{un_of, bin_of, load_of, store_of, Form, plain, number, numbers, const32, const64, table, access, memory, memories, with_memory, null, open', else', end', prefixed, unsupported, unknown, SpellsMemArg, SpellsMemory, Simple, FollowsOpcode, SpellsToken, depth_of}
-use Rattle.wasm_read_spec.specs.Tokens.{typed, or_else, the_form, rest_form, sub_form, arg_form}
+use Rattle.wasm_read_spec.specs.Tokens.{typed, form_or, the_form, rest_form, sub_form, arg_form}
 
 -- a memory's index, which is 0 where memories have none
 abbrev pub Named : Bool → ℕ → Type 0
@@ -78,7 +78,7 @@ module _ (many : Bool) (Q : Instr → Type 0) (leaves : Leaves many Q) where
   choice true f g p q = p
   choice false f g p q = q
 
-  option : {A : Type 0} (o : Option A) (f : A → Form) (g : Form) → ((x : A) → Sure (f x)) → Sure g → Sure (or_else o f g)
+  option : {A : Type 0} (o : Option A) (f : A → Form) (g : Form) → ((x : A) → Sure (f x)) → Sure g → Sure (form_or o f g)
   option (Some x) f g p q = p x
   option None f g p q = q
 

@@ -34,9 +34,9 @@ pub data Form : Type 0 where
   unsupported : Form
   unknown : Form
 
-abbrev pub or_else : {A : Type 0} → Option A → (A → Form) → Form → Form
-or_else (Some x) f other = f x
-or_else None f other = other
+abbrev pub form_or : {A : Type 0} → Option A → (A → Form) → Form → Form
+form_or (Some x) f other = f x
+form_or None f other = other
 
 -- The form of the number after FC (5.4.5 to 5.4.7).
 unfoldable pub sub_form : ℕ → Form
@@ -92,7 +92,7 @@ rest_form b =
     unknown))))))))))))))))))))))))))))))))
 
 unfoldable pub the_form : ℕ → Form
-the_form b = or_else (un_of b) (λ op. plain (Un op)) (or_else (bin_of b) (λ op. plain (Bin op)) (or_else (load_of b) (λ op. access (Load op)) (or_else (store_of b) (λ op. access (Store op)) (rest_form b))))
+the_form b = form_or (un_of b) (λ op. plain (Un op)) (form_or (bin_of b) (λ op. plain (Bin op)) (form_or (load_of b) (λ op. access (Load op)) (form_or (store_of b) (λ op. access (Store op)) (rest_form b))))
 
 -- ---- the immediates of an opcode, and its token
 

@@ -8,3 +8,4 @@ pub mod Layers
 pub mod OperandLaws
 pub mod MemoryZero
 pub mod DataUse
+pub mod Accesses

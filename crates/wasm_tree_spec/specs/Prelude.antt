@@ -1,4 +1,5 @@
 -- The names of the module tree, passed on from one place. This file declares nothing.
+pub use Rattle.wasm_tree.specs.Accesses.{read_width, store_width}
 pub use Rattle.wasm_tree.specs.Bounds.{IsBounded, declared_count, local_count, param_count}
 pub use Rattle.wasm_tree.specs.DataUse.{any_uses_data, names_data, uses_data, uses_data_in}
 pub use Rattle.wasm_tree.specs.Layers.{Layers, ListLayers, RowLayers}

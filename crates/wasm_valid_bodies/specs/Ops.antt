@@ -1,5 +1,4 @@
 -- The types of the operations, loads and stores (WebAssembly Core 2.0, sections 3.3.1 and 3.3.7).
-use Rattle.std.specs.Prelude.{ℕ}
 use Rattle.wasm_tree_spec.specs.Prelude.{ValType, I32, I64, LoadOp, I32Load, StoreOp, I32Store, I32Store8}
 use Rattle.wasm_num.specs.declared.UnOp.{UnOp}
 use Rattle.wasm_num.specs.declared.BinOp.{BinOp}
@@ -34,20 +33,6 @@ load_type I64Load16U = I64
 load_type I64Load32S = I64
 load_type I64Load32U = I64
 
-abbrev pub load_width : LoadOp → ℕ
-load_width I32Load = 4
-load_width I64Load = 8
-load_width I32Load8S = 1
-load_width I32Load8U = 1
-load_width I32Load16S = 2
-load_width I32Load16U = 2
-load_width I64Load8S = 1
-load_width I64Load8U = 1
-load_width I64Load16S = 2
-load_width I64Load16U = 2
-load_width I64Load32S = 4
-load_width I64Load32U = 4
-
 abbrev pub store_type : StoreOp → ValType
 store_type I32Store = I32
 store_type I64Store = I64
@@ -56,12 +41,3 @@ store_type I32Store16 = I32
 store_type I64Store8 = I64
 store_type I64Store16 = I64
 store_type I64Store32 = I64
-
-abbrev pub store_width : StoreOp → ℕ
-store_width I32Store = 4
-store_width I64Store = 8
-store_width I32Store8 = 1
-store_width I32Store16 = 2
-store_width I64Store8 = 1
-store_width I64Store16 = 2
-store_width I64Store32 = 4

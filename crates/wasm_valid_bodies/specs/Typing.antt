@@ -2,10 +2,10 @@
 -- instructions (WebAssembly Core 2.0, sections 3.3.8 and 3.3.9).
 use Rattle.std.specs.Prelude.{◌≡◌, ℕ, ◌^◌, Bool, true, false, ◌&&◌, nat_lt, nat_le, List, [], ◌∷◌, ◌++◌, map, reverse, Option, Some, None, slice_get, option_map, ◌⊎◌}
 use Rattle.base_lists.specs.Options.{◌>>=◌}
-use Rattle.wasm_tree_spec.specs.Prelude.{RefType, ValType, I32, I64, Ref, FuncType, BlockType, Value, GlobalType, MemArg, Instr, Row_of-Instr, end_of-Instr, more_of-Instr, Unreachable, Nop, Block', Loop', If', Br, BrIf, BrTable, Return, Call, CallIndirect, Drop, Select, SelectTyped, LocalGet, LocalSet, LocalTee, GlobalGet, GlobalSet, TableGet, TableSet, Load, Store, MemorySize, MemoryGrow, I32Const, I64Const, Un, Bin, RefNull, RefIsNull, RefFunc, MemoryInit, DataDrop, MemoryCopy, MemoryFill, TableInit, ElemDrop, TableCopy, TableGrow, TableSize, TableFill, same_ref}
+use Rattle.wasm_tree_spec.specs.Prelude.{RefType, ValType, I32, I64, Ref, FuncType, BlockType, Value, GlobalType, MemArg, Instr, Row_of-Instr, end_of-Instr, more_of-Instr, Unreachable, Nop, Block', Loop', If', Br, BrIf, BrTable, Return, Call, CallIndirect, Drop, Select, SelectTyped, LocalGet, LocalSet, LocalTee, GlobalGet, GlobalSet, TableGet, TableSet, Load, Store, MemorySize, MemoryGrow, I32Const, I64Const, Un, Bin, RefNull, RefIsNull, RefFunc, MemoryInit, DataDrop, MemoryCopy, MemoryFill, TableInit, ElemDrop, TableCopy, TableGrow, TableSize, TableFill, same_ref, read_width, store_width}
 use Rattle.wasm_tree.specs.declared.types.RefType.TheVariants.{Func, Extern}
 use Rattle.wasm_tree.specs.declared.types.BlockType.TheVariants.{Empty, Index}
-use Rattle.wasm_valid_bodies.specs.Ops.{un_operand, un_result, bin_operand, bin_result, load_type, load_width, store_type, store_width}
+use Rattle.wasm_valid_bodies.specs.Ops.{un_operand, un_result, bin_operand, bin_result, load_type, store_type}
 pub use Rattle.base_lists.specs.Options.{only}
 
 -- The type of an operand; `None` is the bottom (section 3.3, the operand types of instruction
@@ -176,7 +176,7 @@ effect_of c (GlobalGet x) = option_map (λ g. Gives [] (g.ty ∷ [])) (slice_get
 effect_of c (GlobalSet x) = slice_get c.globals x >>= λ g. only g.mutable (Some (Gives (g.ty ∷ []) []))
 effect_of c (TableGet x) = option_map (λ r. Gives (I32 ∷ []) (Ref r ∷ [])) (slice_get c.tables x)
 effect_of c (TableSet x) = option_map (λ r. Gives (I32 ∷ Ref r ∷ []) []) (slice_get c.tables x)
-effect_of c (Load op m) = only (fits_memory c (load_width op) m) (Some (Gives (I32 ∷ []) (load_type op ∷ [])))
+effect_of c (Load op m) = only (fits_memory c (read_width op) m) (Some (Gives (I32 ∷ []) (load_type op ∷ [])))
 effect_of c (Store op m) = only (fits_memory c (store_width op) m) (Some (Gives (I32 ∷ store_type op ∷ []) []))
 effect_of c (MemorySize m) = only (nat_lt m c.memories) (Some (Gives [] (I32 ∷ [])))
 effect_of c (MemoryGrow m) = only (nat_lt m c.memories) (Some (Gives (I32 ∷ []) (I32 ∷ [])))

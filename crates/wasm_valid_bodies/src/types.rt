@@ -1,7 +1,8 @@
 // The types of the operations, loads and stores.
 
 ghost use Rattle.std.specs.Prelude.{◌≡◌};
-ghost use Rattle.wasm_valid_bodies.specs.Ops.{un_operand, un_result, bin_operand, bin_result, load_type, load_width, store_type, store_width};
+ghost use Rattle.wasm_valid_bodies.specs.Ops.{un_operand, un_result, bin_operand, bin_result, load_type, store_type};
+ghost use Rattle.wasm_tree_spec.specs.Prelude.{read_width, store_width};
 
 use wasm_num::{BinOp, UnOp};
 use wasm_tree::{LoadOp, StoreOp, ValType};
@@ -192,7 +193,7 @@ pub fn load_type(op: LoadOp) -> ValType
 }
 
 pub fn load_width(op: LoadOp) -> u32
-    ensures { result ≡ load_width op }
+    ensures { result ≡ read_width op }
 {
     match op {
         LoadOp::I32Load | LoadOp::I64Load32S | LoadOp::I64Load32U => 4,

@@ -11,7 +11,7 @@ use Rattle.wasm_read_spec.specs.declared.token.Token.{Token}
 use Rattle.wasm_read_spec.specs.declared.token.Token.TheVariants.{Open, Else, End, Plain}
 use Rattle.base_lists.specs.Every.{Every}
 use Rattle.wasm_read_spec.specs.Prelude.{SpellsBlockType, un_of, bin_of, load_of, store_of, Form, plain, number, numbers, const32, const64, table, access, memory, memories, with_memory, null, open', else', end', prefixed, unsupported, unknown, SpellsMemArg, SpellsMemory, Simple, FollowsOpcode, SpellsToken, Nests, no_more, one_plain, one_block, one_loop, one_if, one_if_else, SpellsBody}
-use Rattle.wasm_read_spec.specs.Tokens.{typed, or_else, the_form, rest_form, sub_form, arg_form}
+use Rattle.wasm_read_spec.specs.Tokens.{typed, form_or, the_form, rest_form, sub_form, arg_form}
 use Rattle.wasm_write_proof.specs.Ranges.{small, spellable, all_spellable, all_in_range, IsU32}
 use Rattle.wasm_write_proof.proofs.Inside.{in_range_of, Small, block_in, loop_in, if_in, more_in}
 use Rattle.wasm_write_proof.proofs.NumberRanges.{RangeLaws, u32_in, is_small, is_small_32, is_small_64, is_index, says_vector}
@@ -30,7 +30,7 @@ if_sound : (test : Bool) (a b : Form) → Sound a → Sound b → Sound (cond te
 if_sound true a b h k = h
 if_sound false a b h k = k
 
-or_sound : {A : Type 0} (o : Option A) (f : A → Form) (other : Form) → ((x : A) → Sound (f x)) → Sound other → Sound (or_else o f other)
+or_sound : {A : Type 0} (o : Option A) (f : A → Form) (other : Form) → ((x : A) → Sound (f x)) → Sound other → Sound (form_or o f other)
 or_sound (Some x) f other h k = h x
 or_sound None f other h k = k
 

@@ -1,9 +1,10 @@
 -- Stores that extend others: nothing written is the least, one after the other, and one place that is written.
-use Rattle.base_lists.proofs.Common.{◌≡◌, ℕ, ◌≤◌, List, length, refl, sym, ap, subst, ◌∙◌, arith, slice_set, slice_get, Some, length-set, set_at, set_other, slice_get_within}
-use native.Mathlib.Decide.{ℕ_discrete}
+use Rattle.base_lists.proofs.Common.{◌≡◌, ℕ, ◌≤◌, List, length, refl, sym, ap, subst, ◌∙◌, arith, slice_set, slice_get, Some, length-set, same_Some}
 use Rattle.wasm_meaning.specs.Prelude.{Table, Memory, Global, Store, Change, Keep, SetGlobal, SetMemory, SetTable, DropElem, DropData, changed, no_items, no_bytes}
-use Rattle.world_extension_proof.specs.Extends.{TableExtends, MemoryExtends, GlobalExtends, EachExtends, Extends}
+use Rattle.world_extension_proof.specs.Extends.{TableExtends, MemoryExtends, GlobalExtends, Extends}
 pub use Rattle.base_lists.proofs.Common.{overwritten_length}
+use Rattle.base_lists.specs.Related.{EachRelated}
+use Rattle.base_lists.proofs.Related.{each_self, each_then, each_set}
 
 pub table_stays : (t : Table) → TableExtends t t
 table_stays t = record { type = refl; most = refl; size = omega arith }
@@ -14,27 +15,18 @@ memory_stays m = record { most = refl; size = omega arith }
 pub global_stays : (g : Global) → GlobalExtends g g
 global_stays g = record { type = refl; fixed = λ e. refl }
 
-pub each_stays : {A : Type 0} (P : A → A → Type 0) (xs : List A) → ((x : A) → P x x) → EachExtends P xs xs
-each_stays P xs h a x e = (x, e, h x)
-
 pub stays : (s : Store) → Extends s s
 stays s = record {
   funcs = refl;
-  tables = each_stays TableExtends s.tables table_stays;
-  mems = each_stays MemoryExtends s.mems memory_stays;
-  globals = each_stays GlobalExtends s.globals global_stays;
+  tables = each_self TableExtends s.tables table_stays;
+  mems = each_self MemoryExtends s.mems memory_stays;
+  globals = each_self GlobalExtends s.globals global_stays;
   table_count = refl;
   memory_count = refl;
   global_count = refl;
   elem_count = refl;
   data_count = refl;
 }
-
-pub each_then : {A : Type 0} (P : A → A → Type 0) (xs ys zs : List A) → ((x y z : A) → P x y → P y z → P x z) → EachExtends P xs ys → EachExtends P ys zs → EachExtends P xs zs
-each_then P xs ys zs trans h k a x e =
-    let y = h a x e in
-    let z = k a y.0 y.1 in
-    (z.0, z.1, trans x y.0 z.0 y.2 z.2)
 
 pub and_then : (s t u : Store) → Extends s t → Extends t u → Extends s u
 and_then s t u h k = record {
@@ -52,17 +44,8 @@ and_then s t u h k = record {
 -- ---- a change ----
 
 -- one place is written with what extends the old
-pub each_put : {A : Type 0} (P : A → A → Type 0) (xs : List A) (n : ℕ) (old new : A) → ((x : A) → P x x) → slice_get xs n ≡ Some old → P old new → EachExtends P xs (slice_set xs n new)
-each_put {A} P xs n old new same there p a x e = go (ℕ_discrete n a)
-  where
-    go : Dec (n ≡ a) → (y : A) × (slice_get (slice_set xs n new) a ≡ Some y) × P x y
-    go (yes i) =
-        let o : old ≡ x = gives_same (sym there ∙ ap (slice_get xs) i ∙ e) in
-        (new, ap (slice_get (slice_set xs n new)) (sym i) ∙ set_at xs n new (slice_get_within xs n old there), subst (λ z. P z new) o p)
-      where
-        gives_same : {u v : A} → Some u ≡ Some v → u ≡ v
-        gives_same e = cc
-    go (no i) = (x, set_other xs n a new (λ f. i (sym f)) ∙ e, same x)
+each_put : {A : Type 0} (P : A → A → Type 0) (xs : List A) (n : ℕ) (old new : A) → ((x : A) → P x x) → slice_get xs n ≡ Some old → P old new → EachRelated P xs (slice_set xs n new)
+each_put P xs n old new same there p = each_set P xs n new same (λ x e. subst (λ z. P z new) (same_Some old x (sym there ∙ e)) p)
 
 -- what it writes extends what stood there
 pub data Extending (s : Store) : Change → Type 0 where

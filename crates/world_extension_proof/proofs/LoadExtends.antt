@@ -1,5 +1,7 @@
 -- A module that is added extends the store, and so does a step under a loader.
 use Rattle.base_lists.proofs.Common.{◌≡◌, ℕ, ◌≤◌, List, [], ◌∷◌, ◌++◌, length, Option, Some, None, Bool, true, false, cond, option_and_then, unwrap_or, refl, ap, subst, ◌∙◌, arith, slice_get, append_at_left, and_then_is, same_Some, overwritten_length}
+use Rattle.base_lists.specs.Related.{EachRelated}
+use Rattle.base_lists.proofs.Related.{each_then}
 use Rattle.wasm_tree_spec.specs.Prelude.{ConstExpr, ElemMode, ElemSeg, DataMode, DataSeg, Module}
 use Rattle.wasm_tree.specs.declared.module.ElemMode.TheVariants as elem
 use Rattle.wasm_tree.specs.declared.module.DataMode.TheVariants as data'
@@ -9,9 +11,9 @@ use Rattle.index_remap.specs.Prelude.{IsBegun}
 use Rattle.world_simulation.specs.Prelude.{offset_in}
 use Rattle.world_simulation.proofs.Copied.{then_holds}
 use Rattle.wasm_meaning.proofs.Outcomes.{stopped}
-use Rattle.world_extension_proof.specs.Extends.{TableExtends, MemoryExtends, GlobalExtends, EachExtends, Extends, StaysIn, Kept, OwnSegmentsExtend, SegmentsExtend, AddedModulesExtend, LoaderKept, LoadersExtend}
+use Rattle.world_extension_proof.specs.Extends.{TableExtends, MemoryExtends, GlobalExtends, Extends, StaysIn, Kept, OwnSegmentsExtend, SegmentsExtend, AddedModulesExtend, LoaderKept, LoadersExtend}
 use Rattle.world_extension_proof.proofs.Extends
-use Rattle.world_extension_proof.proofs.Extends.{stays, table_stays, memory_stays, global_stays, each_then, table, memory, elem_drops, data_drops, changed_extends}
+use Rattle.world_extension_proof.proofs.Extends.{stays, table_stays, memory_stays, global_stays, table, memory, elem_drops, data_drops, changed_extends}
 use Rattle.world_extension_proof.proofs.TickExtends.{after_kept, answer_leaves, tick_extends, stepping_begun, call_extends}
 
 -- ---- what is there stays ----
@@ -27,7 +29,7 @@ still_in s t u h k = record {
   globals = each_then GlobalExtends s.globals t.globals u.globals (λ x y z p q. record { type = q.type ∙ p.type; fixed = λ e. q.fixed (ap (λ t. t.mutable) p.type ∙ e) ∙ p.fixed e }) h.globals k.globals;
 }
 
-each_joined : {A : Type 0} (P : A → A → Type 0) (xs ys : List A) → ((x : A) → P x x) → EachExtends P xs (xs ++ ys)
+each_joined : {A : Type 0} (P : A → A → Type 0) (xs ys : List A) → ((x : A) → P x x) → EachRelated P xs (xs ++ ys)
 each_joined P xs ys same a x h = (x, append_at_left xs ys a x h, same x)
 
 pub joined_stays : (s t : Store) → StaysIn s (joined_stores s t)

@@ -1,6 +1,7 @@
 -- What a run does to its store: once it is instantiated, each step only extends the store
 -- (WebAssembly Core 2.0, section 4.2.3).
 use Rattle.std.specs.Prelude.{◌≡◌, ℕ, ◌≤◌, false, List, length, Option, Some, slice_get}
+use Rattle.base_lists.specs.Related.{EachRelated}
 use Rattle.wasm_tree_spec.specs.Prelude.{ConstExpr, Module}
 use Rattle.wasm_meaning.specs.Prelude.{Gives, Val, Inst, Func, Table, Memory, Global, Store, Entry, CallsPlaceholder, Part, Environment, ExternalValue, segments, Added, added, own_segments, Run, Event, Out, Steps, transition, tick, LoaderWorld, LoaderRun, tick_loader}
 use Rattle.index_remap.specs.Prelude.{IsBegun}
@@ -21,17 +22,13 @@ pub record GlobalExtends (g h : Global) : Type 0 where
   pub type : h.ty ≡ g.ty
   pub fixed : g.ty.mutable ≡ false → h.value ≡ g.value
 
--- at each place of the first list, the second has what extends the element there
-abbrev pub EachExtends : {A : Type 0} → (A → A → Type 0) → List A → List A → Type 0
-EachExtends {A} P xs ys = (a : ℕ) (x : A) → slice_get xs a ≡ Some x → (y : A) × (slice_get ys a ≡ Some y) × P x y
-
 -- functions stay, sizes do not shrink, types and maxima stay, and so do the values of immutable
 -- globals; nothing is added or taken away
 pub record Extends (s t : Store) : Type 0 where
   pub funcs : t.funcs ≡ s.funcs
-  pub tables : EachExtends TableExtends s.tables t.tables
-  pub mems : EachExtends MemoryExtends s.mems t.mems
-  pub globals : EachExtends GlobalExtends s.globals t.globals
+  pub tables : EachRelated TableExtends s.tables t.tables
+  pub mems : EachRelated MemoryExtends s.mems t.mems
+  pub globals : EachRelated GlobalExtends s.globals t.globals
   pub table_count : length t.tables ≡ length s.tables
   pub memory_count : length t.mems ≡ length s.mems
   pub global_count : length t.globals ≡ length s.globals
@@ -42,9 +39,9 @@ pub record Extends (s t : Store) : Type 0 where
 -- more behind them
 pub record StaysIn (s t : Store) : Type 0 where
   pub funcs : (a : ℕ) (f : Func) → slice_get s.funcs a ≡ Some f → slice_get t.funcs a ≡ Some f
-  pub tables : EachExtends TableExtends s.tables t.tables
-  pub mems : EachExtends MemoryExtends s.mems t.mems
-  pub globals : EachExtends GlobalExtends s.globals t.globals
+  pub tables : EachRelated TableExtends s.tables t.tables
+  pub mems : EachRelated MemoryExtends s.mems t.mems
+  pub globals : EachRelated GlobalExtends s.globals t.globals
 
 -- Each store extends itself.
 abbrev pub StoresExtendThemselves : Type 0

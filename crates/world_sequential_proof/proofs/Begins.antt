@@ -1,10 +1,11 @@
 -- Until the first start the parts are added one after the other, their segments with them, and then the stores stand beside one another.
 use Rattle.base_lists.proofs.Common.{◌≡◌, ◌∙◌, refl, sym, ap, subst, ℕ, suc, ◌+◌, ◌-◌, ◌<◌, ◌≤◌, List, [], ◌∷◌, ◌++◌, map, length, Some, None, false, inl, inr, arith, drop, slice_get, length-append, append_left, append_right, append_at_left, append_from, map_from, each_rel, append_rel, self_rel}
+use Rattle.base_lists.specs.Related.{EachRelated}
 use Rattle.wasm_tree_spec.specs.Prelude.{Module}
 use Rattle.wasm_meaning.specs.Prelude.{Text, Inst, Func, Own, Store, Opening, Part, module_at, Environment, Offer, ExternalValue, flat, owned_of, World, own_store, const_value, joined_stores, all_there, starts_of, seen_as, segments, Pending, Move, Run, StartDependsOnlyOnItsFrames, SequentialRun, view_over, own_segments, goes_on, tick_sequential, HasNoActive}
 use Rattle.index_remap.specs.Prelude.{BothRel, ListRel, CodeIsRelatedToItself, RelatedTicksAgree, OthersStay}
 use Rattle.world_simulation.specs.Prelude.{OwnCorrespond}
-use Rattle.world_extension_proof.specs.Extends.{TableExtends, MemoryExtends, GlobalExtends, EachExtends, Extends, StoresExtendThemselves}
+use Rattle.world_extension_proof.specs.Extends.{TableExtends, MemoryExtends, GlobalExtends, Extends, StoresExtendThemselves}
 use Rattle.world_sequential_proof.proofs.Joined.{made_upto, module_is}
 use Rattle.world_sequential_proof.proofs.Reached.{is_reached, reaching, shares_own}
 use Rattle.world_sequential_proof.proofs.OnePart.{Sized, Holds}
@@ -17,7 +18,7 @@ use Rattle.world_sequential_proof.proofs.Waiting.{within, still_reached, more_va
 
 -- ---- joined stores ----
 
-each_joined : {A : Type 0} (P : A → A → Type 0) (xs ys zs : List A) → EachExtends P zs zs → length ys ≡ length xs → EachExtends P xs ys → EachExtends P (xs ++ zs) (ys ++ zs)
+each_joined : {A : Type 0} (P : A → A → Type 0) (xs ys zs : List A) → EachRelated P zs zs → length ys ≡ length xs → EachRelated P xs ys → EachRelated P (xs ++ zs) (ys ++ zs)
 each_joined P xs ys zs same size h a x e = elim (append_from xs zs a x e) [
   | inl e ↦ let r = h a x e in (r.0, append_at_left ys zs a r.0 r.1, r.2)
   | inr l ↦ let r = same l.0 x l.2 in (r.0, rw (l.1, ← size, append_right) r.1, r.2)
@@ -37,7 +38,7 @@ joined_extends reflexive s t u h = record {
 }
 
 -- what stands in the front stands there, extended
-each_front : {A : Type 0} (P : A → A → Type 0) (front back now : List A) {n : ℕ} → length front ≡ n → EachExtends P front now → (a : ℕ) (x : A) → a < n → slice_get (front ++ back) a ≡ Some x → (y : A) × (slice_get now a ≡ Some y) × P x y
+each_front : {A : Type 0} (P : A → A → Type 0) (front back now : List A) {n : ℕ} → length front ≡ n → EachRelated P front now → (a : ℕ) (x : A) → a < n → slice_get (front ++ back) a ≡ Some x → (y : A) × (slice_get now a ≡ Some y) × P x y
 each_front P front back now size h a x l e = h a x (rw (← append_left front back a (omega arith)) e)
 
 -- a list that is related to itself beside one with more behind it
