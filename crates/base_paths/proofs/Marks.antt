@@ -5,9 +5,9 @@ use Rattle.base_paths.specs.Paths.Reaches.{stop, go}
 use Rattle.base_paths.proofs.Lists.{got_left}
 
 -- what a place reaches, the place after it reaches
-pub after : (steps : List (Option ℕ)) (n e m : ℕ) → slice_get steps n ≡ Some (Some m) → Reaches steps n e → Reaches steps m e
-after steps n e m s (stop _ h) = absurd (cc)
-after steps n e m s (go _ k _ h l) = let P : ℕ → Type 0 = λ x. Reaches steps x e in let same : k ≡ m = cc in subst P same l
+pub next_reaches : (steps : List (Option ℕ)) (n e m : ℕ) → slice_get steps n ≡ Some (Some m) → Reaches steps n e → Reaches steps m e
+next_reaches steps n e m s (stop _ h) = absurd (cc)
+next_reaches steps n e m s (go _ k _ h l) = let P : ℕ → Type 0 = λ x. Reaches steps x e in let same : k ≡ m = cc in subst P same l
 
 -- a place that this walk has passed
 pub record IsPassed (steps marks answers : List (Option ℕ)) (at n w : ℕ) : Type 0 where
@@ -72,7 +72,7 @@ walk_on steps old marks answers start at m w step there =
             inr (record {
               this = same;
               to = λ x l. subst (λ (y : ℕ). Reaches steps y x) (sym e) (go at m x step l);
-              from = λ x l. after steps at x m step (subst (λ (y : ℕ). Reaches steps y x) e l);
+              from = λ x l. next_reaches steps at x m step (subst (λ (y : ℕ). Reaches steps y x) e l);
               next = (m, ap (slice_get steps) e ∙ step, inr refl);
             })
         | inr ne ↦ elim (w.known n v (sym (set_other marks at n (Some number) ne) ∙ h)) [
@@ -80,7 +80,7 @@ walk_on steps old marks answers start at m w step there =
           | inr p ↦ inr (record {
             this = p.this;
             to = λ x l. p.to x (go at m x step l);
-            from = λ x l. after steps at x m step (p.from x l);
+            from = λ x l. next_reaches steps at x m step (p.from x l);
             next = (p.next.0, p.next.1, inl (mark_after marks at number p.next.0 inside p.next.2));
           })
         ]

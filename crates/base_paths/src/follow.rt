@@ -11,8 +11,8 @@ use std::alloc::{AllocError, Global};
 /// A step from a place: on to another place, to what the path ends with, or nowhere.
 #[derive(Clone, Copy, Drop)]
 pub enum Step<E> {
-    Goes(u32),
-    Ends(E),
+    Leads(u32),
+    Stops(E),
     Nowhere,
 }
 
@@ -23,8 +23,8 @@ fn next_places<E: Copy>(alloc: Global, steps: &[Step<E>]) -> Result<Vec<Option<u
     let mut nexts = Vec::new(alloc);
     for step in steps {
         let next = match step {
-            Step::Goes(place) => Some(*place),
-            Step::Ends(_) => None,
+            Step::Leads(place) => Some(*place),
+            Step::Stops(_) => None,
             Step::Nowhere => None,
         };
         nexts.push(next)?;
@@ -40,15 +40,15 @@ fn ending<E: Copy>(steps: &[Step<E>], stop: Option<u32>) -> Option<E>
         None => None,
         Some(place) => match steps.get(place as usize) {
             None => None,
-            Some(Step::Goes(_)) => None,
+            Some(Step::Leads(_)) => None,
             Some(Step::Nowhere) => None,
-            Some(Step::Ends(end)) => Some(*end),
+            Some(Step::Stops(end)) => Some(*end),
         },
     }
 }
 
 /// Returns for each place what the path from it ends with, or `None` if the path never ends or
-/// leads nowhere. Each `Goes` must name a place of the list, and there must be fewer than 2^32
+/// leads nowhere. Each `Leads` must name a place of the list, and there must be fewer than 2^32
 /// places. The only error is running out of memory.
 pub fn endings<E: Copy>(alloc: Global, steps: &[Step<E>]) -> Result<Vec<Option<E>>, AllocError>
     requires there { AreNamed steps.now }

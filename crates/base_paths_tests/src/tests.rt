@@ -24,10 +24,10 @@ fn chains_end_where_they_stop_and_circles_never(rt: HostRuntime) {
 #[test]
 fn what_a_path_ends_with_is_told(rt: HostRuntime) {
     let steps = [
-        Step::Goes(1),
-        Step::Ends(7u8),
-        Step::Goes(2),
-        Step::Goes(4),
+        Step::Leads(1),
+        Step::Stops(7u8),
+        Step::Leads(2),
+        Step::Leads(4),
         Step::Nowhere,
     ];
     let want = [Some(7u8), Some(7), None, None, None];

@@ -5,7 +5,7 @@ use Rattle.std.proofs.lemmas.List.{map-set}
 use Rattle.std.proofs.Math.Seq.{map-set_same}
 use Rattle.base_lists.specs.Places.{numbers}
 use Rattle.block_pool.specs.Blocks.{Blocks, held, IsLive, used, zeros, Changes}
-use Rattle.block_pool.specs.Table.{present, before, older, is_present, has_older, is_changed, slot_at, byte_in, contents, pages_of, Names, Owns, IsSound, Claims}
+use Rattle.block_pool.specs.Table.{present, before, older, is_present, has_older, is_changed, slot_at, byte_in, contents, pages_of, NamesBlock, Owns, IsSound, Claims}
 use Rattle.block_pool.specs.declared.table.Slot.{Slot}
 use Rattle.block_pool.specs.declared.table.Slot.TheVariants.{Absent, Kept, New, Changed}
 use Rattle.block_pool.specs.declared.table.Table.{Table}
@@ -13,7 +13,7 @@ use Rattle.block_pool.proofs.Counts.{count_within, count_fewer}
 use Rattle.block_pool.proofs.Replaced.{Replaces, before_named, bytes_after, contents_after, dead}
 use Rattle.block_pool.proofs.Moved.{Moves, sound_after}
 
-pub present_named : (s : Slot) (b : ℕ) → present s ≡ Some b → Names s b
+pub present_named : (s : Slot) (b : ℕ) → present s ≡ Some b → NamesBlock s b
 present_named s b e = inl e
 
 pub older_changed : (s : Slot) → has_older s ≡ true → is_changed s ≡ true
@@ -55,7 +55,7 @@ module _ (t : Table) (sound : IsSound t) where
         let f : count_by is_changed t.slots.items < count_by is_present t.slots.items = count_fewer is_changed is_present changed_present t.slots.items k Absent inside (ap is_changed kept) (ap is_present kept) in
         let g = sound.few in let j = sound.written in let l = sound.most in omega arith
 
-pub taken_replaces : (pool after : Blocks) (slots : List Slot) (k : ℕ) (s : Slot) (b : ℕ) (bytes : List ℕ) → Owns pool slots → k < length slots → held pool b ≡ None → Changes pool after b (Some bytes) → ((c : ℕ) → Names s c → (c ≡ b) ⊎ Names (slot_at slots k) c) → ((c : ℕ) → present s ≡ Some c → older s ≡ Some c → ⊥) → Replaces pool after slots k s
+pub taken_replaces : (pool after : Blocks) (slots : List Slot) (k : ℕ) (s : Slot) (b : ℕ) (bytes : List ℕ) → Owns pool slots → k < length slots → held pool b ≡ None → Changes pool after b (Some bytes) → ((c : ℕ) → NamesBlock s c → (c ≡ b) ⊎ NamesBlock (slot_at slots k) c) → ((c : ℕ) → present s ≡ Some c → older s ≡ Some c → ⊥) → Replaces pool after slots k s
 taken_replaces pool after slots k s b bytes owns inside gone changes named apart =
     let other : (c : ℕ) → IsLive pool c → c ≢ b = λ c live e. dead (held pool c) live (rw e gone) in
     record {
@@ -182,7 +182,7 @@ module _ (t u : Table) (k b : ℕ) (sound : IsSound t) (takes : Takes t.pool u.p
       (sound_after t u k (Kept b) sound m, kept_claims c m off)
 
 module _ (t u : Table) (k b old : ℕ) (sound : IsSound t) (takes : Takes t.pool u.pool b (held t.pool old)) (kept : slot_at t.slots.items k ≡ Kept old) (c : Claimed t u k (Changed b old)) (written : u.written ≡ t.written) (listed : u.changed.items ≡ t.changed.items ++ k ∷ []) (on : t.marked ≡ true) where
-  old_named : Names (slot_at t.slots.items k) old
+  old_named : NamesBlock (slot_at t.slots.items k) old
   old_named = rw kept (inl refl)
 
   old_live : IsLive t.pool old

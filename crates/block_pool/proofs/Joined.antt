@@ -4,7 +4,7 @@ use Rattle.std.proofs.Common.{length-append, take-append-drop}
 use Rattle.std.proofs.Math.Bool.{or_comm}
 use Rattle.std.proofs.lemmas.Bool.{or_cases}
 use Rattle.block_pool.specs.Blocks.{with_part}
-use Rattle.block_pool.specs.Pages.{Contents, Pages, Writes, written_over, reaches, with_reached, size}
+use Rattle.block_pool.specs.Pages.{Contents, Pages, WritesBytes, written_over, reaches, with_reached, size}
 use Rattle.block_pool.proofs.Parts.{is_part, part_length, part_below, part_inside, part_above}
 use Rattle.block_pool.proofs.Reached.{reaches_yes}
 
@@ -103,10 +103,10 @@ part_none xs at = rw add-zero (take-append-drop at xs)
 pub contents_is : {c d : Contents} → c.bytes ≡ d.bytes → c.written ≡ d.written → c ≡ d
 contents_is p q = ap₂ (λ b w. let c : Contents = record { bytes = b; written = w } in c) p q
 
-pub writes_nothing : (p : Pages) (at : ℕ) → Writes p p at []
+pub writes_nothing : (p : Pages) (at : ℕ) → WritesBytes p p at []
 writes_nothing p at = record { now = contents_is (sym (part_none p.now.bytes at)) (sym (reached_none at 0 p.now.written)); size = refl; flags = refl; mark = refl; most = refl; blocks = refl }
 
-pub joined : (p q r : Pages) (at : ℕ) (ys zs : List ℕ) → at + length ys + length zs ≤ size p → Writes p q at ys → Writes q r (at + length ys) zs → Writes p r at (ys ++ zs)
+pub joined : (p q r : Pages) (at : ℕ) (ys zs : List ℕ) → at + length ys + length zs ≤ size p → WritesBytes p q at ys → WritesBytes q r (at + length ys) zs → WritesBytes p r at (ys ++ zs)
 joined p q r at ys zs fits v w = record {
   now = w.now ∙ (ap (λ c. written_over c (at + length ys) zs) v.now ∙ contents_is (part_joined p.now.bytes at ys zs fits) (reached_joined at (length ys) (length zs) 0 p.now.written ∙ ap (λ n. with_reached at n 0 p.now.written) (sym (length-append ys zs))));
   size = w.size ∙ v.size;
@@ -116,7 +116,7 @@ joined p q r at ys zs fits v w = record {
   blocks = w.blocks ∙ v.blocks;
 }
 
-pub joined_back : (p q r : Pages) (at : ℕ) (ys zs : List ℕ) → at + length ys + length zs ≤ size p → Writes p q (at + length ys) zs → Writes q r at ys → Writes p r at (ys ++ zs)
+pub joined_back : (p q r : Pages) (at : ℕ) (ys zs : List ℕ) → at + length ys + length zs ≤ size p → WritesBytes p q (at + length ys) zs → WritesBytes q r at ys → WritesBytes p r at (ys ++ zs)
 joined_back p q r at ys zs fits v w = record {
   now = w.now ∙ (ap (λ c. written_over c at ys) v.now ∙ contents_is (part_back p.now.bytes at ys zs fits) (reached_back at (length ys) (length zs) 0 p.now.written ∙ ap (λ n. with_reached at n 0 p.now.written) (sym (length-append ys zs))));
   size = w.size ∙ v.size;

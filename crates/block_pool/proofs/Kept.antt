@@ -4,7 +4,7 @@ use Rattle.std.proofs.Common.{length-set, length-append}
 use Rattle.std.proofs.lemmas.List.{get_or_push}
 use Rattle.std.proofs.lemmas.List.Sums.{sum_by_push}
 use Rattle.block_pool.specs.Blocks.{Blocks, Changes}
-use Rattle.block_pool.specs.Kept.{IsKept, live_blocks}
+use Rattle.block_pool.specs.Kept.{FreeBlocksAreListed, live_blocks}
 use Rattle.block_pool.proofs.Counts.{flag, counted_set, as_many}
 
 pub changes_set : (s : List (Option (List ℕ))) (n : ℕ) (v : Option (List ℕ)) (old new : Blocks) → old.slots ≡ s → new.slots ≡ slice_set s n v → n < length s → Changes old new n v
@@ -87,7 +87,7 @@ flag_of : (l : Bool) (b : List ℕ) (v : List ℕ) → bytes_if l b ≡ Some v �
 flag_of true b v e = grind arith
 flag_of false b v e = absurd (none-some v e)
 
-module _ (ls : List Bool) (bs : List (List ℕ)) (free : List ℕ) (is : IsKept ls bs free) where
+module _ (ls : List Bool) (bs : List (List ℕ)) (free : List ℕ) (is : FreeBlocksAreListed ls bs free) where
   -- a live block has its flag, and its bytes
   pub flagged : (n : ℕ) (v : List ℕ) → slice_index_or (live_blocks ls bs) n None ≡ Some v → (slice_index_or ls n false ≡ true) × (slice_index_or bs n [] ≡ v)
   flagged n v e = flag_of (slice_index_or ls n false) (slice_index_or bs n []) v (sym (live_at ls bs n is.many) ∙ e)
@@ -124,7 +124,7 @@ module _ (ls : List Bool) (bs : List (List ℕ)) (free : List ℕ) (is : IsKept 
     other : (i : ℕ) → i < length rest → slice_index rest i ≢ n
     other i h e = let f : i ≡ length rest = is.apart i (length rest) (omega (arith, more)) (omega (arith, more)) (before i h ∙ (e ∙ sym here)) in absurd (omega arith)
 
-    pub kept_taken : (b : List ℕ) → IsKept (slice_set ls n true) (slice_set bs n b) rest
+    pub kept_taken : (b : List ℕ) → FreeBlocksAreListed (slice_set ls n true) (slice_set bs n b) rest
     kept_taken b =
         let i : n < length bs = taken_within in
         let many : length ls ≡ length bs = is.many in
@@ -146,7 +146,7 @@ module _ (ls : List Bool) (bs : List (List ℕ)) (free : List ℕ) (is : IsKept 
     used_taken b = let k : length (slice_set bs n b) ≡ length bs = length-set bs n b in omega (arith, (kept_taken b).account, is.account, more)
 
   -- a block after all others, where none is free
-  pub kept_pushed : (b : List ℕ) (rest : List ℕ) → length free ≡ 0 → length rest ≡ 0 → IsKept (ls ++ true ∷ []) (bs ++ b ∷ []) rest
+  pub kept_pushed : (b : List ℕ) (rest : List ℕ) → length free ≡ 0 → length rest ≡ 0 → FreeBlocksAreListed (ls ++ true ∷ []) (bs ++ b ∷ []) rest
   kept_pushed b rest none no_rest =
       let l : length (ls ++ true ∷ []) ≡ length ls + 1 = length-append ls (true ∷ []) in
       let k : length (bs ++ b ∷ []) ≡ length bs + 1 = length-append bs (b ∷ []) in
@@ -221,7 +221,7 @@ module _ (ls : List Bool) (bs : List (List ℕ)) (free : List ℕ) (is : IsKept 
       ]
     ]
 
-    pub kept_given : IsKept (slice_set ls n false) bs (free ++ n ∷ [])
+    pub kept_given : FreeBlocksAreListed (slice_set ls n false) bs (free ++ n ∷ [])
     kept_given =
         let i : n < length bs = live_within n v live in
         let was : is_some (slice_index_or (live_blocks ls bs) n None) ≡ true = ap is_some live in
@@ -243,7 +243,7 @@ module _ (ls : List Bool) (bs : List (List ℕ)) (free : List ℕ) (is : IsKept 
     written_as b = live_written ls bs n b is.many was_true
 
     -- or written
-    pub kept_written : (b : List ℕ) → IsKept ls (slice_set bs n b) free
+    pub kept_written : (b : List ℕ) → FreeBlocksAreListed ls (slice_set bs n b) free
     kept_written b =
         let k : length (slice_set bs n b) ≡ length bs = length-set bs n b in
         let same : count_by is_some (slice_set (live_blocks ls bs) n (Some b)) ≡ count_by is_some (live_blocks ls bs) = as_many (live_blocks ls bs) n v b live in

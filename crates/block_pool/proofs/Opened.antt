@@ -3,7 +3,7 @@ use Rattle.base_lists.proofs.Common.{◌≡◌, ℕ, zero, suc, ◌+◌, ◌*◌
 use Rattle.base_lists.specs.Places.{numbers}
 use Rattle.block_pool.specs.Blocks.{used}
 use Rattle.block_pool.specs.Pages.{Pages, blank, blocks_of, size}
-use Rattle.block_pool.specs.Table.{present, older, is_present, has_older, is_changed, slot_at, byte_at, contents, pages_of, Names, IsSound}
+use Rattle.block_pool.specs.Table.{present, older, is_present, has_older, is_changed, slot_at, byte_at, contents, pages_of, NamesBlock, IsSound}
 use Rattle.block_pool.specs.declared.table.Slot.{Slot}
 use Rattle.block_pool.specs.declared.table.Slot.TheVariants.{Absent}
 use Rattle.block_pool.specs.declared.table.Table.{Table}
@@ -53,8 +53,8 @@ module _ (t : Table) (slots : t.slots.items ≡ replicate (blocks_of t.size) Abs
   count_none : (p : Slot → Bool) → p Absent ≡ false → count_by p t.slots.items ≡ 0
   count_none p e = rw slots (none_pass p e (blocks_of t.size))
 
-  no_name : (k b : ℕ) → Names (slot_at t.slots.items k) b → ⊥
-  no_name k b n = let m : Names Absent b = rw (absent k) at n in elim m [ inl e ↦ cc | inr e ↦ cc ]
+  no_name : (k b : ℕ) → NamesBlock (slot_at t.slots.items k) b → ⊥
+  no_name k b n = let m : NamesBlock Absent b = rw (absent k) at n in elim m [ inl e ↦ cc | inr e ↦ cc ]
 
   none_contained : (k : ℕ) → Contains t.changed.items k → ⊥
   none_contained k h = let c : Contains [] k = rw none at h in absurd (omega (arith, c.1))

@@ -1,7 +1,7 @@
 -- Whether so many bytes can be written, and how far a write in several steps has come.
 use Rattle.std.proofs.Common.{◌≡◌, ℕ, zero, suc, ◌+◌, ◌-◌, ◌*◌, ◌/◌, ◌<◌, ◌≤◌, List, [], ◌∷◌, ◌++◌, length, map, Bool, true, false, ◌||◌, slice_index_or, count_by, refl, sym, ap, ap₂, ◌∙◌, arith, zero-add, take, drop, length-take-le, length-drop}
 use Rattle.std.proofs.lemmas.List.{length-map}
-use Rattle.block_pool.specs.Pages.{Pages, Writes, Fits, reaches, with_reached}
+use Rattle.block_pool.specs.Pages.{Pages, WritesBytes, HasRoomFor, reaches, with_reached}
 use Rattle.block_pool.specs.Table.{is_present, slot_at, pages_of, IsSound, IsFixed}
 use Rattle.block_pool.specs.declared.table.Slot.{Slot}
 use Rattle.block_pool.specs.declared.table.Slot.TheVariants.{Absent}
@@ -51,7 +51,7 @@ reaches_part at n a m f g k h =
     let c : 4096 * k < a + m = r.behind in
     reaches_from at n k (record { some = omega arith; before = omega arith; behind = omega arith })
 
-pub fits_still : (p q : Pages) (at n a : ℕ) (ys : List ℕ) → Writes p q a ys → at ≤ a → a + length ys ≤ at + n → Fits p at n → Fits q at n
+pub fits_still : (p q : Pages) (at n a : ℕ) (ys : List ℕ) → WritesBytes p q a ys → at ≤ a → a + length ys ≤ at + n → HasRoomFor p at n → HasRoomFor q at n
 fits_still p q at n a ys w f g fits =
     rw (w.now, w.most, reached_again at n a (length ys) 0 (reaches_part at n a (length ys) f g) p.now.written) fits
 
@@ -60,7 +60,7 @@ map_there [] k h = absurd (omega arith)
 map_there (x ∷ xs) zero h = refl
 map_there (x ∷ xs) (suc k) h = map_there xs k (omega arith)
 
-pub room_for : (t : Table) (at n k : ℕ) → IsSound t → Fits (pages_of t) at n → k < length t.slots.items → slot_at t.slots.items k ≡ Absent → reaches at n k ≡ true → t.written < t.most
+pub room_for : (t : Table) (at n k : ℕ) → IsSound t → HasRoomFor (pages_of t) at n → k < length t.slots.items → slot_at t.slots.items k ≡ Absent → reaches at n k ≡ true → t.written < t.most
 room_for t at n k sound fits inside absent r =
     let unwritten : slice_index_or (map is_present t.slots.items) k false ≡ false = map_there t.slots.items k inside ∙ ap is_present absent in
     let f : count (map is_present t.slots.items) < count (with_reached at n 0 (map is_present t.slots.items)) = reached_fewer at n 0 (map is_present t.slots.items) k (rw (length-map t.slots.items is_present) inside) unwritten (ap (reaches at n) (zero-add k) ∙ r) in
@@ -71,13 +71,13 @@ room_for t at n k sound fits inside absent r =
 -- a write in steps: these bytes are there
 pub record Puts (start t : Table) (at : ℕ) (bytes : List ℕ) : Type 0 where
   pub sound : IsSound t
-  pub writes : Writes (pages_of start) (pages_of t) at bytes
+  pub writes : WritesBytes (pages_of start) (pages_of t) at bytes
   pub fixed : IsFixed start t
 
 pub puts_nothing : (t : Table) (at : ℕ) → IsSound t → Puts t t at []
 puts_nothing t at sound = record { sound = sound; writes = writes_nothing (pages_of t) at; fixed = fixed_self t }
 
-pub puts_on : (start t u : Table) (at place : ℕ) (ys zs : List ℕ) → Puts start t at ys → place ≡ at + length ys → at + length ys + length zs ≤ start.size → IsSound u → IsFixed t u → Writes (pages_of t) (pages_of u) place zs → Puts start u at (ys ++ zs)
+pub puts_on : (start t u : Table) (at place : ℕ) (ys zs : List ℕ) → Puts start t at ys → place ≡ at + length ys → at + length ys + length zs ≤ start.size → IsSound u → IsFixed t u → WritesBytes (pages_of t) (pages_of u) place zs → Puts start u at (ys ++ zs)
 puts_on start t u at place ys zs p e inside sound fixed w = record {
   sound = sound;
   writes = joined (pages_of start) (pages_of t) (pages_of u) at ys zs (rw (size_is start) inside) p.writes (rw e at w);
@@ -85,7 +85,7 @@ puts_on start t u at place ys zs p e inside sound fixed w = record {
 }
 
 -- and there is room for more of them
-pub puts_room : (start t : Table) (at n place m : ℕ) (a : ℕ) (ys : List ℕ) → IsSound t → Writes (pages_of start) (pages_of t) a ys → Fits (pages_of start) at n → at ≤ a → a + length ys ≤ at + n → at ≤ place → place + m ≤ at + n → 0 < m → at + n ≤ t.size → slot_at t.slots.items (place / 4096) ≡ Absent → t.written < t.most
+pub puts_room : (start t : Table) (at n place m : ℕ) (a : ℕ) (ys : List ℕ) → IsSound t → WritesBytes (pages_of start) (pages_of t) a ys → HasRoomFor (pages_of start) at n → at ≤ a → a + length ys ≤ at + n → at ≤ place → place + m ≤ at + n → 0 < m → at + n ≤ t.size → slot_at t.slots.items (place / 4096) ≡ Absent → t.written < t.most
 puts_room start t at n place m a ys sound w fits f g h i some small absent =
     room_for t at n (place / 4096) sound (fits_still (pages_of start) (pages_of t) at n a ys w f g fits) (rw sound.slots (omega arith)) absent
     (reaches_yes at n (place / 4096) (omega arith) (omega arith) (omega arith))
@@ -98,7 +98,7 @@ pub piece_size : (xs : List ℕ) (d n : ℕ) → d + n ≤ length xs → length 
 piece_size xs d n h = length-take-le n (drop d xs) (simp length-drop (omega arith))
 
 -- what was written had room
-pub written_fits : (t u : Table) (at : ℕ) (bytes : List ℕ) → IsSound u → Writes (pages_of t) (pages_of u) at bytes → Fits (pages_of t) at (length bytes)
+pub written_fits : (t u : Table) (at : ℕ) (bytes : List ℕ) → IsSound u → WritesBytes (pages_of t) (pages_of u) at bytes → HasRoomFor (pages_of t) at (length bytes)
 written_fits t u at bytes sound w =
     let many : count (with_reached at (length bytes) 0 (map is_present t.slots.items)) ≡ u.written = ap (λ c. count c.written) (sym w.now) ∙ written_is u sound in
     let most : u.most ≡ t.most = w.most in

@@ -1,7 +1,7 @@
 -- Small memories, computed: what is stored is loaded, over the edge of a block too; where a store is refused; what a rollback brings back.
 use Rattle.std.proofs.Common.{◌≡◌, ℕ, [], ◌∷◌, Option, Some, None, true, false, slice_index, refl, ap, arith}
 use Rattle.std.specs.Prelude.{unwrap_or}
-use Rattle.block_pool.specs.Pages.{Contents, Pages, RollsBack, Passes, Fits, blank, part, little, little_bytes, with_reached, written_over}
+use Rattle.block_pool.specs.Pages.{Contents, Pages, RollsBack, Passes, HasRoomFor, blank, part, little, little_bytes, with_reached, written_over}
 
 -- sixteen zero bytes, with the four bytes of 0x04030201 from the third on
 abbrev stored : Contents
@@ -42,7 +42,7 @@ full = record { now = record { bytes = []; written = true ∷ false ∷ [] }; ma
 refused : Passes full 4094 4
 refused = omega arith
 
-again : Fits full 4092 4
+again : HasRoomFor full 4092 4
 again = omega arith
 
 -- the bytes and the blocks of the mark, and no mark

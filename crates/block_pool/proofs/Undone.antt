@@ -2,7 +2,7 @@
 use Rattle.base_lists.proofs.Common.{◌≡◌, ◌≢◌, ◌⊎◌, ℕ, ◌+◌, ◌<◌, ◌≤◌, List, [], ◌∷◌, ◌++◌, length, Bool, true, false, Some, None, is_some, slice_set, slice_index, count_by, refl, sym, ap, ◌∙◌, inl, inr, arith, true≢false, vec_capacity, length_push, Contains-push, Contains-push_cases, Contains-append_left}
 use Rattle.std.specs.Prelude.{unwrap_or}
 use Rattle.block_pool.specs.Blocks.{Blocks, IsLive, used, Changes}
-use Rattle.block_pool.specs.Table.{present, before, older, is_present, has_older, is_changed, slot_at, byte_in, Names, Owns, IsSound, TakesBack, Settles}
+use Rattle.block_pool.specs.Table.{present, before, older, is_present, has_older, is_changed, slot_at, byte_in, NamesBlock, Owns, IsSound, TakesBack, Settles}
 use Rattle.block_pool.specs.declared.table.Slot.{Slot}
 use Rattle.block_pool.specs.declared.table.Slot.TheVariants.{Absent, Kept, New, Changed}
 use Rattle.block_pool.specs.declared.table.Table.{Table}
@@ -11,7 +11,7 @@ use Rattle.block_pool.proofs.Replaced.{Replaces, contents_after}
 use Rattle.block_pool.proofs.Moved.{Moves, sound_after}
 use Rattle.block_pool.proofs.Claimed.{mark_after, present_named}
 
-given_replaces : (pool after : Blocks) (slots : List Slot) (k : ℕ) (s : Slot) (p : ℕ) → Owns pool slots → k < length slots → Names (slot_at slots k) p → Changes pool after p None → ((c : ℕ) → Names s c → Names (slot_at slots k) c × (c ≢ p)) → ((c : ℕ) → present s ≡ Some c → older s ≡ Some c → ⊥) → Replaces pool after slots k s
+given_replaces : (pool after : Blocks) (slots : List Slot) (k : ℕ) (s : Slot) (p : ℕ) → Owns pool slots → k < length slots → NamesBlock (slot_at slots k) p → Changes pool after p None → ((c : ℕ) → NamesBlock s c → NamesBlock (slot_at slots k) c × (c ≢ p)) → ((c : ℕ) → present s ≡ Some c → older s ≡ Some c → ⊥) → Replaces pool after slots k s
 given_replaces pool after slots k s p owns inside named changes still apart = record {
   inside = inside;
   fresh = λ c n. inl (still c n).0;
@@ -20,7 +20,7 @@ given_replaces pool after slots k s p owns inside named changes still apart = re
   apart = apart;
 }
 
-same_replaces : (pool : Blocks) (slots : List Slot) (k : ℕ) (s : Slot) → Owns pool slots → k < length slots → ((c : ℕ) → Names s c → Names (slot_at slots k) c) → ((c : ℕ) → present s ≡ Some c → older s ≡ Some c → ⊥) → Replaces pool pool slots k s
+same_replaces : (pool : Blocks) (slots : List Slot) (k : ℕ) (s : Slot) → Owns pool slots → k < length slots → ((c : ℕ) → NamesBlock s c → NamesBlock (slot_at slots k) c) → ((c : ℕ) → present s ≡ Some c → older s ≡ Some c → ⊥) → Replaces pool pool slots k s
 same_replaces pool slots k s owns inside still apart = record {
   inside = inside;
   fresh = λ c n. inl (still c n);

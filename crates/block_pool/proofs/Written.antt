@@ -3,8 +3,8 @@ use Rattle.base_lists.proofs.Common.{◌≡◌, ◌≢◌, ℕ, ◌+◌, ◌-◌
 use Rattle.std.specs.Prelude.{unwrap_or}
 use Rattle.base_lists.specs.Places.{numbers}
 use Rattle.block_pool.specs.Blocks.{Blocks, held, IsLive, used, with_bytes, with_part, WritesPart}
-use Rattle.block_pool.specs.Pages.{Writes, size}
-use Rattle.block_pool.specs.Table.{present, before, older, is_present, is_changed, slot_at, byte_in, byte_at, pages_of, Names, IsSound, IsFixed, Claims}
+use Rattle.block_pool.specs.Pages.{WritesBytes, size}
+use Rattle.block_pool.specs.Table.{present, before, older, is_present, is_changed, slot_at, byte_in, byte_at, pages_of, NamesBlock, IsSound, IsFixed, Claims}
 use Rattle.block_pool.specs.declared.table.Slot.{Slot}
 use Rattle.block_pool.specs.declared.table.Slot.TheVariants.{Absent, Kept, New, Changed}
 use Rattle.block_pool.specs.declared.table.Table.{Table}
@@ -45,7 +45,7 @@ module _ (t : Table) (k b offset : ℕ) (new old : List ℕ) (sound : IsSound t)
   as_used : used pool ≡ used t.pool
   as_used = as_many t.pool.slots b old (with_part old offset new) bytes
 
-  named_here : Names s b
+  named_here : NamesBlock s b
   named_here = inl named
 
   replaces : Replaces t.pool pool t.slots.items k s
@@ -139,7 +139,7 @@ module _ (t : Table) (k b offset : ℕ) (new old : List ℕ) (sound : IsSound t)
       at_place g i small ∙ (outside i (λ e. part_above old offset new fits_old (i % 4096) (omega arith)) ∙ sym (at_place f i small)))
 
 -- a block is made one that may be written to, and then written
-pub block_written : (t u : Table) (pool : Blocks) (k b offset : ℕ) (new : List ℕ) → IsSound u → Claims t u k → IsFixed t u → k < length u.slots.items → present (slot_at u.slots.items k) ≡ Some b → (u.marked ≡ true → is_changed (slot_at u.slots.items k) ≡ true) → WritesPart u.pool pool b offset new → 0 < length new → offset + length new ≤ 4096 → 4096 * k + offset + length new ≤ u.size → IsSound (record u { pool = pool }) × Writes (pages_of t) (pages_of (record u { pool = pool })) (4096 * k + offset) new
+pub block_written : (t u : Table) (pool : Blocks) (k b offset : ℕ) (new : List ℕ) → IsSound u → Claims t u k → IsFixed t u → k < length u.slots.items → present (slot_at u.slots.items k) ≡ Some b → (u.marked ≡ true → is_changed (slot_at u.slots.items k) ≡ true) → WritesPart u.pool pool b offset new → 0 < length new → offset + length new ≤ 4096 → 4096 * k + offset + length new ≤ u.size → IsSound (record u { pool = pool }) × WritesBytes (pages_of t) (pages_of (record u { pool = pool })) (4096 * k + offset) new
 block_written t u pool k b offset new sound claims fixed inside named private w some within small =
     rw w.after (
       block_sound u k b offset new w.before sound inside named private w.there w.whole within,

@@ -10,7 +10,7 @@ live_blocks (l ∷ ls) (b ∷ bs) = cond l (Some b) None ∷ live_blocks ls bs
 
 -- There is a flag for each block, and the free numbers are those of all blocks that are not live,
 -- each once.
-pub record IsKept (live : List Bool) (blocks : List (List ℕ)) (free : List ℕ) : Type 0 where
+pub record FreeBlocksAreListed (live : List Bool) (blocks : List (List ℕ)) (free : List ℕ) : Type 0 where
   pub many : length live ≡ length blocks
   pub within : (i : ℕ) → i < length free → slice_index free i < length blocks
   pub dead : (i : ℕ) → i < length free → slice_index_or live (slice_index free i) false ≡ false

@@ -51,7 +51,7 @@ written_over c at bytes = record { bytes = with_part c.bytes at bytes; written =
 
 -- The bytes are written, and nothing else changes, except how many blocks of the pool are used; so
 -- the memory has as many bytes and blocks as before.
-pub record Writes (old new : Pages) (at : ℕ) (bytes : List ℕ) : Type 0 where
+pub record WritesBytes (old new : Pages) (at : ℕ) (bytes : List ℕ) : Type 0 where
   pub now : new.now ≡ written_over old.now at bytes
   pub size : size new ≡ size old
   pub flags : length new.now.written ≡ length old.now.written
@@ -107,8 +107,8 @@ pub record Commits (old new : Pages) : Type 0 where
   pub held : new.held ≡ written_count new.now
 
 -- The `count` bytes from `at` on can be written.
-abbrev pub Fits : Pages → (at count : ℕ) → Type 0
-Fits p at count = count_by (λ w. w) (with_reached at count 0 p.now.written) ≤ p.most
+abbrev pub HasRoomFor : Pages → (at count : ℕ) → Type 0
+HasRoomFor p at count = count_by (λ w. w) (with_reached at count 0 p.now.written) ≤ p.most
 
 -- All bytes from `from` up to `to` are zero.
 abbrev pub IsZeroTo : List ℕ → (from to : ℕ) → Type 0

@@ -65,13 +65,13 @@ pages_of t = record {
 }
 
 -- The slot names the block.
-abbrev pub Names : Slot → ℕ → Type 0
-Names s b = (present s ≡ Some b) ⊎ (older s ≡ Some b)
+abbrev pub NamesBlock : Slot → ℕ → Type 0
+NamesBlock s b = (present s ≡ Some b) ⊎ (older s ≡ Some b)
 
 -- Each block that the table names is live and is named once.
 pub record Owns (pool : Blocks) (slots : List Slot) : Type 0 where
-  pub live : (k b : ℕ) → Names (slot_at slots k) b → IsLive pool b
-  pub once : (j k b : ℕ) → Names (slot_at slots j) b → Names (slot_at slots k) b → j ≡ k
+  pub live : (k b : ℕ) → NamesBlock (slot_at slots k) b → IsLive pool b
+  pub once : (j k b : ℕ) → NamesBlock (slot_at slots j) b → NamesBlock (slot_at slots k) b → j ≡ k
   pub apart : (k b : ℕ) → present (slot_at slots k) ≡ Some b → older (slot_at slots k) ≡ Some b → ⊥
 
 -- The invariant of a table: the blocks that it names are its own, its counts are right, and

@@ -1,7 +1,7 @@
 ghost use Rattle.std.specs.Prelude.{◌≡◌, ◌≢◌, ◌+◌, ◌*◌, ◌^◌, ◌≤◌, ◌<◌, ◌↔◌, length, replicate, None, Some, IsNone, IsSome, IfOk, IfSome, IsErr, OnOk, OnErr};
 ghost use Rattle.block_pool.specs.Blocks.{used};
 ghost use Rattle.block_pool.specs.declared.table.Slot.TheVariants.{Absent};
-ghost use Rattle.block_pool.specs.Pages.{IsWidth, IsNextNonzero, IsZeroFrom, Writes, RollsBack, Commits, Passes, blank, part, little, little_bytes, size, written_count};
+ghost use Rattle.block_pool.specs.Pages.{IsWidth, IsNextNonzero, IsZeroFrom, WritesBytes, RollsBack, Commits, Passes, blank, part, little, little_bytes, size, written_count};
 
 use crate::pool::Pool;
 use crate::table::{Slot, Table};
@@ -107,7 +107,7 @@ impl Paged {
     pub fn store(&mut self, at: u64, width: u32, value: u64) -> Result<(), Full>
         requires width { IsWidth width }
         requires inside { at + width ≤ size self.old }
-        ensures ok { OnOk result (Writes self.old self.new at (little_bytes width value)) }
+        ensures ok { OnOk result (WritesBytes self.old self.new at (little_bytes width value)) }
         ensures full { IsErr result ↔ Passes self.old at width }
         ensures err { OnErr result (self.new ≡ self.old) }
     {
@@ -126,7 +126,7 @@ impl Paged {
     /// range must be inside the memory. Returns `Full` as `store` does.
     pub fn fill(&mut self, at: u64, byte: u8, count: u64) -> Result<(), Full>
         requires inside { at + count ≤ size self.old }
-        ensures ok { OnOk result (Writes self.old self.new at (replicate count byte)) }
+        ensures ok { OnOk result (WritesBytes self.old self.new at (replicate count byte)) }
         ensures full { IsErr result ↔ Passes self.old at count }
         ensures err { OnErr result (self.new ≡ self.old) }
     {
@@ -144,7 +144,7 @@ impl Paged {
     pub fn copy(&mut self, to: u64, from: u64, count: u64) -> Result<(), Full>
         requires inside { to + count ≤ size self.old }
         requires source { from + count ≤ size self.old }
-        ensures ok { OnOk result (Writes self.old self.new to (part self.old.now.bytes from count)) }
+        ensures ok { OnOk result (WritesBytes self.old self.new to (part self.old.now.bytes from count)) }
         ensures full { IsErr result ↔ Passes self.old to count }
         ensures err { OnErr result (self.new ≡ self.old) }
     {
@@ -162,7 +162,7 @@ impl Paged {
     /// inside the memory. Returns `Full` as `store` does.
     pub fn write(&mut self, at: u64, bytes: &[u8]) -> Result<(), Full>
         requires inside { at + length bytes.now ≤ size self.old }
-        ensures ok { OnOk result (Writes self.old self.new at bytes.now) }
+        ensures ok { OnOk result (WritesBytes self.old self.new at bytes.now) }
         ensures full { IsErr result ↔ Passes self.old at (length bytes.now) }
         ensures err { OnErr result (self.new ≡ self.old) }
     {

@@ -33,7 +33,7 @@ pub struct Pool {
 impl Model for Pool {
     ghost use Rattle.std.specs.Prelude.{◌-◌, ◌≤◌, length, vec_capacity};
     ghost use Rattle.block_pool.specs.Blocks.{Blocks};
-    ghost use Rattle.block_pool.specs.Kept.{IsKept, live_blocks};
+    ghost use Rattle.block_pool.specs.Kept.{FreeBlocksAreListed, live_blocks};
 
     ghost Value = { Blocks };
 
@@ -43,7 +43,7 @@ impl Model for Pool {
       numbers = p.room;
     } };
 
-    ghost invariant = { λ p. (IsKept p.live.items p.blocks.items p.free.items) × ((length p.blocks.items ≤ p.room) × ((p.room ≤ vec_capacity p.blocks) × ((p.room ≤ vec_capacity p.live) × (p.room ≤ vec_capacity p.free)))) };
+    ghost invariant = { λ p. (FreeBlocksAreListed p.live.items p.blocks.items p.free.items) × ((length p.blocks.items ≤ p.room) × ((p.room ≤ vec_capacity p.blocks) × ((p.room ≤ vec_capacity p.live) × (p.room ≤ vec_capacity p.free)))) };
 }
 
 impl Pool {

@@ -1,6 +1,6 @@
 ghost use Rattle.std.specs.Prelude.{◌≡◌, ◌≢◌, ◌+◌, ◌*◌, ◌/◌, ◌%◌, ◌^◌, ◌<◌, ◌≤◌, ◌↔◌, ℕ, length, replicate, false, None, Some, IfSome, IfNone, IsNone, IsTrue, slice_index, if◌then◌else◌};
 ghost use Rattle.block_pool.specs.declared.table.Slot.TheVariants.{Absent};
-ghost use Rattle.block_pool.specs.Pages.{IsWidth, IsNextNonzero, IsZeroFrom, IsZeroTo, Writes, Fits, part, little, little_bytes};
+ghost use Rattle.block_pool.specs.Pages.{IsWidth, IsNextNonzero, IsZeroFrom, IsZeroTo, WritesBytes, HasRoomFor, part, little, little_bytes};
 ghost use Rattle.block_pool.specs.Table.{IsSound, IsFixed, IsBlock, IsZeroBlock, pages_of, is_present, slot_at};
 
 use crate::numbers::{first_nonzero, number};
@@ -39,7 +39,7 @@ impl Table {
     pub(crate) fn has_room(&self, at: usize, count: usize) -> bool
         requires sound { IsSound self.now }
         requires inside { at + count ≤ self.now.size }
-        ensures { IsTrue result ↔ Fits (pages_of self.now) at count }
+        ensures { IsTrue result ↔ HasRoomFor (pages_of self.now) at count }
     {
         if count == 0 {
             return true;
@@ -121,7 +121,7 @@ impl Table {
         requires inside { at + length bytes.now ≤ self.old.size }
         requires room { slot_at self.old.slots.items (at / 4096) ≡ Absent → self.old.written < self.old.most }
         ensures sound { IsSound self.new }
-        ensures writes { Writes (pages_of self.old) (pages_of self.new) at bytes.now }
+        ensures writes { WritesBytes (pages_of self.old) (pages_of self.new) at bytes.now }
         ensures fixed { IsFixed self.old self.new }
     {
         self.write_in_block(at / 4096, at % 4096, bytes);
@@ -130,9 +130,9 @@ impl Table {
     pub(crate) fn put(&mut self, at: usize, bytes: &[u8])
         requires sound { IsSound self.old }
         requires inside { at + length bytes.now ≤ self.old.size }
-        requires room { Fits (pages_of self.old) at (length bytes.now) }
+        requires room { HasRoomFor (pages_of self.old) at (length bytes.now) }
         ensures sound { IsSound self.new }
-        ensures writes { Writes (pages_of self.old) (pages_of self.new) at bytes.now }
+        ensures writes { WritesBytes (pages_of self.old) (pages_of self.new) at bytes.now }
     {
         let mut done = 0;
         while done < bytes.len() {
@@ -151,8 +151,8 @@ impl Table {
         requires width { IsWidth width }
         requires inside { at + width ≤ self.old.size }
         ensures sound { IsSound self.new }
-        ensures fits { IsTrue result ↔ Fits (pages_of self.old) at width }
-        ensures writes { IsTrue result → Writes (pages_of self.old) (pages_of self.new) at (little_bytes width value) }
+        ensures fits { IsTrue result ↔ HasRoomFor (pages_of self.old) at width }
+        ensures writes { IsTrue result → WritesBytes (pages_of self.old) (pages_of self.new) at (little_bytes width value) }
         ensures same { result ≡ false → self.new ≡ self.old }
     {
         if !self.has_room(at, width) {
@@ -170,7 +170,7 @@ impl Table {
         requires inside { at + count ≤ self.old.size }
         requires room { slot_at self.old.slots.items (at / 4096) ≡ Absent → self.old.written < self.old.most }
         ensures sound { IsSound self.new }
-        ensures writes { Writes (pages_of self.old) (pages_of self.new) at (replicate count byte) }
+        ensures writes { WritesBytes (pages_of self.old) (pages_of self.new) at (replicate count byte) }
         ensures fixed { IsFixed self.old self.new }
     {
         let block = self.own(at / 4096);
@@ -180,9 +180,9 @@ impl Table {
     pub(crate) fn fill(&mut self, at: usize, byte: u8, count: usize)
         requires sound { IsSound self.old }
         requires inside { at + count ≤ self.old.size }
-        requires room { Fits (pages_of self.old) at count }
+        requires room { HasRoomFor (pages_of self.old) at count }
         ensures sound { IsSound self.new }
-        ensures writes { Writes (pages_of self.old) (pages_of self.new) at (replicate count byte) }
+        ensures writes { WritesBytes (pages_of self.old) (pages_of self.new) at (replicate count byte) }
     {
         let mut done = 0;
         while done < count {
@@ -202,7 +202,7 @@ impl Table {
         requires source { from + length buffer.old ≤ self.old.size }
         requires room { slot_at self.old.slots.items (to / 4096) ≡ Absent → self.old.written < self.old.most }
         ensures sound { IsSound self.new }
-        ensures writes { Writes (pages_of self.old) (pages_of self.new) to (part (pages_of self.old).now.bytes from (length buffer.old)) }
+        ensures writes { WritesBytes (pages_of self.old) (pages_of self.new) to (part (pages_of self.old).now.bytes from (length buffer.old)) }
         ensures fixed { IsFixed self.old self.new }
     {
         self.read(from, buffer);
@@ -217,7 +217,7 @@ impl Table {
         requires source { from + count ≤ self.old.size }
         requires room { slot_at self.old.slots.items (to / 4096) ≡ Absent → self.old.written < self.old.most }
         ensures sound { IsSound self.new }
-        ensures writes { Writes (pages_of self.old) (pages_of self.new) to (part (pages_of self.old).now.bytes from count) }
+        ensures writes { WritesBytes (pages_of self.old) (pages_of self.new) to (part (pages_of self.old).now.bytes from count) }
         ensures fixed { IsFixed self.old self.new }
     {
         if count <= SMALL_COPY {
@@ -232,9 +232,9 @@ impl Table {
         requires sound { IsSound self.old }
         requires order { to ≤ from }
         requires inside { from + count ≤ self.old.size }
-        requires room { Fits (pages_of self.old) to count }
+        requires room { HasRoomFor (pages_of self.old) to count }
         ensures sound { IsSound self.new }
-        ensures writes { Writes (pages_of self.old) (pages_of self.new) to (part (pages_of self.old).now.bytes from count) }
+        ensures writes { WritesBytes (pages_of self.old) (pages_of self.new) to (part (pages_of self.old).now.bytes from count) }
     {
         let mut done = 0;
         while done < count {
@@ -250,9 +250,9 @@ impl Table {
         requires sound { IsSound self.old }
         requires order { from < to }
         requires inside { to + count ≤ self.old.size }
-        requires room { Fits (pages_of self.old) to count }
+        requires room { HasRoomFor (pages_of self.old) to count }
         ensures sound { IsSound self.new }
-        ensures writes { Writes (pages_of self.old) (pages_of self.new) to (part (pages_of self.old).now.bytes from count) }
+        ensures writes { WritesBytes (pages_of self.old) (pages_of self.new) to (part (pages_of self.old).now.bytes from count) }
     {
         let mut left = count;
         while left > 0 {
@@ -267,9 +267,9 @@ impl Table {
         requires sound { IsSound self.old }
         requires inside { to + count ≤ self.old.size }
         requires source { from + count ≤ self.old.size }
-        requires room { Fits (pages_of self.old) to count }
+        requires room { HasRoomFor (pages_of self.old) to count }
         ensures sound { IsSound self.new }
-        ensures writes { Writes (pages_of self.old) (pages_of self.new) to (part (pages_of self.old).now.bytes from count) }
+        ensures writes { WritesBytes (pages_of self.old) (pages_of self.new) to (part (pages_of self.old).now.bytes from count) }
     {
         if to <= from {
             self.copy_forward(to, from, count);

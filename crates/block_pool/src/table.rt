@@ -1,7 +1,7 @@
 ghost use Rattle.std.specs.Prelude.{◌≡◌, ◌≢◌, ◌+◌, ◌-◌, ◌*◌, ◌<◌, ◌≤◌, [], ◌∷◌, ◌++◌, length, take, drop, slice_set, true, false, None, Some, OnSome, IsTrue, vec_capacity};
 ghost use Rattle.block_pool.specs.Blocks.{used};
 ghost use Rattle.block_pool.specs.declared.table.Slot.TheVariants.{Absent, Kept};
-ghost use Rattle.block_pool.specs.Pages.{IsWidth, Fits, Writes, RollsBack, Commits, little_bytes};
+ghost use Rattle.block_pool.specs.Pages.{IsWidth, HasRoomFor, WritesBytes, RollsBack, Commits, little_bytes};
 ghost use Rattle.block_pool.specs.Table.{IsSound, IsFixed, Claims, TakesBack, Settles, pages_of, present, is_changed, slot_at};
 
 use crate::pool::{BLOCK_BYTES, BlockId, Pool};
@@ -150,8 +150,8 @@ impl Table {
         requires width { IsWidth width }
         requires inside { at + width ≤ self.old.size }
         ensures sound { IsSound self.new }
-        ensures fits { IsTrue result → Fits (pages_of self.old) at width }
-        ensures writes { IsTrue result → Writes (pages_of self.old) (pages_of self.new) at (little_bytes width value) }
+        ensures fits { IsTrue result → HasRoomFor (pages_of self.old) at width }
+        ensures writes { IsTrue result → WritesBytes (pages_of self.old) (pages_of self.new) at (little_bytes width value) }
         ensures same { result ≡ false → self.new ≡ self.old }
     {
         let offset = at % 4096;
@@ -175,7 +175,7 @@ impl Table {
         requires inside { 4096 * number + offset + length bytes.now ≤ self.old.size }
         requires room { slot_at self.old.slots.items number ≡ Absent → self.old.written < self.old.most }
         ensures sound { IsSound self.new }
-        ensures writes { Writes (pages_of self.old) (pages_of self.new) (4096 * number + offset) bytes.now }
+        ensures writes { WritesBytes (pages_of self.old) (pages_of self.new) (4096 * number + offset) bytes.now }
         ensures fixed { IsFixed self.old self.new }
     {
         let block = self.own(number);

@@ -9,7 +9,7 @@ use Rattle.dce_graph.specs.declared.fault.GraphFault.{GraphFault}
 use Rattle.dce_graph.specs.declared.fault.GraphFault.TheVariants.{GraphText, GraphShape, NodeTwice, UnknownNode}
 use Rattle.dce_graph.specs.declared.graph.Node.{Node}
 use Rattle.dce_graph.specs.Prelude.{Text, entry_of, misshapen, names_of, place_of_name, first_repeated, first_unknown, reached_names, node_of, if_text, graph_result, fault_of}
-use Rattle.dce_graph.specs.GraphFile.{Entry, value_of, if_shaped, if_distinct, if_known, if_array, graph_of_values, IsFault}
+use Rattle.dce_graph.specs.GraphFile.{GraphEntry, value_of, if_shaped, if_distinct, if_known, if_array, graph_of_values, IsFault}
 use Rattle.dce_graph.proofs.Texts.{listed_items}
 
 -- a fault that is told of a part is told of the whole, where the part's is the whole's
@@ -24,11 +24,11 @@ fault_stays (UnknownNode t) o p on h = on (UnknownNode t) h
 same_look_ups : (f g : Text → Option ℕ) → ((q : Text) → f q ≡ g q) → f ≡ g
 same_look_ups f g h = λ i q. h q i
 
-pub values_come : (ds : List Data) (es : List Entry) (f : Text → Option ℕ) → misshapen ds ≡ None → es ≡ filter_map entry_of ds → first_repeated (names_of es) ≡ None → ((q : Text) → f q ≡ place_of_name (names_of es) q)
+pub values_come : (ds : List Data) (es : List GraphEntry) (f : Text → Option ℕ) → misshapen ds ≡ None → es ≡ filter_map entry_of ds → first_repeated (names_of es) ≡ None → ((q : Text) → f q ≡ place_of_name (names_of es) q)
     → graph_of_values ds ≡ if_known (first_unknown f (reached_names es)) (record { nodes = map (node_of f) es })
 values_come ds es f shaped are distinct places =
     ap (λ o. if_shaped o (filter_map entry_of ds)) shaped
-    ∙ ap (λ (xs : List Entry). if_distinct (first_repeated (names_of xs)) xs) (sym are)
+    ∙ ap (λ (xs : List GraphEntry). if_distinct (first_repeated (names_of xs)) xs) (sym are)
     ∙ ap (λ o. if_distinct o es) distinct
     ∙ ap (λ (g : Text → Option ℕ). if_known (first_unknown g (reached_names es)) (record { nodes = map (node_of g) es })) (sym (same_look_ups f (place_of_name (names_of es)) places))
 

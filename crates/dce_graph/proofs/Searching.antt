@@ -6,16 +6,16 @@ use Rattle.dce_graph.specs.declared.point.Point.{Point}
 use Rattle.dce_graph.specs.declared.point.Point.TheVariants.{Node, Export, Import, Func, Global}
 use Rattle.dce_graph.specs.declared.search.Search.{Search}
 use Rattle.dce_graph.specs.Prelude.{root, along, place_in_kind, routes, roots, point_count, flags, marked, Spread}
-use Rattle.dce_graph.specs.Reach.{Routes, IsThere, IsReachedBy}
+use Rattle.dce_graph.specs.Reach.{Routes, PointExists, IsReachedBy}
 use Rattle.dce_graph.specs.Marks.{with_stack, blank_marks, HasMark}
 use Rattle.dce_graph.proofs.Marking.{nowhere}
 
 -- what holds before each step
 pub record Good (r : Routes) (s : Search) : Type 0 where
   pub sound : (p : Point) → marked s.marks p ≡ true → IsReachedBy r p
-  pub roots : (p : Point) → IsThere r p → Contains r.roots p → marked s.marks p ≡ true
+  pub roots : (p : Point) → PointExists r p → Contains r.roots p → marked s.marks p ≡ true
   pub stacked : (p : Point) → Contains s.stack p → marked s.marks p ≡ true
-  pub closed : (p : Point) → marked s.marks p ≡ true → Contains s.stack p ⊎ ((q : Point) → IsThere r q → Contains (r.edges p) q → marked s.marks q ≡ true)
+  pub closed : (p : Point) → marked s.marks p ≡ true → Contains s.stack p ⊎ ((q : Point) → PointExists r q → Contains (r.edges p) q → marked s.marks q ≡ true)
   pub as_many : (p : Point) → length (flags s.marks p) ≡ r.count p
 
 -- ---- the start ----
@@ -56,8 +56,8 @@ good_start g m s f = record {
 pub good_more : (r : Routes) (s new : Search) (st : List Point) (p : Point) → Good r s → s.stack ≡ st ++ p ∷ [] → Spread (with_stack s st) (r.edges p) new → Good r new
 good_more r s new st p good is f =
     let here : marked s.marks p ≡ true = good.stacked p (subst (λ ps. Contains ps p) (sym is) (Contains-push st p)) in
-    let there : (q : Point) → HasMark s.marks q → IsThere r q = λ q h. subst (λ n. place_in_kind q < n) (good.as_many q) h in
-    let has : (q : Point) → IsThere r q → HasMark s.marks q = λ q h. subst (λ n. place_in_kind q < n) (sym (good.as_many q)) h in
+    let there : (q : Point) → HasMark s.marks q → PointExists r q = λ q h. subst (λ n. place_in_kind q < n) (good.as_many q) h in
+    let has : (q : Point) → PointExists r q → HasMark s.marks q = λ q h. subst (λ n. place_in_kind q < n) (sym (good.as_many q)) h in
     record {
       sound = λ q h. ⊎_elim (λ k. good.sound q k) (λ k. along (good.sound p here) (there q k.1) k.0) (f.only q h);
       roots = λ q th h. f.kept q (good.roots q th h);
@@ -73,7 +73,7 @@ good_more r s new st p good is f =
 
 -- ---- the end ----
 
-all_marked : (r : Routes) (s : Search) → ((p : Point) → IsThere r p → Contains r.roots p → marked s.marks p ≡ true) → ((p q : Point) → marked s.marks p ≡ true → IsThere r q → Contains (r.edges p) q → marked s.marks q ≡ true)
+all_marked : (r : Routes) (s : Search) → ((p : Point) → PointExists r p → Contains r.roots p → marked s.marks p ≡ true) → ((p q : Point) → marked s.marks p ≡ true → PointExists r q → Contains (r.edges p) q → marked s.marks q ≡ true)
     → (p : Point) → IsReachedBy r p → marked s.marks p ≡ true
 all_marked r s from_roots closed p (root th h) = from_roots p th h
 all_marked r s from_roots closed q (along {p = p} before th h) = closed p q (all_marked r s from_roots closed p before) th h

@@ -10,7 +10,7 @@ use Rattle.serde_json.specs.Find.{as_str}
 use Rattle.serde_json.specs.View.{view}
 use Rattle.dce_graph.specs.declared.graph.ImportPair.{ImportPair}
 use Rattle.dce_graph.specs.declared.entry.Entry.{Entry as Read}
-use Rattle.dce_graph.specs.GraphFile.{Entry, Text}
+use Rattle.dce_graph.specs.GraphFile.{GraphEntry, Text}
 
 -- the strings among these values
 abbrev pub texts_in : List Value → List Text
@@ -19,7 +19,7 @@ texts_in vs = filter_map as_str (map view vs)
 abbrev pub pair_now : Bor Text × Bor Text → ImportPair
 pair_now p = record { «module» = p.0.now; base = p.1.now }
 
-abbrev pub entry_now : Read → Entry
+abbrev pub entry_now : Read → GraphEntry
 entry_now e = record {
   name = e.name.now;
   root = e.root;
@@ -28,7 +28,7 @@ entry_now e = record {
   import = option_map pair_now e.import;
 }
 
-abbrev pub entries_now : List Read → List Entry
+abbrev pub entries_now : List Read → List GraphEntry
 entries_now = map entry_now
 
 -- the place that the program's map has for a name

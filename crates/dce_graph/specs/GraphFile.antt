@@ -28,7 +28,7 @@ value_of bytes = cond (is_utf8 bytes) (read bytes) None
 -- ---- one entry ----
 
 -- what an entry says about its node, with the names of the nodes that it reaches
-pub record Entry : Type 0 where
+pub record GraphEntry : Type 0 where
   pub name : Text
   pub root : Bool
   pub reaches : List Text
@@ -63,7 +63,7 @@ abbrev pub import_pair_of : Data → Option (Option ImportPair)
 import_pair_of d = texts_of d >>= import_pair_of_two
 
 -- the entry, unless it has both an export and an import
-abbrev pub unless_both : Entry → Option Entry
+abbrev pub unless_both : GraphEntry → Option GraphEntry
 unless_both e = cond (is_some e.export && is_some e.import) None (Some e)
 
 -- what the value of each key says
@@ -83,7 +83,7 @@ abbrev pub import_in : Data → Option (Option ImportPair)
 import_in d = optional import_pair_of None (get (codes "import") d)
 
 -- what a value says, if it has the shape of an entry
-abbrev pub entry_of : Data → Option Entry
+abbrev pub entry_of : Data → Option GraphEntry
 entry_of d =
     name_in d >>= λ name.
     root_in d >>= λ root.
@@ -94,7 +94,7 @@ entry_of d =
 
 -- ---- names ----
 
-abbrev pub names_of : List Entry → List Text
+abbrev pub names_of : List GraphEntry → List Text
 names_of = map (λ e. e.name)
 
 -- the place of a text among these names, the first if there are several
@@ -115,16 +115,16 @@ first_unknown place [] = None
 first_unknown place (text ∷ texts) = cond (is_some (place text)) (first_unknown place texts) (Some text)
 
 -- all names that entries reach, entry by entry
-abbrev pub reached_names : List Entry → List Text
+abbrev pub reached_names : List GraphEntry → List Text
 reached_names = flat_map (λ e. e.reaches)
 
 -- ---- the graph ----
 
 -- the node of an entry, if names have these places
-abbrev pub node_of : (Text → Option ℕ) → Entry → Node
+abbrev pub node_of : (Text → Option ℕ) → GraphEntry → Node
 node_of place e = record { name = e.name; root = e.root; reaches = filter_map place e.reaches; export = e.export; import = e.import }
 
-abbrev pub graph_of : List Entry → Graph
+abbrev pub graph_of : List GraphEntry → Graph
 graph_of entries = record { nodes = map (node_of (place_of_name (names_of entries))) entries }
 
 -- ---- the graph, or why there is none ----
@@ -135,7 +135,7 @@ if_known (Some name) graph = Err (UnknownNode name)
 if_known None graph = Ok graph
 
 -- the graph, if no name is repeated
-abbrev pub if_distinct : Option Text → List Entry → Result Graph GraphFault
+abbrev pub if_distinct : Option Text → List GraphEntry → Result Graph GraphFault
 if_distinct (Some name) entries = Err (NodeTwice name)
 if_distinct None entries = if_known (first_unknown (place_of_name (names_of entries)) (reached_names entries)) (graph_of entries)
 
@@ -144,7 +144,7 @@ abbrev pub misshapen : List Data → Option ℕ
 misshapen ds = first_place (λ d. is_none (entry_of d)) ds 0
 
 -- the graph, if each value is an entry
-abbrev pub if_shaped : Option ℕ → List Entry → Result Graph GraphFault
+abbrev pub if_shaped : Option ℕ → List GraphEntry → Result Graph GraphFault
 if_shaped (Some n) entries = Err (GraphShape n)
 if_shaped None entries = if_distinct (first_repeated (names_of entries)) entries
 

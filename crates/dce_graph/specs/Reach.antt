@@ -36,14 +36,14 @@ pub record Routes : Type 0 where
   pub edges : Point → List Point
 
 -- the point exists
-abbrev pub IsThere : Routes → Point → Type 0
-IsThere r p = place_in_kind p < r.count p
+abbrev pub PointExists : Routes → Point → Type 0
+PointExists r p = place_in_kind p < r.count p
 
 -- a path leads to the point: it begins at a root that exists, and goes along edges to points that
 -- exist
 pub data IsReachedBy (r : Routes) : Point → Type 0 where
-  root : {p : Point} → IsThere r p → Contains r.roots p → IsReachedBy r p
-  along : {p q : Point} → IsReachedBy r p → IsThere r q → Contains (r.edges p) q → IsReachedBy r q
+  root : {p : Point} → PointExists r p → Contains r.roots p → IsReachedBy r p
+  along : {p q : Point} → IsReachedBy r p → PointExists r q → Contains (r.edges p) q → IsReachedBy r q
 
 -- ---- what code names ----
 

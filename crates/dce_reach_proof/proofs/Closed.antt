@@ -28,7 +28,7 @@ use Rattle.dce_graph.specs.declared.marks.Reached.{Reached}
 use Rattle.dce_graph.specs.declared.point.Point.{Point}
 use Rattle.dce_graph.specs.declared.point.Point.TheVariants.{Node, Export, Import, Func, Global}
 use Rattle.dce_graph.specs.Prelude.{AreExact, marked, IsReached, root, along, routes, roots, edges, place_in_kind, point_count, body_points, const_point, const_points, imports_into, from_node, from_import, export_of_node, elem_points, data_points, root_nodes, start_points, import_points, stays_imported, denotes_import, export_place}
-use Rattle.dce_graph.specs.Reach.{IsThere, edges_of, point_of, from_export, from_funcs, from_globals, module_roots}
+use Rattle.dce_graph.specs.Reach.{PointExists, edges_of, point_of, from_export, from_funcs, from_globals, module_roots}
 use Rattle.dce_sweep_spec.specs.Reached.{marks_of}
 use Rattle.dce_reach_proof.proofs.Points.{has, contains_joined, contains_chosen, none_fails, all_mapped, all_joined, all_chosen, point_passes, passes, body_passes}
 
@@ -100,7 +100,7 @@ module _ (g : Graph) (m : Module) (r : Reached) (exact : AreExact g m r) (inside
   k = marks_of r
 
   abbrev There : Point → Type 0
-  There = IsThere (routes g m)
+  There = PointExists (routes g m)
 
   -- ---- what is marked ----
 

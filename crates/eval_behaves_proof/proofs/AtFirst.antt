@@ -9,7 +9,7 @@ use Rattle.wasm_tree.specs.declared.module.Func as tree
 use Rattle.wasm_meaning.specs.Prelude.{RefVal, Inst, Store, Global, Elem, null_of, ref_of, imports_of, Environment, own_globals, own_memories, own_tables, all_there, defined_count, elem_with, global_with, joined_stores, new_elem, own_count, own_store, space}
 use Rattle.index_remap.specs.Prelude.{Pairing, OptRel, none, some, BothRel, RefRel, is_written, GlobalOff, RefsOff, StoreRelOff, TableOff, is_place_among}
 use Rattle.index_remap_proof.specs.Indices.{TreeNamesOnly, with_entry}
-use Rattle.world_simulation.specs.Prelude.{one, new_memory, new_table, AddsWith, Entry, IsInst, defines, imports, new_data}
+use Rattle.world_simulation.specs.Prelude.{one, new_memory, new_table, AddsWith, SpaceEntry, IsInst, defines, imports, new_data}
 use Rattle.world_simulation.proofs.Owned.{null_rel}
 use Rattle.world_simulation.proofs.Stored.{own_same, ref_rel, type_same}
 use Rattle.eval_spec.specs.Prelude.{imported_store, own_inst, reads_global, unknown_at_first, unknown_items, value_in}
@@ -89,7 +89,7 @@ module _ (laws : NamingLaws) (env : Environment) (m : Module) (fs : List tree.Fu
   defined_both k w h n a r = by (laws.indices env (one (with_funcs m fs)) k 0 (with_funcs m fs) (addresses_in i k)
       (laws.spaces env (one (with_funcs m fs)) k 0 (with_funcs m fs) (addresses_in i k) h) n a (named m i k n a r))
     where
-      by : Entry env (one (with_funcs m fs)) k 0 (with_funcs m fs) n a → DefinedBoth k n a
+      by : SpaceEntry env (one (with_funcs m fs)) k 0 (with_funcs m fs) n a → DefinedBoth k n a
       by (imports p at address) = let l = slice_get_within (imports_of k m) n p at in let g = defined m i k w n a r in absurd (omega (arith, l, g))
       by (defines j e low d) = record { place = j; first_at = e; second_at = let z : a ≡ own_count k env + j = omega (arith, d) in z; low = low }
 

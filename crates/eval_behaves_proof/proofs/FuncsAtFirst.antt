@@ -8,7 +8,7 @@ use Rattle.wasm_tree.specs.declared.module.Func as tree
 use Rattle.wasm_meaning.specs.Prelude.{Pair, Inst, Func, Own, Store, has_kind, imports_of, pair_of, Environment, FuncKey, owned_at, owned_of, own_funcs, address_of, imported_external_value, joined_stores, new_func, own_store}
 use Rattle.index_remap.specs.Prelude.{BothRel, FuncRel, own}
 use Rattle.index_remap_proof.specs.Indices.{ImportNamesOnly, TreeNamesOnly, with_entry}
-use Rattle.world_simulation.specs.Prelude.{key_in, one, site, external_value_in, FuncsCorrespond, AddsWith, Entry, IsInst, defines, import_address, imports}
+use Rattle.world_simulation.specs.Prelude.{key_in, one, site, external_value_in, FuncsCorrespond, AddsWith, SpaceEntry, IsInst, defines, import_address, imports}
 use Rattle.world_simulation.proofs.Stored.{func_rel}
 use Rattle.eval_spec.specs.Prelude.{imported_func, imported_store, own_inst, value_in}
 use Rattle.eval_proof.specs.Known.{FuncsOf, IsCodeOf}
@@ -122,7 +122,7 @@ module _ (m : Module) where
               let e = length-numbers 0 (length (funcs_of m)) in
               omega (arith, l, e)
 
-          by : Entry env (one (with_funcs m fs)) Functions 0 (with_funcs m fs) n a → BothRel (FuncRel (R env m fs i is)) (slice_get first.funcs n) (slice_get second.funcs a)
+          by : SpaceEntry env (one (with_funcs m fs)) Functions 0 (with_funcs m fs) n a → BothRel (FuncRel (R env m fs i is)) (slice_get first.funcs n) (slice_get second.funcs a)
           by (imports p h address) = import_related n a p h address
           by (defines j e low d) =
               let l = few in

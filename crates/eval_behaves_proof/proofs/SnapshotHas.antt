@@ -6,7 +6,7 @@ use Rattle.index_remap.specs.Prelude.{declared_refs, with_declared}
 use Rattle.world_simulation.specs.Prelude.{IsWithDeclared, last_segments}
 use Rattle.eval_spec.specs.Prelude.{State}
 use Rattle.eval_snapshot_spec.specs.Snapshot.{added_funcs, declared_snapshot, empty_func, globals_left, is_kept, memory_segments, old_segments, segments_left, snapshot, snapshot_tree}
-use Rattle.eval_snapshot_proof.specs.Left.{NoSegmentIsLost}
+use Rattle.eval_snapshot_proof.specs.Left.{AsManySegmentsAreLeft}
 
 module _ (m : Module) (s : State) where
   globals_many : (n : ℕ) (gs : List GlobalDef) → length (globals_left m s n gs) ≡ length gs
@@ -51,7 +51,7 @@ module _ (m : Module) (s : State) (name : Text) (names kept : List Text) where
   pub elems_more : length m.elems ≤ length taken.elems
   elems_more = let e : length taken.elems ≡ length m.elems + length (last_segments refs) = ap length shape.elems ∙ length-append m.elems (last_segments refs) in omega (arith, e)
 
-  pub datas_more : NoSegmentIsLost → any_uses_data m.funcs ≡ true → length m.datas ≤ length taken.datas
+  pub datas_more : AsManySegmentsAreLeft → any_uses_data m.funcs ≡ true → length m.datas ≤ length taken.datas
   datas_more none_lost uses =
       let e : length taken.datas ≡ length (old_segments m s) + length (memory_segments m s) = ap length shape.datas ∙ length-append (old_segments m s) (memory_segments m s) in
       let f : length (old_segments m s) ≡ length m.datas = ap (λ b. length (cond b (segments_left s 0 m.datas) [])) uses ∙ none_lost s 0 m.datas in

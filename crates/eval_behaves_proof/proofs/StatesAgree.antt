@@ -12,7 +12,7 @@ use Rattle.world_contents_proof.specs.OwnValues.{ConstantsAloneReadTheEnvironmen
 use Rattle.world_simulation.proofs.Owned.{null_rel, own_globals_rel}
 use Rattle.eval_spec.specs.Prelude.{State}
 use Rattle.eval_snapshot_spec.specs.Snapshot.{empty_func, snapshot}
-use Rattle.eval_snapshot_proof.specs.Left.{DataOperandsPass, EachGlobalIsLeft, NoSegmentIsLost, no_data_or}
+use Rattle.eval_snapshot_proof.specs.Left.{DataOperandsPass, EachGlobalIsLeft, AsManySegmentsAreLeft, no_data_or}
 use Rattle.eval_behaves_proof.specs.Worlds.{with_empty_func}
 use Rattle.eval_behaves_proof.proofs.InRange.{below, each_index}
 use Rattle.eval_behaves_proof.proofs.CodeAlike.{IndexAlike, LayerAlike, code_alike}
@@ -24,7 +24,7 @@ use Rattle.eval_behaves_proof.proofs.Zipped.{code_both, every_both}
 pub record SnapshotLaws : Type 0 where
   pub layers : PassesLayerByLayer
   pub globals : EachGlobalIsLeft
-  pub segments : NoSegmentIsLost
+  pub segments : AsManySegmentsAreLeft
   pub code : DataOperandsPass
   pub constants : ConstantsAloneReadTheEnvironment
 
@@ -116,7 +116,7 @@ module _ (env : Environment) (m : Module) (s : State) (name : Text) (names kept 
           low = lt;
         }
 
-    pub data_shared : NoSegmentIsLost → any_uses_data m.funcs ≡ true → (n : ℕ) → n < length m.datas → One DataSegments i.datas j.datas n
+    pub data_shared : AsManySegmentsAreLeft → any_uses_data m.funcs ≡ true → (n : ℕ) → n < length m.datas → One DataSegments i.datas j.datas n
     data_shared none_lost uses n lt =
         let l = datas_more m s name names kept none_lost uses in
         let z : 0 + n ≡ n = omega arith in
@@ -130,7 +130,7 @@ module _ (env : Environment) (m : Module) (s : State) (name : Text) (names kept 
 
     -- ---- code ----
 
-    index_alike : NoSegmentIsLost → (k : Space) (n : ℕ) → with_entry (each_index m) k n ≡ true → not (same_space k DataSegments) || any_uses_data m.funcs ≡ true → IndexAlike R i j k n
+    index_alike : AsManySegmentsAreLeft → (k : Space) (n : ℕ) → with_entry (each_index m) k n ≡ true → not (same_space k DataSegments) || any_uses_data m.funcs ≡ true → IndexAlike R i j k n
     index_alike none_lost Types n h d = ap (λ ts. slice_get ts n) (a.types ∙ sym same_types ∙ sym b.types)
     index_alike none_lost Functions n h d = one_named below_these env enough (func_shared n (below (length (funcs_of m)) n h))
     index_alike none_lost Tables n h d = one_named below_these env enough (table_shared n (below (length (tables_of m)) n h))

@@ -5,7 +5,7 @@ use Rattle.wasm_bytes.specs.Prelude.{Section, Each, Sized, U32, Vector, IsBytes,
 use Rattle.wasm_bytes.specs.Numbers.{Unsigned}
 use Rattle.wasm_tree_spec.specs.Prelude.{Limits, TableType, DataSeg, Module}
 use Rattle.wasm_read_spec.specs.declared.parts.Parts.{Parts}
-use Rattle.wasm_read_spec.specs.Prelude.{Both, Made, Never, When, SpellsConst, SpellsFuncType, SpellsLimits, SpellsTable, at_least, between, SpellsData, SpellsElem, SpellsExport, SpellsGlobalDef, SpellsImport, data0, data1, data2, SpellsEntry, Contents, Spells, nothing, tree_of, with_codes, with_count, with_datas, with_elems, with_exports, with_func_types, with_globals, with_imports, with_mems, with_start, with_tables, with_types}
+use Rattle.wasm_read_spec.specs.Prelude.{Both, MadeFrom, Never, When, SpellsConst, SpellsFuncType, SpellsLimits, SpellsTable, at_least, between, SpellsData, SpellsElem, SpellsExport, SpellsGlobalDef, SpellsImport, data0, data1, data2, SpellsEntry, SectionContents, Spells, nothing, tree_of, with_codes, with_count, with_datas, with_elems, with_exports, with_func_types, with_globals, with_imports, with_mems, with_start, with_tables, with_types}
 use Rattle.wasm_read_spec.specs.Values.{limits_form}
 use Rattle.wasm_read_spec.specs.Sections.{data_form}
 use Rattle.wasm_read_spec.specs.Files.{section_form}
@@ -13,7 +13,7 @@ use Rattle.wasm_read_spec.specs.Contents.{AreBytes}
 use Rattle.wasm_read_spec.proofs.FileLaws.{front_holds}
 use Rattle.wasm_bytes.proofs.Lists.{rest_holds}
 use Rattle.wasm_write_proof.proofs.NumberRanges.{says_made, says_never, says_vector, says_when}
-use Rattle.wasm_write_proof.specs.Ranges.{Says}
+use Rattle.wasm_write_proof.specs.Ranges.{EncodesOnly}
 use Rattle.eval_numbers_proof.specs.Ranges.{BeginsInRange, IsByte}
 
 -- ---- tables ----
@@ -25,7 +25,7 @@ FewSlots l = l.min < 2 ^ 32
 abbrev NumbersAreInRange : Type 0
 NumbersAreInRange = (bits : ℕ) (text : List ℕ) (n : ℕ) → Unsigned bits text n → n < 2 ^ bits
 
-limits_few : NumbersAreInRange → Says FewSlots SpellsLimits
+limits_few : NumbersAreInRange → EncodesOnly FewSlots SpellsLimits
 unfolding limits_form
 limits_few numbers bytes l h =
     says_when FewSlots _ _ (h.0 == 0x00) (says_made FewSlots at_least U32 (λ b n u. numbers 32 b n u))
@@ -35,7 +35,7 @@ limits_few numbers bytes l h =
 abbrev FewInTable : TableType → Type 0
 FewInTable t = FewSlots t.limits
 
-table_few : NumbersAreInRange → Says FewInTable SpellsTable
+table_few : NumbersAreInRange → EncodesOnly FewInTable SpellsTable
 table_few numbers bytes t h = limits_few numbers h.1 t.limits h.3
 
 -- ---- what spellings by bytes say of their values ----
@@ -47,7 +47,7 @@ of_bytes_when : {A : Type 0} (K : A → Type 0) (P Q : List ℕ → A → Type 0
 of_bytes_when K P Q true a b = a
 of_bytes_when K P Q false a b = b
 
-of_bytes_made : {A B : Type 0} (K : B → Type 0) (make : A → B) (P : List ℕ → A → Type 0) → SaysOfBytes (λ x. K (make x)) P → SaysOfBytes K (Made make P)
+of_bytes_made : {A B : Type 0} (K : B → Type 0) (make : A → B) (P : List ℕ → A → Type 0) → SaysOfBytes (λ x. K (make x)) P → SaysOfBytes K (MadeFrom make P)
 of_bytes_made K make P a bytes y small h = subst K (sym h.2) (a bytes h.0 small h.1)
 
 of_bytes_never : {A : Type 0} (K : A → Type 0) → SaysOfBytes K Never
@@ -111,7 +111,7 @@ module _ (numbers : NumbersAreInRange) (many : Bool) where
       (of_bytes_when PartsBegin _ _ (id == 12) (of_bytes_made PartsBegin (with_count p) U32 (λ c x small h. record { tables = r.tables; datas = r.datas }))
       (of_bytes_never PartsBegin)))))))))))))
 
-  contents_begin : (p : Parts) (ss : List Section) (q : Parts) → AreBytes ss → PartsBegin p → Contents many p ss q → PartsBegin q
+  contents_begin : (p : Parts) (ss : List Section) (q : Parts) → AreBytes ss → PartsBegin p → SectionContents many p ss q → PartsBegin q
   contents_begin p [] q small r h = subst PartsBegin h r
   contents_begin p (s ∷ ss) q small r h = contents_begin h.0 ss q small.1 (section_begins p s.0 r s.1 h.0 small.0 h.1) h.2
 

@@ -8,8 +8,8 @@ use Rattle.wasm_meaning.specs.Prelude.{Outcome, Gives, Traps, IllTyped, Pair, Va
 use Rattle.eval_spec.specs.declared.limits.TheConstants.{MOST_DEPTH}
 use Rattle.eval_spec.specs.Prelude.{own_inst}
 use Rattle.eval_machine.specs.declared.registers.Registers.{Registers}
-use Rattle.eval_machine.specs.declared.registers.Act.TheVariants as act
-use Rattle.eval_machine.specs.Prelude.{Fits, store_in, Place, called, depth, ComesToAct, begun_by, done_by}
+use Rattle.eval_machine.specs.declared.registers.MachineAct.TheVariants as act
+use Rattle.eval_machine.specs.Prelude.{MachineFits, store_in, LevelPlace, called, depth, ComesToAct, begun_by, done_by}
 use Rattle.eval_machine.proofs.Funcs.{FuncsAre, funcs_now_are, funcs_size}
 use Rattle.eval_machine.proofs.Imports.{address_of}
 use Rattle.eval_machine.proofs.Instructions.{by_layer}
@@ -29,7 +29,7 @@ either m fs a n x e = elim (cases_lt n (length (imported_funcs m.imports))) [
       inr ((c.0, declared g.0.locals, g.0.body), same_Some x (Code c.0 (own_inst m) (declared g.0.locals) g.0.body) (sym e ∙ found)))
 ]
 
-module _ (m : Module) (r : Registers) (o : Instr) (n : ℕ) (rest : List Instr) (p : Place) (es : List Entry) where
+module _ (m : Module) (r : Registers) (o : Instr) (n : ℕ) (rest : List Instr) (p : LevelPlace) (es : List Entry) where
   abbrev begins_call : Type 0
   begins_call = begun_by m r o (Instr-F.Call n) rest p es (done_by m r (Instr-F.Call n) rest p) ≡ called m r n rest p es
 
@@ -48,7 +48,7 @@ module _ (m : Module) (r : Registers) (o : Instr) (n : ℕ) (rest : List Instr) 
   call_code t locals body e f (Gives q) g false h true k = rw (e, f, g, h, k)
   call_code t locals body e f (Gives q) g false h false k = rw (e, f, g, h, k)
 
-pub call_begins : (m : Module) (o : Instr) (r : Registers) (n : ℕ) → ImportsAreTyped m → Fits m r.kept → o ≡ i.Call n → ComesToAct m o r (act.Calls n) r
+pub call_begins : (m : Module) (o : Instr) (r : Registers) (n : ℕ) → ImportsAreTyped m → MachineFits m r.kept → o ≡ i.Call n → ComesToAct m o r (act.Calls n) r
 call_begins m o r n v f e = λ rest p es. by_layer m r o (Instr-F.Call n) rest p es _ (ap out-Instr e ∙ i.outs-Call n) (by rest p es (slice_get (store_in m r.kept).funcs n) refl)
   where
     fs : List Func
@@ -60,10 +60,10 @@ call_begins m o r n v f e = λ rest p es. by_layer m r o (Instr-F.Call n) rest p
     address : (x : Func) → slice_get (store_in m r.kept).funcs n ≡ Some x → slice_get (own_inst m).funcs n ≡ Some n
     address x h = address_of (length (funcs_of m)) n (omega (arith, slice_get_within (store_in m r.kept).funcs n x h, are.many))
 
-    by_kind : (rest : List Instr) (p : Place) (es : List Entry) (x : Func) → slice_get (store_in m r.kept).funcs n ≡ Some x → IsEither m x → begins_call m r o n rest p es
+    by_kind : (rest : List Instr) (p : LevelPlace) (es : List Entry) (x : Func) → slice_get (store_in m r.kept).funcs n ≡ Some x → IsEither m x → begins_call m r o n rest p es
     by_kind rest p es x h (inl (q, is)) = call_own m r o n rest p es q.0 q.1 (address x h) (h ∙ ap Some is)
     by_kind rest p es x h (inr (q, is)) = call_code m r o n rest p es q.0 q.1 q.2 (address x h) (h ∙ ap Some is) (pop_typed q.0.params r.operands) refl (nat_lt r.kept.turns (length q.1 / 64)) refl (nat_le MOST_DEPTH (depth p es)) refl
 
-    by : (rest : List Instr) (p : Place) (es : List Entry) (x : Option Func) → slice_get (store_in m r.kept).funcs n ≡ x → begins_call m r o n rest p es
+    by : (rest : List Instr) (p : LevelPlace) (es : List Entry) (x : Option Func) → slice_get (store_in m r.kept).funcs n ≡ x → begins_call m r o n rest p es
     by rest p es None h = call_missing m r o n rest p es (slice_get (own_inst m).funcs n) refl (λ x k. sym (numbers_is (length (funcs_of m)) n x k).1) h
     by rest p es (Some x) h = by_kind rest p es x h (either m (store_in m r.kept).funcs are n x h)

@@ -9,7 +9,7 @@ use Rattle.eval_spec.specs.Prelude.{Stopped, Finished, left_behind, stop_of, cal
 use Rattle.eval_references_proof.specs.References.{CallsKeepRefs, CallsKeepTypes}
 use Rattle.eval_machine.specs.declared.globals.GlobalSlot.{GlobalSlot}
 use Rattle.eval_machine.specs.declared.kept.Kept.{Kept}
-use Rattle.eval_machine.specs.Prelude.{CallEnds, IsLeft, StopsCall, global_of, Fits, IsUnmarked, MemoryFits, Rests, memory_in, state_in, written_in, MemoryStays, Stays}
+use Rattle.eval_machine.specs.Prelude.{CallEnds, SameButForTurns, StopsCall, global_of, MachineFits, IsUnmarked, MemoryFits, Rests, memory_in, state_in, written_in, MemoryStays, Stays}
 use Rattle.eval_machine.specs.Undo.{AreGlobalsBefore, AreSegmentsBefore, FlagsAreRight, segment_before, global_before}
 use Rattle.eval_machine.specs.Marks.{AreMarked, IsMarked, KeepsMarked, NothingToUndo, RollsMarked}
 use Rattle.eval_machine.proofs.References.{still_rests}
@@ -46,7 +46,7 @@ fits_alike (l ∷ k ∷ ls) p q a f = elim f [ ]
 state_alike : (m : Module) (k j : Kept) (n : ℕ) → j.globals ≡ k.globals → j.dropped ≡ k.dropped → Alike k.memory j.memory → j.turns ≡ n → state_in m j ≡ record (state_in m k) { turns = n }
 state_alike m k j n g d a t = rw (g, d, t, memory_alike m.mems k.memory j.memory a, written_alike k.memory j.memory a) refl
 
-machine_fits : (m : Module) (k j : Kept) → Fits m k → j.globals ≡ k.globals → j.dropped ≡ k.dropped → Alike k.memory j.memory → j.slots ≡ k.slots → j.imports ≡ k.imports → FlagsAreRight j.undo.globals j.undo.noted → Fits m j
+machine_fits : (m : Module) (k j : Kept) → MachineFits m k → j.globals ≡ k.globals → j.dropped ≡ k.dropped → Alike k.memory j.memory → j.slots ≡ k.slots → j.imports ≡ k.imports → FlagsAreRight j.undo.globals j.undo.noted → MachineFits m j
 machine_fits m k j f g d a s i n = record {
   ready = f.ready;
   types = ap (map (λ g. g.ty)) g ∙ f.types;
@@ -124,7 +124,7 @@ module _ (m : Module) (func : ℕ) (old marked : Kept) (rests : Rests m old) (on
   same_state : state_in m marked ≡ state_in m old
   same_state = state_alike m old marked old.turns (ap (λ k. k.globals) only) (ap (λ k. k.dropped) only) (marked_alike old.memory marked.memory are) (ap (λ k. k.turns) only)
 
-  pub marked_fits : Fits m marked
+  pub marked_fits : MachineFits m marked
   marked_fits = machine_fits m old marked rests.fits (ap (λ k. k.globals) only) (ap (λ k. k.dropped) only) (marked_alike old.memory marked.memory are) (ap (λ k. k.slots) only) (ap (λ k. k.imports) only) none.flags
 
   module _ (after new : Kept) (stays : Stays marked after) where
@@ -175,7 +175,7 @@ module _ (m : Module) (func : ℕ) (old marked : Kept) (rests : Rests m old) (on
           let end : call_end m (state_in m old) func ≡ Stopped x after.turns = ap (λ s. call_end m s func) (sym same_state) ∙ ends in
           record { stop = ap stop_of end; state = back_state ∙ ap (left_behind (state_in m old)) (sym end) }
 
-      pub left : IsLeft m old new
+      pub left : SameButForTurns m old new
       left =
           let turns : new.turns ≡ after.turns = ap (λ k. k.turns) rest in
           let first : marked.turns ≡ old.turns = ap (λ k. k.turns) only in

@@ -10,7 +10,7 @@ use Rattle.eval_spec.specs.Prelude.{Going, own_inst}
 use Rattle.eval_machine.specs.declared.undo.UndoLog.{UndoLog}
 use Rattle.eval_machine.specs.declared.kept.Kept.{Kept}
 use Rattle.eval_machine.specs.declared.registers.Registers.{Registers}
-use Rattle.eval_machine.specs.Prelude.{Place, body_at, frame_at, Fits, state_in, store_in, Stays, BeginsWith, done_by}
+use Rattle.eval_machine.specs.Prelude.{LevelPlace, body_at, frame_at, MachineFits, state_in, store_in, Stays, BeginsWith, done_by}
 use Rattle.eval_machine.proofs.Imports.{address_of}
 use Rattle.eval_machine.proofs.Instructions.{IsStill, by_layer, ends_trap, still}
 use Rattle.eval_machine.proofs.Openings.{none_of}
@@ -28,8 +28,8 @@ data_kind (im.Global t) = refl
 pub none_before : (n : ℕ) → nat_lt n 0 ≡ false
 none_before n = le-ltb n 0 (omega arith)
 
-module _ (m : Module) (k : Kept) (f : Fits m k) (n : ℕ) (vs : List Val) where
-  drop_still : (ls : List Val) (rest : List Instr) (p : Place) (es : List Entry) (o : Option ℕ) → slice_get (own_inst m).datas n ≡ o → IsStill m (record { kept = k; operands = vs; locals = ls }) (i.DataDrop n) (Instr-F.DataDrop n) rest p es
+module _ (m : Module) (k : Kept) (f : MachineFits m k) (n : ℕ) (vs : List Val) where
+  drop_still : (ls : List Val) (rest : List Instr) (p : LevelPlace) (es : List Entry) (o : Option ℕ) → slice_get (own_inst m).datas n ≡ o → IsStill m (record { kept = k; operands = vs; locals = ls }) (i.DataDrop n) (Instr-F.DataDrop n) rest p es
   drop_still ls rest p es None a = record { grow = refl; table = refl; unknown = rw (none_of DataSegments data_kind m.imports 0, none_before n); import = refl; further = rw a; opens = refl; few = rw a; written = rw a }
   drop_still ls rest p es (Some x) a = record { grow = refl; table = refl; unknown = rw (none_of DataSegments data_kind m.imports 0, none_before n); import = refl; further = rw a; opens = refl; few = rw a; written = rw a }
 

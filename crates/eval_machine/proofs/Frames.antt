@@ -9,7 +9,7 @@ use Rattle.eval_machine.specs.declared.registers.Registers.{Registers}
 use Rattle.eval_machine.specs.declared.registers.Opening.{Opening}
 use Rattle.eval_machine.specs.declared.registers.Flow.{Flow}
 use Rattle.eval_machine.specs.declared.registers.Flow.TheVariants as flow
-use Rattle.eval_machine.specs.Prelude.{state_in, store_in, Place, called, depth, frame_at, running}
+use Rattle.eval_machine.specs.Prelude.{state_in, store_in, LevelPlace, called, depth, frame_at, running}
 use Rattle.eval_machine.specs.Flows.{RunsCode, back_of, entered, given, level_at, opened_by, outcome}
 use Rattle.eval_machine.proofs.Levels.{and_then, inner, inner_depth}
 use Rattle.eval_machine.proofs.Typed.{results_cut}
@@ -44,9 +44,9 @@ code_end (y ∷ ys) (suc i) le = code_end ys i (omega (arith, le))
 
 -- ---- a level ----
 
-module _ (m : Module) (r : Registers) (b : Opening) (o : Instr) (rest : List Instr) (p : Place) (es : List Entry) where
+module _ (m : Module) (r : Registers) (b : Opening) (o : Instr) (rest : List Instr) (p : LevelPlace) (es : List Entry) where
   -- the level inside, over these operands
-  abbrev pub level_in : (below : List Val) → Place
+  abbrev pub level_in : (below : List Val) → LevelPlace
   level_in below = inner b.gives b.takes (back_of o b.again) below rest p
 
   -- it is opened, and its code runs
@@ -69,7 +69,7 @@ back_on o again rest e = rw e
 
 -- ---- a frame ----
 
-abbrev pub body_place : List ValType → Place
+abbrev pub body_place : List ValType → LevelPlace
 body_place results = record { gives = length results; takes = length results; back = []; outer = []; results = results }
 
 abbrev pub with_turns : Registers → ℕ → Registers
@@ -146,7 +146,7 @@ module _ (m : Module) (r : Registers) (results : List ValType) (es : List Entry)
 
 -- ---- a call ----
 
-module _ (m : Module) (r : Registers) (func : ℕ) (rest : List Instr) (p : Place) (es : List Entry) where
+module _ (m : Module) (r : Registers) (func : ℕ) (rest : List Instr) (p : LevelPlace) (es : List Entry) where
   abbrev pub waiting : (below : List Val) → Entry
   waiting below = Running (record (frame_at m r rest p) { levels = level_at p below rest ∷ p.outer })
 

@@ -13,7 +13,7 @@ use Rattle.eval_spec.specs.declared.stop.Stop.TheVariants as why
 use Rattle.eval_spec.specs.Prelude.{State, Stage, Going, Stopped, Finished, Test, first_held, is_finished, state_of, stopped_or, written_after, copied_slots, data_tests, elem_tests, imported_func, place_in, in_order, instantiated, filled_from, own_inst, state_at_first, value_in, with_data, with_data_mode, with_elem, with_elem_mode, with_segments}
 use Rattle.eval_references_proof.specs.Imports.{ImportsAreTyped}
 use Rattle.eval_machine.specs.declared.kept.Kept.{Kept}
-use Rattle.eval_machine.specs.Prelude.{Fits, store_in}
+use Rattle.eval_machine.specs.Prelude.{MachineFits, store_in}
 use Rattle.eval_machine.specs.Kept.{base_of, no_state}
 
 -- ---- segments leave functions as they are ----
@@ -211,7 +211,7 @@ funcs_are m fs h b =
 
 -- ---- as the machine calls them ----
 
-module _ (m : Module) (k : Kept) (v : ImportsAreTyped m) (f : Fits m k) where
+module _ (m : Module) (k : Kept) (v : ImportsAreTyped m) (f : MachineFits m k) where
   abbrev pub funcs_now : List Func
   funcs_now = (store_in m k).funcs
 

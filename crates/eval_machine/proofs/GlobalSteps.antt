@@ -17,7 +17,7 @@ use Rattle.eval_machine.specs.declared.globals.Standing.TheVariants as standing
 use Rattle.eval_machine.specs.declared.kept.Kept.{Kept}
 use Rattle.eval_machine.specs.declared.registers.Registers.{Registers}
 use Rattle.eval_machine.specs.declared.value.Value.{Value}
-use Rattle.eval_machine.specs.Prelude.{ended, global_of, is_of_import, is_unset, val_of, Fits, base_of, state_in, store_in, Stays, Place, body_at, frame_at, running, BeginsWith, begun, done_by}
+use Rattle.eval_machine.specs.Prelude.{ended, global_of, is_of_import, is_unset, val_of, MachineFits, base_of, state_in, store_in, Stays, LevelPlace, body_at, frame_at, running, BeginsWith, begun, done_by}
 use Rattle.eval_machine.specs.Undo.{FlagsAreRight, IsNoted, segment_before, noted_global, global_before}
 use Rattle.eval_machine.specs.Held.{Meets, global_written, slot_written, read_of}
 use Rattle.eval_machine.proofs.Undone.{before_set}
@@ -55,7 +55,7 @@ among_places test (y ∷ ys) from (suc n) x e =
 
 -- ---- what the machine knows of a global ----
 
-module _ (m : Module) (k : Kept) (f : Fits m k) (n : ℕ) where
+module _ (m : Module) (k : Kept) (f : MachineFits m k) (n : ℕ) where
   sizes : length k.globals ≡ length (globals_of m)
   sizes = sym (length-map k.globals (λ g. g.ty)) ∙ ap length f.types
 
@@ -79,7 +79,7 @@ module _ (m : Module) (k : Kept) (f : Fits m k) (n : ℕ) where
 
 -- ---- global.get ----
 
-module _ (m : Module) (k : Kept) (f : Fits m k) (n : ℕ) (vs ls : List Val) (rest : List Instr) (p : Place) (es : List Entry) where
+module _ (m : Module) (k : Kept) (f : MachineFits m k) (n : ℕ) (vs ls : List Val) (rest : List Instr) (p : LevelPlace) (es : List Entry) where
   abbrev now : Registers
   now = record { kept = k; operands = vs; locals = ls }
 
@@ -116,14 +116,14 @@ module _ (m : Module) (k : Kept) (f : Fits m k) (n : ℕ) (vs ls : List Val) (re
           let same : why.Unknown ≡ x = let q = rw is at h in cc in
           by_layer m now (i.GlobalGet n) (Instr-F.GlobalGet n) rest p es _ (i.outs-GlobalGet n) (unknown_stops m now (i.GlobalGet n) (Instr-F.GlobalGet n) rest p es refl refl (rw (sym (f.imported n g e) ∙ ap is_of_import is, address m k f n g e, known m k f n g e ∙ ap is_unset is)) _ ∙ ap (λ y. Stopped y k.turns) same)
 
-pub global_got : (m : Module) (k : Kept) (n : ℕ) (vs : List Val) (v : Value) → Fits m k → read_of (slice_get k.globals n) ≡ Ok v → BeginsWith m (i.GlobalGet n) k vs None k (val_of v ∷ vs)
+pub global_got : (m : Module) (k : Kept) (n : ℕ) (vs : List Val) (v : Value) → MachineFits m k → read_of (slice_get k.globals n) ≡ Ok v → BeginsWith m (i.GlobalGet n) k vs None k (val_of v ∷ vs)
 global_got m k n vs v f h = λ ls rest p es. by (slice_get k.globals n) refl h ls rest p es
   where
     by : (o : Option GlobalSlot) → slice_get k.globals n ≡ o → read_of o ≡ Ok v → BeginsWith m (i.GlobalGet n) k vs None k (val_of v ∷ vs)
     by None e h = absurd (let q = h in cc)
     by (Some g) e h = λ ls rest p es. got m k f n vs ls rest p es g v e h
 
-pub global_not_got : (m : Module) (k : Kept) (n : ℕ) (vs us : List Val) (x : Stop) → Fits m k → read_of (slice_get k.globals n) ≡ Err x → BeginsWith m (i.GlobalGet n) k vs (Some x) k us
+pub global_not_got : (m : Module) (k : Kept) (n : ℕ) (vs us : List Val) (x : Stop) → MachineFits m k → read_of (slice_get k.globals n) ≡ Err x → BeginsWith m (i.GlobalGet n) k vs (Some x) k us
 global_not_got m k n vs us x f h = λ ls rest p es. not_got m k f n vs ls rest p es (slice_get k.globals n) x refl h
 
 -- ---- global.set ----
@@ -160,7 +160,7 @@ unset_after (x ∷ xs) from (suc n) g h e u =
     without_before (from + suc n) from (places unset xs (suc from)) (places unset (slice_set xs n h) (suc from)) (omega arith)
     (ap (λ k. filter (λ b. not (nat_eq b k)) (places unset xs (suc from))) next ∙ unset_after xs (suc from) n g h e u) (unset x)
 
-module _ (m : Module) (k : Kept) (f : Fits m k) (n : ℕ) (vs ls : List Val) (rest : List Instr) (p : Place) (es : List Entry) where
+module _ (m : Module) (k : Kept) (f : MachineFits m k) (n : ℕ) (vs ls : List Val) (rest : List Instr) (p : LevelPlace) (es : List Entry) where
   abbrev at_set : Registers
   at_set = record { kept = k; operands = vs; locals = ls }
 
@@ -208,7 +208,7 @@ module _ (m : Module) (k : Kept) (f : Fits m k) (n : ℕ) (vs ls : List Val) (re
         (set_mapped global_of k.globals n (set_known g v)) (ap (λ a. filter (λ b. not (nat_eq b a)) (places unset k.globals 0)) z ∙ unset_after k.globals 0 n g (set_known g v) e refl)))
 
 -- as the machine's globals are written
-module _ (m : Module) (k : Kept) (f : Fits m k) (n : ℕ) (vs us : List Val) (gs : List GlobalSlot) where
+module _ (m : Module) (k : Kept) (f : MachineFits m k) (n : ℕ) (vs us : List Val) (gs : List GlobalSlot) where
   abbrev SetsTo : Option Stop → Type 0
   SetsTo stop = BeginsWith m (i.GlobalSet n) k vs stop (record k { globals = gs }) us
 

@@ -14,7 +14,7 @@ use Rattle.eval_spec.specs.Prelude.{State, Stage, Going, Stopped, Finished, is_g
 use Rattle.eval_proof.specs.Laws.{QuietEndsAreUnique}
 use Rattle.eval_machine.specs.declared.kept.Kept.{Kept}
 use Rattle.eval_machine.specs.declared.registers.Registers.{Registers}
-use Rattle.eval_machine.specs.Prelude.{IsInstantiated, CallEnds, IsReady, MemoryStays, Stays, Fits, IsUnmarked, base_of, state_in}
+use Rattle.eval_machine.specs.Prelude.{IsInitialMachine, CallEnds, IsReady, MemoryStays, Stays, MachineFits, IsUnmarked, base_of, state_in}
 use Rattle.eval_machine.specs.Flows.{RunsFrame, entered}
 use Rattle.block_pool.specs.Pages.{Pages}
 use Rattle.eval_machine.proofs.Stays.{fits_still}
@@ -54,7 +54,7 @@ pub own_type : (m : Module) (func : ℕ) → length (imported_funcs m.imports) �
 own_type m func le None at = ap (option_and_then (slice_get m.types)) (own_index m func le ∙ ap (option_map (λ f. f.ty)) at)
 own_type m func le (Some f) at = ap (option_and_then (slice_get m.types)) (own_index m func le ∙ ap (option_map (λ f. f.ty)) at)
 
-module _ (m : Module) (imports : ImportsAreTyped m) (k : Kept) (fits : Fits m k) (func : ℕ) (t : FuncType) (typed : type_of_func m func ≡ Some t) where
+module _ (m : Module) (imports : ImportsAreTyped m) (k : Kept) (fits : MachineFits m k) (func : ℕ) (t : FuncType) (typed : type_of_func m func ≡ Some t) where
   begin : FuncsBegin m (base_of m).store.funcs
   begin = funcs_begin m fits.ready
 
@@ -106,7 +106,7 @@ module _ (unique : QuietEndsAreUnique) (m : Module) (func : ℕ) where
   frame_ends old new t locals body (Some x) at e runs =
       ends_at (state_in m old.kept) (entered m old t [] locals body (Mark ∷ [])) (Stopped x new.kept.turns) (rw at (opened_is old t locals body e)) (runs (Mark ∷ []) refl) refl
 
-module _ (unique : QuietEndsAreUnique) (m : Module) (imports : ImportsAreTyped m) (k : Kept) (fits : Fits m k) (func : ℕ) (t : FuncType) (typed : type_of_func m func ≡ Some t) where
+module _ (unique : QuietEndsAreUnique) (m : Module) (imports : ImportsAreTyped m) (k : Kept) (fits : MachineFits m k) (func : ℕ) (t : FuncType) (typed : type_of_func m func ≡ Some t) where
   func_there : (f : Func) × (slice_get (state_in m k).store.funcs func ≡ Some f) × (type_of f ≡ t)
   func_there = elim (cases_lt func (length (imported_funcs m.imports))) [
     | inl lt ↦ let r = own_func m imports k fits func t typed lt in (Own r.0 t, r.1, refl)
@@ -125,7 +125,7 @@ module _ (unique : QuietEndsAreUnique) (m : Module) (imports : ImportsAreTyped m
 
 -- ---- the start ----
 
-pub ready_at_once : EvaluatedRefsAreThere → EvaluatedGlobalsAreTyped → (m : Module) → IsValid m → (k : Kept) → IsInstantiated m k → m.start ≡ None → IsReady m k
+pub ready_at_once : EvaluatedRefsAreThere → EvaluatedGlobalsAreTyped → (m : Module) → IsValid m → (k : Kept) → IsInitialMachine m k → m.start ≡ None → IsReady m k
 ready_at_once there typed m valid k is none = is_ready m valid there typed k is.fits is.unmarked (ap (λ t. after_start m t m.start) is.ends ∙ ap (after_start m (Finished (state_in m k))) none)
 
 unmarked_still : (p q : Option Pages) → MemoryStays p q → IsUnmarked p → IsUnmarked q
@@ -134,10 +134,10 @@ unmarked_still (Some p) (Some q) a u = a.mark ∙ u
 unmarked_still None (Some q) a u = elim a [ ]
 unmarked_still (Some p) None a u = elim a [ ]
 
-started : (m : Module) (k : Kept) (func : ℕ) → IsInstantiated m k → m.start ≡ Some func → booted m MOST_TURNS ≡ call_end m (state_in m k) func
+started : (m : Module) (k : Kept) (func : ℕ) → IsInitialMachine m k → m.start ≡ Some func → booted m MOST_TURNS ≡ call_end m (state_in m k) func
 started m k func is some = ap (λ t. after_start m t m.start) is.ends ∙ ap (after_start m (Finished (state_in m k))) some
 
-pub ready_after : EvaluatedRefsAreThere → EvaluatedGlobalsAreTyped → (m : Module) → IsValid m → (k new : Kept) (func : ℕ) → IsInstantiated m k → m.start ≡ Some func → CallEnds m func k None new → Stays k new → IsReady m new
+pub ready_after : EvaluatedRefsAreThere → EvaluatedGlobalsAreTyped → (m : Module) → IsValid m → (k new : Kept) (func : ℕ) → IsInitialMachine m k → m.start ≡ Some func → CallEnds m func k None new → Stays k new → IsReady m new
 ready_after there typed m valid k new func is some ends stays =
     is_ready m valid there typed new (fits_still m k new is.fits stays) (unmarked_still k.memory new.memory stays.memory is.unmarked) (started m k func is some ∙ ends)
 

@@ -12,14 +12,14 @@ use Rattle.eval_spec.specs.declared.stop.Stop.TheVariants as why
 use Rattle.eval_spec.specs.Prelude.{calls_import, uses_unknown, own_inst}
 use Rattle.eval_spec.specs.Stops.{func_in_slot, referred_func}
 use Rattle.eval_machine.specs.declared.registers.Registers.{Registers}
-use Rattle.eval_machine.specs.declared.registers.Act.{Act as MachineAct}
-use Rattle.eval_machine.specs.declared.registers.Act.TheVariants as act
+use Rattle.eval_machine.specs.declared.registers.MachineAct.{MachineAct}
+use Rattle.eval_machine.specs.declared.registers.MachineAct.TheVariants as act
 use Rattle.eval_machine.specs.declared.registers.Flow.TheVariants as flow
 use Rattle.eval_machine.specs.declared.value.Value.{Value}
 use Rattle.eval_machine.specs.declared.slots.Slot.TheVariants as slot
-use Rattle.eval_machine.specs.Prelude.{ended, val_of, Place, body_at, called, depth, Fits, base_of, state_in, store_in, IsSlot, is_unknown_in, ref_in, slot_count, ComesToAct, begun_by, done_by, env_in}
+use Rattle.eval_machine.specs.Prelude.{ended, val_of, LevelPlace, body_at, called, depth, MachineFits, base_of, state_in, store_in, IsSlot, is_unknown_in, ref_in, slot_count, ComesToAct, begun_by, done_by, env_in}
 use Rattle.eval_machine.specs.Held.{func_of}
-use Rattle.eval_machine.specs.Instructions.{Reaches, type_matches}
+use Rattle.eval_machine.specs.Instructions.{ReachesThroughTable, type_matches}
 use Rattle.eval_machine.proofs.Callings.{either}
 use Rattle.eval_machine.proofs.DataSteps.{none_before}
 use Rattle.eval_machine.proofs.Funcs.{funcs_now_are}
@@ -48,7 +48,7 @@ named (Ref r ∷ vs) below t place e = absurd (let k = e in cc)
 
 -- ---- what stops it ----
 
-module _ (m : Module) (r new : Registers) (f : Fits m r.kept) (ty n : ℕ) (same : new.kept ≡ r.kept) where
+module _ (m : Module) (r new : Registers) (f : MachineFits m r.kept) (ty n : ℕ) (same : new.kept ≡ r.kept) where
   abbrev calls : Instr
   calls = i.CallIndirect ty n
 
@@ -61,7 +61,7 @@ module _ (m : Module) (r new : Registers) (f : Fits m r.kept) (ty n : ℕ) (same
   pub indirect_imported : n < r.kept.imports.tables → ComesToAct m calls r (act.Leaves (flow.Stopped why.Unknown)) new
   indirect_imported lt = unknown_stops (rw (none_of Types type_kind m.imports 0, none_before ty, imported_table m r.kept f n lt))
 
-  trap_stops : uses_unknown m (state_in m r.kept).unknown layer (env_in m r.kept) r.operands ≡ false → calls_import layer (env_in m r.kept) r.operands ≡ false → ((rest : List Instr) (p : Place) → ended (done_by m r layer rest p) ≡ Err why.Trap) →
+  trap_stops : uses_unknown m (state_in m r.kept).unknown layer (env_in m r.kept) r.operands ≡ false → calls_import layer (env_in m r.kept) r.operands ≡ false → ((rest : List Instr) (p : LevelPlace) → ended (done_by m r layer rest p) ≡ Err why.Trap) →
       ComesToAct m calls r (act.Leaves (flow.Stopped why.Trap)) new
   trap_stops u c h = λ rest p es. rw same (ends_trap_first m r calls layer rest p es (i.outs-CallIndirect ty n) refl refl u c (h rest p))
 
@@ -107,7 +107,7 @@ module _ (m : Module) (r new : Registers) (f : Fits m r.kept) (ty n : ℕ) (same
               no_import : calls_import layer (env_in m r.kept) r.operands ≡ false
               no_import = rw (t.address, t.there, named r.operands new.operands t.table place pop, slot_is (Some (FuncRef (Some func))) at, own)
 
-              other_type : (x : Option FuncType) → type_at (base_of m).store func ≡ x → (asked : Option FuncType) → slice_get m.types ty ≡ asked → ((type_matches m ty func ≡ Some true) → ⊥) → (rest : List Instr) (p : Place) → ended (done_by m r layer rest p) ≡ Err why.Trap
+              other_type : (x : Option FuncType) → type_at (base_of m).store func ≡ x → (asked : Option FuncType) → slice_get m.types ty ≡ asked → ((type_matches m ty func ≡ Some true) → ⊥) → (rest : List Instr) (p : LevelPlace) → ended (done_by m r layer rest p) ≡ Err why.Trap
               other_type None e asked g h rest p = rw (t.address, t.there, pop, slot_is (Some (FuncRef (Some func))) at, e)
               other_type (Some has) e None g h rest p = rw (t.address, t.there, pop, slot_is (Some (FuncRef (Some func))) at, e, g)
               other_type (Some has) e (Some a) g h rest p = by (same_func_type a has) refl
@@ -120,7 +120,7 @@ module _ (m : Module) (r new : Registers) (f : Fits m r.kept) (ty n : ℕ) (same
               indirect_other h = trap_stops known no_import (other_type (type_at (base_of m).store func) refl (slice_get m.types ty) refl h)
 
               -- the function begins
-              module _ (here : new.locals ≡ r.locals) (rest : List Instr) (p : Place) (es : List Entry) where
+              module _ (here : new.locals ≡ r.locals) (rest : List Instr) (p : LevelPlace) (es : List Entry) where
                 abbrev Enters : Type 0
                 Enters = begun_by m r calls layer rest p es (done_by m r layer rest p) ≡ called m new func rest p es
 
@@ -153,14 +153,14 @@ module _ (m : Module) (r new : Registers) (f : Fits m r.kept) (ty n : ℕ) (same
                     | inr q ↦ by_asked q.0.0 q.0.1 q.0.2 (e ∙ ap Some q.1) (slice_get m.types ty) refl
                   ]
 
-            pub indirect_reaches : ImportsAreTyped m → new.locals ≡ r.locals → (a : MachineAct) → Reaches m ty func a → ComesToAct m calls r a new
+            pub indirect_reaches : ImportsAreTyped m → new.locals ≡ r.locals → (a : MachineAct) → ReachesThroughTable m ty func a → ComesToAct m calls r a new
             indirect_reaches valid here (act.Calls x) (e, own, matches) = λ rest p es. rw e (by_layer m r calls layer rest p es _ (i.outs-CallIndirect ty n) (by_func own here rest p es valid matches (slice_get (store_in m r.kept).funcs func) refl))
             indirect_reaches valid here (act.Leaves (flow.Stopped why.Import)) h = indirect_import h
             indirect_reaches valid here (act.Leaves (flow.Stopped why.Trap)) h = indirect_other h.0 h.1
             indirect_reaches valid here _ h = elim h [ ]
 
           -- as the machine finds it
-          pub indirect_at : ImportsAreTyped m → new.locals ≡ r.locals → (v : Value) (func : ℕ) → IsSlot (base_of m) n place (slot.Known v) → func_of (val_of v) ≡ Some func → (a : MachineAct) → Reaches m ty func a → ComesToAct m calls r a new
+          pub indirect_at : ImportsAreTyped m → new.locals ≡ r.locals → (v : Value) (func : ℕ) → IsSlot (base_of m) n place (slot.Known v) → func_of (val_of v) ≡ Some func → (a : MachineAct) → ReachesThroughTable m ty func a → ComesToAct m calls r a new
           indirect_at valid here v func h g a reaches = by (ref_in (base_of m) n place) refl h.1
             where
               by_ref : (x : RefVal) → ref_in (base_of m) n place ≡ Some x → func_of (Ref x) ≡ Some func → ComesToAct m calls r a new

@@ -12,7 +12,7 @@ use Rattle.eval_spec.specs.declared.stop.Stop.TheVariants as why
 use Rattle.eval_spec.specs.Prelude.{first_held, is_imported, own_inst}
 use Rattle.eval_machine.specs.declared.kept.Kept.{Kept}
 use Rattle.eval_machine.specs.Accesses.{bytes_in}
-use Rattle.eval_machine.specs.Prelude.{ended, Place, body_at, Fits, datas_in, store_in, Wrote, told_of, write_tests, BeginsWith, done_by}
+use Rattle.eval_machine.specs.Prelude.{ended, LevelPlace, body_at, MachineFits, datas_in, store_in, Wrote, told_of, write_tests, BeginsWith, done_by}
 use Rattle.eval_machine.proofs.DataSteps.{data_kind, none_before}
 use Rattle.eval_machine.proofs.Imports.{address_of}
 use Rattle.eval_machine.proofs.Instructions.{ends_trap_first, ends_unknown}
@@ -89,7 +89,7 @@ pub stops_with : {A B : Type 0} (o : Option A) (g : A → Outcome B) → ((x : A
 stops_with None g h = refl
 stops_with (Some x) g h = h x refl
 
-module _ (m : Module) (k : Kept) (f : Fits m k) (segment n : ℕ) (vs us : List Val) where
+module _ (m : Module) (k : Kept) (f : MachineFits m k) (segment n : ℕ) (vs us : List Val) where
   abbrev inits : Instr
   inits = i.MemoryInit segment n
 
@@ -98,7 +98,7 @@ module _ (m : Module) (k : Kept) (f : Fits m k) (segment n : ℕ) (vs us : List 
       ends_unknown m (record { kept = k; operands = vs; locals = ls }) inits (Instr-F.MemoryInit segment n) rest p es (i.outs-MemoryInit segment n) refl refl (rw (none_of DataSegments data_kind m.imports 0, none_before segment, imported_memory m k f n lt))
 
   module _ (le : k.imports.memories ≤ n) where
-    init_stops : ((ls : List Val) (rest : List Instr) (p : Place) → ended (done_by m (record { kept = k; operands = vs; locals = ls }) (Instr-F.MemoryInit segment n) rest p) ≡ Err why.Trap) → BeginsWith m inits k vs (Some why.Trap) k us
+    init_stops : ((ls : List Val) (rest : List Instr) (p : LevelPlace) → ended (done_by m (record { kept = k; operands = vs; locals = ls }) (Instr-F.MemoryInit segment n) rest p) ≡ Err why.Trap) → BeginsWith m inits k vs (Some why.Trap) k us
     init_stops h = λ ls rest p es.
         ends_trap_first m (record { kept = k; operands = vs; locals = ls }) inits (Instr-F.MemoryInit segment n) rest p es (i.outs-MemoryInit segment n) refl refl (rw (none_of DataSegments data_kind m.imports 0, none_before segment, own_memory m k f n le)) refl (h ls rest p)
 
@@ -117,7 +117,7 @@ module _ (m : Module) (k : Kept) (f : Fits m k) (segment n : ℕ) (vs us : List 
 
 -- ---- the write ----
 
-module _ (m : Module) (k : Kept) (f : Fits m k) (segment n : ℕ) (pages : Pages) (t : IsThere m k f n pages) (own : is_imported m Memories n ≡ false) (holds : k.memory ≡ Some pages) (vs below : List Val) where
+module _ (m : Module) (k : Kept) (f : MachineFits m k) (segment n : ℕ) (pages : Pages) (t : IsThere m k f n pages) (own : is_imported m Memories n ≡ false) (holds : k.memory ≡ Some pages) (vs below : List Val) where
   module _ (bytes : List ℕ) (d : IsData m k segment bytes) (to source count : ℕ) (pop : pop_three vs ≡ Gives ((to, source, count), below)) (inside : source + count ≤ length bytes) where
     abbrev taken : List ℕ
     taken = part bytes source count
@@ -125,7 +125,7 @@ module _ (m : Module) (k : Kept) (f : Fits m k) (segment n : ℕ) (pages : Pages
     taken_size : length taken ≡ count
     taken_size = grind (arith, inside, length-take-le, length-drop)
 
-    init_write : (ls : List Val) (rest : List Instr) (p : Place) (es : List Entry) → IsWrite m k f n pages t (i.MemoryInit segment n) (Instr-F.MemoryInit segment n) vs ls rest p es to taken below
+    init_write : (ls : List Val) (rest : List Instr) (p : LevelPlace) (es : List Entry) → IsWrite m k f n pages t (i.MemoryInit segment n) (Instr-F.MemoryInit segment n) vs ls rest p es to taken below
     init_write ls rest p es = record {
       layer = i.outs-MemoryInit segment n;
       grow = refl;

@@ -13,7 +13,7 @@ use Rattle.eval_spec.specs.Prelude.{State, Stage, Finished, Stopped, Going, stop
 use Rattle.eval_machine.specs.declared.globals.GlobalSlot.{GlobalSlot}
 use Rattle.eval_machine.specs.declared.slots.Slot.{Slot}
 use Rattle.eval_machine.specs.declared.kept.Kept.{Kept}
-use Rattle.eval_machine.specs.Prelude.{FillsTables, IsFilled, IsInstantiated, PoursDatas, StartsAs, elems_end, global_of, is_unset, IsUnmarked, MemoryFits, datas_in, memory_in, state_in, written_in}
+use Rattle.eval_machine.specs.Prelude.{FillsTables, IsFilled, IsInitialMachine, PoursDatas, StartsAs, elems_end, global_of, is_unset, IsUnmarked, MemoryFits, datas_in, memory_in, state_in, written_in}
 use Rattle.eval_machine.specs.Begun.{AreFirst, IsBlank, LimitsFew, data_state, datas_end, datas_from}
 use Rattle.eval_machine.specs.Undo.{FlagsAreRight}
 use Rattle.eval_machine.specs.Kept.{base_of, counts_of}
@@ -118,7 +118,7 @@ module _ (m : Module) (hold : ItemsHold m) (single : length (memories_of m) ≤ 
           let spent : k.turns ≡ s.turns = turns ∙ sym f.turns in
           rw (based, globals, unset, spent) refl
 
-      pub is_instantiated : MemoryFits m.mems k.memory → IsUnmarked k.memory → length k.dropped ≡ length m.datas → k.imports ≡ counts_of m → FlagsAreRight k.undo.globals k.undo.noted → IsInstantiated m k
+      pub is_instantiated : MemoryFits m.mems k.memory → IsUnmarked k.memory → length k.dropped ≡ length m.datas → k.imports ≡ counts_of m → FlagsAreRight k.undo.globals k.undo.noted → IsInitialMachine m k
       is_instantiated memory unmarked many imports noted = record {
         fits = record {
           ready = rw ends refl;

@@ -8,7 +8,7 @@ use Rattle.eval_spec.specs.declared.limits.TheConstants.{MOST_DEPTH}
 use Rattle.eval_spec.specs.declared.stop.Stop.TheVariants as why
 use Rattle.eval_spec.specs.Prelude.{State, Stage, Stopped, first_held, stopped_or, tried, calls_import, changes_table, further_turns, gives_nothing, grows, opens, test, uses_unknown, writes_too_many, written_after, ComesTo, on, came_to}
 use Rattle.eval_machine.specs.declared.registers.Registers.{Registers}
-use Rattle.eval_machine.specs.Prelude.{ended, state_in, Place, body_at, depth, running, begun, begun_by, done_by, env_in}
+use Rattle.eval_machine.specs.Prelude.{ended, state_in, LevelPlace, body_at, depth, running, begun, begun_by, done_by, env_in}
 use Rattle.eval_machine.specs.Flows.{acted, opened}
 use Rattle.eval_machine.specs.Instructions.{next_by}
 use Rattle.eval_machine.proofs.Levels.{resume_same}
@@ -17,17 +17,17 @@ not_zero : (n : ℕ) → 0 < n → nat_eq n 0 ≡ false
 not_zero n lt = ne_eqb n 0 (λ e. omega (arith, lt, e))
 
 -- the one turn of an instruction is spent
-pub spends : (m : Module) (r s : Registers) (o : Instr) (rest : List Instr) (p : Place) (es : List Entry) (t : Stage) → 0 < r.kept.turns → s ≡ record r { kept = record r.kept { turns = r.kept.turns - 1 } } →
+pub spends : (m : Module) (r s : Registers) (o : Instr) (rest : List Instr) (p : LevelPlace) (es : List Entry) (t : Stage) → 0 < r.kept.turns → s ≡ record r { kept = record r.kept { turns = r.kept.turns - 1 } } →
     ComesTo m (begun m s o rest p es) t → ComesTo m (running m r (o ∷ rest) p es) t
 spends m r s o rest p es t lt e q = on (rw (not_zero r.kept.turns lt) (rw e at q))
 
 -- the same by the instruction's one layer
-pub by_layer : (m : Module) (r : Registers) (o : Instr) (z : Instr-F Instr) (rest : List Instr) (p : Place) (es : List Entry) (t : Stage) → out-Instr o ≡ z → begun_by m r o z rest p es (done_by m r z rest p) ≡ t → begun m r o rest p es ≡ t
+pub by_layer : (m : Module) (r : Registers) (o : Instr) (z : Instr-F Instr) (rest : List Instr) (p : LevelPlace) (es : List Entry) (t : Stage) → out-Instr o ≡ z → begun_by m r o z rest p es (done_by m r z rest p) ≡ t → begun m r o rest p es ≡ t
 by_layer m r o z rest p es t e q = ap (λ z. begun_by m r o z rest p es (done_by m r z rest p)) e ∙ q
 
 -- ---- an instruction of whose tests only a trap's can hold ----
 
-module _ (m : Module) (r : Registers) (o : Instr) (z : Instr-F Instr) (rest : List Instr) (p : Place) (es : List Entry) where
+module _ (m : Module) (r : Registers) (o : Instr) (z : Instr-F Instr) (rest : List Instr) (p : LevelPlace) (es : List Entry) where
   -- it does not grow, write a table, use what is unknown, call an import, take further turns, open anything or write
   pub record IsStill : Type 0 where
     pub grow : grows z ≡ false

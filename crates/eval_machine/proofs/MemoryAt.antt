@@ -7,7 +7,7 @@ use Rattle.eval_spec.specs.declared.limits.TheConstants.{MOST_TURNS}
 use Rattle.eval_spec.specs.declared.stop.Stop.TheVariants as why
 use Rattle.eval_spec.specs.Prelude.{Stage, Stopped, is_finished, is_imported, filled_from, own_inst, state_at_first}
 use Rattle.eval_machine.specs.declared.kept.Kept.{Kept}
-use Rattle.eval_machine.specs.Prelude.{Fits, MemoryFits, store_in, HoldsMost}
+use Rattle.eval_machine.specs.Prelude.{MachineFits, MemoryFits, store_in, HoldsMost}
 use Rattle.eval_machine.proofs.Imports.{address_of, memories_many}
 use Rattle.eval_machine.proofs.Stacks.{split_short}
 
@@ -29,7 +29,7 @@ slice_out xs place n lt = elim (cases_lt (length xs) place) [
 
 -- ---- the memory ----
 
-module _ (m : Module) (k : Kept) (f : Fits m k) where
+module _ (m : Module) (k : Kept) (f : MachineFits m k) where
   counted : k.imports.memories ≡ length (imported_memories m.imports)
   counted = ap (λ i. i.memories) f.imports
 

@@ -10,7 +10,7 @@ use Rattle.wasm_meaning.specs.Prelude.{Gives, IllTyped, load_to, load_width, Val
 use Rattle.wasm_meaning.specs.Access.{little, loaded}
 use Rattle.eval_spec.specs.declared.stop.Stop.TheVariants as why
 use Rattle.eval_spec.specs.Prelude.{is_imported, own_inst}
-use Rattle.eval_machine.specs.Prelude.{ended, Place, Fits, store_in, BeginsWith, done_by, env_in}
+use Rattle.eval_machine.specs.Prelude.{ended, LevelPlace, MachineFits, store_in, BeginsWith, done_by, env_in}
 use Rattle.eval_machine.specs.Accesses.{loaded_from}
 use Rattle.eval_machine.specs.declared.kept.Kept.{Kept}
 use Rattle.eval_machine.proofs.Instructions.{IsStill, ends_on, ends_trap, ends_trap_first, ends_unknown}
@@ -36,11 +36,11 @@ loaded_is load.I64Load16U xs = rw (little_same xs)
 loaded_is load.I64Load32S xs = rw (little_same xs)
 loaded_is load.I64Load32U xs = rw (little_same xs)
 
-module _ (m : Module) (k : Kept) (f : Fits m k) (op : LoadOp) (arg : MemArg) (vs us : List Val) where
+module _ (m : Module) (k : Kept) (f : MachineFits m k) (op : LoadOp) (arg : MemArg) (vs us : List Val) where
   abbrev loads : Instr
   loads = i.Load op arg
 
-  load_still : (ls : List Val) (rest : List Instr) (p : Place) (es : List Entry) → is_imported m Memories arg.memory ≡ false →
+  load_still : (ls : List Val) (rest : List Instr) (p : LevelPlace) (es : List Entry) → is_imported m Memories arg.memory ≡ false →
       IsStill m (record { kept = k; operands = vs; locals = ls }) loads (Instr-F.Load op arg) rest p es
   load_still ls rest p es e = record { grow = refl; table = refl; unknown = rw e; import = refl; further = refl; opens = refl; few = refl; written = refl }
 
@@ -70,8 +70,8 @@ module _ (m : Module) (k : Kept) (f : Fits m k) (op : LoadOp) (arg : MemArg) (vs
 
 -- ---- memory.size ----
 
-module _ (m : Module) (k : Kept) (f : Fits m k) (n : ℕ) (vs us : List Val) where
-  size_still : (ls : List Val) (rest : List Instr) (p : Place) (es : List Entry) → is_imported m Memories n ≡ false →
+module _ (m : Module) (k : Kept) (f : MachineFits m k) (n : ℕ) (vs us : List Val) where
+  size_still : (ls : List Val) (rest : List Instr) (p : LevelPlace) (es : List Entry) → is_imported m Memories n ≡ false →
       IsStill m (record { kept = k; operands = vs; locals = ls }) (i.MemorySize n) (Instr-F.MemorySize n) rest p es
   size_still ls rest p es e = record { grow = refl; table = refl; unknown = rw e; import = refl; further = refl; opens = refl; few = refl; written = refl }
 
@@ -96,9 +96,9 @@ module _ (m : Module) (k : Kept) (f : Fits m k) (n : ℕ) (vs us : List Val) whe
 
 -- ---- what stops memory.fill and memory.copy before they write ----
 
-module _ (m : Module) (k : Kept) (f : Fits m k) (n : ℕ) (vs us : List Val) where
+module _ (m : Module) (k : Kept) (f : MachineFits m k) (n : ℕ) (vs us : List Val) where
   -- a fill writes the same where it is not known what
-  fill_still : (ls : List Val) (rest : List Instr) (p : Place) (es : List Entry) → is_imported m Memories n ≡ false → touched_by (Instr-F.MemoryFill n) (env_in m k) vs ≡ IllTyped →
+  fill_still : (ls : List Val) (rest : List Instr) (p : LevelPlace) (es : List Entry) → is_imported m Memories n ≡ false → touched_by (Instr-F.MemoryFill n) (env_in m k) vs ≡ IllTyped →
       IsStill m (record { kept = k; operands = vs; locals = ls }) (i.MemoryFill n) (Instr-F.MemoryFill n) rest p es
   fill_still ls rest p es e h = record { grow = refl; table = refl; unknown = rw e; import = refl; further = rw h; opens = refl; few = rw h; written = rw h }
 
@@ -115,7 +115,7 @@ module _ (m : Module) (k : Kept) (f : Fits m k) (n : ℕ) (vs us : List Val) whe
 
 -- ---- what stops memory.copy before it writes ----
 
-module _ (m : Module) (k : Kept) (f : Fits m k) (n source : ℕ) (vs us : List Val) where
+module _ (m : Module) (k : Kept) (f : MachineFits m k) (n source : ℕ) (vs us : List Val) where
   abbrev copies_to : Instr
   copies_to = i.MemoryCopy n source
 
@@ -127,11 +127,11 @@ module _ (m : Module) (k : Kept) (f : Fits m k) (n source : ℕ) (vs us : List V
       ends_unknown m (record { kept = k; operands = vs; locals = ls }) copies_to (Instr-F.MemoryCopy n source) rest p es (i.outs-MemoryCopy n source) refl refl (rw (own_memory m k f n le, imported_memory m k f source lt))
 
   module _ (le : k.imports.memories ≤ n) (le' : k.imports.memories ≤ source) where
-    copy_stops : ((ls : List Val) (rest : List Instr) (p : Place) → ended (done_by m (record { kept = k; operands = vs; locals = ls }) (Instr-F.MemoryCopy n source) rest p) ≡ Err why.Trap) → BeginsWith m copies_to k vs (Some why.Trap) k us
+    copy_stops : ((ls : List Val) (rest : List Instr) (p : LevelPlace) → ended (done_by m (record { kept = k; operands = vs; locals = ls }) (Instr-F.MemoryCopy n source) rest p) ≡ Err why.Trap) → BeginsWith m copies_to k vs (Some why.Trap) k us
     copy_stops h = λ ls rest p es.
         ends_trap_first m (record { kept = k; operands = vs; locals = ls }) copies_to (Instr-F.MemoryCopy n source) rest p es (i.outs-MemoryCopy n source) refl refl (rw (own_memory m k f n le, own_memory m k f source le')) refl (h ls rest p)
 
-    by_source : (ls : List Val) (rest : List Instr) (p : Place) (a : Option ℕ) → slice_get (own_inst m).mems source ≡ a → (o : ℕ → Option Memory) → ((x : ℕ) → slice_get (store_in m k).mems x ≡ o x) → slice_get (own_inst m).mems n ≡ None →
+    by_source : (ls : List Val) (rest : List Instr) (p : LevelPlace) (a : Option ℕ) → slice_get (own_inst m).mems source ≡ a → (o : ℕ → Option Memory) → ((x : ℕ) → slice_get (store_in m k).mems x ≡ o x) → slice_get (own_inst m).mems n ≡ None →
         ended (done_by m (record { kept = k; operands = vs; locals = ls }) (Instr-F.MemoryCopy n source) rest p) ≡ Err why.Trap
     by_source ls rest p None a o q e = rw a
     by_source ls rest p (Some x) a o q e = by_memory (o x) (q x)

@@ -10,10 +10,10 @@ use Rattle.wasm_meaning.specs.Prelude.{has_kind, Gives, IllTyped, Entry, pop_num
 use Rattle.eval_spec.specs.declared.stop.Stop.TheVariants as why
 use Rattle.eval_spec.specs.Prelude.{is_unknown_import}
 use Rattle.eval_machine.specs.declared.registers.Registers.{Registers}
-use Rattle.eval_machine.specs.declared.registers.Act.{Act as MachineAct}
-use Rattle.eval_machine.specs.declared.registers.Act.TheVariants as act
+use Rattle.eval_machine.specs.declared.registers.MachineAct.{MachineAct}
+use Rattle.eval_machine.specs.declared.registers.MachineAct.TheVariants as act
 use Rattle.eval_machine.specs.declared.registers.Flow.TheVariants as flow
-use Rattle.eval_machine.specs.Prelude.{Place, ComesToAct}
+use Rattle.eval_machine.specs.Prelude.{LevelPlace, ComesToAct}
 use Rattle.eval_machine.specs.Instructions.{Opens, OpensWith}
 use Rattle.eval_machine.proofs.Instructions.{OpensStill, opens_still, opens_not}
 
@@ -43,7 +43,7 @@ types_known m (bt.Value t) = refl
 types_known m (bt.Index n) = let past : nat_lt n 0 ≡ false = le-ltb n 0 (omega arith) in rw (none_of Types type_kind m.imports 0, past)
 
 module _ (m : Module) (o : Instr) (r : Registers) (ty : BlockType) (body : List Instr) where
-  module _ (rest : List Instr) (p : Place) (es : List Entry) where
+  module _ (rest : List Instr) (p : LevelPlace) (es : List Entry) where
     block_still : OpensStill m r o (Instr-F.Block ty body) rest p es
     block_still = record { grow = refl; table = refl; unknown = rw (types_known m ty); import = refl; further = refl; opens = refl; touched = refl }
 
@@ -57,14 +57,14 @@ module _ (m : Module) (o : Instr) (r : Registers) (ty : BlockType) (body : List 
   block_begins (act.Opens b) e (t, shape, params, gives, takes, code, again) = λ rest p es.
       rw (out_block o ty body e) (opens_still m r o (Instr-F.Block ty body) rest p es (block_still rest p es) _ r b.params.now b.gives b.takes b.body.now _ refl (rw (shape, params, gives, takes, code, again)))
   block_begins (act.Leaves left) e (shape, is) = λ rest p es. rw (out_block o ty body e, is) (opens_not m r o (Instr-F.Block ty body) rest p es (block_still rest p es) _ (rw shape))
-  block_begins act.Goes e h = elim h [ ]
+  block_begins act.Continues e h = elim h [ ]
   block_begins (act.Calls n) e h = elim h [ ]
 
   pub loop_begins : (a : MachineAct) → o ≡ Loop ty body → Opens m ty body true a → ComesToAct m o r a r
   loop_begins (act.Opens b) e (t, shape, params, gives, takes, code, again) = λ rest p es.
       rw (out_loop o ty body e) (opens_still m r o (Instr-F.Loop ty body) rest p es (loop_still rest p es) _ r b.params.now b.gives b.takes b.body.now _ refl (rw (shape, params, gives, takes, code, again, e)))
   loop_begins (act.Leaves left) e (shape, is) = λ rest p es. rw (out_loop o ty body e, is) (opens_not m r o (Instr-F.Loop ty body) rest p es (loop_still rest p es) _ (rw shape))
-  loop_begins act.Goes e h = elim h [ ]
+  loop_begins act.Continues e h = elim h [ ]
   loop_begins (act.Calls n) e h = elim h [ ]
 
   -- the one of the two bodies that the number chooses
@@ -74,7 +74,7 @@ module _ (m : Module) (o : Instr) (r : Registers) (ty : BlockType) (body : List 
       rw (out_if o ty first second e) (opens_still m r o (Instr-F.If ty first second) rest p es (if_still rest p es first second) _ new b.params.now b.gives b.takes b.body.now _ k (rw (f, choose, shape, params, gives, takes, code, again, l)))
   if_begins first second n new (act.Leaves left) e f k l choose (shape, is) = λ rest p es.
       rw (out_if o ty first second e, is, k) (opens_not m r o (Instr-F.If ty first second) rest p es (if_still rest p es first second) _ (rw (f, choose, shape)))
-  if_begins first second n new act.Goes e f k l choose h = elim h [ ]
+  if_begins first second n new act.Continues e f k l choose h = elim h [ ]
   if_begins first second n new (act.Calls x) e f k l choose h = elim h [ ]
 
   pub if_traps : (first second : List Instr) (new : Registers) → o ≡ If ty first second → pop_num W32 r.operands ≡ IllTyped → new.kept ≡ r.kept → ComesToAct m o r (act.Leaves (flow.Stopped why.Trap)) new
@@ -84,20 +84,20 @@ module _ (m : Module) (o : Instr) (r : Registers) (ty : BlockType) (body : List 
 
 pub opens_empty : (m : Module) (body : List Instr) (again : Bool) (a : MachineAct) → OpensWith [] 0 body again a → Opens m bt.Empty body again a
 opens_empty m body again (act.Opens b) (params, gives, takes, code, is) = (record { params = []; results = [] }, refl, params, gives, takes, code, is)
-opens_empty m body again act.Goes h = elim h [ ]
+opens_empty m body again act.Continues h = elim h [ ]
 opens_empty m body again (act.Leaves left) h = elim h [ ]
 opens_empty m body again (act.Calls n) h = elim h [ ]
 
 pub opens_value : (m : Module) (t : ValType) (body : List Instr) (again : Bool) (a : MachineAct) → OpensWith [] 1 body again a → Opens m (bt.Value t) body again a
 opens_value m t body again (act.Opens b) (params, gives, takes, code, is) = (record { params = []; results = t ∷ [] }, refl, params, gives, takes, code, is)
-opens_value m t body again act.Goes h = elim h [ ]
+opens_value m t body again act.Continues h = elim h [ ]
 opens_value m t body again (act.Leaves left) h = elim h [ ]
 opens_value m t body again (act.Calls n) h = elim h [ ]
 
 pub opens_index : (m : Module) (n : ℕ) (t : FuncType) (ps : List ValType) (k : ℕ) (body : List Instr) (again : Bool) (a : MachineAct) → slice_get m.types n ≡ Some t → ps ≡ t.params → k ≡ length t.results → OpensWith ps k body again a →
     Opens m (bt.Index n) body again a
 opens_index m n t ps k body again (act.Opens b) e f g (params, gives, takes, code, is) = (t, e, params ∙ f, gives ∙ g, takes ∙ ap₂ (λ x y. cond again x y) (ap length f) g, code, is)
-opens_index m n t ps k body again act.Goes e f g h = elim h [ ]
+opens_index m n t ps k body again act.Continues e f g h = elim h [ ]
 opens_index m n t ps k body again (act.Leaves left) e f g h = elim h [ ]
 opens_index m n t ps k body again (act.Calls x) e f g h = elim h [ ]
 

@@ -8,7 +8,7 @@ use Rattle.eval_spec.specs.declared.stop.Stop.TheVariants as why
 use Rattle.eval_spec.specs.Prelude.{Stopped}
 use Rattle.eval_machine.specs.declared.kept.Kept.{Kept}
 use Rattle.eval_machine.specs.declared.registers.Registers.{Registers}
-use Rattle.eval_machine.specs.Prelude.{ended, Place, body_at, BeginsWith, done_by, env_in}
+use Rattle.eval_machine.specs.Prelude.{ended, LevelPlace, body_at, BeginsWith, done_by, env_in}
 use Rattle.eval_machine.specs.Instructions.{Begins, DoesPlainly, is_plain}
 use Rattle.eval_machine.proofs.Instructions.{IsStill, still, still_goes, still_stops}
 
@@ -22,7 +22,7 @@ ended_trap (Gives b) x e = absurd (let k = e in cc)
 ended_trap Traps x e = cc
 ended_trap IllTyped x e = cc
 
-plain_still : (m : Module) (r : Registers) (o : Instr) (z : Instr-F Instr) (rest : List Instr) (p : Place) (es : List Entry) → is_plain z ≡ true → IsStill m r o z rest p es
+plain_still : (m : Module) (r : Registers) (o : Instr) (z : Instr-F Instr) (rest : List Instr) (p : LevelPlace) (es : List Entry) → is_plain z ≡ true → IsStill m r o z rest p es
 plain_still m r o Instr-F.Unreachable rest p es e = record { grow = refl; table = refl; unknown = refl; import = refl; further = refl; opens = refl; few = refl; written = refl }
 plain_still m r o Instr-F.Nop rest p es e = record { grow = refl; table = refl; unknown = refl; import = refl; further = refl; opens = refl; few = refl; written = refl }
 plain_still m r o Instr-F.Drop rest p es e = record { grow = refl; table = refl; unknown = refl; import = refl; further = refl; opens = refl; few = refl; written = refl }

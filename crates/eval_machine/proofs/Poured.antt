@@ -4,7 +4,7 @@ use Rattle.std.proofs.lemmas.Bool.{or_right}
 use Rattle.wasm_tree_spec.specs.Prelude.{Memories, Limits, ConstExpr, Module, imported_memories}
 use Rattle.wasm_tree.specs.declared.module.ConstExpr.TheVariants as const
 use Rattle.wasm_num.specs.Operations.{wrapped}
-use Rattle.block_pool.specs.Pages.{Pages, Passes, Writes, size, with_reached}
+use Rattle.block_pool.specs.Pages.{Pages, Passes, WritesBytes, size, with_reached}
 use Rattle.eval_spec.specs.declared.limits.TheConstants.{MOST_BLOCKS}
 use Rattle.eval_spec.specs.declared.stop.Stop.TheVariants as why
 use Rattle.eval_spec.specs.Prelude.{is_imported, too_many_blocks, reads_global}
@@ -94,10 +94,10 @@ module _ (m : Module) (p : Pages) (memory : ℕ) (v : ℤ) (place count : ℕ) (
 
 -- ---- what stays ----
 
-pub holds_still : (p q : Pages) (place : ℕ) (bytes : List ℕ) → Writes p q place bytes → HoldsMost p → HoldsMost q
+pub holds_still : (p q : Pages) (place : ℕ) (bytes : List ℕ) → WritesBytes p q place bytes → HoldsMost p → HoldsMost q
 holds_still p q place bytes w h = w.most ∙ (h ∙ ap (min MOST_BLOCKS) (sym w.flags))
 
-pub fits_still : (ls : List Limits) (p q : Pages) (place : ℕ) (bytes : List ℕ) → Writes p q place bytes → MemoryFits ls (Some p) → MemoryFits ls (Some q)
+pub fits_still : (ls : List Limits) (p q : Pages) (place : ℕ) (bytes : List ℕ) → WritesBytes p q place bytes → MemoryFits ls (Some p) → MemoryFits ls (Some q)
 fits_still [] p q place bytes w f = elim f [ ]
 fits_still (l ∷ []) p q place bytes w f = (w.size ∙ f.0, holds_still p q place bytes w f.1)
 fits_still (l ∷ k ∷ ls) p q place bytes w f = elim f [ ]

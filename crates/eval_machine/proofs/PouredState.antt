@@ -9,7 +9,7 @@ use Rattle.wasm_tree.specs.declared.module.ConstExpr.TheVariants as const
 use Rattle.wasm_tree.specs.declared.module.DataMode.TheVariants as data'
 use Rattle.wasm_num.specs.Operations.{W32, wrapped}
 use Rattle.wasm_meaning.specs.Prelude.{Outcome, Gives, FuncRef, Ref, Memory, SetMemory, DropData, num_of, changed, no_bytes, Touched, Bytes, Filled, PlacedSegment, run_data_with}
-use Rattle.block_pool.specs.Pages.{Pages, Writes, size, with_reached}
+use Rattle.block_pool.specs.Pages.{Pages, WritesBytes, size, with_reached}
 use Rattle.eval_spec.specs.declared.stop.Stop.{Stop}
 use Rattle.eval_spec.specs.declared.stop.Stop.TheVariants as why
 use Rattle.eval_spec.specs.Prelude.{State, Stage, Finished, Stopped, stop_of, is_imported, too_many_blocks, own_inst, imported_store, reads_global, value_in, place_in, with_data, with_data_mode, in_order}
@@ -142,7 +142,7 @@ module _ (m : Module) (s : State) (n : ℕ) (d : DataSeg) (at : slice_get m.data
     passes : size q < wrapped 32 v + length d.bytes → (run memory (const.I32 v)).trapped ≡ true
     passes past = let l = one_limit m.mems q fits_q in rw (address, stands l.0 l.1, its_data, overwrite_out q.now.bytes (wrapped 32 v) d.bytes past) refl
 
-    next_is : (new : Pages) → Writes q new (wrapped 32 v) d.bytes → (l : Limits) → m.mems ≡ l ∷ [] →
+    next_is : (new : Pages) → WritesBytes q new (wrapped 32 v) d.bytes → (l : Limits) → m.mems ≡ l ∷ [] →
         record old { store = changed (changed old.store (SetMemory memory (record (the_memory l q) { bytes = put_over q.now.bytes (wrapped 32 v) d.bytes }))) (DropData n); written = with_reached (wrapped 32 v) (length d.bytes) 0 (written_in p) }
         ≡ data_state m s (Some new) (slice_set flags n true)
     next_is new w l one =
@@ -212,7 +212,7 @@ module _ (m : Module) (s : State) (n : ℕ) (d : DataSeg) (at : slice_get m.data
         let l = one_limit m.mems b.pages (rw b.there at holds) in
         let off : is_imported m Memories memory ≡ false = rw b.is at known in
         let blocks : too_many_blocks (with_reached (wrapped 32 b.value) (length d.bytes) 0 (written_in p)) ≡ false = rw b.is at few in
-        let writes : Writes b.pages new (wrapped 32 b.value) d.bytes = rw (b.there, b.is) at w in
+        let writes : WritesBytes b.pages new (wrapped 32 b.value) d.bytes = rw (b.there, b.is) at w in
         rw (b.is, goes b.value b.pages b.there memory b.own b.fits l.0 l.1, off, blocks) (ap Finished (next_is b.value b.pages b.there memory b.own new writes l.0 l.1))
 
     data_stops : (offset : ConstExpr) (x : Stop) → d.mode ≡ data'.Active memory offset → data_stop m p memory offset (length d.bytes) ≡ Some x → with_data m old task ≡ Stopped x old.turns

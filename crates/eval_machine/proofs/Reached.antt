@@ -7,10 +7,10 @@ use Rattle.eval_references_proof.specs.Imports.{ImportsAreTyped}
 use Rattle.wasm_meaning.specs.Prelude.{own_at, type_at}
 use Rattle.eval_spec.specs.declared.stop.Stop.TheVariants as why
 use Rattle.eval_machine.specs.declared.kept.Kept.{Kept}
-use Rattle.eval_machine.specs.declared.registers.Act.TheVariants as act
+use Rattle.eval_machine.specs.declared.registers.MachineAct.TheVariants as act
 use Rattle.eval_machine.specs.declared.registers.Flow.TheVariants as flow
-use Rattle.eval_machine.specs.Prelude.{Fits, base_of}
-use Rattle.eval_machine.specs.Instructions.{Reaches, type_matches}
+use Rattle.eval_machine.specs.Prelude.{MachineFits, base_of}
+use Rattle.eval_machine.specs.Instructions.{ReachesThroughTable, type_matches}
 use Rattle.eval_machine.proofs.Funcs.{own_call, code_call, no_call}
 
 -- a function that is not there has no type
@@ -18,11 +18,11 @@ pub unmatched : (o x : Option FuncType) → x ≡ None → (o >>= λ t. x >>= λ
 unmatched None x e h = absurd (let k = h in cc)
 unmatched (Some t) x e h = absurd (let k = rw e at h in cc)
 
-module _ (m : Module) (k : Kept) (v : ImportsAreTyped m) (f : Fits m k) (ty func : ℕ) where
-  pub reaches_import : func < k.imports.funcs → Reaches m ty func (act.Leaves (flow.Stopped why.Import))
+module _ (m : Module) (k : Kept) (v : ImportsAreTyped m) (f : MachineFits m k) (ty func : ℕ) where
+  pub reaches_import : func < k.imports.funcs → ReachesThroughTable m ty func (act.Leaves (flow.Stopped why.Import))
   reaches_import lt = let o = own_call m k v f func lt in rw o.1
 
-  pub reaches_none : k.imports.funcs ≤ func → slice_get m.funcs (func - k.imports.funcs) ≡ None → Reaches m ty func (act.Leaves (flow.Stopped why.Trap))
+  pub reaches_none : k.imports.funcs ≤ func → slice_get m.funcs (func - k.imports.funcs) ≡ None → ReachesThroughTable m ty func (act.Leaves (flow.Stopped why.Trap))
   reaches_none le e = let n = no_call m k v f func le e in (rw n, unmatched (slice_get m.types ty) (type_at (base_of m).store func) (rw n))
 
   module _ (g : FuncDef) (le : k.imports.funcs ≤ func) (is : slice_get m.funcs (func - k.imports.funcs) ≡ Some g) where
@@ -35,19 +35,19 @@ module _ (m : Module) (k : Kept) (v : ImportsAreTyped m) (f : Fits m k) (ty func
     matches_as : type_matches m ty func ≡ (slice_get m.types ty >>= λ t. slice_get m.types g.ty >>= λ u. Some (same_func_type t u))
     matches_as = ap (λ x. slice_get m.types ty >>= λ t. x >>= λ u. Some (same_func_type t u)) type_is
 
-    pub reaches_untyped : slice_get m.types ty ≡ None → Reaches m ty func (act.Leaves (flow.Stopped why.Trap))
+    pub reaches_untyped : slice_get m.types ty ≡ None → ReachesThroughTable m ty func (act.Leaves (flow.Stopped why.Trap))
     reaches_untyped e = (own_none, λ h. absurd (let q = rw (matches_as, e) at h in cc))
 
     -- the type that is asked for
     module _ (asked : FuncType) (e : slice_get m.types ty ≡ Some asked) where
-      pub reaches_same_index : g.ty ≡ ty → Reaches m ty func (act.Calls func)
+      pub reaches_same_index : g.ty ≡ ty → ReachesThroughTable m ty func (act.Calls func)
       reaches_same_index s = (refl, own_none, rw (matches_as, s, e) (ap Some (simp (each_same_self same_type (λ a. grind arith)))))
 
-      pub reaches_unknown : slice_get m.types g.ty ≡ None → Reaches m ty func (act.Leaves (flow.Stopped why.Trap))
+      pub reaches_unknown : slice_get m.types g.ty ≡ None → ReachesThroughTable m ty func (act.Leaves (flow.Stopped why.Trap))
       reaches_unknown h = (own_none, λ q. absurd (let r = rw (matches_as, e, h) at q in cc))
 
-      pub reaches_same : (has : FuncType) → slice_get m.types g.ty ≡ Some has → same_func_type asked has ≡ true → Reaches m ty func (act.Calls func)
+      pub reaches_same : (has : FuncType) → slice_get m.types g.ty ≡ Some has → same_func_type asked has ≡ true → ReachesThroughTable m ty func (act.Calls func)
       reaches_same has h s = (refl, own_none, rw (matches_as, e, h) (ap Some s))
 
-      pub reaches_other : (has : FuncType) → slice_get m.types g.ty ≡ Some has → same_func_type asked has ≡ false → Reaches m ty func (act.Leaves (flow.Stopped why.Trap))
+      pub reaches_other : (has : FuncType) → slice_get m.types g.ty ≡ Some has → same_func_type asked has ≡ false → ReachesThroughTable m ty func (act.Leaves (flow.Stopped why.Trap))
       reaches_other has h s = (own_none, λ q. absurd (let r = rw (matches_as, e, h, s) at q in cc))

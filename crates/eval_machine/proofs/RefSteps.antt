@@ -7,12 +7,12 @@ use Rattle.wasm_meaning.specs.Prelude.{FuncRef, Val, Ref, Entry}
 use Rattle.eval_spec.specs.declared.stop.Stop.TheVariants as why
 use Rattle.eval_spec.specs.Prelude.{own_inst}
 use Rattle.eval_machine.specs.declared.kept.Kept.{Kept}
-use Rattle.eval_machine.specs.Prelude.{Place, BeginsWith}
+use Rattle.eval_machine.specs.Prelude.{LevelPlace, BeginsWith}
 use Rattle.eval_machine.proofs.Imports.{address_of}
 use Rattle.eval_machine.proofs.Instructions.{IsStill, ends_on, ends_trap}
 
 module _ (m : Module) (k : Kept) (n : ℕ) (vs us : List Val) where
-  ref_still : (ls : List Val) (rest : List Instr) (p : Place) (es : List Entry) → IsStill m (record { kept = k; operands = vs; locals = ls }) (i.RefFunc n) (Instr-F.RefFunc n) rest p es
+  ref_still : (ls : List Val) (rest : List Instr) (p : LevelPlace) (es : List Entry) → IsStill m (record { kept = k; operands = vs; locals = ls }) (i.RefFunc n) (Instr-F.RefFunc n) rest p es
   ref_still ls rest p es = record { grow = refl; table = refl; unknown = refl; import = refl; further = refl; opens = refl; few = refl; written = refl }
 
   pub ref_missing : length (funcs_of m) ≤ n → BeginsWith m (i.RefFunc n) k vs (Some why.Trap) k us

@@ -9,7 +9,7 @@ use Rattle.eval_spec.specs.declared.limits.TheConstants.{MOST_TURNS}
 use Rattle.eval_spec.specs.Prelude.{Stage, Going, Stopped, Finished, is_finished, state_of, booted, imported_store, instantiated, called_in_order}
 use Rattle.eval_references_proof.specs.References.{CallsKeepRefs, CallsKeepTypes, EvaluatedGlobalsAreTyped, EvaluatedRefsAreThere, HasPartsOf}
 use Rattle.eval_machine.specs.declared.kept.Kept.{Kept}
-use Rattle.eval_machine.specs.Prelude.{CallEnds, IsReady, global_of, Fits, IsUnmarked, MemoryFits, Rests, datas_in, memory_in, state_in, store_in}
+use Rattle.eval_machine.specs.Prelude.{CallEnds, IsReady, global_of, MachineFits, IsUnmarked, MemoryFits, Rests, datas_in, memory_in, state_in, store_in}
 use Rattle.eval_machine.specs.Kept.{base_of, no_state}
 
 memories_many : (ls : List Limits) (p : Option Pages) → MemoryFits ls p → length ls ≤ length (memory_in ls p)
@@ -33,7 +33,7 @@ module _ (m : Module) where
   unfolding base_of
   base_is e = finished_is (instantiated m MOST_TURNS) e
 
-  parts : (k : Kept) → Fits m k → HasPartsOf m (base_of m).store (store_in m k)
+  parts : (k : Kept) → MachineFits m k → HasPartsOf m (base_of m).store (store_in m k)
   parts k f = record {
     funcs = refl;
     tables = refl;
@@ -45,7 +45,7 @@ module _ (m : Module) where
 
   module _ (valid : IsValid m) where
     -- after the instantiation with the start
-    pub is_ready : EvaluatedRefsAreThere → EvaluatedGlobalsAreTyped → (k : Kept) → Fits m k → IsUnmarked k.memory → booted m MOST_TURNS ≡ Finished (state_in m k) → IsReady m k
+    pub is_ready : EvaluatedRefsAreThere → EvaluatedGlobalsAreTyped → (k : Kept) → MachineFits m k → IsUnmarked k.memory → booted m MOST_TURNS ≡ Finished (state_in m k) → IsReady m k
     is_ready there typed k fits unmarked e =
         let none = ap (λ t. called_in_order m t []) e in
         record {
@@ -54,7 +54,7 @@ module _ (m : Module) where
         }
 
     -- after a call that comes to its end
-    pub still_rests : CallsKeepRefs → CallsKeepTypes → (old new : Kept) (func : ℕ) → Rests m old → Fits m new → IsUnmarked new.memory → CallEnds m func old None new → Rests m new
+    pub still_rests : CallsKeepRefs → CallsKeepTypes → (old new : Kept) (func : ℕ) → Rests m old → MachineFits m new → IsUnmarked new.memory → CallEnds m func old None new → Rests m new
     still_rests refs types old new func r fits unmarked e = record {
       fits = fits;
       unmarked = unmarked;

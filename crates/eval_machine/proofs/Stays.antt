@@ -1,11 +1,11 @@
 -- What stays, step by step, and a machine of which it stays fits as before.
 use Rattle.base_lists.proofs.Common.{◌≡◌, ℕ, zero, suc, ◌≤◌, arith, List, [], ◌∷◌, length, map, Option, Some, None, refl, sym, ap, ◌∙◌, slice_get, min}
-use Rattle.block_pool.specs.Pages.{Pages, Writes}
+use Rattle.block_pool.specs.Pages.{Pages, WritesBytes}
 use Rattle.wasm_tree_spec.specs.Prelude.{Limits, Module}
 use Rattle.eval_spec.specs.declared.limits.TheConstants.{MOST_BLOCKS}
 use Rattle.eval_machine.specs.declared.globals.GlobalSlot.{GlobalSlot}
 use Rattle.eval_machine.specs.declared.kept.Kept.{Kept}
-use Rattle.eval_machine.specs.Prelude.{is_of_import, Fits, MemoryFits, MemoryStays, Stays, HoldsMost}
+use Rattle.eval_machine.specs.Prelude.{is_of_import, MachineFits, MemoryFits, MemoryStays, Stays, HoldsMost}
 use Rattle.eval_machine.specs.Stays.{PagesStay}
 use Rattle.eval_machine.proofs.Undone.{undo_same, undo_then}
 
@@ -63,7 +63,7 @@ same_at [] (y ∷ ys) e n g f = absurd (let k = e in cc)
 same_at (x ∷ xs) (y ∷ ys) e zero g f = let k : y ≡ g = cc in (x, refl, ap (λ g. is_of_import g.standing) (sym k) ∙ (let h : is_of_import y.standing ≡ is_of_import x.standing = cc in h))
 same_at (x ∷ xs) (y ∷ ys) e (suc n) g f = same_at xs ys (let h : map (λ g. is_of_import g.standing) ys ≡ map (λ g. is_of_import g.standing) xs = cc in h) n g f
 
-pub fits_still : (m : Module) (k j : Kept) → Fits m k → Stays k j → Fits m j
+pub fits_still : (m : Module) (k j : Kept) → MachineFits m k → Stays k j → MachineFits m j
 fits_still m k j f a = record {
   ready = f.ready;
   types = a.types ∙ f.types;
@@ -78,5 +78,5 @@ fits_still m k j f a = record {
 
 -- ---- writes ----
 
-pub writes_stay : (p q : Pages) (at : ℕ) (bytes : List ℕ) → Writes p q at bytes → PagesStay p q
+pub writes_stay : (p q : Pages) (at : ℕ) (bytes : List ℕ) → WritesBytes p q at bytes → PagesStay p q
 writes_stay p q at bytes w = record { size = w.size; blocks = w.flags; most = w.most; mark = w.mark }

@@ -13,7 +13,7 @@ use Rattle.eval_spec.specs.declared.stop.Stop.{Stop}
 use Rattle.eval_spec.specs.declared.stop.Stop.TheVariants as why
 use Rattle.eval_spec.specs.Prelude.{first_held, is_imported, own_inst}
 use Rattle.eval_machine.specs.declared.kept.Kept.{Kept}
-use Rattle.eval_machine.specs.Prelude.{ended, Place, body_at, Fits, Wrote, told_of, write_tests, BeginsWith, done_by}
+use Rattle.eval_machine.specs.Prelude.{ended, LevelPlace, body_at, MachineFits, Wrote, told_of, write_tests, BeginsWith, done_by}
 use Rattle.eval_machine.proofs.Instructions.{ends_trap_first, ends_unknown}
 use Rattle.eval_machine.proofs.MemoryAt.{IsThere, imported_memory, own_memory}
 use Rattle.eval_machine.proofs.WriteSteps.{IsWrite, begins_from, write_begins, wrote_form}
@@ -49,7 +49,7 @@ no_turns op.I64Store32 = refl
 
 -- ---- what stops a store before it writes ----
 
-module _ (m : Module) (k : Kept) (f : Fits m k) (o : StoreOp) (arg : MemArg) (vs us : List Val) where
+module _ (m : Module) (k : Kept) (f : MachineFits m k) (o : StoreOp) (arg : MemArg) (vs us : List Val) where
   abbrev stores : Instr
   stores = i.Store o arg
 
@@ -57,7 +57,7 @@ module _ (m : Module) (k : Kept) (f : Fits m k) (o : StoreOp) (arg : MemArg) (vs
   store_unknown lt = λ ls rest p es. ends_unknown m (record { kept = k; operands = vs; locals = ls }) stores (Instr-F.Store o arg) rest p es (i.outs-Store o arg) refl refl (rw (imported_memory m k f arg.memory lt))
 
   module _ (le : k.imports.memories ≤ arg.memory) where
-    store_stops : ((ls : List Val) (rest : List Instr) (p : Place) → ended (done_by m (record { kept = k; operands = vs; locals = ls }) (Instr-F.Store o arg) rest p) ≡ Err why.Trap) → BeginsWith m stores k vs (Some why.Trap) k us
+    store_stops : ((ls : List Val) (rest : List Instr) (p : LevelPlace) → ended (done_by m (record { kept = k; operands = vs; locals = ls }) (Instr-F.Store o arg) rest p) ≡ Err why.Trap) → BeginsWith m stores k vs (Some why.Trap) k us
     store_stops h = λ ls rest p es.
         ends_trap_first m (record { kept = k; operands = vs; locals = ls }) stores (Instr-F.Store o arg) rest p es (i.outs-Store o arg) refl refl (rw (own_memory m k f arg.memory le)) refl (h ls rest p)
 
@@ -79,12 +79,12 @@ module _ (m : Module) (k : Kept) (f : Fits m k) (o : StoreOp) (arg : MemArg) (vs
 
 -- ---- the write ----
 
-module _ (m : Module) (k : Kept) (f : Fits m k) (o : StoreOp) (arg : MemArg) (pages : Pages) (t : IsThere m k f arg.memory pages) (own : is_imported m Memories arg.memory ≡ false) (holds : k.memory ≡ Some pages) where
+module _ (m : Module) (k : Kept) (f : MachineFits m k) (o : StoreOp) (arg : MemArg) (pages : Pages) (t : IsThere m k f arg.memory pages) (own : is_imported m Memories arg.memory ≡ false) (holds : k.memory ≡ Some pages) where
   module _ (v : Val) (middle below : List Val) (number base : ℕ) (is : num_of (store_from o) v ≡ Some number) (at : pop_num W32 middle ≡ Gives (base, below)) where
     abbrev low : List ℕ
     low = lowest_bytes (store_width o) number
 
-    store_write : (ls : List Val) (rest : List Instr) (p : Place) (es : List Entry) → IsWrite m k f arg.memory pages t (i.Store o arg) (Instr-F.Store o arg) (v ∷ middle) ls rest p es (base + arg.offset) low below
+    store_write : (ls : List Val) (rest : List Instr) (p : LevelPlace) (es : List Entry) → IsWrite m k f arg.memory pages t (i.Store o arg) (Instr-F.Store o arg) (v ∷ middle) ls rest p es (base + arg.offset) low below
     store_write ls rest p es = record {
       layer = i.outs-Store o arg;
       grow = refl;

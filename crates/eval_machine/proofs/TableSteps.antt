@@ -11,7 +11,7 @@ use Rattle.eval_spec.specs.Prelude.{is_imported, own_inst}
 use Rattle.eval_machine.specs.declared.kept.Kept.{Kept}
 use Rattle.eval_machine.specs.declared.value.Value.{Value}
 use Rattle.eval_machine.specs.declared.slots.Slot.TheVariants as slot
-use Rattle.eval_machine.specs.Prelude.{val_of, IsSlot, is_unknown_in, ref_in, slot_count, Fits, base_of, Place, BeginsWith}
+use Rattle.eval_machine.specs.Prelude.{val_of, IsSlot, is_unknown_in, ref_in, slot_count, MachineFits, base_of, LevelPlace, BeginsWith}
 use Rattle.eval_machine.proofs.Imports.{address_of, tables_many}
 use Rattle.eval_machine.proofs.Instructions.{IsStill, ends_on, ends_trap, ends_unknown}
 
@@ -23,7 +23,7 @@ pub record IsTable (m : Module) (n count : ℕ) : Type 0 where
   pub there : slice_get (base_of m).store.tables n ≡ Some table
   pub size : length table.slots ≡ count
 
-module _ (m : Module) (k : Kept) (f : Fits m k) (n : ℕ) where
+module _ (m : Module) (k : Kept) (f : MachineFits m k) (n : ℕ) where
   counted : k.imports.tables ≡ length (imported_tables m.imports)
   counted = ap (λ i. i.tables) f.imports
 
@@ -64,7 +64,7 @@ module _ (m : Module) (k : Kept) (f : Fits m k) (n : ℕ) where
 
 -- ---- table.get ----
 
-module _ (m : Module) (k : Kept) (f : Fits m k) (n : ℕ) (vs us : List Val) where
+module _ (m : Module) (k : Kept) (f : MachineFits m k) (n : ℕ) (vs us : List Val) where
   pub get_imported : n < k.imports.tables → BeginsWith m (i.TableGet n) k vs (Some why.Unknown) k us
   get_imported lt = λ ls rest p es. ends_unknown m (record { kept = k; operands = vs; locals = ls }) (i.TableGet n) (Instr-F.TableGet n) rest p es (i.outs-TableGet n) refl refl (rw (imported_table m k f n lt))
 
@@ -85,7 +85,7 @@ module _ (m : Module) (k : Kept) (f : Fits m k) (n : ℕ) (vs us : List Val) whe
         pub get_unknown : is_unknown_in (base_of m) n place ≡ true → BeginsWith m (i.TableGet n) k vs (Some why.Unknown) k us
         get_unknown u = λ ls rest p es. ends_unknown m (record { kept = k; operands = vs; locals = ls }) (i.TableGet n) (Instr-F.TableGet n) rest p es (i.outs-TableGet n) refl refl (rw (own_table m k f n le, t.address, pop, u))
 
-        get_still : is_unknown_in (base_of m) n place ≡ false → (ls : List Val) (rest : List Instr) (p : Place) (es : List Entry) → IsStill m (record { kept = k; operands = vs; locals = ls }) (i.TableGet n) (Instr-F.TableGet n) rest p es
+        get_still : is_unknown_in (base_of m) n place ≡ false → (ls : List Val) (rest : List Instr) (p : LevelPlace) (es : List Entry) → IsStill m (record { kept = k; operands = vs; locals = ls }) (i.TableGet n) (Instr-F.TableGet n) rest p es
         get_still u ls rest p es = record { grow = refl; table = refl; unknown = rw (own_table m k f n le, t.address, pop, u); import = refl; further = refl; opens = refl; few = refl; written = refl }
 
         slot_is : (o : Option RefVal) → ref_in (base_of m) n place ≡ o → slice_get t.table.slots place ≡ o
@@ -107,12 +107,12 @@ module _ (m : Module) (k : Kept) (f : Fits m k) (n : ℕ) (vs us : List Val) whe
 
 -- ---- table.size ----
 
-module _ (m : Module) (k : Kept) (f : Fits m k) (n : ℕ) (vs us : List Val) where
+module _ (m : Module) (k : Kept) (f : MachineFits m k) (n : ℕ) (vs us : List Val) where
   pub size_imported : n < k.imports.tables → BeginsWith m (i.TableSize n) k vs (Some why.Unknown) k us
   size_imported lt = λ ls rest p es. ends_unknown m (record { kept = k; operands = vs; locals = ls }) (i.TableSize n) (Instr-F.TableSize n) rest p es (i.outs-TableSize n) refl refl (rw (imported_table m k f n lt))
 
   module _ (le : k.imports.tables ≤ n) where
-    size_still : (ls : List Val) (rest : List Instr) (p : Place) (es : List Entry) → IsStill m (record { kept = k; operands = vs; locals = ls }) (i.TableSize n) (Instr-F.TableSize n) rest p es
+    size_still : (ls : List Val) (rest : List Instr) (p : LevelPlace) (es : List Entry) → IsStill m (record { kept = k; operands = vs; locals = ls }) (i.TableSize n) (Instr-F.TableSize n) rest p es
     size_still ls rest p es = record { grow = refl; table = refl; unknown = rw (own_table m k f n le); import = refl; further = refl; opens = refl; few = refl; written = refl }
 
     pub size_nowhere : slot_count (base_of m) n ≡ None → BeginsWith m (i.TableSize n) k vs (Some why.Trap) k us

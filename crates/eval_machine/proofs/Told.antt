@@ -11,7 +11,7 @@ use Rattle.eval_machine.specs.declared.globals.GlobalSlot.{GlobalSlot}
 use Rattle.eval_machine.specs.declared.globals.Standing.{Standing}
 use Rattle.eval_machine.specs.declared.globals.Standing.TheVariants as standing
 use Rattle.eval_machine.specs.declared.kept.Kept.{Kept}
-use Rattle.eval_machine.specs.Prelude.{global_of, is_of_import, is_unset, val_of, Fits, datas_in, state_in}
+use Rattle.eval_machine.specs.Prelude.{global_of, is_of_import, is_unset, val_of, MachineFits, datas_in, state_in}
 use Rattle.eval_machine.specs.Held.{constant_of, is_known}
 use Rattle.eval_machine.proofs.Chosen.{none_mapped}
 use Rattle.eval_machine.proofs.GlobalSteps.{among_places}
@@ -23,7 +23,7 @@ cond_same : {A : Type 0} (b : Bool) (x : A) → cond b x x ≡ x
 cond_same true x = refl
 cond_same false x = refl
 
-pub global_told : (m : Module) (k : Kept) (n : ℕ) → Fits m k → constant_of (slice_get k.globals n) ≡ value_of_global m (state_in m k) n
+pub global_told : (m : Module) (k : Kept) (n : ℕ) → MachineFits m k → constant_of (slice_get k.globals n) ≡ value_of_global m (state_in m k) n
 global_told m k n f = by (slice_get k.globals n) refl
   where
     z : 0 + n ≡ n
@@ -61,7 +61,7 @@ not_dropped (d ∷ ds) [] n e f = absurd (omega (arith, e))
 not_dropped (d ∷ ds) (c ∷ bs) zero e f = absurd (let k = f in cc)
 not_dropped (d ∷ ds) (c ∷ bs) (suc n) e f = not_dropped ds bs n (omega (arith, e)) f
 
-pub dropped_told : (m : Module) (k : Kept) (n : ℕ) (o : Option Bool) → Fits m k → slice_get k.dropped n ≡ o → unwrap_or o false ≡ is_dropped (state_in m k) n
+pub dropped_told : (m : Module) (k : Kept) (n : ℕ) (o : Option Bool) → MachineFits m k → slice_get k.dropped n ≡ o → unwrap_or o false ≡ is_dropped (state_in m k) n
 dropped_told m k n None f e = sym (not_dropped m.datas k.dropped n f.dropped e)
 dropped_told m k n (Some b) f e = sym (dropped_at m.datas k.dropped n b f.dropped e)
 
@@ -72,7 +72,7 @@ one_byte [] at lt = absurd (omega (arith, lt))
 one_byte (x ∷ xs) zero lt = let n : x + 256 * 0 ≡ x = omega arith in ap Some n
 one_byte (x ∷ xs) (suc at) lt = one_byte xs at (omega (arith, lt))
 
-pub bytes_are : (m : Module) (k : Kept) (p : Pages) → Fits m k → k.memory ≡ Some p → memory_bytes m (state_in m k) ≡ p.now.bytes
+pub bytes_are : (m : Module) (k : Kept) (p : Pages) → MachineFits m k → k.memory ≡ Some p → memory_bytes m (state_in m k) ≡ p.now.bytes
 bytes_are m k p f e = let l = one_limit m.mems p (rw e at f.memory) in by l.0 l.1
   where
     z : length (imported_memories m.imports) ≡ length (imported_store m).mems

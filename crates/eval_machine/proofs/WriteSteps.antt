@@ -11,13 +11,13 @@ use Rattle.eval_spec.specs.declared.stop.Stop.{Stop}
 use Rattle.eval_spec.specs.declared.stop.Stop.TheVariants as why
 use Rattle.eval_machine.specs.declared.kept.Kept.{Kept}
 use Rattle.eval_machine.specs.declared.registers.Registers.{Registers}
-use Rattle.eval_machine.specs.Prelude.{Place, body_at, running, Fits, state_in, Wrote, told_of, write_tests, BeginsWith, begun, done_by, env_in}
+use Rattle.eval_machine.specs.Prelude.{LevelPlace, body_at, running, MachineFits, state_in, Wrote, told_of, write_tests, BeginsWith, begun, done_by, env_in}
 use Rattle.eval_machine.proofs.FirstGlobals.{copies_are}
 use Rattle.eval_machine.proofs.Instructions.{by_layer}
 use Rattle.eval_machine.proofs.MemoryAt.{IsThere, slice_in}
 use Rattle.eval_machine.proofs.Overwritten.{overwrite_in, overwrite_out}
 
-module _ (m : Module) (k : Kept) (f : Fits m k) (n : ℕ) (pages : Pages) (t : IsThere m k f n pages) (o : Instr) (z : Instr-F Instr) (vs ls : List Val) (rest : List Instr) (p : Place) (es : List Entry) where
+module _ (m : Module) (k : Kept) (f : MachineFits m k) (n : ℕ) (pages : Pages) (t : IsThere m k f n pages) (o : Instr) (z : Instr-F Instr) (vs ls : List Val) (rest : List Instr) (p : LevelPlace) (es : List Entry) where
   abbrev before : Registers
   before = record { kept = k; operands = vs; locals = ls }
 
@@ -70,15 +70,15 @@ pub wrote_form : (mem : Memory) (a : ℕ) (h : Body) (o : Option (List ℕ)) →
 wrote_form mem a h None = refl
 wrote_form mem a h (Some b) = refl
 
-module _ (m : Module) (k : Kept) (f : Fits m k) (n : ℕ) (pages : Pages) (t : IsThere m k f n pages) (own : is_imported m Memories n ≡ false) (holds : k.memory ≡ Some pages) (vs below : List Val) where
+module _ (m : Module) (k : Kept) (f : MachineFits m k) (n : ℕ) (pages : Pages) (t : IsThere m k f n pages) (own : is_imported m Memories n ≡ false) (holds : k.memory ≡ Some pages) (vs below : List Val) where
   -- with what the write leaves
-  pub begins_from : (o : Instr) (z : Instr-F Instr) (stop : Option Stop) (after : Pages) (turns : ℕ) → ((ls : List Val) (rest : List Instr) (p : Place) (es : List Entry) → WritesTo m k f n pages t o z vs ls rest p es below stop after turns) →
+  pub begins_from : (o : Instr) (z : Instr-F Instr) (stop : Option Stop) (after : Pages) (turns : ℕ) → ((ls : List Val) (rest : List Instr) (p : LevelPlace) (es : List Entry) → WritesTo m k f n pages t o z vs ls rest p es below stop after turns) →
       BeginsWith m o k vs stop (record k { memory = Some after; turns = turns }) below
   begins_from o z None after turns w = w
   begins_from o z (Some x) after turns w = w
 
   module _ (to source count : ℕ) (pop : pop_three vs ≡ Gives ((to, source, count), below)) where
-    fill_write : (ls : List Val) (rest : List Instr) (p : Place) (es : List Entry) → IsWrite m k f n pages t (i.MemoryFill n) (Instr-F.MemoryFill n) vs ls rest p es to (replicate count (source % 256)) below
+    fill_write : (ls : List Val) (rest : List Instr) (p : LevelPlace) (es : List Entry) → IsWrite m k f n pages t (i.MemoryFill n) (Instr-F.MemoryFill n) vs ls rest p es to (replicate count (source % 256)) below
     fill_write ls rest p es = record {
       layer = i.outs-MemoryFill n;
       grow = refl;
@@ -103,7 +103,7 @@ module _ (m : Module) (k : Kept) (f : Fits m k) (n : ℕ) (pages : Pages) (t : I
       copied_size : length copied ≡ count
       copied_size = grind (arith, inside, length-take-le, length-drop)
 
-      copy_write : (ls : List Val) (rest : List Instr) (p : Place) (es : List Entry) → IsWrite m k f n pages t (i.MemoryCopy n n) (Instr-F.MemoryCopy n n) vs ls rest p es to copied below
+      copy_write : (ls : List Val) (rest : List Instr) (p : LevelPlace) (es : List Entry) → IsWrite m k f n pages t (i.MemoryCopy n n) (Instr-F.MemoryCopy n n) vs ls rest p es to copied below
       copy_write ls rest p es = record {
         layer = i.outs-MemoryCopy n n;
         grow = refl;

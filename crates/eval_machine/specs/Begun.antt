@@ -14,7 +14,7 @@ use Rattle.eval_spec.specs.Prelude.{State, Stage, Finished, stop_of, is_imported
 use Rattle.eval_machine.specs.declared.value.Value.TheVariants as v
 use Rattle.eval_machine.specs.declared.slots.Slot.{Slot}
 use Rattle.eval_machine.specs.declared.slots.Slot.TheVariants as slot
-use Rattle.block_pool.specs.Pages.{Pages, Writes, blank, size, with_reached}
+use Rattle.block_pool.specs.Pages.{Pages, WritesBytes, blank, size, with_reached}
 use Rattle.eval_machine.specs.declared.globals.Standing.{Standing}
 use Rattle.eval_machine.specs.declared.globals.Standing.TheVariants as standing
 use Rattle.eval_machine.specs.Written.{HoldsMost}
@@ -22,7 +22,7 @@ use Rattle.eval_spec.specs.declared.limits.TheConstants.{MOST_TURNS}
 use Rattle.eval_machine.specs.declared.globals.GlobalSlot.{GlobalSlot}
 use Rattle.eval_machine.specs.declared.kept.Kept.{Kept}
 use Rattle.eval_machine.specs.Held.{global_of, is_of_import, is_unset}
-use Rattle.eval_machine.specs.Kept.{Fits, IsUnmarked, datas_in, memory_in, state_in, written_in}
+use Rattle.eval_machine.specs.Kept.{MachineFits, IsUnmarked, datas_in, memory_in, state_in, written_in}
 use Rattle.eval_machine.specs.Slots.{IsSlot, defined_table, filled_at, is_unknown_in, null_in, null_of, ref_in, slot_at, slot_count, slots_declared}
 
 -- ---- element segments ----
@@ -126,7 +126,7 @@ data_stop m p memory offset count =
     (Some why.Trap))
 
 abbrev pub WritesIn : (old new : Option Pages) → (place : ℕ) → List ℕ → Type 0
-WritesIn (Some p) (Some q) place bytes = Writes p q place bytes
+WritesIn (Some p) (Some q) place bytes = WritesBytes p q place bytes
 WritesIn _ _ place bytes = ⊥
 
 -- The bytes of a segment are written, or this stop prevents it.
@@ -190,12 +190,12 @@ pub record AreFirst (m : Module) (gs : List GlobalSlot) : Type 0 where
 -- ---- the instantiation without the start ----
 
 -- Nothing stops the instantiation, and the machine has the state after it.
-pub record IsInstantiated (m : Module) (k : Kept) : Type 0 where
-  pub fits : Fits m k
+pub record IsInitialMachine (m : Module) (k : Kept) : Type 0 where
+  pub fits : MachineFits m k
   pub unmarked : IsUnmarked k.memory
   pub ends : instantiated m MOST_TURNS ≡ Finished (state_in m k)
 
 -- The instantiation without the start finishes with this machine, or is stopped for this reason.
 abbrev pub InstantiatesTo : Module → Result Kept Stop → Type 0
-InstantiatesTo m (Ok k) = IsInstantiated m k
+InstantiatesTo m (Ok k) = IsInitialMachine m k
 InstantiatesTo m (Err x) = stop_of (instantiated m MOST_TURNS) ≡ Some x

@@ -47,7 +47,7 @@ pub record StopsCall (m : Module) (func : ℕ) (old : Kept) (x : Stop) (new : Ke
   pub state : state_in m new ≡ left_behind (state_in m old) (call_end m (state_in m old) func)
 
 -- The states are the same, except that `new` may have fewer turns left.
-pub record IsLeft (m : Module) (old new : Kept) : Type 0 where
+pub record SameButForTurns (m : Module) (old new : Kept) : Type 0 where
   pub state : state_in m new ≡ record (state_in m old) { turns = new.turns }
   pub turns : new.turns ≤ old.turns
 

@@ -12,20 +12,20 @@ use Rattle.eval_spec.specs.Prelude.{State, Stage, Stopped, Test, tried, calls_im
 use Rattle.eval_machine.specs.declared.kept.Kept.{Kept}
 use Rattle.eval_machine.specs.declared.registers.Registers.{Registers}
 use Rattle.eval_machine.specs.declared.registers.Flow.TheVariants as flow
-use Rattle.eval_machine.specs.declared.registers.Act.{Act as MachineAct}
-use Rattle.eval_machine.specs.declared.registers.Act.TheVariants as act
+use Rattle.eval_machine.specs.declared.registers.MachineAct.{MachineAct}
+use Rattle.eval_machine.specs.declared.registers.MachineAct.TheVariants as act
 use Rattle.eval_machine.specs.Held.{Comes}
 use Rattle.eval_machine.specs.Kept.{base_of, state_in, store_in}
-use Rattle.eval_machine.specs.Flows.{Place, body_at, called, depth, frame_at, opened_by, outcome, running}
+use Rattle.eval_machine.specs.Flows.{LevelPlace, body_at, called, depth, frame_at, opened_by, outcome, running}
 
 -- The store and the instance that an instruction sees.
 abbrev pub env_in : Module → Kept → Env
 env_in m k = record { store = store_in m k; inst = own_inst m }
 
-abbrev pub done_by : Module → Registers → Instr-F Instr → List Instr → Place → Outcome Act
+abbrev pub done_by : Module → Registers → Instr-F Instr → List Instr → LevelPlace → Outcome Act
 done_by m r o rest p = exec o (env_in m r.kept) (body_at r rest p)
 
-abbrev pub next_by : Module → Registers → Instr → List Instr → Place → List Entry → Outcome Act → Outcome Next
+abbrev pub next_by : Module → Registers → Instr → List Instr → LevelPlace → List Entry → Outcome Act → Outcome Next
 next_by m r o rest p es done = bind done (perform (store_in m r.kept) (frame_at m r (o ∷ rest) p) es)
 
 -- The tests that remain when the instruction's own turn is spent.
@@ -49,23 +49,23 @@ spent_in m r o done =
     let s = state_in m r.kept in let env = env_in m r.kept in
     record s { turns = r.kept.turns - further_turns o env r.operands; written = written_after s.written (touched_by o env r.operands); unknown = left_after s.unknown done }
 
-abbrev pub begun_by : Module → Registers → Instr → Instr-F Instr → List Instr → Place → List Entry → Outcome Act → Stage
+abbrev pub begun_by : Module → Registers → Instr → Instr-F Instr → List Instr → LevelPlace → List Entry → Outcome Act → Stage
 begun_by m r o z rest p es done = tried (tests_left m r (depth p es) z (next_by m r o rest p es done)) (came_to (spent_in m r z done) (next_by m r o rest p es done))
 
-abbrev pub begun : Module → Registers → Instr → List Instr → Place → List Entry → Stage
+abbrev pub begun : Module → Registers → Instr → List Instr → LevelPlace → List Entry → Stage
 begun m r o rest p es = begun_by m r o (out-Instr o) rest p es (done_by m r (out-Instr o) rest p)
 
 -- The instruction goes on in its level, leaves it, opens a block, loop or if, or calls a function.
 abbrev pub ComesToAct : Module → Instr → Registers → MachineAct → Registers → Type 0
-ComesToAct m o old act.Goes new = (rest : List Instr) (p : Place) (es : List Entry) → begun m old o rest p es ≡ running m new rest p es
-ComesToAct m o old (act.Leaves left) new = (rest : List Instr) (p : Place) (es : List Entry) → begun m old o rest p es ≡ outcome m left new p es
-ComesToAct m o old (act.Opens b) new = (rest : List Instr) (p : Place) (es : List Entry) → begun m old o rest p es ≡ opened_by m new b o rest p es
-ComesToAct m o old (act.Calls func) new = (rest : List Instr) (p : Place) (es : List Entry) → begun m old o rest p es ≡ called m new func rest p es
+ComesToAct m o old act.Continues new = (rest : List Instr) (p : LevelPlace) (es : List Entry) → begun m old o rest p es ≡ running m new rest p es
+ComesToAct m o old (act.Leaves left) new = (rest : List Instr) (p : LevelPlace) (es : List Entry) → begun m old o rest p es ≡ outcome m left new p es
+ComesToAct m o old (act.Opens b) new = (rest : List Instr) (p : LevelPlace) (es : List Entry) → begun m old o rest p es ≡ opened_by m new b o rest p es
+ComesToAct m o old (act.Calls func) new = (rest : List Instr) (p : LevelPlace) (es : List Entry) → begun m old o rest p es ≡ called m new func rest p es
 
 -- An instruction that stays in its level goes on, or something stops it.
 abbrev pub Begins : Module → Instr → Registers → Option Stop → Registers → Type 0
-Begins m o old None new = (rest : List Instr) (p : Place) (es : List Entry) → begun m old o rest p es ≡ running m new rest p es
-Begins m o old (Some x) new = (rest : List Instr) (p : Place) (es : List Entry) → begun m old o rest p es ≡ Stopped x new.kept.turns
+Begins m o old None new = (rest : List Instr) (p : LevelPlace) (es : List Entry) → begun m old o rest p es ≡ running m new rest p es
+Begins m o old (Some x) new = (rest : List Instr) (p : LevelPlace) (es : List Entry) → begun m old o rest p es ≡ Stopped x new.kept.turns
 
 -- The same for an instruction that leaves the locals, whatever they are, unchanged.
 abbrev pub BeginsWith : Module → Instr → Kept → List Val → Option Stop → Kept → List Val → Type 0
@@ -90,11 +90,11 @@ type_matches m ty func = slice_get m.types ty >>= λ t. type_at (base_of m).stor
 
 -- The call through a table calls `func`, or stops because `func` is imported, or traps because
 -- `func` does not have the type.
-abbrev pub Reaches : Module → (ty func : ℕ) → MachineAct → Type 0
-Reaches m ty func (act.Calls n) = (n ≡ func) × (own_at (base_of m).store func ≡ None) × (type_matches m ty func ≡ Some true)
-Reaches m ty func (act.Leaves (flow.Stopped why.Import)) = is_some (own_at (base_of m).store func) ≡ true
-Reaches m ty func (act.Leaves (flow.Stopped why.Trap)) = (own_at (base_of m).store func ≡ None) × ((type_matches m ty func ≡ Some true) → ⊥)
-Reaches m ty func _ = ⊥
+abbrev pub ReachesThroughTable : Module → (ty func : ℕ) → MachineAct → Type 0
+ReachesThroughTable m ty func (act.Calls n) = (n ≡ func) × (own_at (base_of m).store func ≡ None) × (type_matches m ty func ≡ Some true)
+ReachesThroughTable m ty func (act.Leaves (flow.Stopped why.Import)) = is_some (own_at (base_of m).store func) ≡ true
+ReachesThroughTable m ty func (act.Leaves (flow.Stopped why.Trap)) = (own_at (base_of m).store func ≡ None) × ((type_matches m ty func ≡ Some true) → ⊥)
+ReachesThroughTable m ty func _ = ⊥
 
 -- The level `h` with these values and locals.
 abbrev pub body_with : Body → (values locals : List Val) → Body

@@ -72,7 +72,7 @@ MemoryFits _ _ = ⊥
 -- Nothing stops the instantiation of `m`; `k` has the types of its globals, the size of its memory,
 -- the number of its data segments, its slots after the instantiation, and its import counts; and
 -- each global whose flag in the undo log is set is noted there.
-pub record Fits (m : Module) (k : Kept) : Type 0 where
+pub record MachineFits (m : Module) (k : Kept) : Type 0 where
   pub ready : is_finished (instantiated m MOST_TURNS) ≡ true
   pub types : map (λ g. g.ty) k.globals ≡ globals_of m
   pub imported : (n : ℕ) (g : GlobalSlot) → slice_get k.globals n ≡ Some g → is_of_import g.standing ≡ is_imported m Globals n
@@ -91,7 +91,7 @@ IsUnmarked None = Unit {0}
 -- The machine is between calls: it fits the module, no mark is set, the values of globals have
 -- their types, and each function to which a global refers is a function of the module.
 pub record Rests (m : Module) (k : Kept) : Type 0 where
-  pub fits : Fits m k
+  pub fits : MachineFits m k
   pub unmarked : IsUnmarked k.memory
   pub typed : GlobalsAreTyped m (store_in m k)
   pub references : RefsAreThere m (store_in m k)

@@ -1,6 +1,6 @@
 -- The tests before a write to a memory, and what the write leaves.
 use Rattle.std.specs.Prelude.{◌≡◌, ℕ, ◌+◌, ◌-◌, ◌/◌, List, [], ◌∷◌, length, Option, Some, None, min, nat_lt}
-use Rattle.block_pool.specs.Pages.{Pages, Writes, size, with_reached}
+use Rattle.block_pool.specs.Pages.{Pages, WritesBytes, size, with_reached}
 use Rattle.eval_spec.specs.declared.limits.TheConstants.{MOST_BLOCKS}
 use Rattle.eval_spec.specs.declared.stop.Stop.{Stop}
 use Rattle.eval_spec.specs.declared.stop.Stop.TheVariants as why
@@ -31,5 +31,5 @@ told_of (Some t) left = (Some t.stop, t.left)
 
 -- The bytes are written if nothing stops the write; a stop writes nothing.
 abbrev pub Wrote : Option Stop → Pages → Pages → (place : ℕ) → List ℕ → Type 0
-Wrote None old new place bytes = Writes old new place bytes
+Wrote None old new place bytes = WritesBytes old new place bytes
 Wrote (Some x) old new place bytes = new ≡ old

@@ -12,7 +12,7 @@ ghost use Rattle.block_pool.specs.Pages.{IsWidth};
 ghost use Rattle.eval_machine.specs.Accesses.{bytes_in, loaded_from, val_at};
 ghost use Rattle.eval_machine.specs.Instructions.{BeginsWith};
 ghost use Rattle.eval_machine.specs.Held.{number_of as of_number, val_of};
-ghost use Rattle.eval_machine.specs.Kept.{Fits, datas_in};
+ghost use Rattle.eval_machine.specs.Kept.{MachineFits, datas_in};
 ghost use Rattle.eval_machine.specs.Stays.{Stays};
 
 use crate::kept::Kept;
@@ -129,7 +129,7 @@ impl Kept {
         op: LoadOp,
         arg: MemArg,
     ) -> Result<Option<Stop>, NoMemory>
-        requires fits { Fits input.now self.now }
+        requires fits { MachineFits input.now self.now }
         ensures { IfOk result (λ stop. BeginsWith input.now (i.Load op arg) self.now operands.old stop self.now operands.new) }
     {
         if (arg.memory as usize) < self.imports.memories {
@@ -160,7 +160,7 @@ impl Kept {
         op: StoreOp,
         arg: MemArg,
     ) -> Option<Stop>
-        requires fits { Fits input.now self.old }
+        requires fits { MachineFits input.now self.old }
         ensures begins { BeginsWith input.now (i.Store op arg) self.old operands.old result self.new operands.new }
         ensures stays { Stays self.old self.new }
     {
@@ -197,7 +197,7 @@ impl Kept {
         operands: &mut Operands,
         memory: u32,
     ) -> Result<Option<Stop>, NoMemory>
-        requires fits { Fits input.now self.now }
+        requires fits { MachineFits input.now self.now }
         ensures { IfOk result (λ stop. BeginsWith input.now (i.MemorySize memory) self.now operands.old stop self.now operands.new) }
     {
         if (memory as usize) < self.imports.memories {
@@ -218,7 +218,7 @@ impl Kept {
         operands: &mut Operands,
         memory: u32,
     ) -> Option<Stop>
-        requires fits { Fits input.now self.old }
+        requires fits { MachineFits input.now self.old }
         ensures begins { BeginsWith input.now (i.MemoryFill memory) self.old operands.old result self.new operands.new }
         ensures stays { Stays self.old self.new }
     {
@@ -250,7 +250,7 @@ impl Kept {
         memory: u32,
         source: u32,
     ) -> Option<Stop>
-        requires fits { Fits input.now self.old }
+        requires fits { MachineFits input.now self.old }
         ensures begins { BeginsWith input.now (i.MemoryCopy memory source) self.old operands.old result self.new operands.new }
         ensures stays { Stays self.old self.new }
     {
@@ -287,7 +287,7 @@ impl Kept {
         segment: u32,
         memory: u32,
     ) -> Option<Stop>
-        requires fits { Fits input.now self.old }
+        requires fits { MachineFits input.now self.old }
         ensures begins { BeginsWith input.now (i.MemoryInit segment memory) self.old operands.old result self.new operands.new }
         ensures stays { Stays self.old self.new }
     {
@@ -319,7 +319,7 @@ impl Kept {
         input: &Module,
         segment: u32,
     ) -> Result<Option<Stop>, NoMemory>
-        requires fits { Fits input.now self.old }
+        requires fits { MachineFits input.now self.old }
         ensures begins { IfOk result (λ stop. (vs : List Val) → BeginsWith input.now (i.DataDrop segment) self.old vs stop self.new vs) }
         ensures stays { Stays self.old self.new }
     {

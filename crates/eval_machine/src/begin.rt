@@ -6,15 +6,15 @@ ghost use Rattle.wasm_tree.specs.declared.instr.Instr.TheVariants as i;
 ghost use Rattle.wasm_tree.specs.SameTypes.{same_func_type, same_type, same_types};
 ghost use Rattle.eval_spec.specs.declared.stop.Stop.TheVariants as why;
 ghost use Rattle.wasm_valid.specs.Validity.{IsValid};
-ghost use Rattle.eval_machine.specs.declared.registers.Act.TheVariants as act;
+ghost use Rattle.eval_machine.specs.declared.registers.MachineAct.TheVariants as act;
 ghost use Rattle.eval_machine.specs.declared.registers.Flow.TheVariants as flow;
 ghost use Rattle.eval_machine.specs.Held.{func_of, val_of};
-ghost use Rattle.eval_machine.specs.Instructions.{Begins, ComesToAct, Opens, OpensWith, Reaches, is_simple};
-ghost use Rattle.eval_machine.specs.Kept.{Fits};
+ghost use Rattle.eval_machine.specs.Instructions.{Begins, ComesToAct, Opens, OpensWith, ReachesThroughTable, is_simple};
+ghost use Rattle.eval_machine.specs.Kept.{MachineFits};
 ghost use Rattle.eval_machine.specs.Stays.{Stays};
 
 use crate::plain::plain;
-use crate::registers::{Act, Flow, Opening, Registers};
+use crate::registers::{Flow, MachineAct, Opening, Registers};
 use crate::slots::Slot;
 use crate::value::Value;
 use eval_references_proof::imported_functions_are_typed;
@@ -22,18 +22,23 @@ use eval_spec::Stop;
 use wasm_bytes::{Items, NoMemory};
 use wasm_tree::{BlockType, FuncType, Instr, Module, RefType, ValType};
 
-fn stopped<'a>(stop: Stop) -> Act<'a>
+fn stopped<'a>(stop: Stop) -> MachineAct<'a>
     ensures { result ≡ act.Leaves (flow.Stopped stop) }
 {
-    Act::Leaves(Flow::Stopped(stop))
+    MachineAct::Leaves(Flow::Stopped(stop))
 }
 
 // Opens a block, loop or if with these parameters, which gives `gives` values.
-fn opened<'a>(params: &'a [ValType], gives: usize, body: &'a Items<Instr>, again: bool) -> Act<'a>
+fn opened<'a>(
+    params: &'a [ValType],
+    gives: usize,
+    body: &'a Items<Instr>,
+    again: bool,
+) -> MachineAct<'a>
     ensures { OpensWith params.now gives body.now again result }
 {
     let takes = if again { params.len() } else { gives };
-    Act::Opens(Opening {
+    MachineAct::Opens(Opening {
         params,
         gives,
         takes,
@@ -44,7 +49,12 @@ fn opened<'a>(params: &'a [ValType], gives: usize, body: &'a Items<Instr>, again
 
 // Opens a block, loop or if of this type; the act is a trap if the module does not have the type.
 #[tactic(auto, using(crate::proofs::Openings::opens_empty, crate::proofs::Openings::opens_value, crate::proofs::Openings::opens_index))]
-fn opening<'a>(input: &'a Module, ty: BlockType, body: &'a Items<Instr>, again: bool) -> Act<'a>
+fn opening<'a>(
+    input: &'a Module,
+    ty: BlockType,
+    body: &'a Items<Instr>,
+    again: bool,
+) -> MachineAct<'a>
     ensures { Opens input.now ty body.now again result }
 {
     match ty {
@@ -60,10 +70,10 @@ fn opening<'a>(input: &'a Module, ty: BlockType, body: &'a Items<Instr>, again: 
 impl Registers {
     // Returns the act of a call that finds `func` in a table. An imported function stops the
     // evaluation before its type is looked at.
-    fn reached<'a>(&self, input: &Module, ty: u32, func: u32) -> Act<'a>
+    fn reached<'a>(&self, input: &Module, ty: u32, func: u32) -> MachineAct<'a>
         requires valid { IsValid input.now }
-        requires fits { Fits input.now self.now.kept }
-        ensures { Reaches input.now ty func result }
+        requires fits { MachineFits input.now self.now.kept }
+        ensures { ReachesThroughTable input.now ty func result }
     {
         imported_functions_are_typed();
         let imported = self.kept.imports.funcs;
@@ -77,21 +87,21 @@ impl Registers {
             return stopped(Stop::Trap);
         };
         if callee.ty == ty {
-            return Act::Calls(func);
+            return MachineAct::Calls(func);
         }
         let Some(has) = input.types.get(callee.ty as usize) else {
             return stopped(Stop::Trap);
         };
         if is_same(asked, has) {
-            return Act::Calls(func);
+            return MachineAct::Calls(func);
         }
         stopped(Stop::Trap)
     }
 
     // Executes `call_indirect` up to the call itself.
-    fn call_indirect<'a>(&mut self, input: &Module, ty: u32, table: u32) -> Act<'a>
+    fn call_indirect<'a>(&mut self, input: &Module, ty: u32, table: u32) -> MachineAct<'a>
         requires valid { IsValid input.now }
-        requires fits { Fits input.now self.old.kept }
+        requires fits { MachineFits input.now self.old.kept }
         ensures begins { ComesToAct input.now (i.CallIndirect ty table) self.old result self.new }
         ensures stays { Stays self.old.kept self.new.kept }
     {
@@ -120,7 +130,7 @@ impl Registers {
     // Executes an instruction that stays in its level.
     fn simple(&mut self, input: &Module, instr: &Instr) -> Result<Option<Stop>, NoMemory>
         requires valid { IsValid input.now }
-        requires fits { Fits input.now self.old.kept }
+        requires fits { MachineFits input.now self.old.kept }
         ensures begins { IfOk result (λ stop. is_simple (out-Instr instr.now) ≡ true → Begins input.now instr.now self.old stop self.new) }
         ensures stays { Stays self.old.kept self.new.kept }
     {
@@ -160,9 +170,9 @@ impl Registers {
         &mut self,
         input: &'a Module,
         instr: &'a Instr,
-    ) -> Result<Act<'a>, NoMemory>
+    ) -> Result<MachineAct<'a>, NoMemory>
         requires valid { IsValid input.now }
-        requires fits { Fits input.now self.old.kept }
+        requires fits { MachineFits input.now self.old.kept }
         ensures begins { IfOk result (λ act. ComesToAct input.now instr.now self.old act self.new) }
         ensures stays { Stays self.old.kept self.new.kept }
     {
@@ -174,25 +184,27 @@ impl Registers {
                 Some(_) => Ok(opening(input, *ty, body, false)),
                 None => Ok(stopped(Stop::Trap)),
             },
-            Instr::Br(label) => Ok(Act::Leaves(Flow::Branch(*label))),
+            Instr::Br(label) => Ok(MachineAct::Leaves(Flow::Branch(*label))),
             Instr::BrIf(label) => match self.operands.pop_narrow() {
-                Some(0) => Ok(Act::Goes),
-                Some(_) => Ok(Act::Leaves(Flow::Branch(*label))),
+                Some(0) => Ok(MachineAct::Continues),
+                Some(_) => Ok(MachineAct::Leaves(Flow::Branch(*label))),
                 None => Ok(stopped(Stop::Trap)),
             },
             Instr::BrTable(labels, last) => match self.operands.pop_narrow() {
-                Some(n) => Ok(Act::Leaves(Flow::Branch(*labels.get(n as usize).unwrap_or(last)))),
+                Some(n) => Ok(MachineAct::Leaves(Flow::Branch(
+                    *labels.get(n as usize).unwrap_or(last),
+                ))),
                 None => Ok(stopped(Stop::Trap)),
             },
-            Instr::Return => Ok(Act::Leaves(Flow::Return)),
+            Instr::Return => Ok(MachineAct::Leaves(Flow::Return)),
             Instr::Call(func) => {
                 imported_functions_are_typed();
-                Ok(Act::Calls(*func))
+                Ok(MachineAct::Calls(*func))
             }
             Instr::CallIndirect { ty, table } => Ok(self.call_indirect(input, *ty, *table)),
             _ => match self.simple(input, instr)? {
                 Some(stop) => Ok(stopped(stop)),
-                None => Ok(Act::Goes),
+                None => Ok(MachineAct::Continues),
             },
         }
     }

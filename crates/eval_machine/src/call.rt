@@ -7,7 +7,7 @@ ghost use Rattle.wasm_tree.specs.Spaces.{type_of_func};
 ghost use Rattle.wasm_valid.specs.Validity.{IsValid};
 ghost use Rattle.eval_spec.specs.Stops.{takes_and_gives_nothing};
 ghost use Rattle.eval_machine.specs.Calls.{CallEnds};
-ghost use Rattle.eval_machine.specs.Kept.{Fits};
+ghost use Rattle.eval_machine.specs.Kept.{MachineFits};
 ghost use Rattle.eval_machine.specs.Stays.{Stays};
 
 use crate::kept::Kept;
@@ -32,7 +32,7 @@ impl Kept {
     // Returns the type of a function. The imports are looked through only for an imported function:
     // its call is stopped, and an evaluation ends at its first stop.
     fn type_of_func<'a>(&self, input: &'a Module, func: u32) -> Option<&'a FuncType>
-        requires { Fits input.now self.now }
+        requires { MachineFits input.now self.now }
         ensures { option_copied result ≡ type_of_func input.now func }
     {
         let at = func as usize;
@@ -55,7 +55,7 @@ impl Registers {
         func: u32,
     ) -> Result<Option<Stop>, NoMemory>
         requires valid { IsValid input.now }
-        requires fits { Fits input.now self.old.kept }
+        requires fits { MachineFits input.now self.old.kept }
         requires there { IsSome (type_of_func input.now func) }
         ensures ends { IfOk result (λ stop. CallEnds input.now func self.old.kept stop self.new.kept) }
         ensures stays { Stays self.old.kept self.new.kept }

@@ -30,7 +30,7 @@ pub use kept::{ImportCounts, Kept};
 pub use locals::Locals;
 pub use machine::{Booted, Machine, Ran};
 pub use operands::Operands;
-pub use registers::{Act, Flow, Next, Opening, Registers};
+pub use registers::{Advance, Flow, MachineAct, Opening, Registers};
 pub use slots::{Slot, Slots};
 pub use undo::{EarlierGlobal, UndoLog};
 pub use value::Value;

@@ -2,12 +2,12 @@ ghost use Rattle.std.specs.Prelude.{◌≡◌, ◌<◌, ◌≤◌, ◌↔◌, �
 ghost use Rattle.block_pool.specs.Pages.{IsNextNonzero, IsZeroFrom, Pages, size};
 ghost use Rattle.wasm_tree.specs.declared.module.Module.{Module};
 ghost use Rattle.eval_spec.specs.Told.{value_of_global, memory_bytes, is_dropped};
-ghost use Rattle.eval_machine.specs.Kept.{Fits, Rests, state_in};
+ghost use Rattle.eval_machine.specs.Kept.{MachineFits, Rests, state_in};
 ghost use Rattle.wasm_tree.specs.Spaces.{funcs_of};
 ghost use Rattle.eval_spec.specs.State.{Finished};
 ghost use Rattle.eval_spec.specs.Quiet.{call_end};
-ghost use Rattle.eval_machine.specs.Calls.{IfDone, IfNotDone, IfNotReady, IfReady, IfStopped, IsLeft, IsReady, StopsBoot, StopsCall};
-ghost use Rattle.eval_machine.specs.Read.{IsInside};
+ghost use Rattle.eval_machine.specs.Calls.{IfDone, IfNotDone, IfNotReady, IfReady, IfStopped, SameButForTurns, IsReady, StopsBoot, StopsCall};
+ghost use Rattle.eval_machine.specs.Read.{HasByte};
 
 use crate::boot::instantiate;
 use crate::locals::Locals;
@@ -109,7 +109,7 @@ impl Machine {
         requires there { func < length (funcs_of input.now) }
         ensures done { IfOk result (IfDone (call_end input.now (state_in input.now self.old) func ≡ Finished (state_in input.now self.new))) }
         ensures stopped { IfOk result (IfStopped (λ stop. StopsCall input.now func self.old stop self.new)) }
-        ensures left { IfNotDone (IsLeft input.now self.old self.new) result }
+        ensures left { IfNotDone (SameButForTurns input.now self.old self.new) result }
         ensures turns { self.new.turns ≤ self.old.turns }
         ensures rests { Rests input.now self.new }
     {
@@ -136,15 +136,15 @@ impl Machine {
 
     /// Returns the value of a global; `None` exactly if it is unknown or there is no such global.
     pub fn global_value(&self, global: u32) -> Option<ConstExpr>
-        ensures { (m : Module) → Fits m self.now → result ≡ value_of_global m (state_in m self.now) global }
+        ensures { (m : Module) → MachineFits m self.now → result ≡ value_of_global m (state_in m self.now) global }
     {
         self.registers.kept.globals.constant(global)
     }
 
     /// Returns the number of bytes of the memory that the module defines; 0 if it defines none.
     pub fn memory_size(&self) -> u64
-        ensures inside { (at : ℕ) → at < result → IsInside at self.now.memory }
-        ensures size { (m : Module) → Fits m self.now → result ≡ length (memory_bytes m (state_in m self.now)) }
+        ensures inside { (at : ℕ) → at < result → HasByte at self.now.memory }
+        ensures size { (m : Module) → MachineFits m self.now → result ≡ length (memory_bytes m (state_in m self.now)) }
     {
         match &self.registers.kept.memory {
             Some(paged) => paged.size(),
@@ -154,8 +154,8 @@ impl Machine {
 
     /// Returns the byte at `at` in the memory that the module defines, which must have such a byte.
     pub fn byte(&self, at: u64) -> u8
-        requires { IsInside at self.now.memory }
-        ensures { (m : Module) → Fits m self.now → Some result ≡ slice_get (memory_bytes m (state_in m self.now)) at }
+        requires { HasByte at self.now.memory }
+        ensures { (m : Module) → MachineFits m self.now → Some result ≡ slice_get (memory_bytes m (state_in m self.now)) at }
     {
         match &self.registers.kept.memory {
             Some(paged) => paged.load(at, 1) as u8,
@@ -166,8 +166,8 @@ impl Machine {
     /// Returns the place of the first nonzero byte at `from` or later in the memory that the module
     /// defines; `None` exactly if there is no such byte or no such memory.
     pub fn next_nonzero(&self, from: u64) -> Option<u64>
-        ensures some { (m : Module) → Fits m self.now → IfSome result (λ at. IsNextNonzero (memory_bytes m (state_in m self.now)) from at) }
-        ensures none { (m : Module) → Fits m self.now → IsNone result ↔ IsZeroFrom (memory_bytes m (state_in m self.now)) from }
+        ensures some { (m : Module) → MachineFits m self.now → IfSome result (λ at. IsNextNonzero (memory_bytes m (state_in m self.now)) from at) }
+        ensures none { (m : Module) → MachineFits m self.now → IsNone result ↔ IsZeroFrom (memory_bytes m (state_in m self.now)) from }
     {
         match &self.registers.kept.memory {
             Some(paged) => paged.next_nonzero(from),
@@ -178,17 +178,17 @@ impl Machine {
     /// Returns the pages of the memory that the module defines; `None` exactly if it defines none.
     /// Between calls no mark is set in them.
     pub fn memory(&self) -> Option<&Paged>
-        ensures none { (m : Module) → Fits m self.now → IsNone result ↔ (m.mems ≡ []) }
-        ensures bytes { (m : Module) → Fits m self.now → IfSome result (λ p. p.now.now.bytes ≡ memory_bytes m (state_in m self.now)) }
+        ensures none { (m : Module) → MachineFits m self.now → IsNone result ↔ (m.mems ≡ []) }
+        ensures bytes { (m : Module) → MachineFits m self.now → IfSome result (λ p. p.now.now.bytes ≡ memory_bytes m (state_in m self.now)) }
         ensures unmarked { (m : Module) → Rests m self.now → IfSome result (λ p. IsNone p.now.mark) }
-        ensures written { (m : Module) → Fits m self.now → IfSome result (λ p. p.now.now.written ≡ (state_in m self.now).written) }
+        ensures written { (m : Module) → MachineFits m self.now → IfSome result (λ p. p.now.now.written ≡ (state_in m self.now).written) }
     {
         self.registers.kept.memory.as_ref()
     }
 
     /// Returns whether a data segment is dropped; `false` if there is no such segment.
     pub fn dropped(&self, segment: u32) -> bool
-        ensures { (m : Module) → Fits m self.now → result ≡ is_dropped (state_in m self.now) segment }
+        ensures { (m : Module) → MachineFits m self.now → result ≡ is_dropped (state_in m self.now) segment }
     {
         match self.registers.kept.dropped.get(segment as usize) {
             Some(dropped) => *dropped,

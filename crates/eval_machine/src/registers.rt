@@ -30,7 +30,7 @@ pub enum Flow {
 
 /// Where the code continues after an instruction.
 #[derive(Clone, Copy, Debug, PartialEq, Eq)]
-pub enum Next {
+pub enum Advance {
     On,
     /// At the same instruction, which is a loop.
     Again,
@@ -51,9 +51,9 @@ pub struct Opening<'a> {
 
 /// What remains to be done after an instruction was executed by itself.
 #[derive(Drop)]
-pub enum Act<'a> {
+pub enum MachineAct<'a> {
     /// It stays in its level, and the next instruction follows.
-    Goes,
+    Continues,
     Leaves(Flow),
     Opens(Opening<'a>),
     Calls(u32),

@@ -7,14 +7,14 @@ ghost use Rattle.wasm_meaning.specs.Values.{declared};
 ghost use Rattle.eval_spec.specs.declared.limits.TheConstants.{MOST_DEPTH};
 ghost use Rattle.eval_spec.specs.declared.stop.Stop.TheVariants as why;
 ghost use Rattle.eval_machine.specs.declared.registers.Flow.TheVariants as flow;
-ghost use Rattle.eval_machine.specs.declared.registers.Next.TheVariants as next;
+ghost use Rattle.eval_machine.specs.declared.registers.Advance.TheVariants as advance;
 ghost use Rattle.eval_machine.specs.Flows.{RunsCall, RunsCode, RunsFrame, RunsInstr, RunsOpened};
-ghost use Rattle.eval_machine.specs.Kept.{Fits};
+ghost use Rattle.eval_machine.specs.Kept.{MachineFits};
 ghost use Rattle.eval_machine.specs.Stays.{Stays};
 
 use crate::locals::{Locals, turns_after};
 use crate::operands::Operands;
-use crate::registers::{Act, Flow, Next, Opening, Registers};
+use crate::registers::{Advance, Flow, MachineAct, Opening, Registers};
 use eval_references_proof::imported_functions_are_typed;
 use eval_spec::{MOST_DEPTH, Stop};
 use std::alloc::Global;
@@ -33,16 +33,16 @@ impl Registers {
     ) -> Result<Flow, NoMemory>
         requires deep { depth ≤ MOST_DEPTH }
         requires valid { IsValid input.now }
-        requires fits { Fits input.now self.old.kept }
+        requires fits { MachineFits input.now self.old.kept }
         ensures runs { IfOk result (λ flow. RunsCode input.now code.now depth self.old flow self.new) }
         ensures stays { Stays self.old.kept self.new.kept }
     {
         let mut at = 0;
         'code: while at < code.len() {
             match self.run_instr(alloc, input, &code[at], depth)? {
-                Next::On => at += 1,
-                Next::Again => (),
-                Next::Out(flow) => return Ok(flow),
+                Advance::On => at += 1,
+                Advance::Again => (),
+                Advance::Out(flow) => return Ok(flow),
             }
         }
         Ok(Flow::Fell)
@@ -55,24 +55,24 @@ impl Registers {
         input: &Module,
         instr: &Instr,
         depth: u32,
-    ) -> Result<Next, NoMemory>
+    ) -> Result<Advance, NoMemory>
         requires deep { depth ≤ MOST_DEPTH }
         requires valid { IsValid input.now }
-        requires fits { Fits input.now self.old.kept }
-        ensures runs { IfOk result (λ next. RunsInstr input.now instr.now depth self.old next self.new) }
+        requires fits { MachineFits input.now self.old.kept }
+        ensures runs { IfOk result (λ advance. RunsInstr input.now instr.now depth self.old advance self.new) }
         ensures stays { Stays self.old.kept self.new.kept }
         ensures fewer { 0 < self.old.kept.turns → self.new.kept.turns < self.old.kept.turns }
-        ensures none { self.old.kept.turns ≡ 0 → result ≡ Ok (next.Out (flow.Stopped why.Steps)) }
+        ensures none { self.old.kept.turns ≡ 0 → result ≡ Ok (advance.Out (flow.Stopped why.Steps)) }
     {
         if self.kept.turns == 0 {
-            return Ok(Next::Out(Flow::Stopped(Stop::Steps)));
+            return Ok(Advance::Out(Flow::Stopped(Stop::Steps)));
         }
         self.kept.turns -= 1;
         match self.begin(input, instr)? {
-            Act::Goes => Ok(Next::On),
-            Act::Leaves(flow) => Ok(Next::Out(flow)),
-            Act::Opens(opening) => Ok(self.run_opened(alloc, input, &opening, depth)?),
-            Act::Calls(func) => Ok(self.run_call(alloc, input, func, depth)?),
+            MachineAct::Continues => Ok(Advance::On),
+            MachineAct::Leaves(flow) => Ok(Advance::Out(flow)),
+            MachineAct::Opens(opening) => Ok(self.run_opened(alloc, input, &opening, depth)?),
+            MachineAct::Calls(func) => Ok(self.run_call(alloc, input, func, depth)?),
         }
     }
 
@@ -83,45 +83,45 @@ impl Registers {
         input: &Module,
         opening: &Opening<'_>,
         depth: u32,
-    ) -> Result<Next, NoMemory>
+    ) -> Result<Advance, NoMemory>
         requires deep { depth ≤ MOST_DEPTH }
         requires valid { IsValid input.now }
-        requires fits { Fits input.now self.old.kept }
-        ensures runs { IfOk result (λ next. RunsOpened input.now opening.now depth self.old next self.new) }
+        requires fits { MachineFits input.now self.old.kept }
+        ensures runs { IfOk result (λ advance. RunsOpened input.now opening.now depth self.old advance self.new) }
         ensures stays { Stays self.old.kept self.new.kept }
     {
         let Some(top) = self.operands.take_level(opening.params)? else {
-            return Ok(Next::Out(Flow::Stopped(Stop::Trap)));
+            return Ok(Advance::Out(Flow::Stopped(Stop::Trap)));
         };
         if depth == MOST_DEPTH {
-            return Ok(Next::Out(Flow::Stopped(Stop::Depth)));
+            return Ok(Advance::Out(Flow::Stopped(Stop::Depth)));
         }
         let below = mem::replace(&mut self.operands, top);
         match self.run_code(alloc, input, opening.body, depth + 1)? {
             Flow::Fell => {
                 let Some(given) = self.operands.take_top(opening.gives)? else {
-                    return Ok(Next::Out(Flow::Stopped(Stop::Trap)));
+                    return Ok(Advance::Out(Flow::Stopped(Stop::Trap)));
                 };
                 self.operands = below;
                 self.operands.put_back(given)?;
-                Ok(Next::On)
+                Ok(Advance::On)
             }
             Flow::Branch(label) => {
                 if label > 0 {
-                    return Ok(Next::Out(Flow::Branch(label - 1)));
+                    return Ok(Advance::Out(Flow::Branch(label - 1)));
                 }
                 let Some(carried) = self.operands.take_top(opening.takes)? else {
-                    return Ok(Next::Out(Flow::Stopped(Stop::Trap)));
+                    return Ok(Advance::Out(Flow::Stopped(Stop::Trap)));
                 };
                 self.operands = below;
                 self.operands.put_back(carried)?;
                 if opening.again {
-                    return Ok(Next::Again);
+                    return Ok(Advance::Again);
                 }
-                Ok(Next::On)
+                Ok(Advance::On)
             }
-            Flow::Return => Ok(Next::Out(Flow::Return)),
-            Flow::Stopped(stop) => Ok(Next::Out(Flow::Stopped(stop))),
+            Flow::Return => Ok(Advance::Out(Flow::Return)),
+            Flow::Stopped(stop) => Ok(Advance::Out(Flow::Stopped(stop))),
         }
     }
 
@@ -132,36 +132,36 @@ impl Registers {
         input: &Module,
         func: u32,
         depth: u32,
-    ) -> Result<Next, NoMemory>
+    ) -> Result<Advance, NoMemory>
         requires deep { depth ≤ MOST_DEPTH }
         requires valid { IsValid input.now }
-        requires fits { Fits input.now self.old.kept }
-        ensures runs { IfOk result (λ next. RunsCall input.now func depth self.old next self.new) }
+        requires fits { MachineFits input.now self.old.kept }
+        ensures runs { IfOk result (λ advance. RunsCall input.now func depth self.old advance self.new) }
         ensures stays { Stays self.old.kept self.new.kept }
     {
         imported_functions_are_typed();
         let func = func as usize;
         if func < self.kept.imports.funcs {
-            return Ok(Next::Out(Flow::Stopped(Stop::Import)));
+            return Ok(Advance::Out(Flow::Stopped(Stop::Import)));
         }
         let Some(callee) = input.funcs.get(func - self.kept.imports.funcs) else {
-            return Ok(Next::Out(Flow::Stopped(Stop::Trap)));
+            return Ok(Advance::Out(Flow::Stopped(Stop::Trap)));
         };
         let Some(ty) = input.types.get(callee.ty as usize) else {
-            return Ok(Next::Out(Flow::Stopped(Stop::Trap)));
+            return Ok(Advance::Out(Flow::Stopped(Stop::Trap)));
         };
         let Some(args) = self.operands.take_typed(ty.params.as_slice())? else {
-            return Ok(Next::Out(Flow::Stopped(Stop::Trap)));
+            return Ok(Advance::Out(Flow::Stopped(Stop::Trap)));
         };
         let below = mem::replace(&mut self.operands, Operands::new(alloc));
         let outside = mem::replace(&mut self.locals, Locals::of(args));
         match self.run_frame(alloc, input, ty, callee, depth)? {
-            Some(stop) => Ok(Next::Out(Flow::Stopped(stop))),
+            Some(stop) => Ok(Advance::Out(Flow::Stopped(stop))),
             None => {
                 let given = mem::replace(&mut self.operands, below);
                 self.operands.put_back(given)?;
                 self.locals = outside;
-                Ok(Next::On)
+                Ok(Advance::On)
             }
         }
     }
@@ -178,7 +178,7 @@ impl Registers {
     ) -> Result<Option<Stop>, NoMemory>
         requires deep { depth ≤ MOST_DEPTH }
         requires valid { IsValid input.now }
-        requires fits { Fits input.now self.old.kept }
+        requires fits { MachineFits input.now self.old.kept }
         requires bare { self.old.operands ≡ [] }
         ensures runs { IfOk result (λ stop. RunsFrame input.now ty.now self.old.locals (declared callee.now.locals) callee.now.body depth self.old stop self.new) }
         ensures stays { Stays self.old.kept self.new.kept }

@@ -1,7 +1,7 @@
 ghost use Rattle.std.specs.Prelude.{◌≡◌, ◌<◌, ◌+◌, ◌&&◌, ℕ, None, Some, cond, length, nat_eq, IfOk, OnOk};
 ghost use Rattle.wasm_num.specs.Operations.{wrapped};
 ghost use Rattle.wasm_tree.specs.Spaces.{imported_tables};
-ghost use Rattle.eval_machine.specs.Kept.{Fits, base_of};
+ghost use Rattle.eval_machine.specs.Kept.{MachineFits, base_of};
 ghost use Rattle.eval_machine.specs.Begun.{CopiesItems, FillsByMode, FillsSlots, FillsTables, elems_end, item_slot};
 ghost use Rattle.eval_machine.specs.Slots.{IsSlot, defined_table, filled_at, null_in, null_of, slot_count, slot_key};
 
@@ -107,7 +107,7 @@ fn defined_table(input: &Module, imported: usize, table: u32) -> Option<TableTyp
 impl Kept {
     /// Returns what is in a slot of a table; an imported table has no slots.
     pub fn slot(&self, input: &Module, table: u32, place: u32) -> Slot
-        requires { Fits input.now self.now }
+        requires { MachineFits input.now self.now }
         ensures { IsSlot (base_of input.now) table place result }
     {
         match self.slots.get(table, place) {
@@ -119,7 +119,7 @@ impl Kept {
     /// Returns the number of slots of a table: 0 for an imported one, `None` if there is no such
     /// table.
     pub fn slot_count(&self, input: &Module, table: u32) -> Option<u32>
-        requires { Fits input.now self.now }
+        requires { MachineFits input.now self.now }
         ensures { result ≡ slot_count (base_of input.now) table }
     {
         if (table as usize) < self.imports.tables {

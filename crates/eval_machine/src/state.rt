@@ -5,7 +5,7 @@ ghost use Rattle.std.specs.Prelude.{◌≡◌, ◌<◌, ◌↔◌, IfOk, IsTrue,
 ghost use Rattle.wasm_tree.specs.declared.instr.Instr.TheVariants as i;
 ghost use Rattle.wasm_tree.specs.Spaces.{funcs_of};
 ghost use Rattle.eval_machine.specs.Instructions.{BeginsWith};
-ghost use Rattle.eval_machine.specs.Kept.{Fits};
+ghost use Rattle.eval_machine.specs.Kept.{MachineFits};
 ghost use Rattle.eval_machine.specs.Stays.{Stays};
 
 use crate::kept::Kept;
@@ -23,7 +23,7 @@ impl Kept {
         operands: &mut Operands,
         global: u32,
     ) -> Result<Option<Stop>, NoMemory>
-        requires fits { Fits input.now self.now }
+        requires fits { MachineFits input.now self.now }
         ensures { IfOk result (λ stop. BeginsWith input.now (i.GlobalGet global) self.now operands.old stop self.now operands.new) }
     {
         match self.globals.get(global) {
@@ -41,7 +41,7 @@ impl Kept {
         operands: &mut Operands,
         global: u32,
     ) -> Result<Option<Stop>, NoMemory>
-        requires fits { Fits input.now self.old }
+        requires fits { MachineFits input.now self.old }
         ensures begins { IfOk result (λ stop. BeginsWith input.now (i.GlobalSet global) self.old operands.old stop self.new operands.new) }
         ensures stays { Stays self.old self.new }
     {
@@ -51,7 +51,7 @@ impl Kept {
     }
 
     fn is_func(&self, input: &Module, func: u32) -> bool
-        requires fits { Fits input.now self.now }
+        requires fits { MachineFits input.now self.now }
         ensures { IsTrue result ↔ (func < length (funcs_of input.now)) }
     {
         let func = func as usize;
@@ -64,7 +64,7 @@ impl Kept {
         operands: &mut Operands,
         func: u32,
     ) -> Result<Option<Stop>, NoMemory>
-        requires fits { Fits input.now self.now }
+        requires fits { MachineFits input.now self.now }
         ensures { IfOk result (λ stop. BeginsWith input.now (i.RefFunc func) self.now operands.old stop self.now operands.new) }
     {
         if !self.is_func(input, func) {
@@ -80,7 +80,7 @@ impl Kept {
         operands: &mut Operands,
         table: u32,
     ) -> Result<Option<Stop>, NoMemory>
-        requires fits { Fits input.now self.now }
+        requires fits { MachineFits input.now self.now }
         ensures { IfOk result (λ stop. BeginsWith input.now (i.TableGet table) self.now operands.old stop self.now operands.new) }
     {
         if (table as usize) < self.imports.tables {
@@ -108,7 +108,7 @@ impl Kept {
         operands: &mut Operands,
         table: u32,
     ) -> Result<Option<Stop>, NoMemory>
-        requires fits { Fits input.now self.now }
+        requires fits { MachineFits input.now self.now }
         ensures { IfOk result (λ stop. BeginsWith input.now (i.TableSize table) self.now operands.old stop self.now operands.new) }
     {
         if (table as usize) < self.imports.tables {

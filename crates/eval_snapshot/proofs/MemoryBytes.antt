@@ -9,7 +9,7 @@ use Rattle.wasm_valid.specs.Prelude.{ItemsHold}
 use Rattle.wasm_meaning.specs.Prelude.{Memory}
 use Rattle.eval_spec.specs.Prelude.{imported_store, memory_bytes}
 use Rattle.eval_machine.specs.declared.kept.Kept.{Kept}
-use Rattle.eval_machine.specs.Prelude.{Fits, MemoryFits, memory_in, state_in}
+use Rattle.eval_machine.specs.Prelude.{MachineFits, MemoryFits, memory_in, state_in}
 use Rattle.eval_snapshot_spec.specs.Snapshot.{memory_segments}
 use Rattle.eval_snapshot_spec.specs.Contents.{contents}
 
@@ -30,7 +30,7 @@ module _ (m : Module) (k : Kept) where
   pub no_segments : m.mems ≡ [] → memory_segments m (state_in m k) ≡ []
   no_segments h = ap (contents (length (imported_memories m.imports))) (no_bytes h)
 
-  pub small_memory : ItemsHold m → Fits m k → length (memory_bytes m (state_in m k)) ≤ 4294967296
+  pub small_memory : ItemsHold m → MachineFits m k → length (memory_bytes m (state_in m k)) ≤ 4294967296
   small_memory holds fits = subst (λ bs. length bs ≤ 4294967296) (sym bytes_are) (by m.mems k.memory refl fits.memory)
     where
       by : (ls : List Limits) (o : Option Pages) → m.mems ≡ ls → MemoryFits ls o → length (found (memory_in ls o)) ≤ 4294967296

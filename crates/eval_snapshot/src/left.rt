@@ -2,7 +2,7 @@
 
 ghost use Rattle.std.specs.Prelude.{◌≡◌, ◌+◌, ◌≤◌, ◌<◌, ◌^◌, length};
 ghost use Rattle.wasm_tree.specs.declared.module.Module.{Module};
-ghost use Rattle.eval_machine.specs.Kept.{Fits, state_in};
+ghost use Rattle.eval_machine.specs.Kept.{MachineFits, state_in};
 ghost use Rattle.eval_snapshot_spec.specs.Snapshot.{globals_left, segments_left};
 ghost use Rattle.eval_snapshot.specs.Names.{left_or_emptied};
 
@@ -15,7 +15,7 @@ use wasm_tree::{DataMode, DataSeg, GlobalDef};
 /// globals come before the defined ones.
 pub(crate) fn initialise_globals(globals: &mut Items<GlobalDef>, machine: &Machine, imported: u32)
     requires few { imported + length globals.old ≤ 2 ^ 32 }
-    ensures { (m : Module) → Fits m machine.now → globals.new ≡ globals_left m (state_in m machine.now) imported globals.old }
+    ensures { (m : Module) → MachineFits m machine.now → globals.new ≡ globals_left m (state_in m machine.now) imported globals.old }
 {
     for at in 0..globals.len() {
         if let Some(global) = globals.get_mut(at) {
@@ -44,7 +44,7 @@ fn empty_segment(alloc: Global, segment: &mut DataSeg, dropped: bool)
 /// Empties all segments, except passive ones that are not dropped.
 pub(crate) fn empty_segments(alloc: Global, segments: &mut Items<DataSeg>, machine: &Machine)
     requires few { length segments.old < 2 ^ 32 }
-    ensures { (m : Module) → Fits m machine.now → segments.new ≡ segments_left (state_in m machine.now) 0 segments.old }
+    ensures { (m : Module) → MachineFits m machine.now → segments.new ≡ segments_left (state_in m machine.now) 0 segments.old }
 {
     for at in 0..segments.len() {
         if let Some(segment) = segments.get_mut(at) {

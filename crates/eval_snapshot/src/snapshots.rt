@@ -3,7 +3,7 @@ ghost use Rattle.wasm_tree.specs.Bounds.{IsBounded};
 ghost use Rattle.wasm_valid.specs.Validity.{IsValid};
 ghost use Rattle.module_limits.specs.Counts as counts;
 ghost use Rattle.eval_numbers_proof.specs.Ranges.{BeginsInRange};
-ghost use Rattle.eval_machine.specs.Kept.{Fits, state_in};
+ghost use Rattle.eval_machine.specs.Kept.{MachineFits, state_in};
 ghost use Rattle.eval_snapshot_spec.specs.Snapshot as spec;
 ghost use Rattle.eval_snapshot_spec.specs.After.{IsAfter};
 ghost use Rattle.eval_behaves_proof.specs.Laws.{ObservationallyEquivalent};
@@ -48,7 +48,7 @@ fn declared_tree(
     evaluated: &[Name],
     kept: &[Name],
 ) -> Result<Module, SnapshotFault>
-    requires fits { Fits from machine.now }
+    requires fits { MachineFits from machine.now }
     requires valid { IsValid from }
     requires bounded { IsBounded from }
     ensures tree { IfOk result (λ tree. tree ≡ spec.declared_snapshot from (state_in from machine.now) evaluated.now kept.now) }
@@ -70,7 +70,7 @@ fn tree_after(
     evaluated: &[Name],
     kept: &[Name],
 ) -> Result<Module, SnapshotFault>
-    requires fits { Fits from machine.now }
+    requires fits { MachineFits from machine.now }
     requires valid { IsValid from }
     requires bounded { IsBounded from }
     ensures tree { IfOk result (λ tree. tree ≡ spec.snapshot from (state_in from machine.now) evaluated.now kept.now) }
@@ -117,7 +117,7 @@ pub fn snapshot(
     evaluated: &Items<Name>,
     kept: &Items<Name>,
 ) -> Result<Valid, SnapshotFault>
-    requires fits { Fits input machine.now }
+    requires fits { MachineFits input machine.now }
     requires after { IsAfter input evaluated.now (state_in input machine.now) }
     ensures tree { IfOk result (λ valid. SnapshotGives input (state_in input machine.now) evaluated.now kept.now (Ok valid)) }
     // In each environment that links the input, an embedder sees of the result what it sees of the

@@ -7,7 +7,7 @@ ghost use Rattle.wasm_tree.specs.Bounds.{IsBounded};
 ghost use Rattle.wasm_valid.specs.Validity.{IsValid};
 ghost use Rattle.wasm_meaning.specs.State.{Text};
 ghost use Rattle.eval_spec.specs.Stops.{takes_and_gives_nothing};
-ghost use Rattle.eval_machine.specs.Kept.{Fits, state_in};
+ghost use Rattle.eval_machine.specs.Kept.{MachineFits, state_in};
 ghost use Rattle.eval_snapshot_spec.specs.Snapshot.{added_funcs, export_left, memory_segments, old_segments, snapshot_tree};
 ghost use Rattle.eval_snapshot.specs.Names.{HasEvaluated};
 
@@ -39,7 +39,7 @@ fn empty_type(types: &[FuncType]) -> u32
 
 // Keeps the old segments, emptied as in `empty_segments`, if a body names a data segment.
 fn leave_segments(alloc: Global, tree: &mut Module, machine: &Machine)
-    requires fits { Fits tree.old machine.now }
+    requires fits { MachineFits tree.old machine.now }
     requires few { length tree.old.datas < 2 ^ 32 }
     ensures { tree.new ≡ record tree.old { datas = old_segments tree.old (state_in tree.old machine.now) } }
 {
@@ -53,7 +53,7 @@ fn leave_segments(alloc: Global, tree: &mut Module, machine: &Machine)
 // Does the same as `leave_segments`, and then appends the contents of the memory that the module
 // defines.
 fn put_segments(alloc: Global, tree: &mut Module, machine: &Machine) -> Result<(), NoMemory>
-    requires fits { Fits tree.old machine.now }
+    requires fits { MachineFits tree.old machine.now }
     requires valid { IsValid tree.old }
     requires bounded { IsBounded tree.old }
     ensures { OnOk result (tree.new ≡ record tree.old { datas = old_segments tree.old (state_in tree.old machine.now) ++ memory_segments tree.old (state_in tree.old machine.now) }) }
@@ -104,7 +104,7 @@ fn put_state(
     machine: &Machine,
     names: &BTreeMap<&str, bool>,
 ) -> Result<(), NoMemory>
-    requires fits { Fits tree.old machine.now }
+    requires fits { MachineFits tree.old machine.now }
     requires valid { IsValid tree.old }
     requires bounded { IsBounded tree.old }
     ensures { (evaluated kept : List Text) → HasEvaluated evaluated kept names.now → OnOk result (tree.new ≡ snapshot_tree tree.old (state_in tree.old machine.now) evaluated kept) }
@@ -127,7 +127,7 @@ pub(crate) fn tree(
     evaluated: &[Name],
     kept: &[Name],
 ) -> Result<Module, NoMemory>
-    requires fits { Fits from machine.now }
+    requires fits { MachineFits from machine.now }
     requires valid { IsValid from }
     requires bounded { IsBounded from }
     ensures { IfOk result (λ tree. tree ≡ snapshot_tree from (state_in from machine.now) evaluated.now kept.now) }

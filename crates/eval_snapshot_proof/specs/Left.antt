@@ -10,8 +10,8 @@ abbrev pub EachGlobalIsLeft : Type 0
 EachGlobalIsLeft = (m : Module) (s : State) (n : ℕ) (gs : List GlobalDef) (i : ℕ) (h : GlobalDef) → slice_get (globals_left m s n gs) i ≡ Some h → (g : GlobalDef) × (slice_get gs i ≡ Some g) × (h ≡ global_left m s (n + i) g)
 
 -- What is left of a list of data segments is a list of the same length.
-abbrev pub NoSegmentIsLost : Type 0
-NoSegmentIsLost = (s : State) (n : ℕ) (ds : List DataSeg) → length (segments_left s n ds) ≡ length ds
+abbrev pub AsManySegmentsAreLeft : Type 0
+AsManySegmentsAreLeft = (s : State) (n : ℕ) (ds : List DataSeg) → length (segments_left s n ds) ≡ length ds
 
 -- The operand names no data segment, unless `so`.
 abbrev pub no_data_or : Bool → Operand → Bool

@@ -8,7 +8,7 @@ ghost use Rattle.wasm_valid.specs.Validity.{IsSingle, IsValid};
 ghost use Rattle.wasm_meaning.specs.State.{Text};
 ghost use Rattle.eval_spec.specs.State.{State};
 ghost use Rattle.eval_snapshot_spec.specs.Snapshot.{snapshot, too_much};
-ghost use Rattle.eval_snapshot_proof.specs.Left.{DataOperandsPass, EachGlobalIsLeft, NoSegmentIsLost};
+ghost use Rattle.eval_snapshot_proof.specs.Left.{DataOperandsPass, EachGlobalIsLeft, AsManySegmentsAreLeft};
 ghost use Rattle.eval_snapshot_proof.specs.Suits.{HasEmptyTypeFor, Suits};
 
 use index_remap_proof::declared_trees_are_valid;
@@ -38,7 +38,7 @@ pub fn snapshots_are_valid()
 /// - `code`: if code does not use data segments, none of its operands is one.
 pub fn snapshots_have_what_is_left()
     ensures globals { EachGlobalIsLeft }
-    ensures segments { NoSegmentIsLost }
+    ensures segments { AsManySegmentsAreLeft }
     ensures code { DataOperandsPass }
 {
     operands_pass_layer_by_layer();

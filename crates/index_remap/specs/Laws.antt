@@ -14,13 +14,13 @@ use Rattle.index_remap.specs.Replaced.{Labels, Codes, Replaced, OthersAgree, Oth
 use Rattle.index_remap.specs.Related.{CodeRel, Pairing, OneToOne, OneToOneWhereWritten, ResRel, ListRel, ValRel, StoreRel, EntryRel, NextRel, TopSkips, TopKnown}
 
 -- A test of the code that may stand in place of a call, over an instance.
-abbrev pub Test : Type 0
-Test = Inst → (function : ℕ) → List Instr → Bool
+abbrev pub CodeTest : Type 0
+CodeTest = Inst → (function : ℕ) → List Instr → Bool
 
 -- Addresses that pass `of` are related, and those that pass `named` are in the code relation; the
 -- functions of the list are opaque, and code that passes `stands` may stand in place of calls of
 -- them.
-abbrev pub passed_with : (of named : Space → ℕ → ℕ → Bool) → List ℕ → Test → Pairing
+abbrev pub passed_with : (of named : Space → ℕ → ℕ → Bool) → List ℕ → CodeTest → Pairing
 passed_with of named l stands = record { of = λ k a b. IsTrue (of k a b); named = λ k a b. IsTrue (named k a b); listed = λ a. IsTrue (list_any (nat_eq a) l); stands = λ j a e. IsTrue (stands j a e) }
 
 -- Any code may stand in place of calls of opaque functions.
@@ -109,7 +109,7 @@ TypingIsKept =
 -- function whose call is replaced is opaque and its codes may stand in place of calls of it.
 abbrev pub ReplacedCodeIsRelated : Type 0
 ReplacedCodeIsRelated =
-    (of named : Space → ℕ → ℕ → Bool) (l : List ℕ) (stands : Test) (m : Remap) (i j : Inst) (types : List FuncType) (labels : Labels) (listed : List ℕ) (codes : Codes) (is js : List Instr) →
+    (of named : Space → ℕ → ℕ → Bool) (l : List ℕ) (stands : CodeTest) (m : Remap) (i j : Inst) (types : List FuncType) (labels : Labels) (listed : List ℕ) (codes : Codes) (is js : List Instr) →
     ReplacementCodesFit (passed_with of named l stands) listed codes i j → ListLayers (OthersNamed (passed_with of named l stands) m listed i j) is → Replaced types m listed codes labels is js → CodeRel (passed_with of named l stands) i j is js
 
 -- If the list is empty, the body with other indices is such code.

@@ -6,7 +6,7 @@ use Rattle.base_lists.specs.Options.{◌>>=◌}
 use Rattle.wasm_meaning.specs.Prelude.{Gives, Text, Store, Entry, Opening, Waiting, CallsPlaceholder, same_text, ExternalValue, look_up, func_of, Move, Call, Invoke, Opened, Run, Out, Transition, Steps, tick}
 use Rattle.index_remap.specs.Related.{Pairing, OneToOne, TopSkips}
 use Rattle.index_remap.specs.RelatedRuns.{OutRel, turned, KeepsOthers, IsBegun}
-use Rattle.index_remap.specs.Laws.{Test, passed_with, EntriesKnown, EntryByEntry, RelatedRuns}
+use Rattle.index_remap.specs.Laws.{CodeTest, passed_with, EntriesKnown, EntryByEntry, RelatedRuns}
 
 -- ---- steps that begin no call of an opaque function ----
 
@@ -51,5 +51,5 @@ pub record RunsStepTogether (R : Pairing) (B : Store → Store → List Entry �
 -- addresses.
 abbrev pub RunsWithOpaqueFunctionsAgree : Type 0
 RunsWithOpaqueFunctionsAgree =
-    (of named : Space → ℕ → ℕ → Bool) (l : List ℕ) (stands : Test) → OneToOne (passed_with of named l stands) → (r q : Run) → RelatedRuns (passed_with of named l stands) r q →
+    (of named : Space → ℕ → ℕ → Bool) (l : List ℕ) (stands : CodeTest) → OneToOne (passed_with of named l stands) → (r q : Run) → RelatedRuns (passed_with of named l stands) r q →
     TickSkips (passed_with of named l stands) r r.entries → EntriesKnown (passed_with of named l stands) r.entries q.entries → RunsStepTogether (passed_with of named l stands) (EntryByEntry (passed_with of named l stands)) r q (tick r) (tick q)

@@ -10,7 +10,7 @@ use Rattle.base_simulation.specs.Machines.{events_of, state_after}
 use Rattle.wasm_meaning.specs.Prelude.{Outcome, Gives, FuncRef, Val, Inst, Func, Code, Table, Store, Level, Frame, Entry, Running, Next, Ran, typed, pop_typed, type_of_func, enter_at, step, Run, transition, tick, Shown, Owned, received_all}
 use Rattle.index_remap.specs.Related.{Pairing, OneToOne, ResRel, ListRel, ValRel, CodeRel, StoreRel, FrameRel, EntryRel, NextRel}
 use Rattle.index_remap.specs.RelatedRuns.{turned, KeepsOthers, IsBegun, RunRel}
-use Rattle.index_remap.specs.Laws.{Test, passed_with, EntriesKnown}
+use Rattle.index_remap.specs.Laws.{CodeTest, passed_with, EntriesKnown}
 use Rattle.index_remap.specs.OpaqueRuns.{TickSkips, calls_placeholder}
 
 -- ---- passing frames ----
@@ -46,7 +46,7 @@ pub record AnsweredInTwo (R : Pairing) (r q : Run) : Type 0 where
 -- instructions name related addresses and the relation is one to one, functions included.
 abbrev pub PassingFramesStutter : Type 0
 PassingFramesStutter =
-    (of named : Space → ℕ → ℕ → Bool) (l : List ℕ) (stands : Test) → OneToOne (passed_with of named l stands) → (r q : Run) → RunRel (passed_with of named l stands) (FramesBetween (passed_with of named l stands)) (FramesBetween (passed_with of named l stands)) r q →
+    (of named : Space → ℕ → ℕ → Bool) (l : List ℕ) (stands : CodeTest) → OneToOne (passed_with of named l stands) → (r q : Run) → RunRel (passed_with of named l stands) (FramesBetween (passed_with of named l stands)) (FramesBetween (passed_with of named l stands)) r q →
     TickSkips (passed_with of named l stands) r r.entries → EntriesKnown (passed_with of named l stands) r.entries q.entries → AnsweredInTwo (passed_with of named l stands) r q
 
 -- ---- calls through a slot ----
@@ -131,7 +131,7 @@ pub record CodeAt (R : Pairing) (s t : Store) (u : FuncType) (a c : ℕ) : Type 
 -- related, with a passing frame between.
 abbrev pub TrampolineCallsAgree : Type 0
 TrampolineCallsAgree =
-    (of named : Space → ℕ → ℕ → Bool) (l : List ℕ) (stands : Test) (s t : Store) (es fs : List Entry) → StoreRel (passed_with of named l stands) s t → WithPassing (passed_with of named l stands) es fs →
+    (of named : Space → ℕ → ℕ → Bool) (l : List ℕ) (stands : CodeTest) (s t : Store) (es fs : List Entry) → StoreRel (passed_with of named l stands) s t → WithPassing (passed_with of named l stands) es fs →
     (inst : Inst) (u : FuncType) (ty table : ℕ) (slot : ℤ) (a b c : ℕ) → slice_get t.funcs b ≡ Some (trampoline inst u ty table slot) → InSlot t inst u ty table slot c → CodeAt (passed_with of named l stands) s t u a c →
     (vs ws : List Val) → ListRel (ValRel (passed_with of named l stands)) vs ws → HaveTypes u.params ws →
     ResRel (NextRel (passed_with of named l stands) (FramesBetween (passed_with of named l stands))) (enter_at s a vs es) (go_on (length u.params + 2) (enter_at t b ws fs))
@@ -141,7 +141,7 @@ TrampolineCallsAgree =
 -- steps give related results, or both trap, or both are ill typed.
 abbrev pub SlotCallsAgree : Type 0
 SlotCallsAgree =
-    (of named : Space → ℕ → ℕ → Bool) (l : List ℕ) (stands : Test) (s t : Store) (es fs : List Entry) → StoreRel (passed_with of named l stands) s t →
+    (of named : Space → ℕ → ℕ → Bool) (l : List ℕ) (stands : CodeTest) (s t : Store) (es fs : List Entry) → StoreRel (passed_with of named l stands) s t →
     (f g : Frame) (o m : Level) (os ms : List Level) (c d : List Instr) → WithPassing (passed_with of named l stands) (Running (at_code f o os o.values c) ∷ es) (Running (at_code g m ms m.values d) ∷ fs) →
     (u : FuncType) (n ty table : ℕ) (slot : ℤ) (a b : ℕ) → slice_get f.inst.funcs n ≡ Some a → InSlot t g.inst u ty table slot b → CodeAt (passed_with of named l stands) s t u a b →
     ResRel (NextRel (passed_with of named l stands) (FramesBetween (passed_with of named l stands))) (step s (Running (at_code f o os o.values (Call n ∷ c)) ∷ es)) (go_on 2 (Gives (Ran t (Running (at_code g m ms m.values (slot_call ty table slot ++ d)) ∷ fs))))
@@ -151,7 +151,7 @@ SlotCallsAgree =
 -- trap, or both are ill typed.
 abbrev pub DirectCallsAgree : Type 0
 DirectCallsAgree =
-    (of named : Space → ℕ → ℕ → Bool) (l : List ℕ) (stands : Test) (s t : Store) (es fs : List Entry) → StoreRel (passed_with of named l stands) s t →
+    (of named : Space → ℕ → ℕ → Bool) (l : List ℕ) (stands : CodeTest) (s t : Store) (es fs : List Entry) → StoreRel (passed_with of named l stands) s t →
     (f g : Frame) (o m : Level) (os ms : List Level) (c d : List Instr) → WithPassing (passed_with of named l stands) (Running (at_code f o os o.values c) ∷ es) (Running (at_code g m ms m.values d) ∷ fs) →
     (u : FuncType) (n k a b : ℕ) → slice_get f.inst.funcs n ≡ Some a → slice_get g.inst.funcs k ≡ Some b → CodeAt (passed_with of named l stands) s t u a b →
     ResRel (NextRel (passed_with of named l stands) (FramesBetween (passed_with of named l stands))) (step s (Running (at_code f o os o.values (Call n ∷ c)) ∷ es)) (step t (Running (at_code g m ms m.values (Call k ∷ d)) ∷ fs))

@@ -7,7 +7,7 @@ use Rattle.merge_spec.specs.Prelude.{link_fault, staying_of, new_index}
 use Rattle.merge_valid_proof.specs.Ended.{inside, outside, is_external}
 use Rattle.index_remap.specs.Prelude.{OptRel, ExternalValueRel}
 use Rattle.world_simulation.proofs.Owned.{look_rel, address_rel}
-use Rattle.world_simulation.specs.Prelude.{OwnEntitiesCorrespond, import_address, Entry, imports, defines}
+use Rattle.world_simulation.specs.Prelude.{OwnEntitiesCorrespond, import_address, SpaceEntry, imports, defines}
 use Rattle.merge_behaves_proof.specs.Shared.{shared_count, is_shared, sharing}
 use Rattle.merge_behaves_proof.proofs.SpaceLaws.{SpaceLaws}
 use Rattle.merge_behaves_proof.proofs.ValueShared.{is_same, shares_own}
@@ -61,6 +61,6 @@ module _ (env : Environment) (parts : List Part) where
         ]
 
     -- what an index of a part names
-    pub entry_stands : (k : Space) (p : ℕ) (m : Module) (x a : ℕ) → module_at parts p ≡ Some m → Entry env parts k p m x a → Stands k (Some a) (new_index parts p k x)
+    pub entry_stands : (k : Space) (p : ℕ) (m : Module) (x a : ℕ) → module_at parts p ≡ Some m → SpaceEntry env parts k p m x a → Stands k (Some a) (new_index parts p k x)
     entry_stands k p m x a is (imports n h e) = rw e at (import_stands k p m x n is h)
     entry_stands k p m x a is (defines j at l e) = own (defined_before k parts p + j) (omega (arith, laws.within k parts p m is)) (grind arith) (grind (arith, (laws.indices parts p m k x is).1, slice_get_past))

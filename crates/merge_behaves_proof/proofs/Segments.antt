@@ -6,7 +6,7 @@ use Rattle.wasm_meaning.specs.Prelude.{Inst, Part, module_at, Environment, Place
 use Rattle.wasm_meaning.specs.Counted.{EachPartAddsItsDefinitions, NothingIsDefinedBeforeTheFirst}
 use Rattle.merge_spec.specs.Prelude.{by_part_from, merged_const, joined_module}
 use Rattle.merge_spec.specs.Merged.{map_of}
-use Rattle.world_simulation.specs.Prelude.{tasks_by, InOrder, both, ends, only_second, offset_in, ElemsInOrder, DatasInOrder, one, Instantiated, values_in}
+use Rattle.world_simulation.specs.Prelude.{segments_by_part, InOrder, both, ends, only_second, offset_in, ElemsInOrder, DatasInOrder, one, Instantiated, values_in}
 use Rattle.merge_behaves_proof.specs.Instances.{SpaceAgrees, PartAgrees, InstancesAgree}
 use Rattle.merge_behaves_proof.specs.Shared.{sharing}
 use Rattle.wasm_valid.specs.Prelude.{const_type}
@@ -49,9 +49,9 @@ module _ {env : Environment} {parts : List Part} {insts js : List Inst} (agree :
   all_in_order : NothingIsDefinedBeforeTheFirst → EachPartAddsItsDefinitions → ((n l : ℕ) (e : A) → slice_get more l ≡ Some e → second (task 0 whole n e)) →
       ((p : ℕ) (m : Module) (i : Inst) → module_at parts p ≡ Some m → PartAgrees env parts p m i whole → SpaceAgrees env parts k (addresses_in k i) (addresses_in k whole) (numbers (defined_before k parts p) (length (segs m)))
       × ((x a : ℕ) (e : A) → slice_get (segs m) x ≡ Some e → (sharing env parts).of k a a → partners (task p i a e) (task 0 whole a (new p m e)))) →
-      InOrder partners first second (tasks_by segs (addresses_in k) 0 parts insts) (segments_in 0 whole (addresses_in k whole) (segs (joined_module parts mode)))
+      InOrder partners first second (segments_by_part segs (addresses_in k) 0 parts insts) (segments_in 0 whole (addresses_in k whole) (segs (joined_module parts mode)))
   all_in_order none_before before_next last each = rw joins.is (rw (none_before k parts) at (along agree
-      (λ p rest is. InOrder partners first second (tasks_by segs (addresses_in k) p rest is)
+      (λ p rest is. InOrder partners first second (segments_by_part segs (addresses_in k) p rest is)
       (segments_in 0 whole (drop (defined_before k parts p) (addresses_in k whole)) (by_part_from (λ p m. map (new p m) (segs m)) p rest ++ more)))
       (λ p is. rest_alone _ more last)
       (λ p part i rest is at a then.

@@ -12,7 +12,7 @@ use Rattle.merge_spec.specs.declared.faults.LinkFault.{LinkFault}
 use Rattle.merge_spec.specs.declared.faults.LinkFault.TheVariants.{ImportMismatch}
 use Rattle.merge_spec.specs.Prelude.{External, FuncOf, TableOf, MemoryOf, GlobalOf, asked, asked_at, external_of, found, same_but_limits, meets_limits, suits, is_suited, first_fault, end_fault, end_entry}
 use Rattle.merge_spec.specs.Faults.{import_fault, link_fault}
-use Rattle.merge_join.specs.LinkedParts.{site, space_size, IsEnd}
+use Rattle.merge_join.specs.LinkedParts.{site, space_size, EndExists}
 use Rattle.merge_join.specs.Spaces.{sites_before}
 use Rattle.merge_join.proofs.Sites.{sites_split}
 use Rattle.merge_join.proofs.SpaceSizes.{funcs_size, tables_size, memories_size, globals_size}
@@ -176,7 +176,7 @@ gather_there ps k (linking.Defined e) h = h
 gather_there ps k (linking.Outside t) (j, at, is) = gathered_there ps k t (import_at ps t) j at at is
 
 -- an end that is there can be written down
-written : (ps : List Part) (k : Space) (end : linking.End) → EndThere ps k end → IsEnd ps k (end_entry end)
+written : (ps : List Part) (k : Space) (end : linking.End) → EndThere ps k end → EndExists ps k (end_entry end)
 written ps k (linking.Defined e) (m, at, kind, within) = (m, at, within)
 written ps k (linking.Outside t) (j, at, kind) =
     let (m, there, here) = and_then_is (module_at ps t.part) (λ m. slice_get m.imports t.import) j at in
@@ -187,9 +187,9 @@ entry_from None e h = cc
 entry_from (Some end) e h = let same : end_entry end ≡ e = cc in (end, refl, same)
 
 -- the end of an import, as it is written down, is there
-pub entry_there : (ps : List Part) (p n : ℕ) (m : Module) (i : Import) (e : End) → link_fault ps true ≡ None → module_at ps p ≡ Some m → slice_get m.imports n ≡ Some i → option_map end_entry (linked_end ps (site p n)) ≡ Some e → IsEnd ps (space_of_import i.desc) e
+pub entry_there : (ps : List Part) (p n : ℕ) (m : Module) (i : Import) (e : End) → link_fault ps true ≡ None → module_at ps p ≡ Some m → slice_get m.imports n ≡ Some i → option_map end_entry (linked_end ps (site p n)) ≡ Some e → EndExists ps (space_of_import i.desc) e
 entry_there ps p n m i e none at here ends =
     let (linked, is, entry) = entry_from (linked_end ps (site p n)) e ends in
     let (end, first, last) = and_then_is (end_of ps (site p n)) (λ end. Some (gathered ps end)) linked is in
     let gathers : gathered ps end ≡ linked = cc in
-    subst (IsEnd ps (space_of_import i.desc)) (ap end_entry gathers ∙ entry) (written ps (space_of_import i.desc) (gathered ps end) (gather_there ps (space_of_import i.desc) end (end_there ps p n m i end none at here first)))
+    subst (EndExists ps (space_of_import i.desc)) (ap end_entry gathers ∙ entry) (written ps (space_of_import i.desc) (gathered ps end) (gather_there ps (space_of_import i.desc) end (end_there ps p n m i end none at here first)))

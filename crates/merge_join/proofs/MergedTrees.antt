@@ -7,7 +7,7 @@ use Rattle.wasm_meaning.specs.Prelude.{Text, defined_before, Part, Site, has_kin
 use Rattle.index_remap.specs.Prelude.{new_func}
 use Rattle.merge_spec.specs.Prelude.{staying, imports_kind, merged_desc, by_part_from, map_of, starts, start_calls, FewInAll}
 use Rattle.merge_spec.specs.Merged.{staying_of, merged_import, defined_funcs, merged}
-use Rattle.merge_join.specs.Planned.{IsFrame, IsMoved}
+use Rattle.merge_join.specs.Planned.{IsMergedFrame, IsMoved}
 use Rattle.merge_join.proofs.Counts.{staying_few}
 
 abbrev pub built : List FuncType → List Import → List Func → List TableType → List Limits → List GlobalDef → List Export → Option ℕ → List ElemSeg → List DataSeg → Module
@@ -28,7 +28,7 @@ built types imports funcs tables mems globals exports start elems datas = record
 abbrev pub framed : Module → Module → Module
 framed f t = record t { types = f.types; imports = f.imports; funcs = t.funcs ++ f.funcs; exports = f.exports; start = f.start }
 
-pub merged_is : (ps : List Part) (names : List (Option Text)) (f t : Module) → IsFrame ps names f → IsMoved ps t → framed f t ≡ merged ps names
+pub merged_is : (ps : List Part) (names : List (Option Text)) (f t : Module) → IsMergedFrame ps names f → IsMoved ps t → framed f t ≡ merged ps names
 unfolding merged
 merged_is ps names f t a b =
     let m = framed f t in

@@ -24,9 +24,9 @@ abbrev pub space_size : Space → Module → ℕ
 space_size k m = length (imports_of k m) + defined_count k m
 
 -- the end exists: part `p` has this entry in its index space `k`, or has this import
-abbrev pub IsEnd : List linking.Part → Space → End → Type 0
-IsEnd ps k (Defined p i) = (m : Module) × (module_at ps p ≡ Some m) × (i < space_size k m)
-IsEnd ps k (Outside p n) = IsSite ps p n
+abbrev pub EndExists : List linking.Part → Space → End → Type 0
+EndExists ps k (Defined p i) = (m : Module) × (module_at ps p ≡ Some m) × (i < space_size k m)
+EndExists ps k (Outside p n) = IsSite ps p n
 
 -- the place of an end in the merged index space `k`
 unfoldable pub place_at : List linking.Part → Space → End → ℕ

@@ -11,7 +11,7 @@ use Rattle.merge_join.specs.LinkedParts.{AreMaps, funcs_before_calls}
 
 -- the module has the types, the imports, the exports and the start of the merged module, and no
 -- function but the one that calls several starts, if there is one
-pub record IsFrame (ps : List Part) (names : List (Option Text)) (m : Module) : Type 0 where
+pub record IsMergedFrame (ps : List Part) (names : List (Option Text)) (m : Module) : Type 0 where
   pub types_are : m.types ≡ merged_types ps
   pub imports_are : m.imports ≡ filter_map (merged_import ps) (staying ps)
   pub exports_are : m.exports ≡ named_exports (all_exports ps) names
@@ -28,7 +28,7 @@ pub record IsMoved (ps : List Part) (m : Module) : Type 0 where
   pub datas_are : m.datas ≡ by_part (λ p m. map (merged_data ps p (map_of ps p m)) m.datas) ps
 
 -- `plan` has the frame, the maps and the values from which the merged module is made
-pub record IsPlan (ps : List Part) (names : List (Option Text)) (plan : Plan) : Type 0 where
-  pub frame : IsFrame ps names plan.frame
+pub record IsMergePlan (ps : List Part) (names : List (Option Text)) (plan : Plan) : Type 0 where
+  pub frame : IsMergedFrame ps names plan.frame
   pub maps : AreMaps ps plan.maps
   pub values : AreAllValues ps plan.values

@@ -17,7 +17,7 @@ imported_in ps k p m = imported_count ps p k
 
 -- `staying` has the place of each import, `firsts` for each part the place of the first entry that
 -- it defines, `imported` how many it imports, and `count` is the number of entries
-pub record IsSpace (ps : List Part) (k : Space) (staying : List (List (Option ℕ))) (firsts imported : List ℕ) (count : ℕ) : Type 0 where
+pub record IsJoinedSpace (ps : List Part) (k : Space) (staying : List (List (Option ℕ))) (firsts imported : List ℕ) (count : ℕ) : Type 0 where
   pub staying_are : staying ≡ by_import (staying_place ps k) ps
   pub firsts_are : firsts ≡ each_part (first_of ps k) ps
   pub imported_are : imported ≡ each_part (imported_in ps k) ps

@@ -42,7 +42,7 @@ fn type_map(alloc: Global, types: &[FuncType], all: &Types) -> Result<Items<u32>
 {
     let mut map = Items::new(alloc);
     for ty in types {
-        map.keep(all.place(alloc, ty)?)?;
+        map.keep(all.type_place(alloc, ty)?)?;
     }
     Ok(map)
 }
@@ -65,7 +65,7 @@ fn imported_map(
         if !imports[place].desc.is_in(into.space) {
             continue;
         }
-        map.keep(into.place(end_of(into.parts, links, part, place)))?;
+        map.keep(into.place_of_end(end_of(into.parts, links, part, place)))?;
     }
     Ok(map)
 }

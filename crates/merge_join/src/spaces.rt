@@ -8,8 +8,8 @@ ghost use Rattle.merge_spec.specs.Parts.{named_modules};
 ghost use Rattle.merge_spec.specs.declared.links.End.TheVariants.{Defined};
 ghost use Rattle.merge_spec.specs.Linked.{AreLinks, by_import};
 ghost use Rattle.merge_spec.specs.Merged as merged;
-ghost use Rattle.merge_join.specs.LinkedParts.{site, place_at, each_part, IsSite, IsEnd, PartsAreLinked};
-ghost use Rattle.merge_join.specs.Spaces.{IsSpace, staying_place, imported_in, picked, count_before};
+ghost use Rattle.merge_join.specs.LinkedParts.{site, place_at, each_part, IsSite, EndExists, PartsAreLinked};
+ghost use Rattle.merge_join.specs.Spaces.{IsJoinedSpace, staying_place, imported_in, picked, count_before};
 
 use crate::defined::defined_count;
 use crate::linked::{module_of, stays};
@@ -34,7 +34,7 @@ pub(crate) struct MergedSpace<'a> {
     /// The number of entries.
     pub count: u32,
     ghost few: { count < 2 ^ 32 },
-    pub ghost is: { IsSpace (named_modules parts.now) space staying firsts imported count },
+    pub ghost is: { IsJoinedSpace (named_modules parts.now) space staying firsts imported count },
 }
 
 impl<'a> MergedSpace<'a> {
@@ -48,7 +48,7 @@ impl<'a> MergedSpace<'a> {
 
     // Returns the place of an entry that a part defines, by its index in that part.
     fn defined_at(&self, part: usize, index: u32) -> u32
-        requires { IsEnd (named_modules self.now.parts.now) self.now.space (Defined part index) }
+        requires { EndExists (named_modules self.now.parts.now) self.now.space (Defined part index) }
         ensures { result ≡ place_at (named_modules self.now.parts.now) self.now.space (Defined part index) }
     {
         definitions_are_counted_by_part();
@@ -57,8 +57,8 @@ impl<'a> MergedSpace<'a> {
     }
 
     /// Returns the place of an end.
-    pub(crate) fn place(&self, end: End) -> u32
-        requires { IsEnd (named_modules self.now.parts.now) self.now.space end }
+    pub(crate) fn place_of_end(&self, end: End) -> u32
+        requires { EndExists (named_modules self.now.parts.now) self.now.space end }
         ensures { result ≡ place_at (named_modules self.now.parts.now) self.now.space end }
     {
         match end {

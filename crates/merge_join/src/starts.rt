@@ -69,7 +69,7 @@ pub(crate) fn add_calling(
         results: Items::new(alloc),
     };
     funcs.keep(Func {
-        ty: types.place(alloc, &nullary)?,
+        ty: types.type_place(alloc, &nullary)?,
         locals: Items::new(alloc),
         body: calls(alloc, starts)?,
     })

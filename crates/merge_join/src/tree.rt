@@ -8,7 +8,7 @@ ghost use Rattle.merge_spec.specs.Joined as joined;
 ghost use Rattle.merge_spec.specs.declared.faults.JoinFault.TheVariants.{NoMemory as OutOfMemory};
 ghost use Rattle.merge_join.specs.LinkedParts.{HaveTheirMaps, PartsAreLinked, funcs_before_calls};
 ghost use Rattle.merge_join.specs.AllSpaces.{AreSpaces};
-ghost use Rattle.merge_join.specs.Planned.{IsFrame, IsPlan};
+ghost use Rattle.merge_join.specs.Planned.{IsMergedFrame, IsMergePlan};
 
 use crate::all_spaces::{Spaces, spaces_of};
 use crate::consts::all_values;
@@ -94,7 +94,7 @@ fn put_named(
     requires types { types.now.list ≡ terms.merged_types (named_modules joining.now.parts.now) }
     requires count { count ≡ funcs_before_calls (named_modules joining.now.parts.now) }
     requires empty { tree.old.funcs ≡ [] }
-    ensures { OnOk result (IsFrame (named_modules joining.now.parts.now) names.now (record tree.new { types = types.now.list })) }
+    ensures { OnOk result (IsMergedFrame (named_modules joining.now.parts.now) names.now (record tree.new { types = types.now.list })) }
 {
     put_starts(alloc, joining, types, count, tree)?;
     put_names(alloc, joining, names, tree)?;
@@ -114,7 +114,7 @@ fn frame_of(
     requires named { length names.now ≡ length (terms.all_exports (named_modules joining.now.parts.now)) }
     requires types { types.list ≡ terms.merged_types (named_modules joining.now.parts.now) }
     requires count { count ≡ funcs_before_calls (named_modules joining.now.parts.now) }
-    ensures { IfOk result (IsFrame (named_modules joining.now.parts.now) names.now) }
+    ensures { IfOk result (IsMergedFrame (named_modules joining.now.parts.now) names.now) }
 {
     let mut tree = Module::empty(alloc);
     put_named(alloc, joining, names, &types, count, &mut tree)?;
@@ -133,7 +133,7 @@ fn plan_over(
     requires linked { PartsAreLinked parts.now links.now }
     requires named { length names.now ≡ length (terms.all_exports (named_modules parts.now)) }
     requires spaces { AreSpaces parts.now spaces.now }
-    ensures { IfOk result (IsPlan (named_modules parts.now) names.now) }
+    ensures { IfOk result (IsMergePlan (named_modules parts.now) names.now) }
 {
     let types = all_types(alloc, parts)?;
     let maps = all_maps(alloc, parts, links, spaces, &types)?;
@@ -160,7 +160,7 @@ fn plan_of(
 ) -> Result<Plan, NoMemory>
     requires linked { PartsAreLinked parts.now links.now }
     requires named { length names.now ≡ length (terms.all_exports (named_modules parts.now)) }
-    ensures { IfOk result (IsPlan (named_modules parts.now) names.now) }
+    ensures { IfOk result (IsMergePlan (named_modules parts.now) names.now) }
 {
     let spaces = spaces_of(alloc, parts, links)?;
     plan_over(alloc, parts, links, names, &spaces)

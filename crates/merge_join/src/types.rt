@@ -29,7 +29,7 @@ pub(crate) struct Types {
 
 impl Types {
     /// Returns the place of a type, or 0 if it is not there.
-    pub(crate) fn place(&self, alloc: Global, ty: &FuncType) -> Result<u32, NoMemory>
+    pub(crate) fn type_place(&self, alloc: Global, ty: &FuncType) -> Result<u32, NoMemory>
         ensures { IfOk result (λ place. place ≡ unwrap_or (first_place (same_func_type ty.now) self.now.list 0) 0) }
     {
         let text = type_text(alloc, ty)?;

@@ -8,11 +8,11 @@ use Rattle.merge_spec.specs.Faults as faults
 use Rattle.merge_link.specs.declared.sites.Site.{Site}
 use Rattle.merge_link.specs.declared.part_tables.Ending.{Ending}
 use Rattle.merge_link.specs.Prelude.{AreSites, the_site, AreKnown, the_end}
-use Rattle.merge_link.specs.Sites.{IsThere}
+use Rattle.merge_link.specs.Sites.{ImportExists}
 use Rattle.merge_link.specs.PartTables.{AreStops, IsStop, end_at}
 use Rattle.merge_link.proofs.Numbers.{site_there}
 
-pub there_at : (ps : List Part) (sites : List Site) (i : ℕ) (s : Site) → AreSites ps sites → slice_get sites i ≡ Some s → IsThere ps s
+pub there_at : (ps : List Part) (sites : List Site) (i : ℕ) (s : Site) → AreSites ps sites → slice_get sites i ≡ Some s → ImportExists ps s
 there_at ps sites i s are h = site_there (named_modules ps) i (the_site s) (ap (λ xs. slice_get xs i) (sym are) ∙ slice_get-map the_site sites i ∙ ap (option_map the_site) h)
 
 pub stop_at : (ps : List Part) (ends : List (Option Ending)) (i : ℕ) (o : Option Ending) → AreStops ps ends → slice_get ends i ≡ Some o → IfSome o (λ e. IsStop (named_modules ps) (the_end e))

@@ -9,7 +9,7 @@ use Rattle.merge_spec.specs.declared.parts.Part.{Part}
 use Rattle.merge_spec.specs.Prelude.{named_modules}
 use Rattle.merge_link.specs.declared.sites.Site.{Site}
 use Rattle.merge_link.specs.Prelude.{AreSites, the_site, first_memory}
-use Rattle.merge_link.specs.Sites.{IsThere}
+use Rattle.merge_link.specs.Sites.{ImportExists}
 use Rattle.merge_link.specs.Gathering.{is_memory_of, is_of_pair, is_memory_at, linked_at, EndsThere}
 use Rattle.merge_link.proofs.Found.{there_at}
 use Rattle.merge_link.specs.declared.part_tables.Ending.{Ending}
@@ -116,7 +116,7 @@ first_place ps pair (s ∷ ss) t h = by (is_memory_of ps pair s) (λ k. let r = 
     by true more k = (0, k)
     by false more k = more k
 
-pub first_there : (ps : List Part) (pair : Pair) (sites : List Site) (t : Site) → AreSites ps sites → first_memory ps pair sites ≡ Some t → IsThere ps t
+pub first_there : (ps : List Part) (pair : Pair) (sites : List Site) (t : Site) → AreSites ps sites → first_memory ps pair sites ≡ Some t → ImportExists ps t
 first_there ps pair sites t are h = let r = first_place ps pair sites t h in there_at ps sites r.0 t are r.1
 
 pub there_more : (ps : List Part) (ends : List Ending) (e : Ending) → ((n : ℕ) (f : Ending) → slice_get ends n ≡ Some f → EndsThere ps f) → EndsThere ps e → (n : ℕ) (f : Ending) → slice_get (ends ++ e ∷ []) n ≡ Some f → EndsThere ps f

@@ -7,7 +7,7 @@ use Rattle.wasm_meaning.specs.Paths as paths
 use Rattle.wasm_meaning.specs.Linking as linking
 use Rattle.wasm_meaning.specs.Prelude.{defined_before}
 use Rattle.base_paths.specs.declared.follow.Step.{Step}
-use Rattle.base_paths.specs.declared.follow.Step.TheVariants.{Goes, Ends, Nowhere}
+use Rattle.base_paths.specs.declared.follow.Step.TheVariants.{Leads, Stops, Nowhere}
 use Rattle.merge_spec.specs.declared.parts.Part.{Part}
 use Rattle.merge_spec.specs.declared.links.Read.{Read}
 use Rattle.merge_spec.specs.Faults as faults
@@ -99,7 +99,7 @@ read_outside lp ts s i t n are there at index =
 
 -- ---- one step ----
 
-pub step_to : (ps : List Part) (e : linking.Entity) (n : ℕ) → IsOwn (named_modules ps) e (Some n) → IsEndStep ps (linking.Defined e) (Goes n)
+pub step_to : (ps : List Part) (e : linking.Entity) (n : ℕ) → IsOwn (named_modules ps) e (Some n) → IsEndStep ps (linking.Defined e) (Leads n)
 step_to ps e n (g, at, part, init) = (
   own_read g,
   slice_get-map own_read (faults.defined_globals (named_modules ps)) n ∙ ap (option_map own_read) at,
@@ -124,8 +124,8 @@ step_read ps p x s e step at end is = by step is
     same = ap (λ o. linking.end_step (named_modules ps) (option_and_then (linking.end_of (named_modules ps)) o)) at ∙ ap (linking.end_step (named_modules ps)) end
 
     by : (step : Step Read) → IsEndStep ps e step → IsStep (linking.read_step (named_modules ps)) (own_reads (named_modules ps)) the_read (record { part = p; expr = const.Global x }) step
-    by (Goes n) (r, a, b) = (r, a, same ∙ b)
-    by (Ends r) a = same ∙ a
+    by (Leads n) (r, a, b) = (r, a, same ∙ b)
+    by (Stops r) a = same ∙ a
     by Nowhere a = same ∙ a
 
 -- ---- faults ----

@@ -4,7 +4,7 @@ use Rattle.std.specs.Option.{option_map}
 use Rattle.wasm_meaning.specs.Paths as paths
 use Rattle.wasm_meaning.specs.Paths.Path.{ends, goes}
 use Rattle.base_paths.specs.declared.follow.Step.{Step}
-use Rattle.base_paths.specs.declared.follow.Step.TheVariants.{Goes, Ends, Nowhere}
+use Rattle.base_paths.specs.declared.follow.Step.TheVariants.{Leads, Stops, Nowhere}
 use Rattle.base_paths.specs.Steps.{LeadsTo, AreEndings, AreNamed}
 use Rattle.base_paths.specs.Steps.LeadsTo.{there, on}
 use Rattle.merge_link.specs.Prelude.{IsStep, AreSteps}
@@ -28,9 +28,9 @@ step_at next points meaning steps are n a h =
 
 to_path : {A E F : Type 0} (next : A → Option (paths.PathStep A E)) (points : List A) (meaning : F → E) (steps : List (Step F)) → AreSteps next points meaning points steps
     → (n : ℕ) (a : A) (e : F) → slice_get points n ≡ Some a → LeadsTo steps n e → paths.Path next a (meaning e)
-to_path next points meaning steps are n a e h (there _ _ k) = ends (are.right n a (Ends e) h k)
+to_path next points meaning steps are n a e h (there _ _ k) = ends (are.right n a (Stops e) h k)
 to_path next points meaning steps are n a e h (on _ m _ k l) =
-    let g = are.right n a (Goes m) h k in
+    let g = are.right n a (Leads m) h k in
     goes g.2 (to_path next points meaning steps are m g.0 e g.1 l)
 
 from_path : {A E F : Type 0} (next : A → Option (paths.PathStep A E)) (points : List A) (meaning : F → E) (steps : List (Step F)) → AreSteps next points meaning points steps
@@ -38,17 +38,17 @@ from_path : {A E F : Type 0} (next : A → Option (paths.PathStep A E)) (points 
 from_path {F = F} next points meaning steps are n a e h (ends k) = let s = step_at next points meaning steps are n a h in by s.0 s.1 s.2
   where
     by : (s : Step F) → slice_get steps n ≡ Some s → IsStep next points meaning a s → (f : F) × LeadsTo steps n f
-    by (Goes m) at is = let b = is.2 in absurd (cc)
-    by (Ends f) at is = (f, there n f at)
+    by (Leads m) at is = let b = is.2 in absurd (cc)
+    by (Stops f) at is = (f, there n f at)
     by Nowhere at is = absurd (cc)
 from_path {F = F} next points meaning steps are n a e h (goes {b = b} k l) =
     let s = step_at next points meaning steps are n a h in by s.0 s.1 s.2 (λ m at. from_path next points meaning steps are m b e at l)
   where
     by : (s : Step F) → slice_get steps n ≡ Some s → IsStep next points meaning a s → ((m : ℕ) → slice_get points m ≡ Some b → (f : F) × LeadsTo steps m f) → (f : F) × LeadsTo steps n f
-    by (Goes m) at is more =
+    by (Leads m) at is more =
         let same : is.0 ≡ b = let x = is.2 in cc in
         let r = more m (is.1 ∙ ap Some same) in (r.0, on n m r.0 at r.1)
-    by (Ends f) at is more = absurd (cc)
+    by (Stops f) at is more = absurd (cc)
     by Nowhere at is more = absurd (cc)
 
 -- what a point leads to, by a rule that tells the ends of paths
@@ -82,8 +82,8 @@ endings_told next points meaning steps all are endings tell law =
 -- each number that is named is there
 pub steps_named : {A E F : Type 0} (next : A → Option (paths.PathStep A E)) (points : List A) (meaning : F → E) (steps : List (Step F)) → AreSteps next points meaning points steps → AreNamed steps
 steps_named next points meaning steps are n m h =
-    let a = slice_get_there points n (let k = slice_get_within steps n (Goes m) h in omega (arith, are.one_each)) in
-    let is = are.right n a.0 (Goes m) a.1 h in
+    let a = slice_get_there points n (let k = slice_get_within steps n (Leads m) h in omega (arith, are.one_each)) in
+    let is = are.right n a.0 (Leads m) a.1 h in
     let k = slice_get_within points m is.0 is.1 in
     omega (arith, are.one_each)
 

@@ -12,20 +12,20 @@ use Rattle.merge_spec.specs.declared.links.Read.{Read}
 use Rattle.merge_spec.specs.Faults as faults
 use Rattle.merge_spec.specs.Prelude.{read_at, read_entry, when_fixed, named_modules}
 use Rattle.merge_spec.specs.Linked.{read_at_desc}
-use Rattle.merge_link.specs.Prelude.{IsOwn, the_read, AreValues}
+use Rattle.merge_link.specs.Prelude.{IsOwn, the_read, AreGlobalReads}
 use Rattle.merge_link.specs.Reads.{fixed_desc, fixed_read, own_value, read_past}
 use Rattle.merge_link.proofs.Found.{lengths_same, same_at}
 use Rattle.merge_link.proofs.Meets.{part_there}
 
 -- the value of a defined global that has a number
-pub value_numbered : (ps : List Part) (values : List (Option Read)) (e : linking.Entity) (n : ℕ) (o : Option Read) → AreValues ps values → IsOwn (named_modules ps) e (Some n) → slice_get values n ≡ Some o
+pub value_numbered : (ps : List Part) (values : List (Option Read)) (e : linking.Entity) (n : ℕ) (o : Option Read) → AreGlobalReads ps values → IsOwn (named_modules ps) e (Some n) → slice_get values n ≡ Some o
     → option_map the_read o ≡ read_past (named_modules ps) (linking.Defined e)
 unfolding own_value
 value_numbered ps values e n o are (g, at, part, init) h =
     same_at (option_map the_read) (own_value ps) values (faults.defined_globals (named_modules ps)) n o g are h at
     ∙ ap (λ p. linking.read_of (named_modules ps) p g.init) part ∙ sym (ap (λ x. option_and_then (linking.read_of (named_modules ps) e.part) x) init)
 
-pub number_within : (ps : List Part) (values : List (Option Read)) (e : linking.Entity) (n : ℕ) → AreValues ps values → IsOwn (named_modules ps) e (Some n) → n < length values
+pub number_within : (ps : List Part) (values : List (Option Read)) (e : linking.Entity) (n : ℕ) → AreGlobalReads ps values → IsOwn (named_modules ps) e (Some n) → n < length values
 number_within ps values e n are (g, at, part, init) =
     let w = slice_get_within (faults.defined_globals (named_modules ps)) n g at in
     let s = lengths_same (option_map the_read) (own_value ps) values (faults.defined_globals (named_modules ps)) are in

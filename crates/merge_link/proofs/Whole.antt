@@ -14,7 +14,7 @@ use Rattle.merge_spec.specs.Prelude.{first_fault, by_import, end_entry, read_at,
 use Rattle.merge_link.specs.declared.globals.DefinedGlobal.{DefinedGlobal}
 use Rattle.merge_link.specs.declared.part_tables.Ending.{Ending}
 use Rattle.merge_link.specs.declared.sites.Site.{Site}
-use Rattle.merge_link.specs.Prelude.{cut_by, import_counts, the_own, the_read, AreKnown, end_at, the_end, AreValues, AreSites, the_site}
+use Rattle.merge_link.specs.Prelude.{cut_by, import_counts, the_own, the_read, AreKnown, end_at, the_end, AreGlobalReads, AreSites, the_site}
 use Rattle.merge_link.specs.Gathering.{AreLinkedEnds, linked_at}
 use Rattle.merge_link.specs.Globals.{AreOwn, value_at}
 use Rattle.merge_link.specs.PartTables.{AreStops}
@@ -58,7 +58,7 @@ all_known ps sites ends known same stops is = record {
   stops = λ n e h. stops n e (ap (λ xs. slice_get xs n) (sym is) ∙ slice_get-map Some known n ∙ ap (option_map Some) h);
 }
 
-pub values_own : (ps : List Part) (globals : List DefinedGlobal) (values : List (Option Read)) → AreOwn ps globals → map (option_map the_read) values ≡ map (value_at ps) globals → AreValues ps values
+pub values_own : (ps : List Part) (globals : List DefinedGlobal) (values : List (Option Read)) → AreOwn ps globals → map (option_map the_read) values ≡ map (value_at ps) globals → AreGlobalReads ps values
 unfolding value_at own_value
 values_own ps globals values are same = same ∙ sym (map_twice (own_value ps) the_own globals) ∙ ap (map (own_value ps)) are
 

@@ -12,7 +12,7 @@ use Rattle.merge_spec.specs.Prelude.{named_modules}
 use Rattle.merge_link.specs.declared.sites.Site.{Site}
 use Rattle.merge_link.specs.declared.part_tables.Ending.{Ending}
 use Rattle.merge_link.specs.declared.part_tables.Ending.TheVariants.{Defined, Outside}
-use Rattle.merge_link.specs.Sites.{IsThere, the_site}
+use Rattle.merge_link.specs.Sites.{ImportExists, the_site}
 use Rattle.merge_link.specs.PartTables.{the_end}
 
 -- there is an import, and it is a memory
@@ -40,8 +40,8 @@ abbrev pub first_memory : List Part → Pair → List Site → Option Site
 first_memory parts pair [] = None
 first_memory parts pair (s ∷ ss) = cond (is_memory_of parts pair s) (Some s) (first_memory parts pair ss)
 
-abbrev pub AreFirst : List Part → List Site → BTreeMap (Bor (List ℕ) × Bor (List ℕ)) Site → Type 0
-AreFirst parts sites firsts = (a b : List ℕ) → get_by (λ k. ordering_then (slice_cmp nat_cmp a k.0.now) (slice_cmp nat_cmp b k.1.now)) firsts ≡ first_memory parts (a, b) sites
+abbrev pub HasFirstSites : List Part → List Site → BTreeMap (Bor (List ℕ) × Bor (List ℕ)) Site → Type 0
+HasFirstSites parts sites firsts = (a b : List ℕ) → get_by (λ k. ordering_then (slice_cmp nat_cmp a k.0.now) (slice_cmp nat_cmp b k.1.now)) firsts ≡ first_memory parts (a, b) sites
 
 -- the end of an import, where staying memories with the same module and field name are one
 unfoldable pub linked_at : List Part → Site → Option linking.End
@@ -50,7 +50,7 @@ linked_at parts s = linking.linked_end (named_modules parts) (the_site s)
 -- if the end is an import, there is one at its place
 abbrev pub EndsThere : List Part → Ending → Type 0
 EndsThere parts (Defined e) = Unit {0}
-EndsThere parts (Outside s) = IsThere parts s
+EndsThere parts (Outside s) = ImportExists parts s
 
 -- `linked` are the linked ends of the imports
 pub record AreLinkedEnds (parts : List Part) (sites : List Site) (linked : List Ending) : Type 0 where

@@ -3,7 +3,7 @@ use Rattle.std.specs.Prelude.{◌≡◌, ℕ, List, Option, Some, None, map, sli
 use Rattle.wasm_meaning.specs.Paths as paths
 use Rattle.wasm_meaning.specs.Linking as linking
 use Rattle.base_paths.specs.declared.follow.Step.{Step}
-use Rattle.base_paths.specs.declared.follow.Step.TheVariants.{Goes, Ends, Nowhere}
+use Rattle.base_paths.specs.declared.follow.Step.TheVariants.{Leads, Stops, Nowhere}
 use Rattle.merge_spec.specs.declared.parts.Part.{Part}
 use Rattle.merge_spec.specs.declared.links.Read.{Read}
 use Rattle.merge_spec.specs.Faults as faults
@@ -34,8 +34,8 @@ IsOwn lp e (Some n) = (g : faults.DefinedGlobal) × (slice_get (faults.defined_g
 
 -- the step from the end of a global's import
 abbrev pub IsEndStep : List Part → linking.End → Step Read → Type 0
-IsEndStep parts e (Goes n) = (r : linking.Read) × (slice_get (own_reads (named_modules parts)) n ≡ Some r) × (linking.end_step (named_modules parts) (Some e) ≡ Some (paths.LeadsTo r))
-IsEndStep parts e (Ends r) = linking.end_step (named_modules parts) (Some e) ≡ Some (paths.EndsWith (the_read r))
+IsEndStep parts e (Leads n) = (r : linking.Read) × (slice_get (own_reads (named_modules parts)) n ≡ Some r) × (linking.end_step (named_modules parts) (Some e) ≡ Some (paths.LeadsTo r))
+IsEndStep parts e (Stops r) = linking.end_step (named_modules parts) (Some e) ≡ Some (paths.EndsWith (the_read r))
 IsEndStep parts e Nowhere = linking.end_step (named_modules parts) (Some e) ≡ None
 
 -- what the value expression of a defined global reads

@@ -3,7 +3,7 @@ use Rattle.std.specs.Prelude.{◌≡◌, ◌<◌, ◌^◌, ℕ, List, Option, So
 use Rattle.wasm_meaning.specs.Paths as paths
 use Rattle.wasm_meaning.specs.Linking as linking
 use Rattle.base_paths.specs.declared.follow.Step.{Step}
-use Rattle.base_paths.specs.declared.follow.Step.TheVariants.{Goes, Ends, Nowhere}
+use Rattle.base_paths.specs.declared.follow.Step.TheVariants.{Leads, Stops, Nowhere}
 use Rattle.merge_spec.specs.declared.parts.Part.{Part}
 use Rattle.merge_spec.specs.Prelude.{named_modules, defined_globals}
 use Rattle.merge_link.specs.declared.sites.Site.{Site}
@@ -35,8 +35,8 @@ IsImportedAs lp e (Some n) = (s : linking.Site) × (slice_get (linking.sites lp)
 
 -- the step from a point: to another, by its number among all points, or to what the path ends with
 abbrev pub IsStep : {A E F : Type 0} → (A → Option (paths.PathStep A E)) → List A → (F → E) → A → Step F → Type 0
-IsStep {A = A} next points meaning a (Goes n) = (b : A) × (slice_get points n ≡ Some b) × (next a ≡ Some (paths.LeadsTo b))
-IsStep next points meaning a (Ends e) = next a ≡ Some (paths.EndsWith (meaning e))
+IsStep {A = A} next points meaning a (Leads n) = (b : A) × (slice_get points n ≡ Some b) × (next a ≡ Some (paths.LeadsTo b))
+IsStep next points meaning a (Stops e) = next a ≡ Some (paths.EndsWith (meaning e))
 IsStep next points meaning a Nowhere = next a ≡ None
 
 -- `steps` has the step from each of the points `froms`

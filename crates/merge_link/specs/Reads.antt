@@ -15,8 +15,8 @@ unfoldable pub own_value : List Part → faults.DefinedGlobal → Option linking
 own_value parts g = linking.read_of (named_modules parts) g.part g.init
 
 -- `values` has what each defined global reads
-abbrev pub AreValues : List Part → List (Option Read) → Type 0
-AreValues parts values = map (option_map the_read) values ≡ map (own_value parts) (faults.defined_globals (named_modules parts))
+abbrev pub AreGlobalReads : List Part → List (Option Read) → Type 0
+AreGlobalReads parts values = map (option_map the_read) values ≡ map (own_value parts) (faults.defined_globals (named_modules parts))
 
 -- what is read from the end of a global's import
 abbrev pub read_past : List linking.Part → linking.End → Option linking.Read

@@ -14,5 +14,5 @@ abbrev pub AreSites : List Part → List Site → Type 0
 AreSites parts sites = map the_site sites ≡ linking.sites (named_modules parts)
 
 -- there is an import at the place
-abbrev pub IsThere : List Part → Site → Type 0
-IsThere parts site = (i : Import) × (linking.import_at (named_modules parts) (the_site site) ≡ Some i)
+abbrev pub ImportExists : List Part → Site → Type 0
+ImportExists parts site = (i : Import) × (linking.import_at (named_modules parts) (the_site site) ≡ Some i)

@@ -8,7 +8,7 @@ ghost use Rattle.wasm_tree.specs.Spaces.{index_of_export, space_of_export};
 ghost use Rattle.wasm_meaning.specs.Linking as linking;
 ghost use Rattle.wasm_tree.specs.SameTypes as types;
 ghost use Rattle.wasm_meaning.specs.World as world;
-ghost use Rattle.merge_link.specs.Sites.{IsThere, the_site};
+ghost use Rattle.merge_link.specs.Sites.{ImportExists, the_site};
 ghost use Rattle.merge_link.specs.Tables.{HasPlaces};
 ghost use Rattle.merge_link.specs.PartTables.{ArePartTables, IsStop, the_end, the_entity};
 ghost use Rattle.merge_link.specs.Externals.{own_func, own_global, own_memory, own_table, the_external};
@@ -167,7 +167,7 @@ fn defined<'a>(module: &'a Module, table: &Table, what: ExportDesc) -> Option<Ex
 impl<'a> PartTables<'a> {
     // Returns what the import at a place asks for.
     fn asked_at(&self, site: Site) -> Option<External<'a>>
-        requires { IsThere self.now.parts.now site }
+        requires { ImportExists self.now.parts.now site }
         ensures { option_map the_external result ≡ faults.asked_at (named_modules self.now.parts.now) (the_site site) }
     {
         let import = import_at(self.parts, site);
@@ -204,7 +204,7 @@ impl<'a> PartTables<'a> {
     /// Returns whether an import's end is what it asks for.
     pub fn is_suited(&self, site: Site, end: Ending) -> bool
         requires joining { ArePartTables self.now }
-        requires there { IsThere self.now.parts.now site }
+        requires there { ImportExists self.now.parts.now site }
         requires stop { IsStop (named_modules self.now.parts.now) (the_end end) }
         ensures { result ≡ faults.is_suited (named_modules self.now.parts.now) (the_site site) (the_end end) }
     {

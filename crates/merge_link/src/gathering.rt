@@ -4,9 +4,9 @@ ghost use Rattle.std.specs.Prelude.{IfOk, List, None, Some, map, ℕ, ◌≡◌}
 ghost use Rattle.std.specs.BTreeMap.{get_by};
 ghost use Rattle.merge_spec.specs.Parts.{named_modules};
 ghost use Rattle.wasm_meaning.specs.Linking as linking;
-ghost use Rattle.merge_link.specs.Sites.{AreSites, IsThere};
+ghost use Rattle.merge_link.specs.Sites.{AreSites, ImportExists};
 ghost use Rattle.merge_link.specs.PartTables.{AreKnown, ArePartTables, IsStop, the_end};
-ghost use Rattle.merge_link.specs.Gathering.{AreFirst, AreLinkedEnds, EndsThere, IsStayingMemory};
+ghost use Rattle.merge_link.specs.Gathering.{HasFirstSites, AreLinkedEnds, EndsThere, IsStayingMemory};
 
 use crate::part_tables::{Ending, PartTables};
 use crate::sites::{Site, import_at};
@@ -18,7 +18,7 @@ use wasm_tree::{Import, Space};
 impl<'a> PartTables<'a> {
     /// Returns the import at a place, if it is a memory that stays.
     pub fn staying_memory(&self, site: Site, end: Ending) -> Option<&'a Import>
-        requires there { IsThere self.now.parts.now site }
+        requires there { ImportExists self.now.parts.now site }
         ensures { IsStayingMemory (named_modules self.now.parts.now) site end result }
     {
         match end {
@@ -44,7 +44,7 @@ impl<'a> PartTables<'a> {
     ) -> Result<BTreeMap<(&'a str, &'a str), Site>, NoMemory>
         requires sites { AreSites self.now.parts.now sites.now }
         requires ends { AreKnown self.now.parts.now sites.now ends.now }
-        ensures { IfOk result (λ firsts. AreFirst self.now.parts.now sites.now firsts) }
+        ensures { IfOk result (λ firsts. HasFirstSites self.now.parts.now sites.now firsts) }
     {
         let mut firsts = BTreeMap::new(alloc);
         for at in (0..sites.len()).rev() {
@@ -67,7 +67,7 @@ impl<'a> PartTables<'a> {
         end: Ending,
     ) -> Ending
         requires sites { AreSites self.now.parts.now sites.now }
-        requires firsts { AreFirst self.now.parts.now sites.now firsts.now }
+        requires firsts { HasFirstSites self.now.parts.now sites.now firsts.now }
         requires stop { IsStop (named_modules self.now.parts.now) (the_end end) }
         ensures end { the_end result ≡ linking.gathered (named_modules self.now.parts.now) (the_end end) }
         ensures there { EndsThere self.now.parts.now result }

@@ -4,7 +4,7 @@ ghost use Rattle.std.specs.Prelude.{IfOk, length, map, option_map, ◌<◌, ◌^
 ghost use Rattle.merge_spec.specs.Faults as faults;
 ghost use Rattle.merge_spec.specs.Parts.{named_modules};
 ghost use Rattle.wasm_meaning.specs.Linking as linking;
-ghost use Rattle.merge_link.specs.Sites.{AreSites, IsThere, the_site};
+ghost use Rattle.merge_link.specs.Sites.{AreSites, ImportExists, the_site};
 ghost use Rattle.merge_link.specs.PartTables.{AreKnown, AreSteps, ArePartTables, IsStep, IsStop, the_end, the_entity};
 ghost use Rattle.merge_link.specs.Globals.{AreOwn, IsEndStep, IsOwn, own_read, own_reads, the_own, the_read, value_at};
 
@@ -76,7 +76,7 @@ impl<'a> PartTables<'a> {
     /// Returns the `global.get` of a staying import.
     pub fn outside_read(&self, site: Site) -> Read
         requires joining { ArePartTables self.now }
-        requires there { IsThere self.now.parts.now site }
+        requires there { ImportExists self.now.parts.now site }
         ensures { linking.outside_read (named_modules self.now.parts.now) (the_site site) ≡ Some (the_read result) }
     {
         let index = self.tables[site.part as usize].global_index(site.import);
@@ -94,10 +94,10 @@ impl<'a> PartTables<'a> {
         ensures { IsEndStep self.now.parts.now (the_end end) result }
     {
         match end {
-            Ending::Outside(site) => Step::Ends(self.outside_read(site)),
+            Ending::Outside(site) => Step::Stops(self.outside_read(site)),
             Ending::Defined(entity) => match self.global_number(entity) {
                 None => Step::Nowhere,
-                Some(number) => Step::Goes(number),
+                Some(number) => Step::Leads(number),
             },
         }
     }
@@ -120,7 +120,7 @@ impl<'a> PartTables<'a> {
                     Some(number) => self.end_step(ends[number as usize]),
                 }
             }
-            expr => Step::Ends(Read {
+            expr => Step::Stops(Read {
                 part: global.part,
                 expr,
             }),

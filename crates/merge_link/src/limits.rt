@@ -5,7 +5,7 @@ ghost use Rattle.std.specs.Prelude.{IfOk, None, Some, map, max, replicate, slice
 ghost use Rattle.merge_spec.specs.Faults as faults;
 ghost use Rattle.merge_spec.specs.Parts.{named_modules};
 ghost use Rattle.wasm_meaning.specs.Linking as linking;
-ghost use Rattle.merge_link.specs.Sites.{AreSites, IsThere, the_site};
+ghost use Rattle.merge_link.specs.Sites.{AreSites, ImportExists, the_site};
 ghost use Rattle.merge_link.specs.PartTables.{ArePartTables, the_end};
 ghost use Rattle.merge_link.specs.Gathering.{AreLinkedEnds, EndsThere};
 ghost use Rattle.merge_link.specs.Limits.{IsDemand, clash_of, kept_of, met_at};
@@ -83,7 +83,7 @@ impl<'a> PartTables<'a> {
     // Returns the number of an import among those of all parts.
     fn number(&self, site: Site) -> u32
         requires joining { ArePartTables self.now }
-        requires there { IsThere self.now.parts.now site }
+        requires there { ImportExists self.now.parts.now site }
         ensures { slice_get (linking.sites (named_modules self.now.parts.now)) result ≡ Some (the_site site) }
     {
         self.tables[site.part as usize].first_import() + site.import
@@ -93,7 +93,7 @@ impl<'a> PartTables<'a> {
     // one's number.
     fn demand(&self, site: Site, end: Ending) -> Option<(u32, Limits)>
         requires joining { ArePartTables self.now }
-        requires there { IsThere self.now.parts.now site }
+        requires there { ImportExists self.now.parts.now site }
         requires end { EndsThere self.now.parts.now end }
         ensures { IsDemand (named_modules self.now.parts.now) (the_site site) (the_end end) result }
     {
@@ -133,7 +133,7 @@ impl<'a> PartTables<'a> {
 
     // Returns `met`, if the import is a table or memory that stays.
     fn kept(&self, site: Site, end: Ending, met: Limits) -> Option<Limits>
-        requires there { IsThere self.now.parts.now site }
+        requires there { ImportExists self.now.parts.now site }
         ensures { result ≡ kept_of (named_modules self.now.parts.now) (the_site site) (the_end end) met }
     {
         match end {

@@ -1,7 +1,7 @@
 ghost use Rattle.std.specs.Prelude.{IfOk, IfSome, None, Some, length, map, option_map, slice_get, ℕ, ◌≡◌};
 ghost use Rattle.merge_spec.specs.Faults as faults;
 ghost use Rattle.merge_spec.specs.Parts.{named_modules};
-ghost use Rattle.merge_link.specs.Sites.{AreSites, IsThere, the_site};
+ghost use Rattle.merge_link.specs.Sites.{AreSites, ImportExists, the_site};
 ghost use Rattle.merge_link.specs.PartTables.{AreStops, ArePartTables, IsStop, end_at, the_end};
 
 use crate::part_tables::{Ending, PartTables};
@@ -14,7 +14,7 @@ impl<'a> PartTables<'a> {
     // Returns the fault of an import, if it never ends or its end is not what it asks for.
     fn import_fault(&self, site: Site, end: Option<Ending>) -> Option<LinkFault>
         requires joining { ArePartTables self.now }
-        requires there { IsThere self.now.parts.now site }
+        requires there { ImportExists self.now.parts.now site }
         requires stop { IfSome end (λ e. IsStop (named_modules self.now.parts.now) (the_end e)) }
         ensures { result ≡ faults.end_fault (named_modules self.now.parts.now) (the_site site) (option_map the_end end) }
     {

@@ -4,7 +4,7 @@ ghost use Rattle.merge_spec.specs.Faults as faults;
 ghost use Rattle.merge_spec.specs.Parts.{named_modules};
 ghost use Rattle.wasm_meaning.specs.Linking as linking;
 ghost use Rattle.wasm_meaning.specs.World as world;
-ghost use Rattle.merge_link.specs.Sites.{AreSites, IsThere, the_site};
+ghost use Rattle.merge_link.specs.Sites.{AreSites, ImportExists, the_site};
 ghost use Rattle.merge_link.specs.PartTables.{the_end};
 ghost use Rattle.merge_link.specs.Gathering.{AreLinkedEnds, is_memory_at};
 
@@ -13,7 +13,7 @@ use crate::sites::Site;
 
 impl<'a> PartTables<'a> {
     fn is_staying_memory(&self, site: Site, end: Ending) -> bool
-        requires { IsThere self.now.parts.now site }
+        requires { ImportExists self.now.parts.now site }
         ensures { result ≡ linking.is_outside (the_site site) (Some (the_end end)) && is_memory_at (linking.import_at (named_modules self.now.parts.now) (the_site site)) }
     {
         self.staying_memory(site, end).is_some()

@@ -55,7 +55,7 @@ impl<'a> PartTables<'a> {
         ensures { IsImportedAs (named_modules self.now.parts.now) (the_entity entity) result }
     {
         let table = self.tables.get(entity.part as usize)?;
-        let place = table.place(entity.what.space(), entity.what.index())?;
+        let place = table.import_place(entity.what.space(), entity.what.index())?;
         Some(table.first_import() + place)
     }
 
@@ -66,10 +66,10 @@ impl<'a> PartTables<'a> {
         ensures { IsStep (linking.import_step (named_modules self.now.parts.now)) (linking.sites (named_modules self.now.parts.now)) the_end (the_site site) result }
     {
         match self.entity_of(import) {
-            None => Step::Ends(Ending::Outside(site)),
+            None => Step::Stops(Ending::Outside(site)),
             Some(entity) => match self.imported_as(entity) {
-                None => Step::Ends(Ending::Defined(entity)),
-                Some(number) => Step::Goes(number),
+                None => Step::Stops(Ending::Defined(entity)),
+                Some(number) => Step::Leads(number),
             },
         }
     }

@@ -1,10 +1,10 @@
 ghost use Rattle.std.specs.Prelude.{IfOk, map, option_map, ◌≡◌};
 ghost use Rattle.merge_spec.specs.Linked as links;
 ghost use Rattle.merge_spec.specs.Parts.{named_modules};
-ghost use Rattle.merge_link.specs.Sites.{AreSites, IsThere, the_site};
+ghost use Rattle.merge_link.specs.Sites.{AreSites, ImportExists, the_site};
 ghost use Rattle.merge_link.specs.PartTables.{AreKnown, ArePartTables, IsStop, the_end};
 ghost use Rattle.merge_link.specs.Globals.{the_read};
-ghost use Rattle.merge_link.specs.Reads.{AreValues, fixed_read, read_past};
+ghost use Rattle.merge_link.specs.Reads.{AreGlobalReads, fixed_read, read_past};
 
 use crate::part_tables::{Ending, PartTables};
 use crate::sites::{Site, import_at};
@@ -19,7 +19,7 @@ impl<'a> PartTables<'a> {
     fn read_past(&self, end: Ending, values: &[Option<Read>]) -> Option<Read>
         requires joining { ArePartTables self.now }
         requires stop { IsStop (named_modules self.now.parts.now) (the_end end) }
-        requires values { AreValues self.now.parts.now values.now }
+        requires values { AreGlobalReads self.now.parts.now values.now }
         ensures { option_map the_read result ≡ read_past (named_modules self.now.parts.now) (the_end end) }
     {
         match end {
@@ -34,9 +34,9 @@ impl<'a> PartTables<'a> {
     // Returns what is read through an import, if it is an immutable global.
     fn read_through(&self, site: Site, end: Ending, values: &[Option<Read>]) -> Option<Read>
         requires joining { ArePartTables self.now }
-        requires there { IsThere self.now.parts.now site }
+        requires there { ImportExists self.now.parts.now site }
         requires stop { IsStop (named_modules self.now.parts.now) (the_end end) }
-        requires values { AreValues self.now.parts.now values.now }
+        requires values { AreGlobalReads self.now.parts.now values.now }
         ensures { result ≡ fixed_read (named_modules self.now.parts.now) (the_site site) (the_end end) }
     {
         match import_at(self.parts, site).desc {
@@ -59,7 +59,7 @@ impl<'a> PartTables<'a> {
         requires joining { ArePartTables self.now }
         requires sites { AreSites self.now.parts.now sites.now }
         requires ends { AreKnown self.now.parts.now sites.now ends.now }
-        requires values { AreValues self.now.parts.now values.now }
+        requires values { AreGlobalReads self.now.parts.now values.now }
         ensures { IfOk result (λ reads. reads.items ≡ map (λ s. links.read_at (named_modules self.now.parts.now) (the_site s)) sites.now) }
     {
         ends_and_reads_are_paths();

@@ -1,7 +1,7 @@
 ghost use Rattle.std.specs.Prelude.{IfOk, Some, length, ◌<◌, ◌^◌, ◌≡◌};
 ghost use Rattle.merge_spec.specs.Parts.{named_modules};
 ghost use Rattle.wasm_meaning.specs.Linking as linking;
-ghost use Rattle.merge_link.specs.Sites.{AreSites, IsThere, the_site};
+ghost use Rattle.merge_link.specs.Sites.{AreSites, ImportExists, the_site};
 
 use merge_spec::Part;
 use std::alloc::Global;
@@ -36,7 +36,7 @@ pub fn all_sites(alloc: Global, parts: &[Part]) -> Result<Vec<Site>, NoMemory>
 
 /// Returns the import at a place.
 pub fn import_at<'a>(parts: &'a [Part], site: Site) -> &'a Import
-    requires there { IsThere parts.now site }
+    requires there { ImportExists parts.now site }
     ensures { linking.import_at (named_modules parts.now) (the_site site) ≡ Some result.now }
 {
     let part = &parts[site.part as usize];

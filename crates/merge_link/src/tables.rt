@@ -139,7 +139,7 @@ impl<'a> Table<'a> {
     }
 
     /// Returns the place in the import section of an entry of an index space, if it is imported.
-    pub fn place(&self, space: Space, index: u32) -> Option<u32>
+    pub fn import_place(&self, space: Space, index: u32) -> Option<u32>
         ensures { result ≡ slice_get (places_of self.now space) index }
     {
         let places = match space {

@@ -11,7 +11,7 @@ use Rattle.split_plan.specs.declared.fault.PlanFault.TheVariants.{NoSuchFunction
 use Rattle.split_plan.specs.declared.plans.Plan.{Plan}
 use Rattle.split_plan.specs.NamedFunctions.{entries_with_name, exported_among, function_of, word_fault, names_func}
 use Rattle.split_plan.specs.Plans.{kept_fault, words_of, plan_fault}
-use Rattle.split_plan.specs.Causes.{Names, NamesNone, IsShared, IsKept, Cause, FaultsHaveCauses, Told}
+use Rattle.split_plan.specs.Causes.{NamesFunction, NamesNone, IsShared, IsNamedInKeep, PlanCause, FaultsHaveCauses, PlanFaultTold}
 
 or_else_twice : {A : Type 0} (a b c d : Option A) → d ≡ option_or b c → option_or a d ≡ option_or (option_or a b) c
 or_else_twice (Some x) b c d e = refl
@@ -60,19 +60,19 @@ module _ {A B : Type 0} (f : A → Option B) where
 -- ---- a word
 
 module _ (m : Module) (names : List FuncName) where
-  right_word : (word : List ℕ) → word_fault m names word ≡ None → Names m names word
+  right_word : (word : List ℕ) → word_fault m names word ≡ None → NamesFunction m names word
   right_word word = split (entries_with_name m names word) (exported_among m m.exports word) refl refl
     where
-      split : (fs : List ℕ) (exported : Option ℕ) → entries_with_name m names word ≡ fs → exported_among m m.exports word ≡ exported → word_fault m names word ≡ None → Names m names word
+      split : (fs : List ℕ) (exported : Option ℕ) → entries_with_name m names word ≡ fs → exported_among m m.exports word ≡ exported → word_fault m names word ≡ None → NamesFunction m names word
       split [] None b x h = absurd (let t = rw (b, x) at h in cc)
       split [] (Some func) b x h = (func, rw (b, x) refl)
       split (func ∷ []) exported b x h = (func, rw b refl)
       split (func ∷ other ∷ more) exported b x h = absurd (let t = rw b at h in cc)
 
-  word_right : (word : List ℕ) → Names m names word → word_fault m names word ≡ None
+  word_right : (word : List ℕ) → NamesFunction m names word → word_fault m names word ≡ None
   word_right word = split (entries_with_name m names word) (exported_among m m.exports word) refl refl
     where
-      split : (fs : List ℕ) (exported : Option ℕ) → entries_with_name m names word ≡ fs → exported_among m m.exports word ≡ exported → Names m names word → word_fault m names word ≡ None
+      split : (fs : List ℕ) (exported : Option ℕ) → entries_with_name m names word ≡ fs → exported_among m m.exports word ≡ exported → NamesFunction m names word → word_fault m names word ≡ None
       split [] None b x h = absurd (let t = rw (b, x) at h.1 in cc)
       split [] (Some func) b x h = rw (b, x) refl
       split (func ∷ []) exported b x h = rw b refl
@@ -107,24 +107,24 @@ module _ (m : Module) (names : List FuncName) where
   abbrev keeps : List (List ℕ) → List ℕ → Option PlanFault
   keeps keep word = kept_fault (λ func. list_any (names_func m names func) keep) (function_of m names word) word
 
-  kept_at_fault : (keep : List (List ℕ)) (word : List ℕ) → IsKept m names keep word → keeps keep word ≡ Some (KeptAndSplit word)
+  kept_at_fault : (keep : List (List ℕ)) (word : List ℕ) → IsNamedInKeep m names keep word → keeps keep word ≡ Some (KeptAndSplit word)
   kept_at_fault keep word h = rw (h.1, h.2) refl
 
-  at_fault_kept : (keep : List (List ℕ)) (word : List ℕ) (e : PlanFault) → keeps keep word ≡ Some e → (e ≡ KeptAndSplit word) × IsKept m names keep word
+  at_fault_kept : (keep : List (List ℕ)) (word : List ℕ) (e : PlanFault) → keeps keep word ≡ Some e → (e ≡ KeptAndSplit word) × IsNamedInKeep m names keep word
   at_fault_kept keep word e = split (function_of m names word) refl
     where
-      split : (o : Option ℕ) → function_of m names word ≡ o → kept_fault (λ func. list_any (names_func m names func) keep) o word ≡ Some e → (e ≡ KeptAndSplit word) × IsKept m names keep word
+      split : (o : Option ℕ) → function_of m names word ≡ o → kept_fault (λ func. list_any (names_func m names func) keep) o word ≡ Some e → (e ≡ KeptAndSplit word) × IsNamedInKeep m names keep word
       split None is h = cc
       split (Some func) is h = by_mark (list_any (names_func m names func) keep) refl h
         where
-          by_mark : (b : Bool) → list_any (names_func m names func) keep ≡ b → cond b (Some (KeptAndSplit word)) None ≡ Some e → (e ≡ KeptAndSplit word) × IsKept m names keep word
+          by_mark : (b : Bool) → list_any (names_func m names func) keep ≡ b → cond b (Some (KeptAndSplit word)) None ≡ Some e → (e ≡ KeptAndSplit word) × IsNamedInKeep m names keep word
           by_mark true k t = let same : KeptAndSplit word ≡ e = cc in (sym same, (func, is, k))
           by_mark false k t = cc
 
-  not_kept : (keep : List (List ℕ)) (word : List ℕ) → keeps keep word ≡ None → IsKept m names keep word → ⊥
+  not_kept : (keep : List (List ℕ)) (word : List ℕ) → keeps keep word ≡ None → IsNamedInKeep m names keep word → ⊥
   not_kept keep word h k = let bad = sym h ∙ kept_at_fault keep word k in cc
 
-  kept_not : (keep : List (List ℕ)) (word : List ℕ) → (IsKept m names keep word → ⊥) → keeps keep word ≡ None
+  kept_not : (keep : List (List ℕ)) (word : List ℕ) → (IsNamedInKeep m names keep word → ⊥) → keeps keep word ≡ None
   kept_not keep word never = split (keeps keep word) refl
     where
       split : (o : Option PlanFault) → keeps keep word ≡ o → keeps keep word ≡ None
@@ -146,30 +146,30 @@ module _ (m : Module) (names : List FuncName) where
         or_else_twice (first_given (word_fault m names) (words_of split)) (first_given (word_fault m names) (words_of keep)) last_fault _ refl
         ∙ ap (λ o. option_or o last_fault) (sym (in_two (word_fault m names) (words_of split) (words_of keep)))
 
-    word_cause : (e : PlanFault) → first_given (word_fault m names) all_words ≡ Some e → Cause m names split keep e
+    word_cause : (e : PlanFault) → first_given (word_fault m names) all_words ≡ Some e → PlanCause m names split keep e
     word_cause e h =
         let t = first_at (word_fault m names) all_words e h in
         let right = every_with _ _ t.0 right_word t.4 in
         ⊎_elim
-        (λ k. subst (Cause m names split keep) (sym k.0) (t.0, t.2, t.3, right, k.1))
-        (λ k. subst (Cause m names split keep) (sym k.0) (t.0, t.2, t.3, right, k.1))
+        (λ k. subst (PlanCause m names split keep) (sym k.0) (t.0, t.2, t.3, right, k.1))
+        (λ k. subst (PlanCause m names split keep) (sym k.0) (t.0, t.2, t.3, right, k.1))
         (word_at_fault t.1 e t.5)
 
-    kept_cause : (e : PlanFault) → first_given (word_fault m names) all_words ≡ None → last_fault ≡ Some e → Cause m names split keep e
+    kept_cause : (e : PlanFault) → first_given (word_fault m names) all_words ≡ None → last_fault ≡ Some e → PlanCause m names split keep e
     kept_cause e none h =
         let t = first_at (keeps (words_of keep)) (words_of split) e h in
         let k = at_fault_kept (words_of keep) t.1 e t.5 in
-        subst (Cause m names split keep) (sym k.0) (every_with _ _ all_words right_word (all_none (word_fault m names) all_words none), (t.0, t.2, t.3, every_with _ _ t.0 (not_kept (words_of keep)) t.4, k.1))
+        subst (PlanCause m names split keep) (sym k.0) (every_with _ _ all_words right_word (all_none (word_fault m names) all_words none), (t.0, t.2, t.3, every_with _ _ t.0 (not_kept (words_of keep)) t.4, k.1))
 
-    causes : (e : PlanFault) → plan_fault m names split keep ≡ Some e → Cause m names split keep e
+    causes : (e : PlanFault) → plan_fault m names split keep ≡ Some e → PlanCause m names split keep e
     causes e h = ⊎_elim (word_cause e) (λ k. kept_cause e k.0 k.1) (either (first_given (word_fault m names) all_words) last_fault e (sym in_order ∙ h))
 
-    word_faults : (word : List ℕ) (e : PlanFault) (front back : List (List ℕ)) → all_words ≡ front ++ word ∷ back → Every (Names m names) front → word_fault m names word ≡ Some e → plan_fault m names split keep ≡ Some e
+    word_faults : (word : List ℕ) (e : PlanFault) (front back : List (List ℕ)) → all_words ≡ front ++ word ∷ back → Every (NamesFunction m names) front → word_fault m names word ≡ Some e → plan_fault m names split keep ≡ Some e
     word_faults word e front back is right h =
         let first = ap (first_given (word_fault m names)) is ∙ at_first (word_fault m names) front word back e (every_with _ _ front word_right right) h in
         in_order ∙ ap (λ o. option_or o last_fault) first
 
-    faults : (e : PlanFault) → Cause m names split keep e → plan_fault m names split keep ≡ Some e
+    faults : (e : PlanFault) → PlanCause m names split keep e → plan_fault m names split keep ≡ Some e
     faults (NoSuchFunction word) h = word_faults word (NoSuchFunction word) h.0 h.1 h.2 h.3 (none_at_fault word h.4)
     faults (AmbiguousFunction word) h = word_faults word (AmbiguousFunction word) h.0 h.1 h.2 h.3 (shared_at_fault word h.4)
     faults (KeptAndSplit word) h =
@@ -193,6 +193,6 @@ of_err (Ok p) o e none h k = let bad = sym (none refl) ∙ k in cc
 of_err (Err w) o e none h k = ⊎_elim (λ out. inr (ap Err out)) (λ is. let same : w ≡ e = (let both = sym is ∙ k in cc) in inl (ap Err same)) h
 
 pub told_by : FaultsHaveCauses → (m : Module) (names : List FuncName) (split keep : Option (List (List ℕ))) (r : Result Plan PlanFault) → (IsOk r → plan_fault m names split keep ≡ None) → IfErr r (λ w. (w ≡ NoMemory) ⊎ (plan_fault m names split keep ≡ Some w)) →
-    (e : PlanFault) → (e ≡ NoMemory → ⊥) → Told r e (Cause m names split keep e)
+    (e : PlanFault) → (e ≡ NoMemory → ⊥) → PlanFaultTold r e (PlanCause m names split keep e)
 told_by law m names split keep r none fault e some =
     (λ h. ⊎_elim (λ out. absurd (some out)) (λ f. (law m names split keep e).0 f) (err_of r (plan_fault m names split keep) e fault h), λ h. of_err r (plan_fault m names split keep) e none fault ((law m names split keep e).1 h))

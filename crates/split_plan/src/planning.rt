@@ -3,7 +3,7 @@ ghost use Rattle.std.specs.Option.{option_copied};
 ghost use Rattle.split_plan.specs.declared.fault.PlanFault.{PlanFault as SomeFault};
 ghost use Rattle.split_plan.specs.declared.fault.PlanFault.TheVariants.{NoMemory as OutOfMemory};
 ghost use Rattle.wasm_tree.specs.Spaces.{funcs_of};
-ghost use Rattle.split_plan.specs.Causes.{Cause, Told};
+ghost use Rattle.split_plan.specs.Causes.{PlanCause, PlanFaultTold};
 ghost use Rattle.split_plan.specs.Looking.{has_wanted_mark};
 ghost use Rattle.split_plan.specs.Plans.{IsPlan, plan_fault, plan_for, plan_of, words_of};
 
@@ -46,7 +46,7 @@ pub fn plan(
     ensures fault { IfErr result (λ e. (e ≡ OutOfMemory) ⊎ (plan_fault input.now names.now (option_copied split.entry) (option_copied keep.entry) ≡ Some e)) }
     ensures first { (e : SomeFault) → plan_fault input.now names.now (option_copied split.entry) (option_copied keep.entry) ≡ Some e → (result ≡ Err e) ⊎ (result ≡ Err OutOfMemory) }
     // Each other fault is returned exactly if its cause holds, unless memory runs out.
-    ensures told { (e : SomeFault) → (e ≡ OutOfMemory → ⊥) → Told result e (Cause input.now names.now (option_copied split.entry) (option_copied keep.entry) e) }
+    ensures told { (e : SomeFault) → (e ≡ OutOfMemory → ⊥) → PlanFaultTold result e (PlanCause input.now names.now (option_copied split.entry) (option_copied keep.entry) e) }
 {
     plan_faults_have_causes();
     planned(alloc, input, names.as_slice(), split, keep)

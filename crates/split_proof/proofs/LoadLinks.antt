@@ -15,7 +15,7 @@ use Rattle.wasm_meaning.specs.World as world
 use Rattle.index_remap.specs.declared.remap.Remap.{Remap}
 use Rattle.index_remap.specs.Prelude.{declared_refs, declaring, new_const, new_func}
 use Rattle.index_remap.specs.Renumbered as renumbered
-use Rattle.world_simulation.specs.Prelude.{IsWithDeclared, last_segments, with_elems}
+use Rattle.world_simulation.specs.Prelude.{IsWithDeclared, last_segments, added_store}
 use Rattle.world_contents_proof.specs.Leaves.{Leaves, AddedModulesLeave, contents, over, all_over, elem_copies, data_copies, table_left, memory_left}
 use Rattle.world_extension_proof.specs.Typed.{IsTyped}
 use Rattle.split_spec.specs.declared.names.SplitNames.{SplitNames}
@@ -161,7 +161,7 @@ module _ (namespace : ℕ → List ℕ) (names : SplitNames) (m : Module) (holds
   globals_allocated = ap (all_there (global_with value_of)) kept.globals
 
   abbrev new_store : Store
-  new_store = with_elems second funcs_allocated.0 [] fresh
+  new_store = added_store second funcs_allocated.0 [] fresh
 
   made : store_with value_of second j ≡ Some new_store
   made = rw (funcs_allocated.1, globals_allocated, elems_allocated) refl

@@ -10,7 +10,7 @@ use Rattle.wasm_num.specs.Operations.{wrapped}
 use Rattle.wasm_tree_spec.specs.Prelude.{Space, Functions, Tables, Call, I32Const, CallIndirect, Module, same_func_type, imported_funcs}
 use Rattle.wasm_meaning.specs.Prelude.{Inst, Environment, own_count, defined_count}
 use Rattle.index_remap.specs.Prelude.{Pairing, passed_with}
-use Rattle.index_remap.specs.Laws.{Test}
+use Rattle.index_remap.specs.Laws.{CodeTest}
 use Rattle.split_spec.specs.Prelude.{place_among, is_left, primary_map}
 use Rattle.split_proof.specs.Worlds.{type_in}
 
@@ -56,7 +56,7 @@ calls_loaded loaded j a index = unwrap_or (slice_get j.funcs index >>= λ c. Som
 
 -- what may replace a call of a moved function: a call through its slot, or a direct call of a
 -- function that is loaded for it
-abbrev pub may_stand : Environment → Module → (moved : List ℕ) → (loaded : List (ℕ × ℕ)) → Test
+abbrev pub may_stand : Environment → Module → (moved : List ℕ) → (loaded : List (ℕ × ℕ)) → CodeTest
 may_stand env m moved loaded j a (I32Const slot ∷ (CallIndirect ty table ∷ [])) = calls_its_slot env m moved j a slot ty table
 may_stand env m moved loaded j a (Call index ∷ []) = calls_loaded loaded j a index
 may_stand env m moved loaded j a code = false

@@ -4,7 +4,7 @@ use Rattle.std.proofs.Common.{◌≡◌, ℕ, List, ◌∷◌, ◌++◌, Bool, f
 use Rattle.wasm_tree_spec.specs.Prelude.{Space, Functions, FuncType, Instr, Call}
 use Rattle.wasm_meaning.specs.Prelude.{Val, Level, Frame, Entry, Running, type_at, enter_at, step, Move, Run, Steps, transition, tick}
 use Rattle.index_remap.specs.Prelude.{Pairing, OneToOne, ListRel, ValRel, IsBegun, passed_with, TickSkips, calls_placeholder, WithPassing, HaveTypes, at_code}
-use Rattle.index_remap.specs.Laws.{Test}
+use Rattle.index_remap.specs.Laws.{CodeTest}
 use Rattle.split_proof.specs.Begins.{RunsRelated}
 
 -- Both enter functions that are partners, with related values of the first's type, over related
@@ -69,4 +69,4 @@ pub data StepsCallMovedTogether (R : Pairing) (r q : Run) : Type 0 where
 -- Each step goes one of these ways, if the code relation is the simulation relation.
 abbrev pub EveryStepCallsMovedTogether : Type 0
 EveryStepCallsMovedTogether =
-    (of : Space → ℕ → ℕ → Bool) (l : List ℕ) (stands : Test) → OneToOne (passed_with of of l stands) → (r q : Run) → IsBegun r.phase → RunsRelated (passed_with of of l stands) r q → StepsCallMovedTogether (passed_with of of l stands) r q
+    (of : Space → ℕ → ℕ → Bool) (l : List ℕ) (stands : CodeTest) → OneToOne (passed_with of of l stands) → (r q : Run) → IsBegun r.phase → RunsRelated (passed_with of of l stands) r q → StepsCallMovedTogether (passed_with of of l stands) r q

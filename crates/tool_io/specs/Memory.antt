@@ -6,19 +6,19 @@ use Rattle.std.specs.Ordering.{nat_cmp}
 use Rattle.std.specs.Cmp.Lexicographic.{slice_cmp}
 use Rattle.std.specs.declared.alloc.Global.{Global}
 use Rattle.std.specs.FinMap as finmap
-use Rattle.tool_io.specs.FilesAndSinks.{Contents}
+use Rattle.tool_io.specs.FilesAndSinks.{FileContents}
 
 -- Files in memory: the contents, the number of calls and of faults so far, and the numbers of the
 -- calls that fail.
 pub record Disk : Type 0 where
-  pub contents : Contents
+  pub contents : FileContents
   pub calls : ℕ
   pub faults : ℕ
   pub failing : List ℕ
 
 abbrev pub disk_code : Coded Disk
 disk_code =
-    code_by (Contents × (ℕ × (ℕ × List ℕ)))
+    code_by (FileContents × (ℕ × (ℕ × List ℕ)))
     (coded× (finmap.code {R = slice_cmp nat_cmp} (coded_list coded_ℕ) (coded_list coded_ℕ)) (coded× coded_ℕ (coded× coded_ℕ (coded_list coded_ℕ))))
     (λ d. (d.contents, (d.calls, (d.faults, d.failing))))
     (λ p. record { contents = p.0; calls = p.1.0; faults = p.1.1.0; failing = p.1.1.1 }) (λ _. refl)
@@ -43,7 +43,7 @@ abbrev pub entry_of : String Global × Vec ℕ Global → List ℕ × List ℕ
 entry_of e = (string_bytes e.0, e.1.items)
 
 -- The files after a log of writes, the newest first.
-abbrev pub files_of : List (String Global × Vec ℕ Global) → Contents
+abbrev pub files_of : List (String Global × Vec ℕ Global) → FileContents
 files_of log = finmap.from_entries (map entry_of log)
 
 -- The next call is one of those that fail.

@@ -1,7 +1,7 @@
 // Files and sinks: what they hold, if they tell contracts, and how often they have failed.
 ghost use Rattle.std.specs.Prelude.{◌≡◌, ◌≤◌, ℕ, List, ◌++◌, Option, Some, IfOk, IfSome, OnOk, IsErrOf};
 ghost use Rattle.std.specs.FinMap.{insert};
-ghost use Rattle.tool_io.specs.FilesAndSinks.{Contents, Rose, NoneFell, Becomes, first_bytes, IsUnchangedOrCut, AppendsPrefix};
+ghost use Rattle.tool_io.specs.FilesAndSinks.{FileContents, Rose, NoneFell, Becomes, first_bytes, IsUnchangedOrCut, AppendsPrefix};
 
 use std::alloc::Global;
 
@@ -20,7 +20,7 @@ pub enum IoFault {
 /// writing. No call lowers a count.
 pub trait Files {
     /// The bytes of each name, if the implementation tells them.
-    ghost contents: { Self → Option Contents };
+    ghost contents: { Self → Option FileContents };
 
     /// How often reading a name has failed.
     ghost read_faults: { Self → List ℕ → ℕ };

@@ -1,7 +1,7 @@
 -- From the inputs of a task to its job.
 use Rattle.base_lists.proofs.Common.{◌≡◌, ◌∙◌, sym, refl, ap, subst, Bool, true, false, cond, map, ℕ, zero, suc, ◌≤◌, List, [], ◌∷◌, ◌++◌, take, drop, length, arith, Contains, list_all}
 use Rattle.std.proofs.Common.{length-append}
-use Rattle.tools_cli.specs.Prelude.{Text, MetadceTask, SplitTask, CtorEvalTask, SampleTask, Task, Merge, Metadce, Split, CtorEval, Sample, many_of, modules_of, texts_of, inputs_of, Job, Usage, Refused, Done, Output, Decision, Refuses, Makes, not_linked, not_joined, merged, Reduces, no_graph, not_swept, reduced, Splits, no_plan, not_parted, parted, Evaluates, not_evaluated, evaluated, Samples, not_merged, sampled, Decides, is_within, spelled_output, job_of, AllLoad, OneFails, module_files, contents_of, InputsJob, not_loaded, decided, Entry, written_names, total, PrintsAsAllowed, input_entry, input_entries, input_texts}
+use Rattle.tools_cli.specs.Prelude.{Text, MetadceTask, SplitTask, CtorEvalTask, SampleTask, Task, Merge, Metadce, Split, CtorEval, Sample, many_of, modules_of, texts_of, inputs_of, Job, Usage, Refused, Done, Output, Decision, Refuses, Makes, not_linked, not_joined, merged, Reduces, no_graph, not_swept, reduced, Splits, no_plan, not_parted, parted, Evaluates, not_evaluated, evaluated, Samples, not_merged, sampled, Decides, is_within, spelled_output, job_of, AllLoad, OneFails, module_files, contents_of, InputsJob, not_loaded, decided, NamedFile, written_names, total, PrintsAsAllowed, input_entry, input_entries, input_texts}
 use Rattle.tools_cli.specs.CommandLine.{outputs_of}
 use Rattle.tools_cli.specs.Job.{Missing}
 use Rattle.wasm_tree_spec.specs.Prelude.{Module}
@@ -14,7 +14,7 @@ use Rattle.tools_cli.proofs.SampleDecided.{of_none, output_names_are}
 
 -- ---- the inputs, as modules and other texts ----
 
-pub total_first : (n : ℕ) (es : List Entry) → total (take n es) ≤ total es
+pub total_first : (n : ℕ) (es : List NamedFile) → total (take n es) ≤ total es
 total_first zero es = omega arith
 total_first (suc n) [] = omega arith
 total_first (suc n) (e ∷ es) = let rest = total_first n es in omega arith
@@ -28,19 +28,19 @@ pub input_contents : (xs : List Input) → input_texts xs ≡ contents_of (input
 input_contents [] = refl
 input_contents (x ∷ xs) = ap (λ (l : List Text). x.bytes.items ∷ l) (input_contents xs)
 
-length_names : (xs : List Input) → length (map (λ (e : Entry). e.0) (input_entries xs)) ≡ length xs
+length_names : (xs : List Input) → length (map (λ (e : NamedFile). e.0) (input_entries xs)) ≡ length xs
 length_names [] = refl
 length_names (x ∷ xs) = ap suc (length_names xs)
 
 -- there is an input for each module
-pub modules_there : (t : Task) (xs : List Input) → map (λ (e : Entry). e.0) (input_entries xs) ≡ inputs_of t → length (modules_of t) ≤ length xs
+pub modules_there : (t : Task) (xs : List Input) → map (λ (e : NamedFile). e.0) (input_entries xs) ≡ inputs_of t → length (modules_of t) ≤ length xs
 modules_there t xs e =
     let all : length xs ≡ length (modules_of t ++ texts_of t) = sym (length_names xs) ∙ ap length e in
     let both = length-append (modules_of t) (texts_of t) in
     omega arith
 
 -- and one for each file
-pub inputs_there : (t : Task) (xs : List Input) → map (λ (e : Entry). e.0) (input_entries xs) ≡ inputs_of t → length xs ≡ length (inputs_of t)
+pub inputs_there : (t : Task) (xs : List Input) → map (λ (e : NamedFile). e.0) (input_entries xs) ≡ inputs_of t → length xs ≡ length (inputs_of t)
 inputs_there t xs e = sym (length_names xs) ∙ ap length e
 
 -- no task's modules may have several memories
@@ -53,24 +53,24 @@ one_memory (Sample sample) = refl
 
 -- ---- the job ----
 
-pub job_made : (t : Task) (inputs : List Entry) (n : ℕ) (files : List Entry) (trees : List Module) (contents : List Text) (decision : Decision) (job : Job) → n ≡ length (modules_of t) → files ≡ take n inputs → contents ≡ contents_of inputs
+pub job_made : (t : Task) (inputs : List NamedFile) (n : ℕ) (files : List NamedFile) (trees : List Module) (contents : List Text) (decision : Decision) (job : Job) → n ≡ length (modules_of t) → files ≡ take n inputs → contents ≡ contents_of inputs
     → AllLoad false files trees → Decides t trees contents decision → job_of decision ≡ job → InputsJob t inputs job
 job_made t inputs n files trees contents decision job count first all loads decides is =
-    let P : List Entry → Type 0 = λ l. AllLoad false l trees in
+    let P : List NamedFile → Type 0 = λ l. AllLoad false l trees in
     let Q : Bool → Type 0 = λ b. AllLoad b (module_files t inputs) trees in
     let R : List Text → Type 0 = λ l. Decides t trees l decision in
     subst (InputsJob t inputs) is (decided trees decision (subst Q (sym (one_memory t)) (subst P (first ∙ ap (λ k. take k inputs) count) loads)) (subst R all decides))
 
-pub job_not_loaded : (t : Task) (inputs : List Entry) (n : ℕ) (files : List Entry) → n ≡ length (modules_of t) → files ≡ take n inputs → (text : Text) → OneFails false files text → InputsJob t inputs (Refused text)
+pub job_not_loaded : (t : Task) (inputs : List NamedFile) (n : ℕ) (files : List NamedFile) → n ≡ length (modules_of t) → files ≡ take n inputs → (text : Text) → OneFails false files text → InputsJob t inputs (Refused text)
 job_not_loaded t inputs n files count first text fails =
-    let P : List Entry → Type 0 = λ l. OneFails false l text in
+    let P : List NamedFile → Type 0 = λ l. OneFails false l text in
     let Q : Bool → Type 0 = λ b. OneFails b (module_files t inputs) text in
     not_loaded text (subst Q (sym (one_memory t)) (subst P (first ∙ ap (λ k. take k inputs) count) fails))
 
 -- ---- what a job writes and prints ----
 
 -- the contents of the files that a task reads behind its modules
-abbrev pub text_contents : Task → List Entry → List Text
+abbrev pub text_contents : Task → List NamedFile → List Text
 text_contents task files = contents_of (drop (length (modules_of task)) files)
 
 -- each is of a file that the task may write where these are the other texts that it reads
@@ -126,6 +126,6 @@ job_allowed : (t : Task) (texts : List Text) (decision : Decision) → DecisionI
 job_allowed t texts (Refuses text) h = tt
 job_allowed t texts (Makes outputs lines) h = within_allowed t texts outputs lines _ (list_all is_within outputs) h
 
-pub inputs_job_allowed : (t : Task) (inputs : List Entry) (job : Job) → InputsJob t inputs job → JobIsAllowed t (text_contents t inputs) job
+pub inputs_job_allowed : (t : Task) (inputs : List NamedFile) (job : Job) → InputsJob t inputs job → JobIsAllowed t (text_contents t inputs) job
 inputs_job_allowed t inputs job (not_loaded text h) = tt
 inputs_job_allowed t inputs job (decided trees decision loads h) = job_allowed t (text_contents t inputs) decision (decision_allowed t trees (contents_of inputs) (text_contents t inputs) decision h)

@@ -2,7 +2,7 @@
 use Rattle.base_lists.proofs.Common.{◌≡◌, ◌∙◌, sym, refl, ap, Bool, true, false, not, ltb, ◌&&◌, map, ℕ, suc, ◌+◌, ◌<◌, ◌≤◌, List, [], ◌∷◌, ◌++◌, append-nil, add-one, drop, drop-cons, length, get_or, arith, list_all, drop_all, nat_tests}
 use Rattle.wasm_write_spec.specs.Plain.{plain}
 use Rattle.wasm_tree_spec.specs.Prelude.{Module}
-use Rattle.tools_cli.specs.Prelude.{Entry, is_within, spelled_output, most_output, output_values, write_entries}
+use Rattle.tools_cli.specs.Prelude.{NamedFile, is_within, spelled_output, most_output, output_values, write_entries}
 use Rattle.tools_cli.specs.Command.{output_value, write_entry}
 use Rattle.tools_cli.specs.declared.decide.Output.{Output}
 use Rattle.tools_cli.specs.declared.perform.Write.{Write}
@@ -26,7 +26,7 @@ pub none_left : (whole : Bool) (xs : List Output) (i : ℕ) → length xs ≤ i 
 none_left whole xs i over e = e ∙ ap (λ l. list_all is_within (output_values l)) (drop_all i xs over)
 
 -- one output more is encoded
-pub encoded_more : (whole : List Entry) (writes more : List Write) (write : Write) (output : Output) (outputs rest : List Output) → more ≡ writes ++ write ∷ [] → outputs ≡ output ∷ rest → write_entry write ≡ spelled_output (output_value output)
+pub encoded_more : (whole : List NamedFile) (writes more : List Write) (write : Write) (output : Output) (outputs rest : List Output) → more ≡ writes ++ write ∷ [] → outputs ≡ output ∷ rest → write_entry write ≡ spelled_output (output_value output)
     → write_entries writes ++ map spelled_output (output_values outputs) ≡ whole → write_entries more ++ map spelled_output (output_values rest) ≡ whole
 encoded_more whole writes more write output outputs rest added first is e =
     ap (λ l. write_entries l ++ map spelled_output (output_values rest)) added
@@ -34,10 +34,10 @@ encoded_more whole writes more write output outputs rest added first is e =
     ∙ ap (λ w. write_entries writes ++ w ∷ map spelled_output (output_values rest)) is
     ∙ ap (λ l. write_entries writes ++ map spelled_output (output_values l)) (sym first) ∙ e
   where
-    entries_more : (ws : List Write) (w : Write) (es : List Entry) → write_entries (ws ++ w ∷ []) ++ es ≡ write_entries ws ++ write_entry w ∷ es
+    entries_more : (ws : List Write) (w : Write) (es : List NamedFile) → write_entries (ws ++ w ∷ []) ++ es ≡ write_entries ws ++ write_entry w ∷ es
     entries_more [] w es = refl
-    entries_more (x ∷ ws) w es = ap (λ (l : List Entry). write_entry x ∷ l) (entries_more ws w es)
+    entries_more (x ∷ ws) w es = ap (λ (l : List NamedFile). write_entry x ∷ l) (entries_more ws w es)
 
-pub all_encoded : (whole : List Entry) (writes : List Write) (outputs : List Output) → length outputs ≡ 0 → write_entries writes ++ map spelled_output (output_values outputs) ≡ whole → write_entries writes ≡ whole
+pub all_encoded : (whole : List NamedFile) (writes : List Write) (outputs : List Output) → length outputs ≡ 0 → write_entries writes ++ map spelled_output (output_values outputs) ≡ whole → write_entries writes ≡ whole
 all_encoded whole writes [] none e = sym (append-nil (write_entries writes)) ∙ e
 all_encoded whole writes (x ∷ outputs) none e = absurd (omega arith)

@@ -2,8 +2,8 @@
 use Rattle.base_lists.proofs.Common.{Bool, true, false, cond, ltb, ◌-◌, ◌≡◌, ◌∙◌, sym, refl, ap, subst, map, inl, inr, ◌⊎◌, ℕ, zero, suc, ◌<◌, ◌≤◌, take, List, [], ◌∷◌, length, Option, Some, None, Result, Ok, Err, slice_get, option_map, arith, get, length-map}
 use Rattle.std.proofs.Common.{length-append}
 use Rattle.wasm_bytes.specs.Prelude.{IsBytes}
-use Rattle.tool_io.specs.FilesAndSinks.{Contents}
-use Rattle.tools_cli.specs.Prelude.{Text, Source, MergeTask, Task, Merge, Metadce, Split, CtorEval, Sample, task_of, source_files, many_of, modules_of, texts_of, inputs_of, Entry, fault_text, link_text, IsRead, IsAccepted, invalid, Job, Gathered, add_first, add_file, Whole, Lacks, TooLong, gathered, most_input, Loads, loaded, faulty, AllLoad, OneFails, Decision, Merges, not_linked, not_joined, merged, parts_of, sample_merge, sample_modules, Decides, job_of, module_files, contents_of, InputsJob, not_loaded, decided, refused_before, TaskJob, not_begun, missing, too_long, all_read, HasJob, no_task, asked}
+use Rattle.tool_io.specs.FilesAndSinks.{FileContents}
+use Rattle.tools_cli.specs.Prelude.{Text, Source, MergeTask, Task, Merge, Metadce, Split, CtorEval, Sample, task_of, source_files, many_of, modules_of, texts_of, inputs_of, NamedFile, fault_text, link_text, IsReadAs, IsAccepted, invalid, Job, Gathered, add_first, add_file, Whole, Lacks, TooLong, gathered, most_input, LoadsFile, loaded, faulty, AllLoad, OneFails, Decision, Merges, not_linked, not_joined, merged, parts_of, sample_merge, sample_modules, Decides, job_of, module_files, contents_of, InputsJob, not_loaded, decided, refused_before, TaskJob, not_begun, missing, too_long, all_read, HasJob, no_task, asked}
 use Rattle.tools_cli.specs.Texts.{invalid_text, import_mismatch, import_cycle, limits_clash, global_cycle, too_many_memories}
 use Rattle.tools_cli.specs.Job.{HoldBytes}
 use Rattle.wasm_tree_spec.specs.Prelude.{Module}
@@ -58,11 +58,11 @@ fault_told many file bytes (fault.Unsupported section (Some func)) cause = (_, r
 fault_told many file bytes (fault.Limit which) cause = (_, refl)
 fault_told many file bytes fault.NoMemory cause = absurd cause
 
-tree_loads : (many : Bool) (file bytes : Text) (tree : Module) → IsRead many bytes tree → IsDecided many tree → (r : Result Module Text) × Loads many file bytes r
+tree_loads : (many : Bool) (file bytes : Text) (tree : Module) → IsReadAs many bytes tree → IsDecided many tree → (r : Result Module Text) × LoadsFile many file bytes r
 tree_loads many file bytes tree h (inl accepted) = (Ok tree, loaded tree h accepted)
 tree_loads many file bytes tree h (inr (item, first)) = (Err (invalid_text file item), invalid tree item h first)
 
-file_loads : Known → (many : Bool) (file bytes : Text) → IsBytes bytes → (o : Option ReadFault) → read_fault bytes many ≡ o → (r : Result Module Text) × Loads many file bytes r
+file_loads : Known → (many : Bool) (file bytes : Text) → IsBytes bytes → (o : Option ReadFault) → read_fault bytes many ≡ o → (r : Result Module Text) × LoadsFile many file bytes r
 file_loads k many file bytes are None e =
     let (tree, spelled, within) = (k.faults many bytes are).0 e in
     tree_loads many file bytes tree (record { spelled = spelled; within = within }) (k.decided many tree)
@@ -71,15 +71,15 @@ file_loads k many file bytes are (Some fault) e =
 
 -- ---- all files
 
-abbrev AllOrOne : Bool → List Entry → Type 0
+abbrev AllOrOne : Bool → List NamedFile → Type 0
 AllOrOne many files = ((trees : List Module) × AllLoad many files trees) ⊎ ((text : Text) × OneFails many files text)
 
-and_more : (many : Bool) (file : Entry) (files : List Entry) (r : Result Module Text) → Loads many file.0 file.1 r → AllOrOne many files → AllOrOne many (file ∷ files)
+and_more : (many : Bool) (file : NamedFile) (files : List NamedFile) (r : Result Module Text) → LoadsFile many file.0 file.1 r → AllOrOne many files → AllOrOne many (file ∷ files)
 and_more many file files (Err text) h rest = inr (text, inl h)
 and_more many file files (Ok tree) h (inl (trees, all)) = inl (tree ∷ trees, (h, all))
 and_more many file files (Ok tree) h (inr (text, fails)) = inr (text, inr (tree, h, fails))
 
-files_load : Known → (many : Bool) (files : List Entry) → AreBytes files → AllOrOne many files
+files_load : Known → (many : Bool) (files : List NamedFile) → AreBytes files → AllOrOne many files
 files_load k many [] are = inl ([], tt)
 files_load k many (file ∷ files) are = let first = file_loads k many file.0 file.1 are.0 _ refl in and_more many file files first.0 first.1 (files_load k many files are.1)
 
@@ -137,20 +137,20 @@ length_first zero xs h = refl
 length_first (suc n) [] h = absurd (omega arith)
 length_first (suc n) (x ∷ xs) h = ap suc (length_first n xs (omega arith))
 
-over_inputs : Known → (t : Task) (inputs : List Entry) → AreBytes inputs → length (modules_of t) ≤ length inputs → length inputs ≡ length (inputs_of t) → AllOrOne (many_of t) (module_files t inputs) → (job : Job) × InputsJob t inputs job
+over_inputs : Known → (t : Task) (inputs : List NamedFile) → AreBytes inputs → length (modules_of t) ≤ length inputs → length inputs ≡ length (inputs_of t) → AllOrOne (many_of t) (module_files t inputs) → (job : Job) × InputsJob t inputs job
 over_inputs k t inputs are enough every (inr (text, fails)) = (_, not_loaded text fails)
 over_inputs k t inputs are enough every (inl (trees, all)) =
     let each = as_many (many_of t) (module_files t inputs) trees all ∙ length_first (length (modules_of t)) inputs enough in
-    let told = task_told k t trees (contents_of inputs) (first_is_bytes inputs are) each (length-map inputs (λ (e : Entry). e.1) ∙ every) in
+    let told = task_told k t trees (contents_of inputs) (first_is_bytes inputs are) each (length-map inputs (λ (e : NamedFile). e.1) ∙ every) in
     (job_of told.0, decided trees told.0 all told.1)
 
 -- as many files as names
-first_count : (file : Entry) (g : Gathered) (inputs : List Entry) (n : ℕ) → ((rest : List Entry) → g ≡ Whole rest → length rest ≡ n) → add_first file g ≡ Whole inputs → length inputs ≡ suc n
+first_count : (file : NamedFile) (g : Gathered) (inputs : List NamedFile) (n : ℕ) → ((rest : List NamedFile) → g ≡ Whole rest → length rest ≡ n) → add_first file g ≡ Whole inputs → length inputs ≡ suc n
 first_count file (Whole rest) inputs n count e = let same : file ∷ rest ≡ inputs = cc in sym (ap length same) ∙ ap suc (count rest refl)
 first_count file (Lacks name) inputs n count e = absurd (cc)
 first_count file (TooLong name) inputs n count e = absurd (cc)
 
-file_count : (name : Text) (left : ℕ) (o : Option Text) (rest : ℕ → Gathered) (inputs : List Entry) (n : ℕ) → ((more : List Entry) (left : ℕ) → rest left ≡ Whole more → length more ≡ n) → add_file name left o rest ≡ Whole inputs → length inputs ≡ suc n
+file_count : (name : Text) (left : ℕ) (o : Option Text) (rest : ℕ → Gathered) (inputs : List NamedFile) (n : ℕ) → ((more : List NamedFile) (left : ℕ) → rest left ≡ Whole more → length more ≡ n) → add_file name left o rest ≡ Whole inputs → length inputs ≡ suc n
 file_count name left None rest inputs n count e = absurd (cc)
 file_count name left (Some bytes) rest inputs n count e = by (ltb left (length bytes)) e
   where
@@ -158,11 +158,11 @@ file_count name left (Some bytes) rest inputs n count e = by (ltb left (length b
     by true e = absurd (cc)
     by false e = first_count (name, bytes) (rest (left - length bytes)) inputs n (λ more h. count more (left - length bytes) h) e
 
-gathered_count : (files : Contents) (names : List Text) (most : ℕ) (inputs : List Entry) → gathered names files most ≡ Whole inputs → length inputs ≡ length names
+gathered_count : (files : FileContents) (names : List Text) (most : ℕ) (inputs : List NamedFile) → gathered names files most ≡ Whole inputs → length inputs ≡ length names
 gathered_count files [] most inputs e = let same : [] ≡ inputs = cc in ap length (sym same)
 gathered_count files (name ∷ names) most inputs e = file_count name most (get files name) (gathered names files) inputs (length names) (λ more n h. gathered_count files names n more h) e
 
-begun_job : Known → (t : Task) (files : Contents) → HoldBytes files → refused_before t ≡ None → (g : Gathered) → gathered (inputs_of t) files most_input ≡ g → (job : Job) × TaskJob t files job
+begun_job : Known → (t : Task) (files : FileContents) → HoldBytes files → refused_before t ≡ None → (g : Gathered) → gathered (inputs_of t) files most_input ≡ g → (job : Job) × TaskJob t files job
 begun_job k t files hold begun (Lacks name) e = (_, missing name begun e)
 begun_job k t files hold begun (TooLong name) e = (_, too_long name begun e)
 begun_job k t files hold begun (Whole inputs) e =
@@ -173,13 +173,13 @@ begun_job k t files hold begun (Whole inputs) e =
     let told = over_inputs k t inputs are enough count (files_load k (many_of t) (module_files t inputs) (first_are_bytes (length (modules_of t)) inputs are)) in
     (told.0, all_read inputs told.0 begun e told.1)
 
-task_job : Known → (t : Task) (files : Contents) → HoldBytes files → (o : Option Text) → refused_before t ≡ o → (job : Job) × TaskJob t files job
+task_job : Known → (t : Task) (files : FileContents) → HoldBytes files → (o : Option Text) → refused_before t ≡ o → (job : Job) × TaskJob t files job
 task_job k t files hold (Some text) e = (_, not_begun text e)
 task_job k t files hold None e = begun_job k t files hold e _ refl
 
-words_job : Known → (words : List Text) (files : Contents) → HoldBytes files → (o : Option Task) → task_of words ≡ o → (job : Job) × HasJob words files job
+words_job : Known → (words : List Text) (files : FileContents) → HoldBytes files → (o : Option Task) → task_of words ≡ o → (job : Job) × HasJob words files job
 words_job k words files hold None e = (_, no_task e)
 words_job k words files hold (Some t) e = let told = task_job k t files hold _ refl in (told.0, asked t told.0 e told.1)
 
-pub job_exists : Known → (words : List Text) (files : Contents) → HoldBytes files → (job : Job) × HasJob words files job
+pub job_exists : Known → (words : List Text) (files : FileContents) → HoldBytes files → (job : Job) × HasJob words files job
 job_exists k words files hold = words_job k words files hold _ refl

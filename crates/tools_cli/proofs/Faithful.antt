@@ -3,8 +3,8 @@ use Rattle.base_lists.proofs.Common.{IsTrue, Bool, true, false, not, cond, ltb, 
 use Rattle.std.specs.FinMap.{insert, get-insert}
 use Rattle.std.specs.Cmp.{eq_by_cmp_equiv}
 use Rattle.std.proofs.lemmas.Cmp.{nat_list_cmp_total}
-use Rattle.tool_io.specs.FilesAndSinks.{Contents}
-use Rattle.tools_cli.specs.Prelude.{Text, Source, MergeTask, MetadceTask, SplitTask, CtorEvalTask, SampleTask, Task, Merge, Metadce, Split, CtorEval, Sample, task_of, many_of, modules_of, texts_of, inputs_of, are_apart, Entry, made, IsRead, IsAccepted, Job, Usage, Refused, Done, Gathered, Whole, Lacks, TooLong, add_first, add_file, gathered, most_input, most_output, Loads, loaded, faulty, invalid, AllLoad, Output, Decision, Refuses, Makes, Merges, not_linked, not_joined, merged, Reduces, no_graph, not_swept, reduced, words_plan, Splits, no_plan, not_parted, parted, Evaluates, not_evaluated, evaluated, Samples, not_merged, sampled, sample_merge, sample_parts, Decides, is_within, spelled_output, job_of, module_files, contents_of, parts_of, AreMerged, InputsJob, not_loaded, decided, TaskJob, not_begun, missing, too_long, all_read, HasJob, no_task, asked}
+use Rattle.tool_io.specs.FilesAndSinks.{FileContents}
+use Rattle.tools_cli.specs.Prelude.{Text, Source, MergeTask, MetadceTask, SplitTask, CtorEvalTask, SampleTask, Task, Merge, Metadce, Split, CtorEval, Sample, task_of, many_of, modules_of, texts_of, inputs_of, are_apart, NamedFile, made, IsReadAs, IsAccepted, Job, Usage, Refused, Done, Gathered, Whole, Lacks, TooLong, add_first, add_file, gathered, most_input, most_output, LoadsFile, loaded, faulty, invalid, AllLoad, Output, Decision, Refuses, Makes, Merges, not_linked, not_joined, merged, Reduces, no_graph, not_swept, reduced, words_plan, Splits, no_plan, not_parted, parted, Evaluates, not_evaluated, evaluated, Samples, not_merged, sampled, sample_merge, sample_parts, Decides, is_within, spelled_output, job_of, module_files, contents_of, parts_of, AreMerged, InputsJob, not_loaded, decided, TaskJob, not_begun, missing, too_long, all_read, HasJob, no_task, asked}
 use Rattle.merge_names.specs.declared.mode.Mode.{Mode}
 use Rattle.tools_cli.specs.Job.{Missing, GivesMarks}
 use Rattle.tools_cli.specs.Run.{EndsDone}
@@ -143,72 +143,72 @@ merged_is_sound k parts mode tree sound ranged is =
     subst P joins.2 (record { valid = valid; single = λ e. single }, (k.in_range parts mode ranged valid single (k.sizes parts mode can), k.memory parts mode valid single (k.sizes parts mode can)), k.same parts mode can)
 
 -- what was gathered of a first name, and the rest
-abbrev pub IsFirstFile : Text → Option Text → (ℕ → Gathered) → List Entry → Type 0
-IsFirstFile name held rest files = (bytes : Text) × (n : ℕ) × (more : List Entry) × (held ≡ Some bytes) × (rest n ≡ Whole more) × (files ≡ (name, bytes) ∷ more)
+abbrev pub IsFirstFile : Text → Option Text → (ℕ → Gathered) → List NamedFile → Type 0
+IsFirstFile name held rest files = (bytes : Text) × (n : ℕ) × (more : List NamedFile) × (held ≡ Some bytes) × (rest n ≡ Whole more) × (files ≡ (name, bytes) ∷ more)
 
-pub whole_is : (xs ys : List Entry) → Whole xs ≡ Whole ys → xs ≡ ys
+pub whole_is : (xs ys : List NamedFile) → Whole xs ≡ Whole ys → xs ≡ ys
 whole_is xs ys e = cc
 
-first_of_whole : (name bytes : Text) (n : ℕ) (rest : ℕ → Gathered) (g : Gathered) (files : List Entry) → g ≡ rest n → add_first (name, bytes) g ≡ Whole files → IsFirstFile name (Some bytes) rest files
+first_of_whole : (name bytes : Text) (n : ℕ) (rest : ℕ → Gathered) (g : Gathered) (files : List NamedFile) → g ≡ rest n → add_first (name, bytes) g ≡ Whole files → IsFirstFile name (Some bytes) rest files
 first_of_whole name bytes n rest (Whole more) files is e = (bytes, n, more, refl, sym is, sym (whole_is ((name, bytes) ∷ more) files e))
 first_of_whole name bytes n rest (Lacks lacking) files is e = absurd (cc)
 first_of_whole name bytes n rest (TooLong long) files is e = absurd (cc)
 
-pub short_enough : (b : Bool) (name : Text) (g : Gathered) (files : List Entry) → cond b (TooLong name) g ≡ Whole files → g ≡ Whole files
+pub short_enough : (b : Bool) (name : Text) (g : Gathered) (files : List NamedFile) → cond b (TooLong name) g ≡ Whole files → g ≡ Whole files
 short_enough true name g files e = absurd (cc)
 short_enough false name g files e = e
 
-first_file : (name : Text) (left : ℕ) (held : Option Text) (rest : ℕ → Gathered) (files : List Entry) → add_file name left held rest ≡ Whole files → IsFirstFile name held rest files
+first_file : (name : Text) (left : ℕ) (held : Option Text) (rest : ℕ → Gathered) (files : List NamedFile) → add_file name left held rest ≡ Whole files → IsFirstFile name held rest files
 first_file name left None rest files e = absurd (cc)
 first_file name left (Some bytes) rest files e =
     first_of_whole name bytes (left - length bytes) rest (rest (left - length bytes)) files refl (short_enough (ltb left (length bytes)) name (add_first (name, bytes) (rest (left - length bytes))) files e)
 
 -- what was gathered is what the files hold
-pub gathered_held : (files : Contents) (names : List Text) (most : ℕ) (inputs : List Entry) → gathered names files most ≡ Whole inputs → map (get files) names ≡ map (λ (e : Entry). Some e.1) inputs
-gathered_held files [] most inputs e = ap (map (λ (e : Entry). Some e.1)) (whole_is [] inputs e)
+pub gathered_held : (files : FileContents) (names : List Text) (most : ℕ) (inputs : List NamedFile) → gathered names files most ≡ Whole inputs → map (get files) names ≡ map (λ (e : NamedFile). Some e.1) inputs
+gathered_held files [] most inputs e = ap (map (λ (e : NamedFile). Some e.1)) (whole_is [] inputs e)
 gathered_held files (name ∷ names) most inputs e =
     let (bytes, n, more, there, rest, is) = first_file name most (get files name) (gathered names files) inputs e in
-    ap (λ (o : Option Text). o ∷ map (get files) names) there ∙ ap (λ (l : List (Option Text)). Some bytes ∷ l) (gathered_held files names n more rest) ∙ ap (map (λ (e : Entry). Some e.1)) (sym is)
+    ap (λ (o : Option Text). o ∷ map (get files) names) there ∙ ap (λ (l : List (Option Text)). Some bytes ∷ l) (gathered_held files names n more rest) ∙ ap (map (λ (e : NamedFile). Some e.1)) (sym is)
 
 -- what is loaded is read and accepted
-loaded_is : (many : Bool) (file bytes : Text) (r : Result Module Text) → Loads many file bytes r → IfOk r (λ tree. IsRead many bytes tree × IsAccepted many tree)
+loaded_is : (many : Bool) (file bytes : Text) (r : Result Module Text) → LoadsFile many file bytes r → IfOk r (λ tree. IsReadAs many bytes tree × IsAccepted many tree)
 loaded_is many file bytes r (loaded tree h accepted) = (h, accepted)
 loaded_is many file bytes r (faulty fault text e told) = tt
 loaded_is many file bytes r (invalid tree item h first) = tt
 
 -- files that load hold the modules; more files may be read behind them
-no_trees : (many : Bool) (before : Contents) (trees : List Module) → AllLoad many [] trees → HoldModules many before [] trees
+no_trees : (many : Bool) (before : FileContents) (trees : List Module) → AllLoad many [] trees → HoldModules many before [] trees
 no_trees many before [] h = tt
 no_trees many before (tree ∷ trees) h = absurd h
 
-hold_first : (many : Bool) (before : Contents) (name : Text) (names more : List Text) (files : List Entry) (trees : List Module) → IsFirstFile name (get before name) (gathered (names ++ more) before) files
+hold_first : (many : Bool) (before : FileContents) (name : Text) (names more : List Text) (files : List NamedFile) (trees : List Module) → IsFirstFile name (get before name) (gathered (names ++ more) before) files
     → AllLoad many (take (suc (length names)) files) trees
-    → ((n : ℕ) (rest : List Entry) (trees : List Module) → gathered (names ++ more) before n ≡ Whole rest → AllLoad many (take (length names) rest) trees → HoldModules many before names trees)
+    → ((n : ℕ) (rest : List NamedFile) (trees : List Module) → gathered (names ++ more) before n ≡ Whole rest → AllLoad many (take (length names) rest) trees → HoldModules many before names trees)
     → HoldModules many before (name ∷ names) trees
-hold_first many before name names more files [] (bytes, n, rest, held, are, is) h later = let P : List Entry → Type 0 = λ l. AllLoad many (take (suc (length names)) l) [] in absurd (subst P is h)
+hold_first many before name names more files [] (bytes, n, rest, held, are, is) h later = let P : List NamedFile → Type 0 = λ l. AllLoad many (take (suc (length names)) l) [] in absurd (subst P is h)
 hold_first many before name names more files (tree ∷ trees) (bytes, n, rest, held, are, is) h later =
-    let P : List Entry → Type 0 = λ l. AllLoad many (take (suc (length names)) l) (tree ∷ trees) in
-    let loads : Loads many name bytes (Ok tree) × AllLoad many (take (length names) rest) trees = subst P is h in
+    let P : List NamedFile → Type 0 = λ l. AllLoad many (take (suc (length names)) l) (tree ∷ trees) in
+    let loads : LoadsFile many name bytes (Ok tree) × AllLoad many (take (length names) rest) trees = subst P is h in
     ((bytes, held, (loaded_is many name bytes (Ok tree) loads.0).0.spelled), later n rest trees are loads.1)
 
-pub files_hold : (many : Bool) (before : Contents) (names more : List Text) (most : ℕ) (files : List Entry) (trees : List Module) → gathered (names ++ more) before most ≡ Whole files → AllLoad many (take (length names) files) trees → HoldModules many before names trees
+pub files_hold : (many : Bool) (before : FileContents) (names more : List Text) (most : ℕ) (files : List NamedFile) (trees : List Module) → gathered (names ++ more) before most ≡ Whole files → AllLoad many (take (length names) files) trees → HoldModules many before names trees
 files_hold many before [] more most files trees e h = no_trees many before trees h
 files_hold many before (name ∷ names) more most files trees e h =
     hold_first many before name names more files trees (first_file name most (get before name) (gathered (names ++ more) before) files e) h (λ n rest trees e h. files_hold many before names more n rest trees e h)
 
 -- the parts of a merge are sound and in range
-loaded_sound : Respelled → (file bytes : Text) (tree : Module) (name : Option Text) → Loads false file bytes (Ok tree) → IsSound (record { name = name; «module» = tree }) × InRange tree
+loaded_sound : Respelled → (file bytes : Text) (tree : Module) (name : Option Text) → LoadsFile false file bytes (Ok tree) → IsSound (record { name = name; «module» = tree }) × InRange tree
 loaded_sound k file bytes tree name h =
     let is = loaded_is false file bytes (Ok tree) h in
     ((is.1.valid, k.bounded bytes tree is.0.spelled is.0.within), k.ranges bytes tree is.0.spelled)
 
-parts_sound : Respelled → (sources : List Source) (files : List Entry) (trees : List Module) → AllLoad false files trees → Every IsSound (parts_of sources trees)
+parts_sound : Respelled → (sources : List Source) (files : List NamedFile) (trees : List Module) → AllLoad false files trees → Every IsSound (parts_of sources trees)
 parts_sound k [] files trees h = tt
 parts_sound k (s ∷ sources) files [] h = tt
 parts_sound k (s ∷ sources) [] (tree ∷ trees) h = absurd h
 parts_sound k (s ∷ sources) (file ∷ files) (tree ∷ trees) h = ((loaded_sound k file.0 file.1 tree (Some s.name) h.0).0, parts_sound k sources files trees h.1)
 
-parts_in_range : Respelled → (sources : List Source) (files : List Entry) (trees : List Module) → AllLoad false files trees → Every (λ (p : Part). InRange p.«module») (parts_of sources trees)
+parts_in_range : Respelled → (sources : List Source) (files : List NamedFile) (trees : List Module) → AllLoad false files trees → Every (λ (p : Part). InRange p.«module») (parts_of sources trees)
 parts_in_range k [] files trees h = tt
 parts_in_range k (s ∷ sources) files [] h = tt
 parts_in_range k (s ∷ sources) [] (tree ∷ trees) h = absurd h
@@ -236,7 +236,7 @@ abbrev IsSoundDecision : (task : Task) → (trees : List Module) → (contents :
 IsSoundDecision task trees contents (Refuses text) = Unit {0}
 IsSoundDecision task trees contents (Makes outputs lines) = MakesSoundly task trees contents outputs
 
-merge_is_sound : Respelled → (merge : MergeTask) (contents : List Text) (files : List Entry) (trees : List Module) (decision : Decision) → AllLoad false files trees → Merges merge trees decision → IsSoundDecision (Merge merge) trees contents decision
+merge_is_sound : Respelled → (merge : MergeTask) (contents : List Text) (files : List NamedFile) (trees : List Module) (decision : Decision) → AllLoad false files trees → Merges merge trees decision → IsSoundDecision (Merge merge) trees contents decision
 merge_is_sound k merge contents files trees decision loads (not_linked fault text found says) = tt
 merge_is_sound k merge contents files trees decision loads (not_joined fault text linked found says) = tt
 merge_is_sound k merge contents files trees decision loads (merged tree is) =
@@ -258,7 +258,7 @@ sweeps_to : (which : Option Which) (m left : Module) → outcome which m ≡ Ok 
 sweeps_to (Some which) m left e = absurd (cc)
 sweeps_to None m left e = let same : m ≡ left = cc in (refl, same)
 
-left_is_sound : Respelled → (marks : Marks) (file bytes : Text) (tree left : Module) → Loads false file bytes (Ok tree) → AreClosed marks tree → Sweeps marks tree (Ok left) → IsAccepted false left × IsWritable left × BehavesAsUnswept marks tree left
+left_is_sound : Respelled → (marks : Marks) (file bytes : Text) (tree left : Module) → LoadsFile false file bytes (Ok tree) → AreClosed marks tree → Sweeps marks tree (Ok left) → IsAccepted false left × IsWritable left × BehavesAsUnswept marks tree left
 left_is_sound k marks file bytes tree left loads closed is =
     let sweeps = sweeps_to (over_limit (swept marks tree)) (swept marks tree) left is in
     let loaded = loaded_is false file bytes (Ok tree) loads in
@@ -273,7 +273,7 @@ left_is_sound k marks file bytes tree left loads closed is =
       k.left_same marks tree loaded.1.valid closed,
     )
 
-left_makes : Respelled → (metadce : MetadceTask) (file text : Entry) (tree left : Module) (graph : Graph) (marks : Reached) → Loads false file.0 file.1 (Ok tree) → GivesMarks text.1 tree graph marks → Sweeps (marks_of marks) tree (Ok left)
+left_makes : Respelled → (metadce : MetadceTask) (file text : NamedFile) (tree left : Module) (graph : Graph) (marks : Reached) → LoadsFile false file.0 file.1 (Ok tree) → GivesMarks text.1 tree graph marks → Sweeps (marks_of marks) tree (Ok left)
     → MakesSoundly (Metadce metadce) (tree ∷ []) (file.1 ∷ text.1 ∷ []) (record { name = metadce.output; tree = left; custom = [] } ∷ [])
 left_makes k metadce file text tree left graph marks loads is left_is =
     let loaded = loaded_is false file.0 file.1 (Ok tree) loads in
@@ -287,13 +287,13 @@ left_makes k metadce file text tree left graph marks loads is left_is =
       also = tt;
     }
 
-reducing_is_sound : Respelled → (metadce : MetadceTask) (file text : Entry) (tree : Module) (decision : Decision) → Loads false file.0 file.1 (Ok tree) → Reduces metadce tree text.1 decision
+reducing_is_sound : Respelled → (metadce : MetadceTask) (file text : NamedFile) (tree : Module) (decision : Decision) → LoadsFile false file.0 file.1 (Ok tree) → Reduces metadce tree text.1 decision
     → IsSoundDecision (Metadce metadce) (tree ∷ []) (file.1 ∷ text.1 ∷ []) decision
 reducing_is_sound k metadce file text tree decision loads (no_graph fault says found told) = tt
 reducing_is_sound k metadce file text tree decision loads (not_swept graph marks fault says is found told) = tt
 reducing_is_sound k metadce file text tree decision loads (reduced graph marks left unused is found lists) = left_makes k metadce file text tree left graph marks loads is found
 
-metadce_is_sound : Respelled → (metadce : MetadceTask) (files : List Entry) (trees : List Module) (decision : Decision) → AllLoad false (module_files (Metadce metadce) files) trees → Decides (Metadce metadce) trees (contents_of files) decision
+metadce_is_sound : Respelled → (metadce : MetadceTask) (files : List NamedFile) (trees : List Module) (decision : Decision) → AllLoad false (module_files (Metadce metadce) files) trees → Decides (Metadce metadce) trees (contents_of files) decision
     → IsSoundDecision (Metadce metadce) trees (contents_of files) decision
 metadce_is_sound k metadce files [] decision loads h = absurd h
 metadce_is_sound k metadce [] (tree ∷ []) decision loads h = absurd h
@@ -342,7 +342,7 @@ plan_shaped k split tree names = k.planned tree (is_wanted tree names split.word
 can_move : Respelled → (split : SplitTask) (tree : Module) (names : List FuncName) → CanMove tree (words_plan split tree names).moved
 can_move k split tree names = (plan_shaped k split tree names).moved
 
-pair_is_sound : Respelled → (names : SplitNames) (bytes : Text) (tree : Module) (moved : List ℕ) → AreTexts names → IsRead false bytes tree → IsAccepted false tree → CanMove tree moved → HasNoFault names tree moved
+pair_is_sound : Respelled → (names : SplitNames) (bytes : Text) (tree : Module) (moved : List ℕ) → AreTexts names → IsReadAs false bytes tree → IsAccepted false tree → CanMove tree moved → HasNoFault names tree moved
     → (IsAccepted false (secondary names tree moved) × IsWritable (secondary names tree moved)) × (IsAccepted false (primary names tree moved) × IsWritable (primary names tree moved))
 pair_is_sound k names bytes tree moved text read accepted can none =
     let namespace : ℕ → Text = λ slot. names.placeholder_namespace in
@@ -368,7 +368,7 @@ pair_is_sound k names bytes tree moved text read accepted can none =
       ),
     )
 
-splitting_is_sound : Respelled → (split : SplitTask) (file : Entry) (tree : Module) (decision : Decision) → AreTexts split.names → Loads false file.0 file.1 (Ok tree) → Splits split tree file.1 decision
+splitting_is_sound : Respelled → (split : SplitTask) (file : NamedFile) (tree : Module) (decision : Decision) → AreTexts split.names → LoadsFile false file.0 file.1 (Ok tree) → Splits split tree file.1 decision
     → IsSoundDecision (Split split) (tree ∷ []) (file.1 ∷ []) decision
 splitting_is_sound k split file tree decision text loads (no_plan names fault says named found told) = tt
 splitting_is_sound k split file tree decision text loads (not_parted names fault says given found told) = tt
@@ -388,7 +388,7 @@ splitting_is_sound k split file tree decision text loads (parted names given non
       also = k.pair_loads namespace split.names tree moved (moved ∷ []) can;
     }
 
-split_is_sound : Respelled → (split : SplitTask) (files : List Entry) (trees : List Module) (decision : Decision) → AreTexts split.names → AllLoad false (module_files (Split split) files) trees → Decides (Split split) trees (contents_of files) decision
+split_is_sound : Respelled → (split : SplitTask) (files : List NamedFile) (trees : List Module) (decision : Decision) → AreTexts split.names → AllLoad false (module_files (Split split) files) trees → Decides (Split split) trees (contents_of files) decision
     → IsSoundDecision (Split split) trees (contents_of files) decision
 split_is_sound k split files [] decision text loads h = absurd h
 split_is_sound k split [] (tree ∷ []) decision text loads h = absurd h
@@ -405,7 +405,7 @@ after_in_range k m names kept there valid ranges begins after single sizes = eli
   | inr e ↦ subst InRange (sym e) ranges
 ]
 
-evaluating_is_sound : Respelled → (eval : CtorEvalTask) (file : Entry) (tree : Module) (decision : Decision) → IsBytes file.1 → Loads false file.0 file.1 (Ok tree) → Evaluates eval tree decision
+evaluating_is_sound : Respelled → (eval : CtorEvalTask) (file : NamedFile) (tree : Module) (decision : Decision) → IsBytes file.1 → LoadsFile false file.0 file.1 (Ok tree) → Evaluates eval tree decision
     → IsSoundDecision (CtorEval eval) (tree ∷ []) (file.1 ∷ []) decision
 evaluating_is_sound k eval file tree decision are loads (not_evaluated fault says found told) = tt
 evaluating_is_sound k eval file tree decision are loads (evaluated none) =
@@ -428,7 +428,7 @@ evaluating_is_sound k eval file tree decision are loads (evaluated none) =
       also = k.after_runs tree eval.ctors eval.kept there loaded.1.valid;
     }
 
-eval_is_sound : Respelled → (eval : CtorEvalTask) (files : List Entry) (trees : List Module) (decision : Decision) → ((bytes : Text) (more : List Text) → contents_of files ≡ bytes ∷ more → IsBytes bytes)
+eval_is_sound : Respelled → (eval : CtorEvalTask) (files : List NamedFile) (trees : List Module) (decision : Decision) → ((bytes : Text) (more : List Text) → contents_of files ≡ bytes ∷ more → IsBytes bytes)
     → AllLoad false (module_files (CtorEval eval) files) trees → Decides (CtorEval eval) trees (contents_of files) decision → IsSoundDecision (CtorEval eval) trees (contents_of files) decision
 eval_is_sound k eval files [] decision are loads h = absurd h
 eval_is_sound k eval [] (tree ∷ []) decision are loads h = absurd h
@@ -478,7 +478,7 @@ sample_is_sound k sample (tree ∷ trees) contents decision counted h = absurd h
 
 -- ---- all commands ----
 
-decision_is_sound : Respelled → (task : Task) (files : List Entry) (trees : List Module) (decision : Decision) → IsTextTask task → IsCounted task → ((bytes : Text) (more : List Text) → contents_of files ≡ bytes ∷ more → IsBytes bytes) → AllLoad (many_of task) (module_files task files) trees → Decides task trees (contents_of files) decision
+decision_is_sound : Respelled → (task : Task) (files : List NamedFile) (trees : List Module) (decision : Decision) → IsTextTask task → IsCounted task → ((bytes : Text) (more : List Text) → contents_of files ≡ bytes ∷ more → IsBytes bytes) → AllLoad (many_of task) (module_files task files) trees → Decides task trees (contents_of files) decision
     → IsSoundDecision task trees (contents_of files) decision
 decision_is_sound k (Merge merge) files trees decision text counted are loads h = merge_is_sound k merge (contents_of files) (module_files (Merge merge) files) trees decision loads h
 decision_is_sound k (Metadce metadce) files trees decision text counted are loads h = metadce_is_sound k metadce files trees decision loads h
@@ -504,14 +504,14 @@ outputs_apart words (Sample sample) e contents = by sample.output
 -- ---- what is written ----
 
 -- the file under a name that was just written, and under another
-written_there : (files : Contents) (name bytes : Text) → get (insert files name bytes) name ≡ Some bytes
+written_there : (files : FileContents) (name bytes : Text) → get (insert files name bytes) name ≡ Some bytes
 written_there files name bytes = get-insert nat_list_cmp_total files name bytes name ∙ ap (λ b. cond b (Some bytes) (get files name)) ((eq_by_cmp_equiv nat_list_cmp_total).refl name)
 
-written_elsewhere : (files : Contents) (name other bytes : Text) → bytes_eq name other ≡ false → get (insert files other bytes) name ≡ get files name
+written_elsewhere : (files : FileContents) (name other bytes : Text) → bytes_eq name other ≡ false → get (insert files other bytes) name ≡ get files name
 written_elsewhere files name other bytes e =
     get-insert nat_list_cmp_total files other bytes name ∙ ap (λ b. cond b (Some bytes) (get files name)) (is_eq-slice_cmp name other ∙ e)
 
-others_stay : (name : Text) (outputs : List Output) (files : Contents) → list_any (bytes_eq name) (map (λ (o : Output). o.name) outputs) ≡ false → get (made (map spelled_output outputs) files) name ≡ get files name
+others_stay : (name : Text) (outputs : List Output) (files : FileContents) → list_any (bytes_eq name) (map (λ (o : Output). o.name) outputs) ≡ false → get (made (map spelled_output outputs) files) name ≡ get files name
 others_stay name [] files e = refl
 others_stay name (o ∷ outputs) files e =
     let unlike = neither (bytes_eq name o.name) (list_any (bytes_eq name) (map (λ (o : Output). o.name) outputs)) e in
@@ -529,7 +529,7 @@ output_spells k o within is =
     few false e h = grind (arith, nat_tests)
 
 -- so after all writes each file spells its output, where they have names apart
-outputs_written : Respelled → (outputs : List Output) (files : Contents) → are_apart (map (λ (o : Output). o.name) outputs) ≡ true → list_all is_within outputs ≡ true → Every (IsSoundOutput false) outputs
+outputs_written : Respelled → (outputs : List Output) (files : FileContents) → are_apart (map (λ (o : Output). o.name) outputs) ≡ true → list_all is_within outputs ≡ true → Every (IsSoundOutput false) outputs
     → HoldModules false (made (map spelled_output outputs) files) (map (λ (o : Output). o.name) outputs) (output_trees outputs)
 outputs_written k [] files apart within each = tt
 outputs_written k (o ∷ outputs) files apart within each =
@@ -544,26 +544,26 @@ each_accepted many (o ∷ outputs) h = (h.0.0, each_accepted many outputs h.1)
 
 -- ---- what a job that is done keeps ----
 
-abbrev pub JobKeeps : List Text → Contents → Job → Type 0
+abbrev pub JobKeeps : List Text → FileContents → Job → Type 0
 JobKeeps words before (Done writes lines) = IsFaithful words before (made writes before)
 JobKeeps words before Usage = Unit {0}
 JobKeeps words before Missing = Unit {0}
 JobKeeps words before (Refused text) = Unit {0}
 
-abbrev pub JobKept : Task → Contents → Job → Type 0
+abbrev pub JobKept : Task → FileContents → Job → Type 0
 JobKept task before (Done writes lines) = TaskIsSound task before (made writes before)
 JobKept task before Usage = Unit {0}
 JobKept task before Missing = Unit {0}
 JobKept task before (Refused text) = Unit {0}
 
 -- the files hold the outputs under the names of the task, whether it allows several memories or not
-held_by_name : (many : Bool) (after : Contents) (names others : List Text) (trees : List Module) → many ≡ false → names ≡ others → HoldModules false after names trees → HoldModules many after others trees
+held_by_name : (many : Bool) (after : FileContents) (names others : List Text) (trees : List Module) → many ≡ false → names ≡ others → HoldModules false after names trees → HoldModules many after others trees
 held_by_name many after names others trees one same h =
     let P : Bool → Type 0 = λ b. HoldModules b after others trees in
     let Q : List Text → Type 0 = λ l. HoldModules false after l trees in
     subst P (sym one) (subst Q same h)
 
-task_written : Respelled → (task : Task) (trees : List Module) (contents : List Text) (outputs : List Output) (before : Contents) → AreOutputsApart task → MakesSoundly task trees contents outputs → list_all is_within outputs ≡ true
+task_written : Respelled → (task : Task) (trees : List Module) (contents : List Text) (outputs : List Output) (before : FileContents) → AreOutputsApart task → MakesSoundly task trees contents outputs → list_all is_within outputs ≡ true
     → HoldModules (many_of task) (made (map spelled_output outputs) before) (output_names task contents) (output_trees outputs)
 task_written k task trees contents outputs before apart sound within =
     let P : List Text → Type 0 = λ l. are_apart l ≡ true in
@@ -571,7 +571,7 @@ task_written k task trees contents outputs before apart sound within =
     held_by_name (many_of task) (made (map spelled_output outputs) before) (map (λ (o : Output). o.name) outputs) (output_names task contents) (output_trees outputs) (one_memory task) sound.names
     (outputs_written k outputs before (subst P (sym sound.names) (apart contents)) within (subst Q (one_memory task) sound.each))
 
-makes_keep : Respelled → (task : Task) (before : Contents) (files : List Entry) (trees : List Module) (outputs : List Output) (lines refusal : Text) (b : Bool) → AreOutputsApart task → gathered (inputs_of task) before most_input ≡ Whole files
+makes_keep : Respelled → (task : Task) (before : FileContents) (files : List NamedFile) (trees : List Module) (outputs : List Output) (lines refusal : Text) (b : Bool) → AreOutputsApart task → gathered (inputs_of task) before most_input ≡ Whole files
     → AllLoad (many_of task) (module_files task files) trees → MakesSoundly task trees (contents_of files) outputs → list_all is_within outputs ≡ b → JobKept task before (cond b (Done (map spelled_output outputs) lines) (Refused refusal))
 makes_keep k task before files trees outputs lines refusal false apart e loads sound within = tt
 makes_keep k task before files trees outputs lines refusal true apart e loads sound within =
@@ -581,7 +581,7 @@ makes_keep k task before files trees outputs lines refusal true apart e loads so
       found = sound.found;
       outputs = output_trees outputs;
       read = files_hold (many_of task) before (modules_of task) (texts_of task) most_input files trees e loads;
-      held = gathered_held before (inputs_of task) most_input files e ∙ sym (map_twice Some (λ (e : Entry). e.1) files);
+      held = gathered_held before (inputs_of task) most_input files e ∙ sym (map_twice Some (λ (e : NamedFile). e.1) files);
       made = sound.made;
       written = task_written k task trees (contents_of files) outputs before apart sound within;
       accepted = each_accepted (many_of task) outputs sound.each;
@@ -589,24 +589,24 @@ makes_keep k task before files trees outputs lines refusal true apart e loads so
       also = sound.also;
     }
 
-decision_keeps : Respelled → (task : Task) (before : Contents) (files : List Entry) (trees : List Module) (decision : Decision) → AreOutputsApart task → gathered (inputs_of task) before most_input ≡ Whole files
+decision_keeps : Respelled → (task : Task) (before : FileContents) (files : List NamedFile) (trees : List Module) (decision : Decision) → AreOutputsApart task → gathered (inputs_of task) before most_input ≡ Whole files
     → AllLoad (many_of task) (module_files task files) trees → IsSoundDecision task trees (contents_of files) decision → JobKept task before (job_of decision)
 decision_keeps k task before files trees (Refuses text) apart e loads sound = tt
 decision_keeps k task before files trees (Makes outputs lines) apart e loads sound = makes_keep k task before files trees outputs lines _ (list_all is_within outputs) apart e loads sound refl
 
-inputs_keep : Respelled → (task : Task) (before : Contents) (files : List Entry) (job : Job) → IsTextTask task → IsCounted task → HoldBytesAt (inputs_of task) before → AreOutputsApart task → gathered (inputs_of task) before most_input ≡ Whole files → InputsJob task files job → JobKept task before job
+inputs_keep : Respelled → (task : Task) (before : FileContents) (files : List NamedFile) (job : Job) → IsTextTask task → IsCounted task → HoldBytesAt (inputs_of task) before → AreOutputsApart task → gathered (inputs_of task) before most_input ≡ Whole files → InputsJob task files job → JobKept task before job
 inputs_keep k task before files job text_task counted are apart e (not_loaded text h) = tt
 inputs_keep k task before files job text_task counted are apart e (decided trees decision loads h) =
     let first = first_read before (inputs_of task) files (gathered_held before (inputs_of task) most_input files e) are in
     decision_keeps k task before files trees decision apart e loads (decision_is_sound k task files trees decision text_task counted first loads h)
 
-task_keeps : Respelled → (task : Task) (before : Contents) (job : Job) → IsTextTask task → IsCounted task → HoldBytesAt (inputs_of task) before → AreOutputsApart task → TaskJob task before job → JobKept task before job
+task_keeps : Respelled → (task : Task) (before : FileContents) (job : Job) → IsTextTask task → IsCounted task → HoldBytesAt (inputs_of task) before → AreOutputsApart task → TaskJob task before job → JobKept task before job
 task_keeps k task before job text_task counted are apart (not_begun text e) = tt
 task_keeps k task before job text_task counted are apart (missing name begun e) = tt
 task_keeps k task before job text_task counted are apart (too_long name begun e) = tt
 task_keeps k task before job text_task counted are apart (all_read files _ begun e h) = inputs_keep k task before files job text_task counted are apart e h
 
-words_keep : (words : List Text) (task : Task) (before : Contents) (job : Job) → task_of words ≡ Some task → JobKept task before job → JobKeeps words before job
+words_keep : (words : List Text) (task : Task) (before : FileContents) (job : Job) → task_of words ≡ Some task → JobKept task before job → JobKeeps words before job
 words_keep words task before (Done writes lines) e h = (task, e, h)
 words_keep words task before Usage e h = tt
 words_keep words task before Missing e h = tt
@@ -619,23 +619,23 @@ names_are_text words text (Split split) e = task_is_text words (text split e) (S
 names_are_text words text (CtorEval eval) e = tt
 names_are_text words text (Sample sample) e = tt
 
-job_keeps : Respelled → (words : List Text) (before : Contents) (job : Job) → SplitWordsAreText words → ReadsBytes words before → HasJob words before job → JobKeeps words before job
+job_keeps : Respelled → (words : List Text) (before : FileContents) (job : Job) → SplitWordsAreText words → ReadsBytes words before → HasJob words before job → JobKeeps words before job
 job_keeps k words before job text are (no_task e) = tt
 job_keeps k words before job text are (asked task _ e h) = words_keep words task before job e (task_keeps k task before job (names_are_text words text task e) (task_is_counted words task e) (are task e) (outputs_apart words task e) h)
 
-pub done_is_faithful : Respelled → (words : List Text) (before : Contents) (writes : List Entry) (lines : Text) → SplitWordsAreText words → ReadsBytes words before → HasJob words before (Done writes lines) → IsFaithful words before (made writes before)
+pub done_is_faithful : Respelled → (words : List Text) (before : FileContents) (writes : List NamedFile) (lines : Text) → SplitWordsAreText words → ReadsBytes words before → HasJob words before (Done writes lines) → IsFaithful words before (made writes before)
 done_is_faithful k words before writes lines text are h = job_keeps k words before (Done writes lines) text are h
 
 -- and so does a run that ends done
 abbrev pub DoneIsFaithful : Type 0
-DoneIsFaithful = (words : List Text) (before : Contents) (writes : List Entry) (lines : Text) → SplitWordsAreText words → ReadsBytes words before → HasJob words before (Done writes lines) → IsFaithful words before (made writes before)
+DoneIsFaithful = (words : List Text) (before : FileContents) (writes : List NamedFile) (lines : Text) → SplitWordsAreText words → ReadsBytes words before → HasJob words before (Done writes lines) → IsFaithful words before (made writes before)
 
-pub end_is_faithful : DoneIsFaithful → (held new : Option Contents) (words : List Text) (out out' : Option Text) → SplitWordsAreText words → IfSome held (ReadsBytes words) → IfSome held (λ before. EndsDone words before new out out') → IfSome held (λ before. EndsFaithful words before new)
+pub end_is_faithful : DoneIsFaithful → (held new : Option FileContents) (words : List Text) (out out' : Option Text) → SplitWordsAreText words → IfSome held (ReadsBytes words) → IfSome held (λ before. EndsDone words before new out out') → IfSome held (λ before. EndsFaithful words before new)
 end_is_faithful law None new words out out' text are h = tt
 end_is_faithful law (Some before) new words out out' text are (writes, lines, job, (made_all, gains)) = (made writes before, made_all, law words before writes lines text are job)
 
 -- inputs that are bytes come from files that hold bytes
-pub read_bytes : (held : Option Contents) (task : Task) (inputs : List Entry) → IfSome held (λ a. gathered (inputs_of task) a most_input ≡ Whole inputs) → Every (λ (e : Entry). IsBytes e.1) inputs → IfSome held (HoldBytesAt (inputs_of task))
+pub read_bytes : (held : Option FileContents) (task : Task) (inputs : List NamedFile) → IfSome held (λ a. gathered (inputs_of task) a most_input ≡ Whole inputs) → Every (λ (e : NamedFile). IsBytes e.1) inputs → IfSome held (HoldBytesAt (inputs_of task))
 read_bytes None task inputs h are = tt
 read_bytes (Some a) task inputs h are = all_read_are a (inputs_of task) inputs (gathered_held a (inputs_of task) most_input inputs h) are
 
@@ -644,6 +644,6 @@ on_ok (Ok x) p = p
 on_ok (Err e) p = tt
 
 -- and those of the task are those of its words
-pub words_read : (held : Option Contents) (words : List Text) (task : Task) → task_of words ≡ Some task → IfSome held (HoldBytesAt (inputs_of task)) → IfSome held (ReadsBytes words)
+pub words_read : (held : Option FileContents) (words : List Text) (task : Task) → task_of words ≡ Some task → IfSome held (HoldBytesAt (inputs_of task)) → IfSome held (ReadsBytes words)
 words_read None words task e h = tt
 words_read (Some a) words task e h = λ other asked. let both : Some task ≡ Some other = sym e ∙ asked in let same : task ≡ other = cc in subst (λ (t : Task). HoldBytesAt (inputs_of t) a) same h

@@ -4,19 +4,19 @@ use Rattle.std.proofs.Common.{Bor}
 use Rattle.std.proofs.lemmas.List.{length-take}
 use Rattle.tools_cli.proofs.Pieces.{append-nil}
 use Rattle.std.proofs.Math.Seq.{drop-cons}
-use Rattle.tool_io.specs.FilesAndSinks.{Contents, first_bytes}
-use Rattle.tools_cli.specs.Prelude.{Text, Gathered, Whole, Lacks, TooLong, add_first, add_file, gathered, over_limit, total, names_of, input_entry, input_entries, Entry}
+use Rattle.tool_io.specs.FilesAndSinks.{FileContents, first_bytes}
+use Rattle.tools_cli.specs.Prelude.{Text, Gathered, Whole, Lacks, TooLong, add_first, add_file, gathered, over_limit, total, names_of, input_entry, input_entries, NamedFile}
 use Rattle.wasm_tree_spec.specs.Prelude.{InputBytes}
 use Rattle.tools_cli.specs.Causes.{turns, turns_after}
 use Rattle.tools_cli.specs.declared.gather.Input.{Input}
 
 -- what was read before, and then the rest
-abbrev pub add_all : List Entry → Gathered → Gathered
+abbrev pub add_all : List NamedFile → Gathered → Gathered
 add_all read (Whole rest) = Whole (read ++ rest)
 add_all read (Lacks name) = Lacks name
 add_all read (TooLong name) = TooLong name
 
-add_all-add_first : (read : List Entry) (file : Entry) (g : Gathered) → add_all read (add_first file g) ≡ add_all (read ++ file ∷ []) g
+add_all-add_first : (read : List NamedFile) (file : NamedFile) (g : Gathered) → add_all read (add_first file g) ≡ add_all (read ++ file ∷ []) g
 add_all-add_first read file (Whole rest) = ap Whole (sym (append_assoc read (file ∷ []) rest))
 add_all-add_first read file (Lacks name) = refl
 add_all-add_first read file (TooLong name) = refl
@@ -60,7 +60,7 @@ pub names-drop : (names : List (Bor Text)) (i : ℕ) (d : Bor Text) → i < leng
 names-drop names i d h = rw add-one (ap names_of (drop-cons names i d h))
 
 -- one file more was read
-pub one_file_more : (o : Option Contents) (names : List (Bor Text)) (i : ℕ) (d : Bor Text) (most left : ℕ) (read : List Entry) (bytes : Text) → i < length names
+pub one_file_more : (o : Option FileContents) (names : List (Bor Text)) (i : ℕ) (d : Bor Text) (most left : ℕ) (read : List NamedFile) (bytes : Text) → i < length names
     → IfSome o (λ held. gathered (names_of names) held most ≡ add_all read (gathered (names_of (drop i names)) held left))
     → IfSome o (λ held. first_bytes held (get_or names i d).now (left + 1) ≡ Some bytes)
     → length bytes ≤ left
@@ -74,7 +74,7 @@ one_file_more (Some held) names i d most left read bytes h before got fits =
     ∙ add_all-add_first read ((get_or names i d).now, bytes) _
 
 -- the next file is too long
-pub too_long : (o : Option Contents) (names : List (Bor Text)) (i : ℕ) (d : Bor Text) (most left : ℕ) (read : List Entry) (bytes : Text) → i < length names
+pub too_long : (o : Option FileContents) (names : List (Bor Text)) (i : ℕ) (d : Bor Text) (most left : ℕ) (read : List NamedFile) (bytes : Text) → i < length names
     → IfSome o (λ held. gathered (names_of names) held most ≡ add_all read (gathered (names_of (drop i names)) held left))
     → IfSome o (λ held. first_bytes held (get_or names i d).now (left + 1) ≡ Some bytes)
     → left < length bytes
@@ -86,7 +86,7 @@ too_long (Some held) names i d most left read bytes h before got long =
     ∙ ap (add_all read) (read_long _ (get_or names i d).now left bytes (gathered (names_of (drop (i + 1) names)) held) got long)
 
 -- and that is told
-pub too_long_told : (o : Option Contents) (names : List (Bor Text)) (i : ℕ) (d : Bor Text) (most left : ℕ) (read : List Entry) (bytes text : Text) → i < length names
+pub too_long_told : (o : Option FileContents) (names : List (Bor Text)) (i : ℕ) (d : Bor Text) (most left : ℕ) (read : List NamedFile) (bytes text : Text) → i < length names
     → IfSome o (λ held. gathered (names_of names) held most ≡ add_all read (gathered (names_of (drop i names)) held left))
     → IfSome o (λ held. first_bytes held (get_or names i d).now (left + 1) ≡ Some bytes)
     → left < length bytes → text ≡ over_limit (get_or names i d).now InputBytes
@@ -96,7 +96,7 @@ too_long_told (Some held) names i d most left read bytes text h before got long 
     ((get_or names i d).now, too_long (Some held) names i d most left read bytes h before got long, is)
 
 -- all files were read
-pub all_files : (o : Option Contents) (names : List (Bor Text)) (i most left : ℕ) (read : List Entry) → length names ≤ i
+pub all_files : (o : Option FileContents) (names : List (Bor Text)) (i most left : ℕ) (read : List NamedFile) → length names ≤ i
     → IfSome o (λ held. gathered (names_of names) held most ≡ add_all read (gathered (names_of (drop i names)) held left))
     → IfSome o (λ held. gathered (names_of names) held most ≡ Whole read)
 all_files None names i most left read h before = tt
@@ -104,7 +104,7 @@ all_files (Some held) names i most left read h before =
     before ∙ ap (λ ns. add_all read (gathered (names_of ns) held left)) (drop_all i names h) ∙ ap Whole (append-nil read)
 
 -- what comes from a place on comes in the whole
-abbrev pub AreTurns : List (Bor Text) → ℕ → ℕ → ℕ → Contents → Type 0
+abbrev pub AreTurns : List (Bor Text) → ℕ → ℕ → ℕ → FileContents → Type 0
 AreTurns names i most left held = (name : Text) → Contains (turns (names_of (drop i names)) held left) name → Contains (turns (names_of names) held most) name
 
 pub contains_first : (x : Text) (xs : List Text) → Contains (x ∷ xs) x
@@ -113,7 +113,7 @@ contains_first x xs = (0, omega arith, refl)
 pub contains_later : (x : Text) (xs : List Text) (y : Text) → Contains xs y → Contains (x ∷ xs) y
 contains_later x xs y (k, h, e) = (suc k, omega arith, e)
 
-pub one_turn_more : (o : Option Contents) (names : List (Bor Text)) (i : ℕ) (d : Bor Text) (most left : ℕ) (bytes : Text) → i < length names
+pub one_turn_more : (o : Option FileContents) (names : List (Bor Text)) (i : ℕ) (d : Bor Text) (most left : ℕ) (bytes : Text) → i < length names
     → IfSome o (AreTurns names i most left)
     → IfSome o (λ held. first_bytes held (get_or names i d).now (left + 1) ≡ Some bytes)
     → length bytes ≤ left
@@ -129,7 +129,7 @@ one_turn_more (Some held) names i d most left bytes h before got fits = λ name 
     (contains_later (get_or names i d).now _ name
     (let R : List Text → Type 0 = λ l. Contains l name in subst R (sym (turns_fits left bytes rest fits)) later))))
 
-pub this_turn : (o : Option Contents) (names : List (Bor Text)) (i : ℕ) (d : Bor Text) (most left : ℕ) → i < length names
+pub this_turn : (o : Option FileContents) (names : List (Bor Text)) (i : ℕ) (d : Bor Text) (most left : ℕ) → i < length names
     → IfSome o (AreTurns names i most left)
     → IfSome o (λ held. Contains (turns (names_of names) held most) (get_or names i d).now)
 this_turn None names i d most left h before = tt
@@ -144,13 +144,13 @@ contains_name (x ∷ names) zero d h = contains_first x.now (names_of names)
 contains_name (x ∷ names) (suc i) d h = contains_later x.now (names_of names) _ (contains_name names i d (omega arith))
 
 -- what was read, with one file more
-pub same_read : (o : Option Contents) (names : List (Bor Text)) (i most left : ℕ) (read : List Input) (input : Input)
+pub same_read : (o : Option FileContents) (names : List (Bor Text)) (i most left : ℕ) (read : List Input) (input : Input)
     → IfSome o (λ held. gathered (names_of names) held most ≡ add_all (input_entries read ++ input_entry input ∷ []) (gathered (names_of (drop i names)) held left))
     → IfSome o (λ held. gathered (names_of names) held most ≡ add_all (input_entries (read ++ input ∷ [])) (gathered (names_of (drop i names)) held left))
 same_read o names i most left read input h = rw (map-append input_entry read (input ∷ [])) h
 
 -- the names of what was read
-abbrev pub read_names : List Entry → List Text
+abbrev pub read_names : List NamedFile → List Text
 read_names entries = map (λ e. e.0) entries
 
 -- one name more
@@ -173,7 +173,7 @@ all_names names i read h before =
     sym (before ∙ ap (λ ns. read_names (input_entries read) ++ names_of ns) (drop_all i names h) ∙ append-nil _)
 
 -- one file more in the total
-total-append : (xs ys : List Entry) → total (xs ++ ys) ≡ total xs + total ys
+total-append : (xs ys : List NamedFile) → total (xs ++ ys) ≡ total xs + total ys
 total-append [] ys = let same : total ys ≡ 0 + total ys = omega arith in same
 total-append (x ∷ xs) ys = let more : total (xs ++ ys) ≡ total xs + total ys = total-append xs ys in omega arith
 

@@ -5,9 +5,9 @@ use Rattle.wasm_tree_spec.specs.Prelude.{Imports, limit, Func, Module}
 use Rattle.wasm_tree.specs.declared.which.Which.TheVariants.{Types, Functions, Tables, Memories, Globals, ElementSegments, DataSegments}
 use Rattle.wasm_read_spec.specs.declared.parts.Parts.{Parts}
 use Rattle.base_lists.specs.Every.{Every}
-use Rattle.wasm_read_spec.specs.Prelude.{Never, Made, When, Any, Limited, WhenSmall, nothing, with_types, with_imports, with_func_types, with_tables, with_mems, with_globals, with_exports, with_start, with_elems, with_codes, with_datas, with_count, SpellsCustom, SectionIsSmall, Contents, typed, tree_of}
+use Rattle.wasm_read_spec.specs.Prelude.{Never, MadeFrom, When, Any, Limited, WhenSmall, nothing, with_types, with_imports, with_func_types, with_tables, with_mems, with_globals, with_exports, with_start, with_elems, with_codes, with_datas, with_count, SpellsCustom, SectionIsSmall, SectionContents, typed, tree_of}
 use Rattle.wasm_read_spec.specs.Files.{section_form, small_form}
-use Rattle.tools_cli.specs.Prelude.{Text, IsRead, IsWithinLimits}
+use Rattle.tools_cli.specs.Prelude.{Text, IsReadAs, IsWithinLimits}
 
 -- the lists of the sections
 record FewParts (p : Parts) : Type 0 where
@@ -28,10 +28,10 @@ keep_when : {P Q : List ℕ → Parts → Type 0} {S T : List ℕ → Type 0} (t
 keep_when true a b = record { keep = a.keep }
 keep_when false a b = record { keep = b.keep }
 
-keep_put : {A : Type 0} {P : List ℕ → A → Type 0} {S : A → Type 0} (make : A → Parts) → ((x : A) → S x → FewParts (make x)) → Keeps (Made make P) (Limited P S)
+keep_put : {A : Type 0} {P : List ℕ → A → Type 0} {S : A → Type 0} (make : A → Parts) → ((x : A) → S x → FewParts (make x)) → Keeps (MadeFrom make P) (Limited P S)
 keep_put {A} {P} {S} make keep = record { keep = λ c q h s. subst FewParts (sym h.2) (keep h.0 (s h.0 h.1)) }
 
-keep_free : {A : Type 0} {P : List ℕ → A → Type 0} (make : A → Parts) → ((x : A) → FewParts (make x)) → Keeps (Made make P) Any
+keep_free : {A : Type 0} {P : List ℕ → A → Type 0} (make : A → Parts) → ((x : A) → FewParts (make x)) → Keeps (MadeFrom make P) Any
 keep_free {A} {P} make keep = record { keep = λ c q h s. subst FewParts (sym h.2) (keep h.0) }
 
 keep_same : (p : Parts) → FewParts p → Keeps (SpellsCustom p) Any
@@ -58,7 +58,7 @@ section_keeps many p id s =
     (keep_when (id == 12) (keep_free (with_count p) (λ x. record { types = s.types; imports = s.imports; func_types = s.func_types; tables = s.tables; mems = s.mems; globals = s.globals; elems = s.elems; datas = s.datas }))
     keep_never))))))))))))
 
-contents_keep : (many : Bool) (p : Parts) (ss : List Section) (q : Parts) → FewParts p → Contents many p ss q → Every (SectionIsSmall many) ss → FewParts q
+contents_keep : (many : Bool) (p : Parts) (ss : List Section) (q : Parts) → FewParts p → SectionContents many p ss q → Every (SectionIsSmall many) ss → FewParts q
 contents_keep many p [] q s h k = subst FewParts h s
 contents_keep many p (t ∷ ss) q s h k = contents_keep many h.0 ss q ((section_keeps many p t.0 s).keep t.1 h.0 h.1 k.0) h.2 k.1
 
@@ -83,5 +83,5 @@ tree_few p s = record {
   datas = s.datas;
 }
 
-pub read_within : (many : Bool) (bytes : Text) (tree : Module) → IsRead many bytes tree → IsWithinLimits tree
+pub read_within : (many : Bool) (bytes : Text) (tree : Module) → IsReadAs many bytes tree → IsWithinLimits tree
 read_within many bytes tree r = let h = r.spelled in subst IsWithinLimits (sym h.5) (tree_few h.1 (contents_keep many nothing h.0 h.1 none_yet h.3 (r.within h.0 h.2)))

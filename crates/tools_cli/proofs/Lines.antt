@@ -1,7 +1,7 @@
 -- What is picked from the arguments of a command, and the task of these.
 use Rattle.base_lists.proofs.Common.{codes, ◌≡◌, ◌∙◌, refl, sym, ap, ◌<◌, arith, map, length, Bool, true, false, cond, List, [], ◌∷◌, Option, Some, None, option_map, option_and_then, Bor}
 use Rattle.std.specs.Prelude.{unwrap_or, bytes_eq}
-use Rattle.tools_cli_words.specs.Words.{Text, Arguments, said_together}
+use Rattle.tools_cli_words.specs.Arguments.{Text, Arguments, said_together}
 use Rattle.tools_cli_words.specs.Vocabularies.{vocabulary_of}
 use Rattle.tools_cli_words.specs.declared.tool.Tool.{Tool}
 use Rattle.tools_cli_words.specs.declared.tool.Tool.TheVariants as tool

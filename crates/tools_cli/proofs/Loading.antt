@@ -1,7 +1,7 @@
 -- Files that are loaded one after another.
 use Rattle.base_lists.proofs.Common.{◌≡◌, ◌∙◌, sym, refl, ap, subst, ◌⊎◌, inl, inr, Bool, false, Some, Result, Ok, Err, ℕ, zero, suc, ◌+◌, ◌<◌, ◌≤◌, ◌^◌, List, [], ◌∷◌, ◌++◌, append-nil, add-one, drop, drop-cons, length, get_or, arith, drop_all}
 use Rattle.base_lists.specs.Every.{Every}
-use Rattle.tools_cli.specs.Prelude.{Text, Loads, faulty, invalid, loaded, IsRead, IsAccepted, AllLoad, OneFails, most_input, Entry, fault_text, total, StopsWith, IsWithinLimits, refusal_text, input_entry, input_entries}
+use Rattle.tools_cli.specs.Prelude.{Text, LoadsFile, faulty, invalid, loaded, IsReadAs, IsAccepted, AllLoad, OneFails, most_input, NamedFile, fault_text, total, StopsWith, IsWithinLimits, refusal_text, input_entry, input_entries}
 use Rattle.wasm_tree_spec.specs.Prelude.{Module}
 use Rattle.wasm_read_spec.specs.declared.fault.ReadFault.{ReadFault}
 use Rattle.wasm_read_spec.specs.declared.fault.ReadFault.TheVariants.{NoMemory}
@@ -41,9 +41,9 @@ all_load inputs i trees over h =
     let Q : List Module → Type 0 = AllLoad false (input_entries inputs) in
     subst Q (append-nil trees) (h [] (subst P (sym (drop_all i inputs over)) tt))
 
-pub fails_here : (inputs : List Input) (i : ℕ) (x : Input) → i < length inputs → x ≡ get_or inputs i x → FailLater inputs i → (text : Text) → Loads false x.name.now x.bytes.items (Err text) → OneFails false (input_entries inputs) text
+pub fails_here : (inputs : List Input) (i : ℕ) (x : Input) → i < length inputs → x ≡ get_or inputs i x → FailLater inputs i → (text : Text) → LoadsFile false x.name.now x.bytes.items (Err text) → OneFails false (input_entries inputs) text
 fails_here inputs i x lt is later text h =
-    let P : List Entry → Type 0 = λ l. OneFails false l text in
+    let P : List NamedFile → Type 0 = λ l. OneFails false l text in
     later text (subst P (sym (entries_at inputs i x lt is)) (inl h))
 
 -- each file is within what all have together
@@ -53,14 +53,14 @@ short_input (y ∷ ys) zero x lt is room = let same : length x.bytes.items ≡ l
 short_input (y ∷ ys) (suc i) x lt is room = short_input ys i x (omega arith) is (omega arith)
 
 -- a file that is not read is refused with the text of its first fault
-pub faulty_from : (file bytes seen text : Text) (fault : ReadFault) → seen ≡ bytes → (fault ≡ NoMemory) ⊎ (read_fault seen false ≡ Some fault) → fault_text file fault ≡ Some text → Loads false file bytes (Err text)
+pub faulty_from : (file bytes seen text : Text) (fault : ReadFault) → seen ≡ bytes → (fault ≡ NoMemory) ⊎ (read_fault seen false ≡ Some fault) → fault_text file fault ≡ Some text → LoadsFile false file bytes (Err text)
 faulty_from file bytes seen text fault e (inl none) told = let no_text : fault_text file NoMemory ≡ Some text = ap (fault_text file) (sym none) ∙ told in cc
 faulty_from file bytes seen text fault e (inr found) told = faulty fault text (ap (λ b. read_fault b false) (sym e) ∙ found) told
 
-pub loaded_from : (file bytes : Text) (tree valid : Module) → IsRead false bytes tree → (valid ≡ tree) × IsAccepted false tree → Loads false file bytes (Ok valid)
+pub loaded_from : (file bytes : Text) (tree valid : Module) → IsReadAs false bytes tree → (valid ≡ tree) × IsAccepted false tree → LoadsFile false file bytes (Ok valid)
 loaded_from file bytes tree valid reads (same, accepted) = rw same (loaded tree reads accepted)
 
-pub invalid_from : (file bytes : Text) (tree : Module) → IsRead false bytes tree → (text : Text) → InvalidText file tree text → Loads false file bytes (Err text)
+pub invalid_from : (file bytes : Text) (tree : Module) → IsReadAs false bytes tree → (text : Text) → InvalidText file tree text → LoadsFile false file bytes (Err text)
 invalid_from file bytes tree reads text (item, first, told) = rw told (invalid tree item reads first)
 
 pub inputs_once : (inputs : List Input) → length (input_entries inputs) ≡ length inputs
@@ -69,18 +69,18 @@ inputs_once (x ∷ xs) = ap suc (inputs_once xs)
 
 -- ---- what is known of modules that are loaded ----
 
-pub as_many : (many : Bool) (files : List Entry) (trees : List Module) → AllLoad many files trees → length trees ≡ length files
+pub as_many : (many : Bool) (files : List NamedFile) (trees : List Module) → AllLoad many files trees → length trees ≡ length files
 as_many many [] [] h = refl
 as_many many [] (tree ∷ trees) h = absurd h
 as_many many (file ∷ files) [] h = absurd h
 as_many many (file ∷ files) (tree ∷ trees) h = ap suc (as_many many files trees h.1)
 
-loaded_within : (many : Bool) (file bytes : Text) (r : Result Module Text) (tree : Module) → r ≡ Ok tree → Loads many file bytes r → IsWithinLimits tree
+loaded_within : (many : Bool) (file bytes : Text) (r : Result Module Text) (tree : Module) → r ≡ Ok tree → LoadsFile many file bytes r → IsWithinLimits tree
 loaded_within many file bytes r tree e (loaded other h accepted) = let same : other ≡ tree = cc in subst IsWithinLimits same (read_within many bytes other h)
 loaded_within many file bytes r tree e (faulty fault text found told) = absurd (cc)
 loaded_within many file bytes r tree e (invalid other item h first) = absurd (cc)
 
-pub loads_within : (many : Bool) (files : List Entry) (trees : List Module) → AllLoad many files trees → Every IsWithinLimits trees
+pub loads_within : (many : Bool) (files : List NamedFile) (trees : List Module) → AllLoad many files trees → Every IsWithinLimits trees
 loads_within many [] [] h = tt
 loads_within many [] (tree ∷ trees) h = absurd h
 loads_within many (file ∷ files) [] h = absurd h

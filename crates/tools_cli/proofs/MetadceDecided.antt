@@ -10,7 +10,7 @@ use Rattle.dce_graph.specs.declared.fault.GraphFault.TheVariants as graph
 use Rattle.serde_json.specs.Data.{Data, Items}
 use Rattle.serde_json.specs.Find.{as_array}
 use Rattle.dce_graph.specs.Laws.{ExactMarksExist, ExactMarksAreOne}
-use Rattle.dce_graph.specs.GraphFile.{Entry, if_array, if_shaped, if_distinct, if_known, value_of, listed, graph_of, IsFault}
+use Rattle.dce_graph.specs.GraphFile.{GraphEntry, if_array, if_shaped, if_distinct, if_known, value_of, listed, graph_of, IsFault}
 use Rattle.dce_sweep_spec.specs.Marks.{Marks}
 use Rattle.dce_sweep_spec.specs.Reached.{marks_of}
 use Rattle.dce_sweep_spec.specs.Swept.{swept}
@@ -97,11 +97,11 @@ known_never : (o : Option Text) (g : Graph) → if_known o g ≡ Err graph.NoMem
 known_never (Some name) g e = cc
 known_never None g e = cc
 
-distinct_never : (o : Option Text) (entries : List Entry) → if_distinct o entries ≡ Err graph.NoMemory → ⊥
+distinct_never : (o : Option Text) (entries : List GraphEntry) → if_distinct o entries ≡ Err graph.NoMemory → ⊥
 distinct_never (Some name) entries e = cc
 distinct_never None entries e = known_never (first_unknown (place_of_name (names_of entries)) (reached_names entries)) (graph_of entries) e
 
-shaped_never : (o : Option ℕ) (entries : List Entry) → if_shaped o entries ≡ Err graph.NoMemory → ⊥
+shaped_never : (o : Option ℕ) (entries : List GraphEntry) → if_shaped o entries ≡ Err graph.NoMemory → ⊥
 shaped_never (Some n) entries e = cc
 shaped_never None entries e = distinct_never (first_repeated (names_of entries)) entries e
 

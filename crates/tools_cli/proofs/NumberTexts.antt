@@ -3,7 +3,7 @@ use Rattle.base_lists.proofs.Common.{◌≡◌, ◌∙◌, refl, ℕ, ◌<◌, �
 use Rattle.std.specs.Str.{all_ascii_digits}
 use Rattle.std.specs.Str.Parse.{digits_value, ParsesUnsigned}
 use Rattle.std.proofs.lemmas.Str.Parse.{numerals_by_value, tells_all_ascii_digits, parse_digits}
-use Rattle.tools_cli_words.specs.Words.{Text}
+use Rattle.tools_cli_words.specs.Arguments.{Text}
 use Rattle.tools_cli.specs.Numbers.{is_number, number_within}
 
 -- a number where a test says that it is in the range

@@ -2,13 +2,13 @@
 use Rattle.base_lists.proofs.Common.{◌≡◌, ◌∙◌, sym, refl, ap, subst, zero, suc, List, [], ◌∷◌, ◌++◌, map, Some, arith, get}
 use Rattle.base_lists.specs.Every.{Every}
 use Rattle.wasm_bytes.specs.Prelude.{IsBytes}
-use Rattle.tool_io.specs.FilesAndSinks.{Contents}
-use Rattle.tools_cli.specs.Prelude.{Text, Entry, contents_of, input_entries}
+use Rattle.tool_io.specs.FilesAndSinks.{FileContents}
+use Rattle.tools_cli.specs.Prelude.{Text, NamedFile, contents_of, input_entries}
 use Rattle.tools_cli.specs.Faithful.{HoldBytesAt}
 use Rattle.tools_cli.specs.declared.gather.Input.{Input}
 
 -- the first contents are those of a file that was read
-pub first_read : (files : Contents) (names : List Text) (es : List Entry) → map (get files) names ≡ map (λ (e : Entry). Some e.1) es → HoldBytesAt names files → (bytes : Text) (more : List Text) → contents_of es ≡ bytes ∷ more → IsBytes bytes
+pub first_read : (files : FileContents) (names : List Text) (es : List NamedFile) → map (get files) names ≡ map (λ (e : NamedFile). Some e.1) es → HoldBytesAt names files → (bytes : Text) (more : List Text) → contents_of es ≡ bytes ∷ more → IsBytes bytes
 first_read files names [] held h bytes more e = absurd (cc)
 first_read files [] (x ∷ es) held h bytes more e = absurd (cc)
 first_read files (name ∷ names) (x ∷ es) held h bytes more e =
@@ -17,7 +17,7 @@ first_read files (name ∷ names) (x ∷ es) held h bytes more e =
     subst IsBytes same (h name x.1 (0, omega arith, refl) there)
 
 -- so many contents that are bytes are those of the files
-pub all_read_are : (files : Contents) (names : List Text) (es : List Entry) → map (get files) names ≡ map (λ (e : Entry). Some e.1) es → Every (λ (e : Entry). IsBytes e.1) es → HoldBytesAt names files
+pub all_read_are : (files : FileContents) (names : List Text) (es : List NamedFile) → map (get files) names ≡ map (λ (e : NamedFile). Some e.1) es → Every (λ (e : NamedFile). IsBytes e.1) es → HoldBytesAt names files
 all_read_are files [] es held h name bytes (k, lt, is) there = absurd (omega (arith, lt))
 all_read_are files (n ∷ names) [] held h name bytes (k, lt, is) there = absurd (cc)
 all_read_are files (n ∷ names) (x ∷ es) held h name bytes (zero, lt, is) there =
@@ -26,10 +26,10 @@ all_read_are files (n ∷ names) (x ∷ es) held h name bytes (zero, lt, is) the
     let same : x.1 ≡ bytes = cc in
     subst IsBytes same h.0
 all_read_are files (n ∷ names) (x ∷ es) held h name bytes (suc k, lt, is) there =
-    let rest : map (get files) names ≡ map (λ (e : Entry). Some e.1) es = cc in
+    let rest : map (get files) names ≡ map (λ (e : NamedFile). Some e.1) es = cc in
     all_read_are files names es rest h.1 name bytes (k, omega (arith, lt), is) there
 
 -- one input more
-pub one_more_read : (xs : List Input) (x : Input) → Every (λ (e : Entry). IsBytes e.1) (input_entries xs) → IsBytes x.bytes.items → Every (λ (e : Entry). IsBytes e.1) (input_entries (xs ++ x ∷ []))
+pub one_more_read : (xs : List Input) (x : Input) → Every (λ (e : NamedFile). IsBytes e.1) (input_entries xs) → IsBytes x.bytes.items → Every (λ (e : NamedFile). IsBytes e.1) (input_entries (xs ++ x ∷ []))
 one_more_read [] x h k = (k, tt)
 one_more_read (y ∷ ys) x h k = (h.0, one_more_read ys x h.1 k)

@@ -1,8 +1,8 @@
 -- From the parts of a run to its whole.
 use Rattle.base_lists.proofs.Common.{◌≡◌, ◌∙◌, arith, sym, refl, ap, subst, ℕ, ◌≤◌, List, [], ◌∷◌, ◌++◌, length, map, drop, Option, Some, None, IfSome, Contains, OnOk, Result, Ok, Err, string_bytes, inl, inr, ◌⊎◌, get, map_twice}
-use Rattle.tool_io.specs.FilesAndSinks.{Contents, Becomes, AppendsPrefix, Rose}
+use Rattle.tool_io.specs.FilesAndSinks.{FileContents, Becomes, AppendsPrefix, Rose}
 use Rattle.tools_cli.proofs.Changes.{becomes_itself, becomes_weaker, becomes_same}
-use Rattle.tools_cli.specs.Prelude.{Text, Task, task_of, modules_of, texts_of, inputs_of, Entry, made, IsCut, written_names, Job, Usage, Refused, Done, Whole, TooLong, gathered, most_input, InputsJob, TaskJob, refused_before, not_begun, too_long, all_read, HasJob, no_task, asked, refusal_text, StopsWith, PrintsAsAllowed, HostState, over_limit}
+use Rattle.tools_cli.specs.Prelude.{Text, Task, task_of, modules_of, texts_of, inputs_of, NamedFile, made, AreWrittenInPart, written_names, Job, Usage, Refused, Done, Whole, TooLong, gathered, most_input, InputsJob, TaskJob, refused_before, not_begun, too_long, all_read, HasJob, no_task, asked, refusal_text, StopsWith, PrintsAsAllowed, HostState, over_limit}
 use Rattle.tools_cli.specs.CommandLine.{usage_line}
 use Rattle.tools_cli.specs.Stop.{IsLine, usage, fault_line, invalid_line, parts_line, link_line, join_line, graph_line, plan_line, split_line, eval_line, output_line, cannot_read_line, cannot_write_line, cannot_print_line, no_memory_line, no_memory, stop_line, line_of, Says, Reports}
 use Rattle.tools_cli.specs.Causes.{StopsGathering, StopsPreparing, StopsFinishing, MayHold, AreOutputs, AllWritten, PrintsAfter}
@@ -26,21 +26,21 @@ use Rattle.tools_cli.proofs.Deciding.{text_contents}
 use Rattle.tools_cli.proofs.Pieces.{prefix_none}
 
 -- a task's job from the contents of its inputs
-pub decided_at : (held : Option Contents) (t : Task) (inputs : List Entry) (job : Job) → refused_before t ≡ None → IfSome held (λ a. gathered (inputs_of t) a most_input ≡ Whole inputs) → InputsJob t inputs job → IfSome held (λ a. TaskJob t a job)
+pub decided_at : (held : Option FileContents) (t : Task) (inputs : List NamedFile) (job : Job) → refused_before t ≡ None → IfSome held (λ a. gathered (inputs_of t) a most_input ≡ Whole inputs) → InputsJob t inputs job → IfSome held (λ a. TaskJob t a job)
 decided_at None t inputs job begun g d = tt
 decided_at (Some a) t inputs job begun g d = all_read inputs job begun g d
 
 -- and from a file that is too long
-too_long_at : (held : Option Contents) (t : Task) (text : Text) → refused_before t ≡ None → IfSome held (λ a. (name : Text) × (gathered (inputs_of t) a most_input ≡ TooLong name) × (text ≡ over_limit name InputBytes)) → IfSome held (λ a. TaskJob t a (Refused text))
+too_long_at : (held : Option FileContents) (t : Task) (text : Text) → refused_before t ≡ None → IfSome held (λ a. (name : Text) × (gathered (inputs_of t) a most_input ≡ TooLong name) × (text ≡ over_limit name InputBytes)) → IfSome held (λ a. TaskJob t a (Refused text))
 too_long_at None t text begun h = tt
 too_long_at (Some a) t text begun (name, g, e) = let P : Text → Type 0 = λ x. TaskJob t a (Refused x) in subst P (sym e) (too_long name begun g)
 
 -- and from a task that is refused at once
-pub not_begun_at : (held : Option Contents) (t : Task) (text : Text) → refused_before t ≡ Some text → IfSome held (λ a. TaskJob t a (Refused text))
+pub not_begun_at : (held : Option FileContents) (t : Task) (text : Text) → refused_before t ≡ Some text → IfSome held (λ a. TaskJob t a (Refused text))
 not_begun_at None t text e = tt
 not_begun_at (Some a) t text e = not_begun text e
 
-pub preparing_from_planning : (held : Option Contents) (before now : Text → ℕ) (t : Task) (inputs : List Entry) (s : Stop) → refused_before t ≡ None
+pub preparing_from_planning : (held : Option FileContents) (before now : Text → ℕ) (t : Task) (inputs : List NamedFile) (s : Stop) → refused_before t ≡ None
     → IfSome held (λ a. gathered (inputs_of t) a most_input ≡ Whole inputs) → StopsWith (λ text. InputsJob t inputs (Refused text)) s → StopsPreparing held before now t s
 preparing_from_planning held before now t inputs (stop.Refused refusal) begun g d = decided_at held t inputs (Refused (refusal_text refusal)) begun g d
 preparing_from_planning held before now t inputs stop.NoMemory begun g d = tt
@@ -49,7 +49,7 @@ preparing_from_planning held before now t inputs (stop.CannotRead name) begun g 
 preparing_from_planning held before now t inputs (stop.CannotWrite name) begun g d = absurd d
 preparing_from_planning held before now t inputs stop.CannotPrint begun g d = absurd d
 
-pub preparing_from_gathering : (held : Option Contents) (before now : Text → ℕ) (t : Task) (s : Stop) → refused_before t ≡ None → StopsGathering held before now (inputs_of t) most_input s → StopsPreparing held before now t s
+pub preparing_from_gathering : (held : Option FileContents) (before now : Text → ℕ) (t : Task) (s : Stop) → refused_before t ≡ None → StopsGathering held before now (inputs_of t) most_input s → StopsPreparing held before now t s
 preparing_from_gathering held before now t (stop.Refused refusal) begun h = too_long_at held t (refusal_text refusal) begun h
 preparing_from_gathering held before now t (stop.CannotRead name) begun h = (begun, h)
 preparing_from_gathering held before now t stop.NoMemory begun h = tt
@@ -58,63 +58,63 @@ preparing_from_gathering held before now t (stop.CannotWrite name) begun h = abs
 preparing_from_gathering held before now t stop.CannotPrint begun h = absurd h
 
 -- the other texts that a task reads are those that it has read
-texts_behind_modules : (files : Contents) (modules texts : List Text) (inputs : List Entry) → map (get files) (modules ++ texts) ≡ map (λ (e : Entry). Some e.1) inputs → map (get files) texts ≡ map (λ (e : Entry). Some e.1) (drop (length modules) inputs)
+texts_behind_modules : (files : FileContents) (modules texts : List Text) (inputs : List NamedFile) → map (get files) (modules ++ texts) ≡ map (λ (e : NamedFile). Some e.1) inputs → map (get files) texts ≡ map (λ (e : NamedFile). Some e.1) (drop (length modules) inputs)
 texts_behind_modules files [] texts inputs e = e
 texts_behind_modules files (name ∷ modules) texts [] e = absurd (cc)
-texts_behind_modules files (name ∷ modules) texts (input ∷ inputs) e = texts_behind_modules files modules texts inputs (let rest : map (get files) (modules ++ texts) ≡ map (λ (e : Entry). Some e.1) inputs = cc in rest)
+texts_behind_modules files (name ∷ modules) texts (input ∷ inputs) e = texts_behind_modules files modules texts inputs (let rest : map (get files) (modules ++ texts) ≡ map (λ (e : NamedFile). Some e.1) inputs = cc in rest)
 
-pub texts_held : (held : Option Contents) (t : Task) (inputs : List Entry) → IfSome held (λ a. gathered (inputs_of t) a most_input ≡ Whole inputs) → MayHold held (texts_of t) (text_contents t inputs)
+pub texts_held : (held : Option FileContents) (t : Task) (inputs : List NamedFile) → IfSome held (λ a. gathered (inputs_of t) a most_input ≡ Whole inputs) → MayHold held (texts_of t) (text_contents t inputs)
 texts_held None t inputs h = tt
 texts_held (Some a) t inputs h =
     texts_behind_modules a (modules_of t) (texts_of t) inputs (gathered_held a (inputs_of t) most_input inputs h)
-    ∙ sym (map_twice Some (λ (e : Entry). e.1) (drop (length (modules_of t)) inputs))
+    ∙ sym (map_twice Some (λ (e : NamedFile). e.1) (drop (length (modules_of t)) inputs))
 
 -- the job of the words from the job of their task
-job_at : (words : List Text) (t : Task) (held : Option Contents) (job : Job) → task_of words ≡ Some t → IfSome held (λ a. TaskJob t a job) → IfSome held (λ a. HasJob words a job)
+job_at : (words : List Text) (t : Task) (held : Option FileContents) (job : Job) → task_of words ≡ Some t → IfSome held (λ a. TaskJob t a job) → IfSome held (λ a. HasJob words a job)
 job_at words t None job e h = tt
 job_at words t (Some a) job e h = asked t job e h
 
-pub changes_from_cut : (words : List Text) (t : Task) (x y : Option Contents) (writes : List Entry) (lines : Text) → task_of words ≡ Some t
-    → IfSome x (λ a. TaskJob t a (Done writes lines)) → Becomes x y (IsCut writes) → Becomes x y (ChangesByTheJob words)
+pub changes_from_cut : (words : List Text) (t : Task) (x y : Option FileContents) (writes : List NamedFile) (lines : Text) → task_of words ≡ Some t
+    → IfSome x (λ a. TaskJob t a (Done writes lines)) → Becomes x y (AreWrittenInPart writes) → Becomes x y (ChangesByTheJob words)
 changes_from_cut words t (Some a) (Some b) writes lines e job cut = inr (writes, lines, asked t (Done writes lines) e job, cut)
 changes_from_cut words t (Some a) None writes lines e job cut = absurd cut
 changes_from_cut words t None (Some b) writes lines e job cut = absurd cut
 changes_from_cut words t None None writes lines e job cut = tt
 
-all_is : (writes : List Entry) (a : Contents) (y : Option Contents) → AllWritten writes (Some a) y → y ≡ Some (made writes a)
+all_is : (writes : List NamedFile) (a : FileContents) (y : Option FileContents) → AllWritten writes (Some a) y → y ≡ Some (made writes a)
 all_is writes a (Some b) h = ap Some h
 all_is writes a None h = absurd h
 
-prints_at : (words : List Text) (t : Task) (a : Contents) (y : Option Contents) (writes : List Entry) (lines before after : Text) → task_of words ≡ Some t → TaskJob t a (Done writes lines)
+prints_at : (words : List Text) (t : Task) (a : FileContents) (y : Option FileContents) (writes : List NamedFile) (lines before after : Text) → task_of words ≡ Some t → TaskJob t a (Done writes lines)
     → PrintsAfter lines (AllWritten writes (Some a) y) before after → PrintsForTheJob words a y before after
 prints_at words t a y writes lines before after e job (inl same) = inl same
 prints_at words t a y writes lines before after e job (inr (prefix, all)) = inr (writes, lines, asked t (Done writes lines) e job, (all_is writes a y all, prefix))
 
-pub prints_from_lines : (words : List Text) (t : Task) (x y : Option Contents) (o o' : Option Text) (writes : List Entry) (lines : Text) → task_of words ≡ Some t
+pub prints_from_lines : (words : List Text) (t : Task) (x y : Option FileContents) (o o' : Option Text) (writes : List NamedFile) (lines : Text) → task_of words ≡ Some t
     → IfSome x (λ a. TaskJob t a (Done writes lines)) → Becomes o o' (PrintsAfter lines (AllWritten writes x y)) → IfSome x (λ a. Becomes o o' (PrintsForTheJob words a y))
 prints_from_lines words t None y o o' writes lines e job h = tt
 prints_from_lines words t (Some a) y o o' writes lines e job h =
     becomes_weaker o o' (PrintsAfter lines (AllWritten writes (Some a) y)) (PrintsForTheJob words a y) h (λ before after p. prints_at words t a y writes lines before after e job p)
 
-pub ends_done : {T E : Type 0} (r : Result T E) (words : List Text) (t : Task) (x y : Option Contents) (o o' : Option Text) (writes : List Entry) (lines : Text) → task_of words ≡ Some t
+pub ends_done : {T E : Type 0} (r : Result T E) (words : List Text) (t : Task) (x y : Option FileContents) (o o' : Option Text) (writes : List NamedFile) (lines : Text) → task_of words ≡ Some t
     → IfSome x (λ a. TaskJob t a (Done writes lines)) → OnOk r (AllWritten writes x y) → OnOk r (Gains lines o o') → OnOk r (IfSome x (λ a. EndsDone words a y o o'))
 ends_done (Err e) words t x y o o' writes lines asks job all gains = tt
 ends_done (Ok u) words t None y o o' writes lines asks job all gains = tt
 ends_done (Ok u) words t (Some a) y o o' writes lines asks job all gains = (writes, lines, asked t (Done writes lines) asks job, (all_is writes a y all, gains))
 
-written_at : (words : List Text) (t : Task) (held : Option Contents) (writes : List Entry) (lines name : Text) → task_of words ≡ Some t
+written_at : (words : List Text) (t : Task) (held : Option FileContents) (writes : List NamedFile) (lines name : Text) → task_of words ≡ Some t
     → IfSome held (λ a. TaskJob t a (Done writes lines)) → Contains (written_names writes) name
     → IfSome held (λ a. JobIsDone words a (λ writes lines. Contains (written_names writes) name))
 written_at words t None writes lines name e h c = tt
 written_at words t (Some a) writes lines name e h c = (writes, lines, asked t (Done writes lines) e h, c)
 
-done_at : (words : List Text) (t : Task) (held new : Option Contents) (writes : List Entry) (lines : Text) → task_of words ≡ Some t
+done_at : (words : List Text) (t : Task) (held new : Option FileContents) (writes : List NamedFile) (lines : Text) → task_of words ≡ Some t
     → IfSome held (λ a. TaskJob t a (Done writes lines)) → AllWritten writes held new → IfSome held (λ a. JobIsDone words a (λ writes lines. new ≡ Some (made writes a)))
 done_at words t None new writes lines e h all = tt
 done_at words t (Some a) new writes lines e h all = (writes, lines, asked t (Done writes lines) e h, all_is writes a new all)
 
 -- a stop of the writes or of the lines is one of the work
-pub finish_stops : (words : List Text) (t : Task) (old new : HostState) (mid : Text → ℕ) (writes : List Entry) (lines : Text) (s : Stop) → task_of words ≡ Some t
+pub finish_stops : (words : List Text) (t : Task) (old new : HostState) (mid : Text → ℕ) (writes : List NamedFile) (lines : Text) (s : Stop) → task_of words ≡ Some t
     → ((name : Text) → old.writes name ≤ mid name)
     → IfSome old.files (λ a. TaskJob t a (Done writes lines))
     → AreOutputs t old.files (written_names writes)
@@ -201,11 +201,11 @@ outside_cause words old new (stop.Usage line) err err' before now result h (inl 
 outside_cause words old new (stop.Refused refusal) err err' before now result h (inl p) is = let e = p.0 in cc
 outside_cause words old new stop.NoMemory err err' before now result h (inl p) is = let e = p.0 in cc
 
-usage_status : (words : List Text) (held : Option Contents) (result : Status) → task_of words ≡ None → result ≡ status.Usage → IfSome held (λ a. HasStatus words a result)
+usage_status : (words : List Text) (held : Option FileContents) (result : Status) → task_of words ≡ None → result ≡ status.Usage → IfSome held (λ a. HasStatus words a result)
 usage_status words None result e is = tt
 usage_status words (Some a) result e is = (Usage, no_task e, is)
 
-refused_status : (words : List Text) (held : Option Contents) (text : Text) (result : Status) → IfSome held (λ a. HasJob words a (Refused text)) → result ≡ status.Refused → IfSome held (λ a. HasStatus words a result)
+refused_status : (words : List Text) (held : Option FileContents) (text : Text) (result : Status) → IfSome held (λ a. HasJob words a (Refused text)) → result ≡ status.Refused → IfSome held (λ a. HasStatus words a result)
 refused_status words None text result job is = tt
 refused_status words (Some a) text result job is = (Refused text, job, is)
 
@@ -261,7 +261,7 @@ no_stop_is_done (stop.CannotWrite name) err err' before now result (inl p) is = 
 no_stop_is_done stop.CannotPrint err err' before now result (inl p) is = let e = p.0 in cc
 no_stop_is_done stop.NoMemory err err' before now result (inl p) is = let e = p.0 in cc
 
-refused_at : (words : List Text) (err err' : Option Text) (files : Option Contents) (text : Text) → IfSome files (λ a. HasJob words a (Refused text)) → Gains (stop_line text) err err' → IfSome files (λ a. EndsRefused words a err err')
+refused_at : (words : List Text) (err err' : Option Text) (files : Option FileContents) (text : Text) → IfSome files (λ a. HasJob words a (Refused text)) → Gains (stop_line text) err err' → IfSome files (λ a. EndsRefused words a err err')
 refused_at words err err' None text job gains = tt
 refused_at words err err' (Some a) text job gains = (text, job, gains)
 

@@ -17,7 +17,7 @@ use Rattle.dce_graph.specs.declared.graph.Node.{Node}
 use Rattle.dce_graph.specs.declared.point.Point.TheVariants as point
 use Rattle.dce_graph.specs.declared.marks.Reached.{Reached}
 use Rattle.dce_graph.specs.Prelude.{AreExact}
-use Rattle.tools_cli_words.specs.Words.{Text}
+use Rattle.tools_cli_words.specs.Arguments.{Text}
 use Rattle.tools_cli.specs.Prelude.{names_of, unmarked_from, unmarked_names}
 use Rattle.tools_cli.specs.Unused.{AreUnused, IsUnused}
 use Rattle.tools_cli.specs.Unmarked.{with_name}

@@ -6,7 +6,7 @@ use Rattle.std.proofs.lemmas.Str.{IsUtf8-drop, IsUtf8-string_bytes, IsCharBounda
 use Rattle.base_lists.specs.Every.{Every}
 use Rattle.split_spec.specs.declared.names.SplitNames.{SplitNames}
 use Rattle.tools_cli.specs.declared.split.SplitWords.{SplitWords}
-use Rattle.tools_cli_words.specs.Words.{Text, Vocabulary, Argument, Value, Flag, Plain, is_plain, behind, long_name, takes_value, own_value, some_value, value_behind, joined_value, other_word, next_argument, add_argument, said_from, OptionValue, Arguments, add_to_arguments, arguments_of, value_of, with_value, valued_options, in_order, are_apart, options_and_flags, said_once, values_of, at_most_one, only_value, value_or}
+use Rattle.tools_cli_words.specs.Arguments.{Text, Vocabulary, Argument, Value, Flag, Plain, is_plain, behind, long_name, takes_value, own_value, some_value, value_behind, joined_value, other_word, next_argument, add_argument, said_from, OptionValue, Arguments, add_to_arguments, arguments_of, value_of, with_value, valued_options, in_order, are_apart, options_and_flags, said_once, values_of, at_most_one, only_value, value_or}
 use Rattle.tools_cli.specs.Prelude.{Task, Merge, Metadce, Split, CtorEval, Sample, Source, MergeTask, MetadceTask, SplitTask, CtorEvalTask, SampleTask}
 use Rattle.tools_cli.specs.CommandLine.{SplitOutputs, make_ctor_eval, ctor_eval_of_arguments, ctor_eval_of, ctor_eval_vocabulary, make_merge, make_metadce, make_outputs, make_names, make_split, make_sample, names_said, outputs_said, words_said, count_in, merge_of_arguments, metadce_of_arguments, split_of_arguments, sample_of_arguments, merge_of, metadce_of, split_of, sample_of, merge_vocabulary, metadce_vocabulary, split_vocabulary, sample_vocabulary, task_of}
 use Rattle.merge_names.specs.declared.mode.Mode.{Mode}

@@ -3,7 +3,7 @@ use Rattle.std.specs.Prelude.{List, map, option_map, string_bytes}
 use Rattle.tools_cli.specs.CommandLine.{Text}
 use Rattle.tools_cli.specs.CommandLine as words
 pub use Rattle.tools_cli_words.specs.Meaning.{names_of, arguments_value}
-use Rattle.tools_cli.specs.Effects.{Entry}
+use Rattle.tools_cli.specs.Effects.{NamedFile}
 use Rattle.tools_cli.specs.Sources.{source_values}
 use Rattle.tools_cli.specs.declared.merge.MergeTask.{MergeTask}
 use Rattle.tools_cli.specs.declared.metadce.MetadceTask.{MetadceTask}
@@ -46,10 +46,10 @@ task_value (task.CtorEval eval) = words.CtorEval (ctor_eval_value eval)
 task_value (task.Sample sample) = words.Sample (sample_value sample)
 
 -- Files that were read, with their names, and then their bytes alone.
-abbrev pub input_entry : Input → Entry
+abbrev pub input_entry : Input → NamedFile
 input_entry input = (input.name.now, input.bytes.items)
 
-abbrev pub input_entries : List Input → List Entry
+abbrev pub input_entries : List Input → List NamedFile
 input_entries inputs = map input_entry inputs
 
 abbrev pub input_texts : List Input → List Text
@@ -66,8 +66,8 @@ abbrev pub decision_value : Decision → job.Decision
 decision_value decision = job.Makes (output_values decision.outputs.items) decision.lines.items
 
 -- Files to be written.
-abbrev pub write_entry : Write → Entry
+abbrev pub write_entry : Write → NamedFile
 write_entry write = (string_bytes write.name, write.bytes.items)
 
-abbrev pub write_entries : List Write → List Entry
+abbrev pub write_entries : List Write → List NamedFile
 write_entries writes = map write_entry writes

@@ -1,12 +1,12 @@
 -- The task that the arguments of a command line ask for.
 use Rattle.std.specs.Prelude.{ℕ, Bool, true, false, if◌then◌else◌, List, [], ◌∷◌, ◌++◌, map, Option, Some, None, option_map, option_and_then, bytes_eq, codes}
 use Rattle.std.specs.List.{cons_option}
-use Rattle.tools_cli_words.specs.Words.{Arguments, output_option, said_together, only_text, only_value, value_if_any, value_or, listed_words}
+use Rattle.tools_cli_words.specs.Arguments.{Arguments, output_option, said_together, only_text, only_value, value_if_any, value_or, listed_words}
 use Rattle.tools_cli_words.specs.Vocabularies.{rename_flag, skip_flag, vocabulary_of}
 pub use Rattle.tools_cli_words.specs.Vocabularies.{merge_vocabulary, metadce_vocabulary, split_vocabulary, ctor_eval_vocabulary, sample_vocabulary}
 use Rattle.tools_cli_words.specs.declared.tool.Tool.{Tool}
 use Rattle.tools_cli_words.specs.declared.tool.Tool.TheVariants as tool
-pub use Rattle.tools_cli_words.specs.Words.{Text, are_apart}
+pub use Rattle.tools_cli_words.specs.Arguments.{Text, are_apart}
 use Rattle.tools_cli.specs.Numbers.{number_within}
 use Rattle.merge_names.specs.declared.mode.Mode.{Mode}
 use Rattle.merge_names.specs.declared.mode.Mode.TheVariants as mode

@@ -7,7 +7,7 @@ use Rattle.eval_snapshot_spec.specs.Evaluated.{evaluated_count}
 use Rattle.tools_cli_eval.specs.declared.evaluation.Ending.{Ending}
 use Rattle.tools_cli_eval.specs.declared.evaluation.Ending.TheVariants.{Complete, Instantiation, Constructor}
 use Rattle.tools_cli_eval.specs.Evaluations.{ending_of}
-use Rattle.tools_cli_words.specs.Words.{Text}
+use Rattle.tools_cli_words.specs.Arguments.{Text}
 
 -- The name of what stops an evaluation.
 abbrev pub stop_name : Stop → Text

@@ -3,7 +3,7 @@
 -- stated once for all commands, with a case for each command where they differ.
 use Rattle.std.specs.Prelude.{◌≡◌, ℕ, ◌+◌, ◌*◌, Bool, true, List, [], ◌∷◌, drop, take, length, map, Option, Some, None, Ok, IfSome, IsTrue, IsUtf8, Contains}
 use Rattle.std.specs.FinMap.{get}
-use Rattle.tool_io.specs.FilesAndSinks.{Contents}
+use Rattle.tool_io.specs.FilesAndSinks.{FileContents}
 use Rattle.base_lists.specs.Every.{Every}
 use Rattle.tools_cli.specs.CommandLine.{Text, SplitTask, CtorEvalTask, Task, Merge, Metadce, Split, CtorEval, Sample, task_of, many_of, modules_of, inputs_of, outputs_of}
 use Rattle.tools_cli.specs.Job.{IsAccepted, parts_of, AreMerged, GivesMarks, words_plan, GivesPlan, sample_merge, sample_parts}
@@ -30,11 +30,11 @@ use Rattle.world_sequential_proof.specs.Laws.{SequentialInstantiationEquivalent}
 
 -- The file `name` holds an encoding of this module. If `many`, its instructions may name a memory
 -- by index.
-abbrev pub HoldsModule : Bool → Contents → Text → Module → Type 0
+abbrev pub HoldsModule : Bool → FileContents → Text → Module → Type 0
 HoldsModule many files name tree = (bytes : Text) × (get files name ≡ Some bytes) × Spells bytes tree many
 
 -- The files `names` hold encodings of these modules, in order.
-abbrev pub HoldModules : Bool → Contents → List Text → List Module → Type 0
+abbrev pub HoldModules : Bool → FileContents → List Text → List Module → Type 0
 HoldModules many files [] [] = Unit {0}
 HoldModules many files (name ∷ names) (tree ∷ trees) = HoldsModule many files name tree × HoldModules many files names trees
 HoldModules many files _ _ = ⊥
@@ -216,7 +216,7 @@ FurtherClaims (Sample sample) found trees outputs = SequentialInstantiationEquiv
 -- `contents`. `outputs` are what its command makes of these; the files under its output names now
 -- encode them, and each output is valid and has at most one memory. The claims above hold. An
 -- output may have the name of an input: `trees` and `contents` are then from before it was written.
-pub record TaskIsSound (task : Task) (before after : Contents) : Type 0 where
+pub record TaskIsSound (task : Task) (before after : FileContents) : Type 0 where
   pub trees : List Module
   pub contents : List Text
   pub found : Findings task
@@ -235,18 +235,18 @@ abbrev pub SplitWordsAreText : List Text → Type 0
 SplitWordsAreText words = (split : SplitTask) → task_of words ≡ Some (Split split) → Every IsUtf8 words
 
 -- The files `names` hold numbers below 256.
-abbrev pub HoldBytesAt : List Text → Contents → Type 0
+abbrev pub HoldBytesAt : List Text → FileContents → Type 0
 HoldBytesAt names files = (name bytes : Text) → Contains names name → get files name ≡ Some bytes → IsBytes bytes
 
 -- The files that the task of these arguments reads hold numbers below 256.
-abbrev pub ReadsBytes : List Text → Contents → Type 0
+abbrev pub ReadsBytes : List Text → FileContents → Type 0
 ReadsBytes words files = (task : Task) → task_of words ≡ Some task → HoldBytesAt (inputs_of task) files
 
 -- The arguments ask for a task, and it is sound from the files before to the files after.
-abbrev pub IsFaithful : (words : List Text) → (before after : Contents) → Type 0
+abbrev pub IsFaithful : (words : List Text) → (before after : FileContents) → Type 0
 IsFaithful words before after = (task : Task) × (task_of words ≡ Some task) × TaskIsSound task before after
 
 -- The contents of the files after the run are known, and from the files before to these the run was
 -- faithful.
-abbrev pub EndsFaithful : (words : List Text) → (before : Contents) → (new : Option Contents) → Type 0
-EndsFaithful words before new = (after : Contents) × (new ≡ Some after) × IsFaithful words before after
+abbrev pub EndsFaithful : (words : List Text) → (before : FileContents) → (new : Option FileContents) → Type 0
+EndsFaithful words before new = (after : FileContents) × (new ≡ Some after) × IsFaithful words before after

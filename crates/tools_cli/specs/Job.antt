@@ -2,7 +2,7 @@
 use Rattle.std.specs.Prelude.{◌≡◌, ◌⊎◌, ℕ, ◌-◌, ltb, not, if◌then◌else◌, Bool, false, List, [], ◌∷◌, ◌++◌, length, map, take, Option, Some, None, option_map, codes, Result, Ok, Err}
 use Rattle.std.specs.FinMap.{get}
 use Rattle.std.specs.List.{list_all, cons_option}
-use Rattle.tool_io.specs.FilesAndSinks.{Contents}
+use Rattle.tool_io.specs.FilesAndSinks.{FileContents}
 use Rattle.wasm_bytes.specs.Prelude.{IsBytes}
 use Rattle.tools_cli.specs.CommandLine.{Text, Source, MergeTask, MetadceTask, SplitTask, CtorEvalTask, SampleTask, Task, Merge, Metadce, Split, CtorEval, Sample, task_of, source_files, many_of, modules_of, inputs_of}
 use Rattle.wasm_meaning.specs.Prelude.{Part}
@@ -29,7 +29,7 @@ use Rattle.merge_names.specs.declared.mode.Mode.TheVariants as mode
 use Rattle.merge_spec.specs.declared.faults.LinkFault.{LinkFault}
 use Rattle.merge_spec.specs.declared.faults.JoinFault.{JoinFault}
 use Rattle.merge_spec.specs.Prelude.{link_fault, Joins}
-use Rattle.tools_cli.specs.Effects.{Entry}
+use Rattle.tools_cli.specs.Effects.{NamedFile}
 use Rattle.tools_cli.specs.Unused.{AreUnused, unused_lines}
 use Rattle.tools_cli.specs.KeptFuncs.{kept_lines}
 use Rattle.tools_cli.specs.EvaluationLines.{evaluation_lines}
@@ -62,16 +62,16 @@ pub data Job : Type 0 where
   Usage : Job
   Missing : Job
   Refused : Text → Job
-  Done : List Entry → Text → Job
+  Done : List NamedFile → Text → Job
 
 -- The result of reading files in order: the name and the contents of each, or the first file that
 -- is missing or too long.
 pub data Gathered : Type 0 where
-  Whole : List Entry → Gathered
+  Whole : List NamedFile → Gathered
   Lacks : Text → Gathered
   TooLong : Text → Gathered
 
-abbrev pub add_first : Entry → Gathered → Gathered
+abbrev pub add_first : NamedFile → Gathered → Gathered
 add_first file (Whole rest) = Whole (file ∷ rest)
 add_first file other = other
 
@@ -81,13 +81,13 @@ add_file name left None rest = Lacks name
 add_file name left (Some bytes) rest = if ltb left (length bytes) then TooLong name else add_first (name, bytes) (rest (left - length bytes))
 
 -- Reads the files `names` in order, at most `most` bytes together.
-abbrev pub gathered : List Text → Contents → ℕ → Gathered
+abbrev pub gathered : List Text → FileContents → ℕ → Gathered
 gathered [] files most = Whole []
 gathered (name ∷ names) files most = add_file name most (get files name) (gathered names files)
 
 -- The bytes encode `tree`, within the limits. If `many`, its instructions may name a memory by
 -- index.
-pub record IsRead (many : Bool) (bytes : Text) (tree : Module) : Type 0 where
+pub record IsReadAs (many : Bool) (bytes : Text) (tree : Module) : Type 0 where
   pub spelled : Spells bytes tree many
   pub within : Within bytes many
 
@@ -98,21 +98,21 @@ pub record IsAccepted (many : Bool) (tree : Module) : Type 0 where
 
 -- The result of loading the bytes of a file: the module that they encode within the limits, if it
 -- is accepted; or else the text of their first fault or of the module's first invalid item.
-pub data Loads (many : Bool) (file bytes : Text) : Result Module Text → Type 0 where
-  loaded : (tree : Module) → IsRead many bytes tree → IsAccepted many tree → Loads many file bytes (Ok tree)
-  faulty : (fault : ReadFault) (text : Text) → read_fault bytes many ≡ Some fault → fault_text file fault ≡ Some text → Loads many file bytes (Err text)
-  invalid : (tree : Module) (item : Invalid) → IsRead many bytes tree → IsFirstInvalid tree many item → Loads many file bytes (Err (invalid_text file item))
+pub data LoadsFile (many : Bool) (file bytes : Text) : Result Module Text → Type 0 where
+  loaded : (tree : Module) → IsReadAs many bytes tree → IsAccepted many tree → LoadsFile many file bytes (Ok tree)
+  faulty : (fault : ReadFault) (text : Text) → read_fault bytes many ≡ Some fault → fault_text file fault ≡ Some text → LoadsFile many file bytes (Err text)
+  invalid : (tree : Module) (item : Invalid) → IsReadAs many bytes tree → IsFirstInvalid tree many item → LoadsFile many file bytes (Err (invalid_text file item))
 
 -- The files load, in order, as these modules.
-abbrev pub AllLoad : Bool → List Entry → List Module → Type 0
+abbrev pub AllLoad : Bool → List NamedFile → List Module → Type 0
 AllLoad many [] [] = Unit {0}
-AllLoad many (file ∷ files) (tree ∷ trees) = Loads many file.0 file.1 (Ok tree) × AllLoad many files trees
+AllLoad many (file ∷ files) (tree ∷ trees) = LoadsFile many file.0 file.1 (Ok tree) × AllLoad many files trees
 AllLoad many _ _ = ⊥
 
 -- One of the files does not load, and the first such file is refused with this text.
-abbrev pub OneFails : Bool → List Entry → Text → Type 0
+abbrev pub OneFails : Bool → List NamedFile → Text → Type 0
 OneFails many [] text = ⊥
-OneFails many (file ∷ files) text = Loads many file.0 file.1 (Err text) ⊎ ((tree : Module) × Loads many file.0 file.1 (Ok tree) × OneFails many files text)
+OneFails many (file ∷ files) text = LoadsFile many file.0 file.1 (Err text) ⊎ ((tree : Module) × LoadsFile many file.0 file.1 (Ok tree) × OneFails many files text)
 
 -- ---- what a task decides ----
 
@@ -251,7 +251,7 @@ abbrev pub is_within : Output → Bool
 is_within output = not (ltb most_output (length (plain output.tree)))
 
 -- An output as it is written.
-abbrev pub spelled_output : Output → Entry
+abbrev pub spelled_output : Output → NamedFile
 spelled_output output = (output.name, plain output.tree ++ output.custom)
 
 -- The job of a decision. All outputs are compared with the limit before one is written.
@@ -260,31 +260,31 @@ job_of (Refuses text) = Refused text
 job_of (Makes outputs lines) = if list_all is_within outputs then Done (map spelled_output outputs) lines else Refused (too_many OutputBytes)
 
 -- The input files of a task that are modules.
-abbrev pub module_files : Task → List Entry → List Entry
+abbrev pub module_files : Task → List NamedFile → List NamedFile
 module_files task files = take (length (modules_of task)) files
 
-abbrev pub contents_of : List Entry → List Text
+abbrev pub contents_of : List NamedFile → List Text
 contents_of files = map (λ file. file.1) files
 
 -- The job of a task over its input files: its modules are loaded in order, and then the task
 -- decides.
-pub data InputsJob (task : Task) (files : List Entry) : Job → Type 0 where
+pub data InputsJob (task : Task) (files : List NamedFile) : Job → Type 0 where
   not_loaded : (text : Text) → OneFails (many_of task) (module_files task files) text → InputsJob task files (Refused text)
   decided : (trees : List Module) (decision : Decision) → AllLoad (many_of task) (module_files task files) trees → Decides task trees (contents_of files) decision → InputsJob task files (job_of decision)
 
 -- The job of a task: it may be refused at once; otherwise its files are read in order, and then it
 -- has a job over them.
-pub data TaskJob (task : Task) (files : Contents) : Job → Type 0 where
+pub data TaskJob (task : Task) (files : FileContents) : Job → Type 0 where
   not_begun : (text : Text) → refused_before task ≡ Some text → TaskJob task files (Refused text)
   missing : (name : Text) → refused_before task ≡ None → gathered (inputs_of task) files most_input ≡ Lacks name → TaskJob task files Missing
   too_long : (name : Text) → refused_before task ≡ None → gathered (inputs_of task) files most_input ≡ TooLong name → TaskJob task files (Refused (over_limit name InputBytes))
-  all_read : (inputs : List Entry) (job : Job) → refused_before task ≡ None → gathered (inputs_of task) files most_input ≡ Whole inputs → InputsJob task inputs job → TaskJob task files job
+  all_read : (inputs : List NamedFile) (job : Job) → refused_before task ≡ None → gathered (inputs_of task) files most_input ≡ Whole inputs → InputsJob task inputs job → TaskJob task files job
 
 -- The job of a command line over these files.
-pub data HasJob (words : List Text) (files : Contents) : Job → Type 0 where
+pub data HasJob (words : List Text) (files : FileContents) : Job → Type 0 where
   no_task : task_of words ≡ None → HasJob words files Usage
   asked : (task : Task) (job : Job) → task_of words ≡ Some task → TaskJob task files job → HasJob words files job
 
 -- The files hold numbers below 256.
-abbrev pub HoldBytes : Contents → Type 0
+abbrev pub HoldBytes : FileContents → Type 0
 HoldBytes files = (name bytes : Text) → get files name ≡ Some bytes → IsBytes bytes

@@ -3,7 +3,7 @@ use Rattle.std.specs.Prelude.{ℕ, Bool, ◌==◌, ◌&&◌, List, ◌++◌, fla
 use Rattle.std.specs.Option.{option_or}
 use Rattle.wasm_tree_spec.specs.Prelude.{Functions, Export, Module, same_space, space_of_export, index_of_export}
 use Rattle.wasm_names.specs.declared.func_name.FuncName.{FuncName}
-use Rattle.tools_cli_words.specs.Words.{Text}
+use Rattle.tools_cli_words.specs.Arguments.{Text}
 
 -- The first name that a name list gives to the function.
 abbrev pub listed_name : List FuncName → (func : ℕ) → Option Text

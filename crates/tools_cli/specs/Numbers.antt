@@ -2,7 +2,7 @@
 use Rattle.std.specs.Prelude.{ℕ, Bool, not, ◌&&◌, ltb, length, if◌then◌else◌, Option, Some, None}
 use Rattle.std.specs.Str.{all_ascii_digits}
 use Rattle.std.specs.Str.Parse.{digits_value}
-use Rattle.tools_cli_words.specs.Words.{Text}
+use Rattle.tools_cli_words.specs.Arguments.{Text}
 
 -- The text is one to ten decimal digits, without a sign. It may begin with zeros.
 abbrev pub is_number : Text → Bool

@@ -4,7 +4,7 @@ use Rattle.std.specs.BTreeSet.{insert_key}
 use Rattle.std.specs.Ordering.{nat_cmp}
 use Rattle.std.specs.Cmp.Lexicographic.{slice_cmp}
 use Rattle.dce_graph.specs.declared.graph.Node.{Node}
-use Rattle.tools_cli_words.specs.Words.{Text}
+use Rattle.tools_cli_words.specs.Arguments.{Text}
 
 -- An ascending list of names, with this name in its place.
 abbrev pub with_name : List Text → Text → List Text

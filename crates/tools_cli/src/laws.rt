@@ -1,8 +1,8 @@
 // Laws of the definitions that the contract of `run` uses. Each is the contract of a function that
 // does nothing.
 ghost use Rattle.std.specs.Prelude.{◌≡◌, List, ℕ};
-ghost use Rattle.tool_io.specs.FilesAndSinks.{Contents};
-ghost use Rattle.tools_cli.specs.Effects.{Entry, made};
+ghost use Rattle.tool_io.specs.FilesAndSinks.{FileContents};
+ghost use Rattle.tools_cli.specs.Effects.{NamedFile, made};
 ghost use Rattle.tools_cli.specs.Job.{Done, Job, HasJob, HoldBytes};
 ghost use Rattle.tools_cli.specs.Faithful.{IsFaithful, ReadsBytes, SplitWordsAreText};
 
@@ -37,7 +37,7 @@ use world_sequential_proof::sequential_instantiation_equivalent;
 
 /// States that a command line has at most one job over some files, if these hold bytes.
 pub fn jobs_are_determined()
-    ensures { (words : List (List ℕ)) (files : Contents) (one other : Job) → HoldBytes files → HasJob words files one → HasJob words files other → one ≡ other }
+    ensures { (words : List (List ℕ)) (files : FileContents) (one other : Job) → HoldBytes files → HasJob words files one → HasJob words files other → one ≡ other }
 {
     decoding_is_unique();
     no_fault_where_encoded();
@@ -47,7 +47,7 @@ pub fn jobs_are_determined()
 
 /// States that every command line has a job over files that hold bytes.
 pub fn command_lines_have_jobs()
-    ensures exists { (words : List (List ℕ)) (files : Contents) → HoldBytes files → (job : Job) × HasJob words files job }
+    ensures exists { (words : List (List ℕ)) (files : FileContents) → HoldBytes files → (job : Job) × HasJob words files job }
 {
     no_fault_where_encoded();
     faults_have_causes();
@@ -63,7 +63,7 @@ pub fn command_lines_have_jobs()
 /// that were read, and is observationally equivalent to the original of its command. Premises: the
 /// files that are read hold bytes, and the arguments of a split are UTF-8.
 pub fn done_jobs_are_faithful()
-    ensures faithful { (words : List (List ℕ)) (before : Contents) (writes : List Entry) (lines : List ℕ) → SplitWordsAreText words → ReadsBytes words before → HasJob words before (Done writes lines) → IsFaithful words before (made writes before) }
+    ensures faithful { (words : List (List ℕ)) (before : FileContents) (writes : List NamedFile) (lines : List ℕ) → SplitWordsAreText words → ReadsBytes words before → HasJob words before (Done writes lines) → IsFaithful words before (made writes before) }
 {
     canonical_encoding_encodes();
     trees_that_fit_have_small_sizes();

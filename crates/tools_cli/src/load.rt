@@ -4,7 +4,7 @@ ghost use Rattle.wasm_tree.specs.Bounds.{IsBounded};
 ghost use Rattle.wasm_valid.specs.declared.kinds.Invalid as items;
 ghost use Rattle.wasm_valid.specs.First.{IsFirstInvalid};
 ghost use Rattle.tools_cli.specs.Command.{input_entries};
-ghost use Rattle.tools_cli.specs.Job.{Loads, AllLoad, OneFails, IsAccepted, most_input};
+ghost use Rattle.tools_cli.specs.Job.{LoadsFile, AllLoad, OneFails, IsAccepted, most_input};
 ghost use Rattle.tools_cli.specs.Causes.{total, StopsWith, InvalidText};
 
 use crate::gather::Input;
@@ -32,8 +32,8 @@ fn accept<'a>(alloc: Global, file: &'a str, tree: Module) -> Result<Valid, Stop<
 // Reads and validates the module that a file holds.
 fn load<'a>(alloc: Global, input: &Input<'a>) -> Result<Valid, Stop<'a>>
     requires { length input.now.bytes.items < 2 ^ 32 }
-    ensures loaded { IfOk result (λ tree. Loads false input.now.name.now input.now.bytes.items (Ok tree)) }
-    ensures stops { IfErr result (StopsWith (λ text. Loads false input.now.name.now input.now.bytes.items (Err text))) }
+    ensures loaded { IfOk result (λ tree. LoadsFile false input.now.name.now input.now.bytes.items (Ok tree)) }
+    ensures stops { IfErr result (StopsWith (λ text. LoadsFile false input.now.name.now input.now.bytes.items (Err text))) }
 {
     match read(alloc, input.bytes.as_slice()) {
         Ok(tree) => accept(alloc, input.name, tree),

@@ -1,6 +1,6 @@
 ghost use Rattle.std.specs.Prelude.{◌≡◌, OnOk, IfErr};
 ghost use Rattle.tool_io.specs.FilesAndSinks.{NoneFell, Becomes};
-ghost use Rattle.tools_cli.specs.Effects.{made, IsCut};
+ghost use Rattle.tools_cli.specs.Effects.{made, AreWrittenInPart};
 ghost use Rattle.tools_cli.specs.Command.{write_entries};
 ghost use Rattle.tools_cli.specs.Causes.{StopsWriting};
 
@@ -20,7 +20,7 @@ pub(crate) fn write_outputs<'a, F: Files>(
     outputs: Vec<Write>,
 ) -> Result<(), Stop<'a>>
     ensures made { OnOk result (Becomes (F.contents files.old) (F.contents files.new) (λ old new. new ≡ made (write_entries outputs.items) old)) }
-    ensures cut { Becomes (F.contents files.old) (F.contents files.new) (IsCut (write_entries outputs.items)) }
+    ensures cut { Becomes (F.contents files.old) (F.contents files.new) (AreWrittenInPart (write_entries outputs.items)) }
     ensures reads { NoneFell (F.read_faults files.old) (F.read_faults files.new) }
     ensures writes { NoneFell (F.write_faults files.old) (F.write_faults files.new) }
     ensures stops { IfErr result (StopsWriting (F.write_faults files.old) (F.write_faults files.new) (write_entries outputs.items)) }

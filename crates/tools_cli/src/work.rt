@@ -4,7 +4,7 @@ ghost use Rattle.base_lists.specs.Every.{Every};
 ghost use Rattle.wasm_bytes.specs.Reading.{IsBytes};
 ghost use Rattle.tool_io.specs.FilesAndSinks.{NoneFell, Becomes, AppendsPrefix};
 ghost use Rattle.tools_cli.specs.Faithful.{HoldBytesAt, ReadsBytes};
-ghost use Rattle.tools_cli.specs.Effects.{IsCut, written_names};
+ghost use Rattle.tools_cli.specs.Effects.{AreWrittenInPart, written_names};
 ghost use Rattle.tools_cli.specs.Job.{InputsJob, TaskJob, Done, Refused, Whole, gathered, refused_before, most_input};
 ghost use Rattle.tools_cli.specs.Command.{task_value, arguments_value, input_entries, write_entries};
 ghost use Rattle.tools_cli.specs.Causes.{AreOutputs, PrintsAsAllowed, StopsWith, StopsGathering, StopsPreparing, StopsPrinting, StopsFinishing, AllWritten, PrintsAfter, total};
@@ -98,7 +98,7 @@ fn print_lines<'a, O: Sink>(out: &mut O, lines: &[u8]) -> Result<(), Stop<'a>>
 fn finish<'a, F: Files, O: Sink>(files: &mut F, out: &mut O, plan: Plan) -> Result<(), Stop<'a>>
     ensures done { OnOk result (AllWritten (write_entries plan.writes.items) (F.contents files.old) (F.contents files.new)) }
     ensures printed { OnOk result (Becomes (O.bytes out.old) (O.bytes out.new) (λ a b. b ≡ a ++ plan.lines.items)) }
-    ensures cut { Becomes (F.contents files.old) (F.contents files.new) (IsCut (write_entries plan.writes.items)) }
+    ensures cut { Becomes (F.contents files.old) (F.contents files.new) (AreWrittenInPart (write_entries plan.writes.items)) }
     ensures prints { Becomes (O.bytes out.old) (O.bytes out.new) (PrintsAfter plan.lines.items (AllWritten (write_entries plan.writes.items) (F.contents files.old) (F.contents files.new))) }
     ensures silent { plan.lines.items ≡ [] → IsSame (O.bytes out.old) (O.bytes out.new) }
     ensures reads { NoneFell (F.read_faults files.old) (F.read_faults files.new) }

@@ -5,7 +5,7 @@ use Rattle.eval_spec.specs.declared.stop.Stop.{Stop}
 use Rattle.eval_spec.specs.Prelude.{State, Stage, Going, Stopped, Finished, is_finished, stop_of, call_end, called_in_order, calls_finished, done_count, evaluated}
 use Rattle.eval_lists_proof.specs.Lists.{AddedAreEvaluated}
 use Rattle.eval_machine.specs.declared.kept.Kept.{Kept}
-use Rattle.eval_machine.specs.Prelude.{IsLeft, StopsCall, Rests, state_in}
+use Rattle.eval_machine.specs.Prelude.{SameButForTurns, StopsCall, Rests, state_in}
 use Rattle.tools_cli_eval.specs.Calls.{HaveEnded}
 
 -- so many came to their ends, and the rest is called from the machine's state
@@ -56,7 +56,7 @@ module _ (m : Module) (funcs : List ℕ) (n : ℕ) (k : Kept) (stands : Stands m
   not_finished (Finished u) x e = absurd (cc)
 
   -- something stops the next one
-  pub stopped_here : (x : Stop) (j : Kept) → StopsCall m f k x j → IsLeft m k j → HaveEnded m funcs (record { count = n; stopped = Some x }) j
+  pub stopped_here : (x : Stop) (j : Kept) → StopsCall m f k x j → SameButForTurns m k j → HaveEnded m funcs (record { count = n; stopped = Some x }) j
   stopped_here x j stops left = record {
     few = omega (arith, within);
     count =

@@ -4,7 +4,7 @@ ghost use Rattle.std.specs.Prelude.{◌≡◌, ◌⊎◌, ◌≤◌, List, None,
 ghost use Rattle.module_limits.specs.Counts.{over_limit as over_limit_of};
 ghost use Rattle.wasm_meaning.specs.State.{Text};
 ghost use Rattle.eval_machine.specs.Calls.{IsReady, StopsBoot};
-ghost use Rattle.eval_machine.specs.Kept.{Fits, state_in};
+ghost use Rattle.eval_machine.specs.Kept.{MachineFits, state_in};
 ghost use Rattle.eval_snapshot_spec.specs.After.{IsAfter};
 ghost use Rattle.eval_snapshot_spec.specs.Evaluated.{first_missing, funcs_named};
 ghost use Rattle.eval_snapshot_spec.specs.Snapshot.{snapshot as snapshot_of};
@@ -98,7 +98,7 @@ fn module_after(
     kept: &Items<Name>,
 ) -> Result<Valid, EvalFault>
     requires few { count ≤ length ctors.now }
-    requires fits { Fits input machine.now }
+    requires fits { MachineFits input machine.now }
     requires after { IsAfter input (take count ctors.now) (state_in input machine.now) }
     ensures none { IfOk result (λ valid. over_limit_of (snapshot_of input (state_in input machine.now) (take count ctors.now) kept.now) ≡ None) }
     ensures tree { IfOk result (λ valid. valid ≡ snapshot_of input (state_in input machine.now) (take count ctors.now) kept.now) }

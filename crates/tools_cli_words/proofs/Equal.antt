@@ -1,7 +1,7 @@
 -- Texts that are equal.
 use Rattle.base_lists.proofs.Common.{◌≡◌, refl, sym, subst, true, false, Bool, List, [], ◌∷◌, ◌||◌, list_any, bytes_eq, bytes_eq-Decides}
 use Rattle.base_lists.specs.Every.{Every}
-use Rattle.tools_cli_words.specs.Words.{Text}
+use Rattle.tools_cli_words.specs.Arguments.{Text}
 
 -- what holds of each text of a list holds of a text that is among them
 pub of_member : (P : Text → Type 0) (texts : List Text) → Every P texts → (text : Text) → list_any (bytes_eq text) texts ≡ true → P text

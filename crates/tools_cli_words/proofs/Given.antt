@@ -2,7 +2,7 @@
 use Rattle.base_lists.proofs.Common.{◌≡◌, ◌∙◌, refl, sym, ap, Bool, true, false, cond, List, [], ◌∷◌, ◌++◌, append_assoc, Some, codes, filter, list_any, bytes_eq}
 use Rattle.clap.specs.Words.{one_text}
 use Rattle.clap.specs.declared.parser.matches.Found.{Found}
-use Rattle.tools_cli_words.specs.Words.{Text, said_flags}
+use Rattle.tools_cli_words.specs.Arguments.{Text, said_flags}
 use Rattle.tools_cli_words.specs.Reader.{GivesFlag}
 
 flag_is : (found : Found) (said : List Text) (flag : Text) (r : Bool) → GivesFlag found said flag → (one_text found flag ≡ Some (codes "true") → r ≡ true)

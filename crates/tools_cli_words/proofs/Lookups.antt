@@ -11,7 +11,7 @@ use Rattle.clap.specs.Faults.{level_fault}
 use Rattle.clap.specs.Walk.{nothing_held, rows_after, has_row, with_default, first_of, one_of, all_of, row_text}
 use Rattle.clap.specs.declared.parser.matches.Found.{Found}
 use Rattle.clap.proofs.WalkLemmas.{first_value-rows, one_text-rows, raw_values-rows}
-use Rattle.tools_cli_words.specs.Words.{Text, Vocabulary, OptionValue, Arguments, option_word, arranged_words, options_and_flags, are_apart, value_of, with_value, valued_options, said_flags, in_order, said_from, arguments_of, said_once, said_together}
+use Rattle.tools_cli_words.specs.Arguments.{Text, Vocabulary, OptionValue, Arguments, option_word, arranged_words, options_and_flags, are_apart, value_of, with_value, valued_options, said_flags, in_order, said_from, arguments_of, said_once, said_together}
 use Rattle.tools_cli_words.specs.Reader.{plain_id, app_of_vocabulary, matched_options, GivesFlag, ReadFrom, Parsed}
 use Rattle.tools_cli_words.proofs.Equal.{of_member}
 use Rattle.tools_cli_words.proofs.Proper.{IsProper, words_proper}

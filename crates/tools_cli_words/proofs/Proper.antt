@@ -1,7 +1,7 @@
 -- What is said has only what the vocabulary has.
 use Rattle.base_lists.proofs.Common.{◌≡◌, ◌∙◌, refl, sym, ap, subst, Bool, true, false, cond, List, [], ◌∷◌, Option, Some, None, option_map, option_and_then, codes, IfSome, ◌||◌, list_any, option_or, bytes_eq, nat_list_eq_equiv, right_either}
 use Rattle.base_lists.specs.Every.{Every}
-use Rattle.tools_cli_words.specs.Words.{Text, Vocabulary, Argument, Value, Flag, Plain, OptionValue, Arguments, is_plain, behind, long_name, takes_value, own_value, some_value, value_behind, joined_value, other_word, next_argument, add_argument, said_from, arguments_of, add_to_arguments}
+use Rattle.tools_cli_words.specs.Arguments.{Text, Vocabulary, Argument, Value, Flag, Plain, OptionValue, Arguments, is_plain, behind, long_name, takes_value, own_value, some_value, value_behind, joined_value, other_word, next_argument, add_argument, said_from, arguments_of, add_to_arguments}
 
 abbrev IsOf : Vocabulary → Argument → Type 0
 IsOf v (Value option value) = list_any (bytes_eq option) v.options ≡ true

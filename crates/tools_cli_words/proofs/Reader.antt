@@ -12,7 +12,7 @@ use Rattle.clap.specs.declared.builder.value_parser.Reading.{Reading}
 use Rattle.clap.specs.declared.builder.value_parser.Reading.TheVariants as reading
 use Rattle.clap.specs.declared.parser.matches.ValueSource.TheVariants as valued
 use Rattle.clap.specs.declared.builder.value_parser.ValueParser.TheVariants as vp
-use Rattle.tools_cli_words.specs.Words.{Text, Vocabulary}
+use Rattle.tools_cli_words.specs.Arguments.{Text, Vocabulary}
 use Rattle.tools_cli_words.specs.Reader.{plain_id, plain_rule, app_of_vocabulary}
 
 -- ---- one word

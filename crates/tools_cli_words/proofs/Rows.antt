@@ -6,7 +6,7 @@ use Rattle.clap.specs.Faults.{repeat_fault}
 use Rattle.clap.specs.Kinds.{Kinds, or_else}
 use Rattle.clap.specs.declared.parser.matches.ValueSource.TheVariants.{CommandLine, DefaultValue}
 use Rattle.clap.specs.declared.builder.value_parser.Reading.TheVariants as reading
-use Rattle.tools_cli_words.specs.Words.{Text, are_apart}
+use Rattle.tools_cli_words.specs.Arguments.{Text, are_apart}
 use Rattle.tools_cli_words.proofs.Reader.{Use, row, put, default_row, has_some, is_nothing}
 
 abbrev pub row_at : Text → List Row → Option Row

@@ -7,7 +7,7 @@ use Rattle.clap.specs.Faults.{turn_fault, walk_fault, repeat_fault, settle_fault
 use Rattle.clap.specs.Kinds.{Kinds, or_else}
 use Rattle.clap.specs.declared.parser.matches.ValueSource.TheVariants.{CommandLine}
 use Rattle.clap.specs.declared.builder.value_parser.Reading.TheVariants as reading
-use Rattle.tools_cli_words.specs.Words.{Text, Vocabulary, is_plain}
+use Rattle.tools_cli_words.specs.Arguments.{Text, Vocabulary, is_plain}
 use Rattle.tools_cli_words.specs.Reader.{plain_id}
 use Rattle.tools_cli_words.proofs.Reader.{Use, Turns, IsReader, row, put, begun, after_plain, built_plain, is_nothing, is_harmless}
 use Rattle.tools_cli_words.proofs.Rows.{uses_fault, at_missing}

@@ -1,4 +1,4 @@
-pub mod Words
+pub mod Arguments
 pub mod Vocabularies
 pub mod Meaning
 pub mod Reader

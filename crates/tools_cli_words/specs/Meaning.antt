@@ -1,8 +1,8 @@
 -- What the types of the code denote in the definitions.
 use Rattle.std.specs.Prelude.{ℕ, List, ◌++◌, map, string_bytes}
 use Rattle.std.specs.Borrow.{Bor}
-use Rattle.tools_cli_words.specs.Words.{Text}
-use Rattle.tools_cli_words.specs.Words as said
+use Rattle.tools_cli_words.specs.Arguments.{Text}
+use Rattle.tools_cli_words.specs.Arguments as said
 use Rattle.tools_cli_words.specs.declared.argument.Argument.{Argument}
 use Rattle.tools_cli_words.specs.declared.argument.Argument.TheVariants as word
 use Rattle.tools_cli_words.specs.declared.pass.SaidOption.{SaidOption}

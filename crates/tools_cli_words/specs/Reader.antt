@@ -7,7 +7,7 @@ use Rattle.clap.specs.Words.{App, Rule, new_app, new_rule, with_rule, fault_of, 
 use Rattle.clap.specs.declared.parser.matches.Found.{Found}
 use Rattle.clap.specs.declared.parser.matches.ArgMatches.{ArgMatches}
 use Rattle.clap.specs.declared.builder.action.ArgAction.TheVariants as action
-use Rattle.tools_cli_words.specs.Words.{Text, Vocabulary, OptionValue, Arguments, behind, with_value, said_flags}
+use Rattle.tools_cli_words.specs.Arguments.{Text, Vocabulary, OptionValue, Arguments, behind, with_value, said_flags}
 
 -- The name of an option or a flag, without its hyphens.
 abbrev pub long_of_option : Text → Text

@@ -1,6 +1,6 @@
 -- The options and the flags of each tool.
 use Rattle.std.specs.Prelude.{[], ◌∷◌, codes}
-use Rattle.tools_cli_words.specs.Words.{Text, Vocabulary, output_option}
+use Rattle.tools_cli_words.specs.Arguments.{Text, Vocabulary, output_option}
 use Rattle.tools_cli_words.specs.declared.tool.Tool.{Tool}
 use Rattle.tools_cli_words.specs.declared.tool.Tool.TheVariants.{Merge, Split, Metadce, CtorEval, Sample}
 

@@ -1,6 +1,6 @@
 ghost use Rattle.std.specs.Prelude.{◌≡◌, List, ℕ, option_map, option_and_then, bytes_eq};
 ghost use Rattle.std.specs.List.{list_any};
-ghost use Rattle.tools_cli_words.specs.Words.{is_plain, long_name, takes_value, behind, own_value, value_behind, joined_value, other_word};
+ghost use Rattle.tools_cli_words.specs.Arguments.{is_plain, long_name, takes_value, behind, own_value, value_behind, joined_value, other_word};
 ghost use Rattle.tools_cli_words.specs.Meaning.{argument_value, names_of};
 
 /// An option with its value, a flag, or a positional argument.

@@ -1,5 +1,5 @@
 ghost use Rattle.std.specs.Prelude.{◌≡◌, option_map, IfOk};
-ghost use Rattle.tools_cli_words.specs.Words.{only_text, only_value, value_if_any, value_or};
+ghost use Rattle.tools_cli_words.specs.Arguments.{only_text, only_value, value_if_any, value_or};
 ghost use Rattle.tools_cli_words.specs.Meaning.{arguments_value, names_of};
 
 use std::alloc::Global;

@@ -1,5 +1,5 @@
 ghost use Rattle.std.specs.Prelude.{◌≡◌, ◌++◌, ◌∷◌, codes, map, string_bytes, IfOk, OnOk};
-ghost use Rattle.tools_cli_words.specs.Words.{arranged_words, option_word};
+ghost use Rattle.tools_cli_words.specs.Arguments.{arranged_words, option_word};
 ghost use Rattle.tools_cli_words.specs.Meaning.{said_value, said_option, names_of};
 
 use crate::pass::{Said, SaidOption};

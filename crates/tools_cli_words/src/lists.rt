@@ -1,5 +1,5 @@
 ghost use Rattle.std.specs.Prelude.{◌≡◌, IfOk};
-ghost use Rattle.tools_cli_words.specs.Words.{listed_words};
+ghost use Rattle.tools_cli_words.specs.Arguments.{listed_words};
 ghost use Rattle.tools_cli_words.specs.Meaning.{names_of};
 
 use std::alloc::{AllocError, Global};

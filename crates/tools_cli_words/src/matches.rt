@@ -1,7 +1,7 @@
 ghost use Rattle.std.specs.Prelude.{◌≡◌, [], List, ℕ, map, string_bytes, option_map, unwrap_or, Some, IfOk};
 ghost use Rattle.clap.specs.Words.{found_of, one_text, raw_values, matched_of};
 ghost use Rattle.base_lists.specs.Every.{Every};
-ghost use Rattle.tools_cli_words.specs.Words.{said_flags};
+ghost use Rattle.tools_cli_words.specs.Arguments.{said_flags};
 ghost use Rattle.tools_cli_words.specs.Reader.{plain_id, matched_options, GivesFlag};
 ghost use Rattle.tools_cli_words.specs.Meaning.{option_value, names_of};
 

@@ -1,5 +1,5 @@
 ghost use Rattle.std.specs.Prelude.{◌≡◌, ◌∷◌, [], ◌&&◌, None, map, option_map, is_none, string_bytes, OnOk, IfOk};
-ghost use Rattle.tools_cli_words.specs.Words.{said_from, arguments_of, takes_value, next_argument};
+ghost use Rattle.tools_cli_words.specs.Arguments.{said_from, arguments_of, takes_value, next_argument};
 ghost use Rattle.tools_cli_words.specs.Meaning.{said_value, argument_value, join_arguments, names_of};
 
 use crate::argument::{Argument, long_name, other_word, own_value, takes_value};

@@ -1,7 +1,7 @@
 ghost use Rattle.std.specs.Prelude.{◌≡◌, [], List, ℕ, Option, None, map, string_bytes, option_map, unwrap_or, IfOk};
 ghost use Rattle.base_lists.specs.Every.{Every};
 ghost use Rattle.clap.specs.Words.{found_of, raw_values, matched_of};
-ghost use Rattle.tools_cli_words.specs.Words.{said_together, said_flags};
+ghost use Rattle.tools_cli_words.specs.Arguments.{said_together, said_flags};
 ghost use Rattle.tools_cli_words.specs.Vocabularies.{vocabulary_of};
 ghost use Rattle.tools_cli_words.specs.Reader.{Parsed, ReadFrom, app_of_vocabulary};
 ghost use Rattle.tools_cli_words.specs.Meaning.{arguments_value};

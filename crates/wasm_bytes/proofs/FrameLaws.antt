@@ -4,8 +4,8 @@ use Rattle.std.specs.Prelude.{IsTrue}
 use Rattle.wasm_bytes.specs.declared.cursor.Wrong.{Wrong}
 use Rattle.wasm_bytes.specs.declared.cursor.Wrong.TheVariants.{Spelling}
 use Rattle.wasm_bytes.specs.Reading.{◌>>=◌, IsBytes, sized_at}
-use Rattle.wasm_bytes.specs.Joins.{Took}
-use Rattle.wasm_bytes.specs.Frames.{Section, may_follow, order_after, Frame, Frames, last_of, FirstBadFrame, frame_at, before, or_number, frames_at}
+use Rattle.wasm_bytes.specs.Joins.{TakesOff}
+use Rattle.wasm_bytes.specs.Frames.{Section, may_follow, order_after, SectionFrame, Frames, last_of, FirstBadFrame, frame_at, before, or_number, frames_at}
 use Rattle.wasm_bytes.proofs.Lists.{small_rest}
 use Rattle.wasm_bytes.proofs.Sized.{sized_sound, sized_complete}
 use Rattle.base_lists.proofs.Common.{bind_ok, ok_pair}
@@ -14,7 +14,7 @@ chosen : {A E : Type 0} (b : Bool) (r : Result A E) (e : E) (y : A) → cond b r
 chosen true r e y h = (refl, h)
 chosen false r e y h = cc
 
-pub frame_sound : (last : ℕ) (bytes : List ℕ) (s : Section) (rest : List ℕ) → IsBytes bytes → frame_at last bytes ≡ Ok (s, rest) → Took (λ t. Frame last t s) bytes rest
+pub frame_sound : (last : ℕ) (bytes : List ℕ) (s : Section) (rest : List ℕ) → IsBytes bytes → frame_at last bytes ≡ Ok (s, rest) → TakesOff (λ t. SectionFrame last t s) bytes rest
 unfolding frame_at
 frame_sound last [] s rest small e = cc
 frame_sound last (id ∷ bs) s rest small e =
@@ -22,9 +22,9 @@ frame_sound last (id ∷ bs) s rest small e =
     let z = bind_ok (sized_at bs) _ _ c.1 in
     let t = sized_sound bs z.0.0 z.0.1 (λ i. small (suc i)) z.1 in
     let p = ok_pair {E = Wrong} (id, z.0.0) s z.0.1 rest z.2 in
-    subst (Took (λ t. Frame last t s) (id ∷ bs)) p.1 (subst (λ q. Took (λ t. Frame last t q) (id ∷ bs) z.0.1) p.0 (id ∷ t.0, (c.0, (t.0, t.1, refl)), ap (λ xs. id ∷ xs) t.2))
+    subst (TakesOff (λ t. SectionFrame last t s) (id ∷ bs)) p.1 (subst (λ q. TakesOff (λ t. SectionFrame last t q) (id ∷ bs) z.0.1) p.0 (id ∷ t.0, (c.0, (t.0, t.1, refl)), ap (λ xs. id ∷ xs) t.2))
 
-pub frame_complete : (last : ℕ) (text rest : List ℕ) (s : Section) → Frame last text s → frame_at last (text ++ rest) ≡ Ok (s, rest)
+pub frame_complete : (last : ℕ) (text rest : List ℕ) (s : Section) → SectionFrame last text s → frame_at last (text ++ rest) ≡ Ok (s, rest)
 unfolding frame_at
 frame_complete last text rest s h = rw (ap (λ t. t ++ rest) h.1.2, h.0, sized_complete h.1.0 rest s.1 h.1.1)
 
@@ -51,11 +51,11 @@ frames_sound (suc fuel) last n (b ∷ bs) ss small e =
     let later = frames_sound fuel (order_after last s.0.0.0) (n + 1) s.0.1 more.0 (small_rest _ (b ∷ bs) s.0.1 small t) more.1 in
     subst (Frames last (b ∷ bs)) more.2 (t.0, s.0.1, t.1, later, t.2)
 
-frame_long : (last : ℕ) (text : List ℕ) (s : Section) → Frame last text s → 0 < length text
+frame_long : (last : ℕ) (text : List ℕ) (s : Section) → SectionFrame last text s → 0 < length text
 frame_long last text s h = rw h.1.2 (omega arith)
 
 -- a good frame at the front is read, whatever follows
-step_good : (fuel last n : ℕ) (text rest : List ℕ) (s : Section) → Frame last text s → frames_at (suc fuel) last n (text ++ rest) ≡ before s (frames_at fuel (order_after last s.0) (n + 1) rest)
+step_good : (fuel last n : ℕ) (text rest : List ℕ) (s : Section) → SectionFrame last text s → frames_at (suc fuel) last n (text ++ rest) ≡ before s (frames_at fuel (order_after last s.0) (n + 1) rest)
 unfolding frames_at
 step_good fuel last n [] rest s h = absurd (omega (arith, frame_long last [] s h))
 step_good fuel last n (b ∷ bs) rest s h = rw (frame_complete last (b ∷ bs) rest s h)
@@ -114,7 +114,7 @@ bad_sound (suc fuel) last n m (b ∷ bs) enough small e = ⊎_elim
     ))
     (number_err n m (frame_at last (b ∷ bs)) _ e)
 
-stuck : (fuel last n : ℕ) (back : List ℕ) → length back ≤ fuel → IsBytes back → back ≢ [] → ((s : Section) (text : List ℕ) (rest : List ℕ) → Frame last text s → back ≡ text ++ rest → ⊥) → frames_at fuel last n back ≡ Err n
+stuck : (fuel last n : ℕ) (back : List ℕ) → length back ≤ fuel → IsBytes back → back ≢ [] → ((s : Section) (text : List ℕ) (rest : List ℕ) → SectionFrame last text s → back ≡ text ++ rest → ⊥) → frames_at fuel last n back ≡ Err n
 unfolding frames_at
 stuck fuel last n [] enough small some never = absurd (some refl)
 stuck zero last n (b ∷ bs) enough small some never = absurd (omega arith)
@@ -124,7 +124,7 @@ stuck (suc fuel) last n (b ∷ bs) enough small some never =
     split (frame_at last (b ∷ bs)) refl
 
 pub bad_complete : (fuel last n m : ℕ) (bytes : List ℕ) (ss : List Section) (front back : List ℕ) → length bytes ≤ fuel → IsBytes bytes → Frames last front ss → length ss ≡ m → bytes ≡ front ++ back → back ≢ [] →
-    ((s : Section) (text : List ℕ) (rest : List ℕ) → Frame (last_of last ss) text s → back ≡ text ++ rest → ⊥) → frames_at fuel last n bytes ≡ Err (n + m)
+    ((s : Section) (text : List ℕ) (rest : List ℕ) → SectionFrame (last_of last ss) text s → back ≡ text ++ rest → ⊥) → frames_at fuel last n bytes ≡ Err (n + m)
 bad_complete fuel last n m bytes [] front back enough small f count e some never =
     let same : bytes ≡ back = e ∙ ap (λ t. t ++ back) f in
     rw (same, sym count) (stuck fuel last n back (subst (λ t. length t ≤ fuel) same enough) (subst IsBytes same small) some never ∙ ap Err (omega arith))
@@ -133,5 +133,5 @@ bad_complete zero last n m bytes (s ∷ ss) front back enough small f count e so
 bad_complete (suc fuel) last n m bytes (s ∷ ss) front back enough small f count e some never =
     let split : bytes ≡ f.0 ++ (f.1 ++ back) = e ∙ ap (λ t. t ++ back) f.4 ∙ append_assoc f.0 f.1 back in
     let less : length (f.1 ++ back) ≤ fuel = omega (arith, frame_long last f.0 s f.2, ap length split, length-append f.0 (f.1 ++ back)) in
-    let rest = bad_complete fuel (order_after last s.0) (n + 1) (length ss) (f.1 ++ back) ss f.1 back less (small_rest (λ t. Frame last t s) bytes (f.1 ++ back) small (f.0, f.2, split)) f.3 refl refl some never in
+    let rest = bad_complete fuel (order_after last s.0) (n + 1) (length ss) (f.1 ++ back) ss f.1 back less (small_rest (λ t. SectionFrame last t s) bytes (f.1 ++ back) small (f.0, f.2, split)) f.3 refl refl some never in
     rw (split, step_good fuel last n f.0 (f.1 ++ back) s f.2, rest) (ap Err (omega arith))

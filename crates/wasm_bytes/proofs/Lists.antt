@@ -1,7 +1,7 @@
 -- Fronts and rests of lists of bytes.
 use Rattle.std.proofs.Common.{◌≡◌, ℕ, zero, suc, ◌<◌, ◌≤◌, slice_index, List, [], ◌∷◌, ◌++◌, length, take, drop, refl, ap, subst, arith}
 use Rattle.wasm_bytes.specs.Reading.{IsBytes}
-use Rattle.wasm_bytes.specs.Joins.{Took}
+use Rattle.wasm_bytes.specs.Joins.{TakesOff}
 
 pub take_all : (front rest : List ℕ) → take (length front) (front ++ rest) ≡ front
 take_all [] rest = refl
@@ -31,5 +31,5 @@ pub rest_holds : (P : ℕ → Type 0) (front rest : List ℕ) → ((i : ℕ) →
 rest_holds P [] rest h = h
 rest_holds P (x ∷ front) rest h = rest_holds P front rest (λ i. h (suc i))
 
-pub small_rest : (P : List ℕ → Type 0) (bytes rest : List ℕ) → IsBytes bytes → Took P bytes rest → IsBytes rest
+pub small_rest : (P : List ℕ → Type 0) (bytes rest : List ℕ) → IsBytes bytes → TakesOff P bytes rest → IsBytes rest
 small_rest P bytes rest h t = rest_holds (λ n. n < 256) t.0 rest (subst IsBytes t.2 h)

@@ -4,7 +4,7 @@ use Rattle.wasm_bytes.specs.declared.cursor.Wrong.{Wrong}
 use Rattle.wasm_bytes.specs.declared.cursor.Wrong.TheVariants.{Short, Spelling}
 use Rattle.wasm_bytes.specs.Prelude.{Takes, last_unsigned, join_unsigned, IsBytes, U32, Named}
 use Rattle.wasm_bytes.specs.Numbers.{IsCut, IsMisspelled}
-use Rattle.wasm_bytes.specs.Reading.{Gives, unsigned_at, utf8_or_spelling, name_at}
+use Rattle.wasm_bytes.specs.Reading.{CursorGives, unsigned_at, utf8_or_spelling, name_at}
 use Rattle.wasm_bytes.specs.Joins.{IsNameShort, IsNameMisspelled, IsNameRead}
 use Rattle.wasm_bytes.proofs.NumberLaws.{reading_of_cut, cut_of_reading, unsigned_ends}
 use Rattle.wasm_bytes.proofs.Lists.{halves, taken}
@@ -81,7 +81,7 @@ name_of_misspelled old small h = ⊎_elim
     (λ t. rw (u32_taken old t.0 t.1 t.2, le-ltb (length t.1) t.0 t.3, not_text (take t.0 t.1) t.4))
     h
 
-pub name_read : (old : List ℕ) (result : Result (List ℕ) Wrong) (new : List ℕ) (r : Result (List ℕ × List ℕ) Wrong) → IsBytes old → name_at old ≡ r → Gives r old result new → IsNameRead old result new
+pub name_read : (old : List ℕ) (result : Result (List ℕ) Wrong) (new : List ℕ) (r : Result (List ℕ × List ℕ) Wrong) → IsBytes old → name_at old ≡ r → CursorGives r old result new → IsNameRead old result new
 unfolding Shows
 name_read old result new (Ok p) small e g =
     let took = subst (Shows old) e (shows old small _ refl) in

@@ -4,8 +4,8 @@ use Rattle.std.proofs.lemmas.Bool.{cases_lt}
 use Rattle.std.proofs.lemmas.Nat.{pow_pos}
 use Rattle.wasm_bytes.specs.declared.cursor.Wrong.{Wrong}
 use Rattle.wasm_bytes.specs.declared.cursor.Wrong.TheVariants.{Short, Spelling}
-use Rattle.wasm_bytes.specs.Numbers.{Spells, Takes, IsCut, IsRead, last_unsigned, last_signed}
-use Rattle.wasm_bytes.specs.Reading.{ok_or_spelling, map_value, reading, Gives, IsBytes}
+use Rattle.wasm_bytes.specs.Numbers.{SpellsNumber, Takes, IsCut, IsRead, last_unsigned, last_signed}
+use Rattle.wasm_bytes.specs.Reading.{ok_or_spelling, map_value, reading, CursorGives, IsBytes}
 
 tail : (b : ℕ) (bs : List ℕ) → IsBytes (b ∷ bs) → IsBytes bs
 tail b bs h i = h (suc i)
@@ -27,16 +27,16 @@ after_err f (Ok p) w e = cc
 after_err f (Err u) w e = let same : u ≡ w = cc in ap Err same
 
 module _ {V : Type 0} (last : ℕ → ℕ → Option V) (join : ℕ → V → V) where
-  pub Spells-more : (bits b : ℕ) (text : List ℕ) (v high : V) → 128 ≤ b → b < 256 → 7 < bits → v ≡ join b high → Spells last join (bits - 7) text high → Spells last join bits (b ∷ text) v
-  Spells-more bits b [] v high h k l e s = absurd s
-  Spells-more bits b (c ∷ bs) v high h k l e s = (h, k, l, high, e, s)
+  pub SpellsNumber-more : (bits b : ℕ) (text : List ℕ) (v high : V) → 128 ≤ b → b < 256 → 7 < bits → v ≡ join b high → SpellsNumber last join (bits - 7) text high → SpellsNumber last join bits (b ∷ text) v
+  SpellsNumber-more bits b [] v high h k l e s = absurd s
+  SpellsNumber-more bits b (c ∷ bs) v high h k l e s = (h, k, l, high, e, s)
 
-  pub reading_of_spelled : (bits : ℕ) (text rest : List ℕ) (v : V) → Spells last join bits text v → reading last join bits (text ++ rest) ≡ Ok (v, rest)
+  pub reading_of_spelled : (bits : ℕ) (text rest : List ℕ) (v : V) → SpellsNumber last join bits text v → reading last join bits (text ++ rest) ≡ Ok (v, rest)
   reading_of_spelled bits [] rest v h = absurd h
   reading_of_spelled bits (b ∷ []) rest v h = rw (lt-ltb b 128 h.0, h.1)
   reading_of_spelled bits (b ∷ c ∷ bs) rest v h = rw (le-ltb b 128 h.0, lt-ltb 7 bits h.2, reading_of_spelled (bits - 7) (c ∷ bs) rest h.3 h.5) (ap (λ w. Ok (w, rest)) (sym h.4))
 
-  pub spelled_of_reading : (bits : ℕ) (bytes : List ℕ) (v : V) (rest : List ℕ) → IsBytes bytes → reading last join bits bytes ≡ Ok (v, rest) → Takes (Spells last join bits) bytes v rest
+  pub spelled_of_reading : (bits : ℕ) (bytes : List ℕ) (v : V) (rest : List ℕ) → IsBytes bytes → reading last join bits bytes ≡ Ok (v, rest) → Takes (SpellsNumber last join bits) bytes v rest
   spelled_of_reading bits [] v rest small e = cc
   spelled_of_reading bits (b ∷ bs) v rest small e = ⊎_elim
       (λ lt. let p = ok_or_spelling_ok _ _ _ _ (rw (lt-ltb b 128 lt) at e) in (b ∷ [], (lt, p.0), ap (λ xs. b ∷ xs) p.1))
@@ -44,18 +44,18 @@ module _ {V : Type 0} (last : ℕ → ℕ → Option V) (join : ℕ → V → V)
       (λ more.
       let p = after_ok (join b) _ v rest (rw (le-ltb b 128 le, lt-ltb 7 bits more) at e) in
       let t = spelled_of_reading (bits - 7) bs p.0 rest (tail b bs small) p.1 in
-      (b ∷ t.0, Spells-more bits b t.0 v p.0 le (small 0) more p.2 t.1, ap (λ xs. b ∷ xs) t.2))
+      (b ∷ t.0, SpellsNumber-more bits b t.0 v p.0 le (small 0) more p.2 t.1, ap (λ xs. b ∷ xs) t.2))
       (λ no. let bad = rw (le-ltb b 128 le, le-ltb 7 bits no) at e in cc)
       (cases_lt 7 bits))
       (cases_lt b 128)
 
-  pub reading_of_cut : (bits : ℕ) (bytes : List ℕ) (x : ℕ) (more : List ℕ) (v : V) → Spells last join bits (bytes ++ x ∷ more) v → reading last join bits bytes ≡ Err Short
+  pub reading_of_cut : (bits : ℕ) (bytes : List ℕ) (x : ℕ) (more : List ℕ) (v : V) → SpellsNumber last join bits (bytes ++ x ∷ more) v → reading last join bits bytes ≡ Err Short
   reading_of_cut bits [] x more v h = refl
   reading_of_cut bits (b ∷ []) x more v h = rw (le-ltb b 128 h.0, lt-ltb 7 bits h.2)
   reading_of_cut bits (b ∷ c ∷ bs) x more v h = rw (le-ltb b 128 h.0, lt-ltb 7 bits h.2, reading_of_cut (bits - 7) (c ∷ bs) x more h.3 h.5)
 
   -- no spelling goes on to another
-  pub ends_itself : (bits : ℕ) (text more : List ℕ) (v w : V) → Spells last join bits text v → Spells last join bits (text ++ more) w → (more ≡ []) × (v ≡ w)
+  pub ends_itself : (bits : ℕ) (text more : List ℕ) (v w : V) → SpellsNumber last join bits text v → SpellsNumber last join bits (text ++ more) w → (more ≡ []) × (v ≡ w)
   ends_itself bits text more v w one two =
       let first = reading_of_spelled bits text more v one in
       let whole : reading last join bits (text ++ more) ≡ Ok (w, []) = ap (reading last join bits) (sym (append-nil (text ++ more))) ∙ reading_of_spelled bits (text ++ more) [] w two in
@@ -64,7 +64,7 @@ module _ {V : Type 0} (last : ℕ → ℕ → Option V) (join : ℕ → V → V)
 
   -- 0 can be a last byte
   module _ (ends : (bits : ℕ) → 0 < bits → (v : V) × (last bits 0 ≡ Some v)) where
-    pub cut_of_reading : (bits : ℕ) (bytes : List ℕ) → 0 < bits → IsBytes bytes → reading last join bits bytes ≡ Err Short → IsCut (Spells last join bits) bytes
+    pub cut_of_reading : (bits : ℕ) (bytes : List ℕ) → 0 < bits → IsBytes bytes → reading last join bits bytes ≡ Err Short → IsCut (SpellsNumber last join bits) bytes
     cut_of_reading bits [] some small e = let v = ends bits some in (0, [], v.0, (omega arith, v.1))
     cut_of_reading bits (b ∷ bs) some small e = ⊎_elim
         (λ lt. absurd (ok_or_spelling_short _ bs (rw (lt-ltb b 128 lt) at e)))
@@ -72,12 +72,12 @@ module _ {V : Type 0} (last : ℕ → ℕ → Option V) (join : ℕ → V → V)
         (λ more.
         let p = after_err (join b) _ Short (rw (le-ltb b 128 le, lt-ltb 7 bits more) at e) in
         let t = cut_of_reading (bits - 7) bs (omega arith) (tail b bs small) p in
-        (t.0, t.1, join b t.2, Spells-more bits b (bs ++ t.0 ∷ t.1) (join b t.2) t.2 le (small 0) more refl t.3))
+        (t.0, t.1, join b t.2, SpellsNumber-more bits b (bs ++ t.0 ∷ t.1) (join b t.2) t.2 le (small 0) more refl t.3))
         (λ no. let bad = rw (le-ltb b 128 le, le-ltb 7 bits no) at e in cc)
         (cases_lt 7 bits))
         (cases_lt b 128)
 
-    pub read_of : (bits : ℕ) (old : List ℕ) (result : Result V Wrong) (new : List ℕ) (r : Result (V × List ℕ) Wrong) → 0 < bits → IsBytes old → reading last join bits old ≡ r → Gives r old result new → IsRead (Spells last join bits) old result new
+    pub read_of : (bits : ℕ) (old : List ℕ) (result : Result V Wrong) (new : List ℕ) (r : Result (V × List ℕ) Wrong) → 0 < bits → IsBytes old → reading last join bits old ≡ r → CursorGives r old result new → IsRead (SpellsNumber last join bits) old result new
     read_of bits old result new (Ok p) some small e g =
         let took = spelled_of_reading bits old p.0 p.1 small e in
         let not_err : (w : Wrong) → result ≡ Err w → ⊥ = λ w h. let k = sym g.0 ∙ h in cc in
@@ -98,8 +98,8 @@ module _ {V : Type 0} (last : ℕ → ℕ → Option V) (join : ℕ → V → V)
           err = rw g.0 g.1;
         }
     read_of bits old result new (Err Spelling) some small e g =
-        let no : (v : V) (rest : List ℕ) → Takes (Spells last join bits) old v rest → ⊥ = λ v rest t. let k = sym e ∙ (ap (reading last join bits) t.2 ∙ reading_of_spelled bits t.0 rest v t.1) in cc in
-        let whole : IsCut (Spells last join bits) old → ⊥ = λ c. let k = sym e ∙ reading_of_cut bits old c.0 c.1 c.2 c.3 in cc in
+        let no : (v : V) (rest : List ℕ) → Takes (SpellsNumber last join bits) old v rest → ⊥ = λ v rest t. let k = sym e ∙ (ap (reading last join bits) t.2 ∙ reading_of_spelled bits t.0 rest v t.1) in cc in
+        let whole : IsCut (SpellsNumber last join bits) old → ⊥ = λ c. let k = sym e ∙ reading_of_cut bits old c.0 c.1 c.2 c.3 in cc in
         record {
           ok = rw g.0 tt;
           only = λ v rest t. absurd (no v rest t);

@@ -4,7 +4,7 @@ use Rattle.std.proofs.Common.{lt-ltb, le-ltb}
 use Rattle.wasm_bytes.specs.Prelude.{last_unsigned, join_unsigned}
 use Rattle.wasm_bytes.specs.Numbers.{Unsigned}
 use Rattle.wasm_bytes.specs.Writing.{unsigned_text, IsShortest}
-use Rattle.wasm_bytes.proofs.NumberLaws.{Spells-more}
+use Rattle.wasm_bytes.proofs.NumberLaws.{SpellsNumber-more}
 
 pub text_small : (most n : ℕ) → n < 128 → unsigned_text (suc most) n ≡ n ∷ []
 unfolding unsigned_text
@@ -29,7 +29,7 @@ text_spells (suc most) bits n room fits some = ⊎_elim
     let more = more_bits bits n le fits in
     let e = seven bits more in
     rw (text_large most n le)
-    (Spells-more last_unsigned join_unsigned bits (n % 128 + 128) (unsigned_text most (n / 128)) n (n / 128) (omega arith) (omega arith) more (omega arith)
+    (SpellsNumber-more last_unsigned join_unsigned bits (n % 128 + 128) (unsigned_text most (n / 128)) n (n / 128) (omega arith) (omega arith) more (omega arith)
     (text_spells most (bits - 7) (n / 128) (omega arith) (omega arith) (omega arith))))
     (cases_lt n 128)
 

@@ -2,7 +2,7 @@
 use Rattle.base_lists.proofs.Common.{◌≡◌, ℕ, zero, suc, ◌+◌, ◌-◌, ◌*◌, ◌/◌, ◌%◌, ◌^◌, ◌<◌, ◌≤◌, List, [], ◌∷◌, length, true, false, ℤ, pos, negsuc, ◌-ℤ◌, Some, refl, sym, ap, ◌∙◌, subst, arith, ⊎_elim, cases_lt, lt-ltb, le-ltb, ltb-false, pow-add, ints, pow_mono}
 use Rattle.wasm_bytes.specs.Prelude.{IsWithin, Signed, last_signed, join_signed}
 use Rattle.wasm_bytes.specs.Writing.{low, high, is_small, signed_text, IsShortest}
-use Rattle.wasm_bytes.proofs.NumberLaws.{Spells-more}
+use Rattle.wasm_bytes.proofs.NumberLaws.{SpellsNumber-more}
 
 -- how far the number is from 0 or -1
 abbrev pub size : ℤ → ℕ
@@ -85,7 +85,7 @@ signed_spells (suc most) bits z room some w =
     let q : 2 ^ (bits - 1) ≡ 2 ^ (bits - 7 - 1) * 128 = ap (λ k. 2 ^ k) e ∙ pow-add 2 (bits - 7 - 1) 7 in
     let t = size_high z in
     let l = low_fits z in
-    rw (large_is z le) (Spells-more last_signed join_signed bits (low z + 128) (signed_text most (high z)) z (high z) (omega arith) (omega arith) more (joins z)
+    rw (large_is z le) (SpellsNumber-more last_signed join_signed bits (low z + 128) (signed_text most (high z)) z (high z) (omega arith) (omega arith) more (joins z)
     (signed_spells most (bits - 7) (high z) (omega arith) (omega arith) (size_within (bits - 7) (high z) (omega arith)))))
     (cases_lt (size z) 64)
 

@@ -3,7 +3,7 @@ use Rattle.base_lists.proofs.Common.{◌≡◌, ℕ, ◌≤◌, List, ◌++◌, 
 use Rattle.std.proofs.Common.{length-append}
 use Rattle.wasm_bytes.specs.declared.cursor.Wrong.{Wrong}
 use Rattle.wasm_bytes.specs.declared.cursor.Wrong.TheVariants.{Short}
-use Rattle.wasm_bytes.specs.Prelude.{Takes, Took, last_unsigned, join_unsigned, IsBytes, sized_at, U32, Sized, ◌>>=◌}
+use Rattle.wasm_bytes.specs.Prelude.{Takes, TakesOff, last_unsigned, join_unsigned, IsBytes, sized_at, U32, Sized, ◌>>=◌}
 use Rattle.wasm_bytes.specs.Reading.{take_at, unsigned_at}
 use Rattle.wasm_bytes.proofs.NumberLaws.{reading_of_spelled, spelled_of_reading}
 use Rattle.wasm_bytes.proofs.Lists.{take_all, drop_all, halves, taken}
@@ -34,7 +34,7 @@ take_complete text rest =
 -- a content behind its length, whatever encodes the length
 module _ (encodes : List ℕ → ℕ → Type 0) (reader : List ℕ → Result (ℕ × List ℕ) Wrong) where
   pub content_sound : ((bytes : List ℕ) (n : ℕ) (rest : List ℕ) → IsBytes bytes → reader bytes ≡ Ok (n, rest) → Takes encodes bytes n rest) → (bytes content rest : List ℕ) → IsBytes bytes →
-      (reader bytes >>= (λ n. take_at n.0 n.1)) ≡ Ok (content, rest) → Took (λ t. (size : List ℕ) × encodes size (length content) × (t ≡ size ++ content)) bytes rest
+      (reader bytes >>= (λ n. take_at n.0 n.1)) ≡ Ok (content, rest) → TakesOff (λ t. (size : List ℕ) × encodes size (length content) × (t ≡ size ++ content)) bytes rest
   content_sound sound bytes content rest small e =
       let n = bind_ok (reader bytes) _ _ e in
       let size = sound bytes n.0.0 n.0.1 small n.1 in
@@ -47,7 +47,7 @@ module _ (encodes : List ℕ → ℕ → Type 0) (reader : List ℕ → Result (
       let e : text ++ rest ≡ h.0 ++ (content ++ rest) = ap (λ t. t ++ rest) h.2 ∙ append_assoc h.0 content rest in
       rw (e, complete h.0 (content ++ rest) (length content) h.1) (take_complete content rest)
 
-pub sized_sound : (bytes content rest : List ℕ) → IsBytes bytes → sized_at bytes ≡ Ok (content, rest) → Took (λ t. Sized t content) bytes rest
+pub sized_sound : (bytes content rest : List ℕ) → IsBytes bytes → sized_at bytes ≡ Ok (content, rest) → TakesOff (λ t. Sized t content) bytes rest
 sized_sound = content_sound U32 (unsigned_at 32) u32_sound
 
 pub sized_complete : (text rest content : List ℕ) → Sized text content → sized_at (text ++ rest) ≡ Ok (content, rest)

@@ -33,13 +33,13 @@ abbrev pub order_after : ℕ → ℕ → ℕ
 order_after last id = if id == 0 then last else section_order id
 
 -- The bytes are the frame of a section that may follow: its id, size and content.
-abbrev pub Frame : ℕ → List ℕ → Section → Type 0
-Frame last bytes s = IsTrue (may_follow last s.0) × ((sized : List ℕ) × Sized sized s.1 × (bytes ≡ s.0 ∷ sized))
+abbrev pub SectionFrame : ℕ → List ℕ → Section → Type 0
+SectionFrame last bytes s = IsTrue (may_follow last s.0) × ((sized : List ℕ) × Sized sized s.1 × (bytes ≡ s.0 ∷ sized))
 
 -- The bytes are frames of these sections, each of which may follow those before it.
 abbrev pub Frames : ℕ → List ℕ → List Section → Type 0
 Frames last bytes [] = bytes ≡ []
-Frames last bytes (s ∷ ss) = Then (λ b. Frame last b s) (λ b. Frames (order_after last s.0) b ss) bytes
+Frames last bytes (s ∷ ss) = Then (λ b. SectionFrame last b s) (λ b. Frames (order_after last s.0) b ss) bytes
 
 -- The bytes are a file with these sections.
 abbrev pub Framed : List ℕ → List Section → Type 0
@@ -53,7 +53,7 @@ last_of last (s ∷ ss) = last_of (order_after last s.0) ss
 -- After `n` good frames come bytes that do not begin with a frame that may follow.
 abbrev pub FirstBadFrame : ℕ → List ℕ → ℕ → Type 0
 FirstBadFrame last bytes n = (ss : List Section) × (front : List ℕ) × (back : List ℕ) × Frames last front ss × (length ss ≡ n) × (bytes ≡ front ++ back)
-    × (back ≢ []) × ((s : Section) (text : List ℕ) (rest : List ℕ) → Frame (last_of last ss) text s → back ≡ text ++ rest → ⊥)
+    × (back ≢ []) × ((s : Section) (text : List ℕ) (rest : List ℕ) → SectionFrame (last_of last ss) text s → back ≡ text ++ rest → ⊥)
 
 -- After the header come `n` good frames, and then a bad one.
 abbrev pub FirstBad : List ℕ → ℕ → Type 0

@@ -9,8 +9,8 @@ abbrev pub Then : (List ℕ → Type 0) → (List ℕ → Type 0) → List ℕ �
 Then P Q bytes = (front : List ℕ) × (back : List ℕ) × P front × Q back × (bytes ≡ front ++ back)
 
 -- The bytes begin with a list for which `P` holds, and `rest` follows it.
-abbrev pub Took : (List ℕ → Type 0) → List ℕ → List ℕ → Type 0
-Took P bytes rest = (text : List ℕ) × P text × (bytes ≡ text ++ rest)
+abbrev pub TakesOff : (List ℕ → Type 0) → List ℕ → List ℕ → Type 0
+TakesOff P bytes rest = (text : List ℕ) × P text × (bytes ≡ text ++ rest)
 
 abbrev pub U32 : List ℕ → ℕ → Type 0
 U32 = Unsigned 32

@@ -7,10 +7,10 @@ use Rattle.wasm_bytes.specs.declared.cursor.Wrong.TheVariants.{Short, Spelling}
 -- The bytes encode a number. `last bits b` is the value of a last byte `b` when `bits` bits are
 -- left, if it has one. `join b high` is that of a byte `b` followed by bytes of value `high`.
 module _ {V : Type 0} (last : ℕ → ℕ → Option V) (join : ℕ → V → V) where
-  abbrev pub Spells : ℕ → List ℕ → V → Type 0
-  Spells bits [] v = ⊥
-  Spells bits (b ∷ []) v = (b < 128) × (last bits b ≡ Some v)
-  Spells bits (b ∷ c ∷ bs) v = (128 ≤ b) × (b < 256) × (7 < bits) × (high : V) × (v ≡ join b high) × Spells (bits - 7) (c ∷ bs) high
+  abbrev pub SpellsNumber : ℕ → List ℕ → V → Type 0
+  SpellsNumber bits [] v = ⊥
+  SpellsNumber bits (b ∷ []) v = (b < 128) × (last bits b ≡ Some v)
+  SpellsNumber bits (b ∷ c ∷ bs) v = (128 ≤ b) × (b < 256) × (7 < bits) × (high : V) × (v ≡ join b high) × SpellsNumber (bits - 7) (c ∷ bs) high
 
 abbrev pub last_unsigned : ℕ → ℕ → Option ℕ
 last_unsigned bits b = if nat_lt b (2 ^ bits) then Some b else None
@@ -20,7 +20,7 @@ join_unsigned b high = (b - 128) + 128 * high
 
 -- The bytes encode the unsigned number of this many bits.
 abbrev pub Unsigned : ℕ → List ℕ → ℕ → Type 0
-Unsigned = Spells last_unsigned join_unsigned
+Unsigned = SpellsNumber last_unsigned join_unsigned
 
 -- Bit 6 is the sign, and the unused bits of the last byte copy it.
 abbrev pub last_signed : ℕ → ℕ → Option ℤ
@@ -37,7 +37,7 @@ join_signed b high = pos (b - 128) +ℤ (pos 128 *ℤ high)
 
 -- The bytes encode the signed number of this many bits.
 abbrev pub Signed : ℕ → List ℕ → ℤ → Type 0
-Signed = Spells last_signed join_signed
+Signed = SpellsNumber last_signed join_signed
 
 -- The bytes begin with an encoding of `v`, and `rest` follows it.
 abbrev pub Takes : {V : Type 0} → (List ℕ → V → Type 0) → List ℕ → V → List ℕ → Type 0

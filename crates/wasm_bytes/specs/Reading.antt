@@ -34,9 +34,9 @@ seen (Err e) = Err e
 
 -- A cursor's result and the bytes that it leaves are those of the reading function. An error leaves
 -- the bytes unchanged.
-abbrev pub Gives : {V : Type 0} → Result (V × List ℕ) Wrong → List ℕ → Result V Wrong → List ℕ → Type 0
-Gives (Ok r) old result new = (result ≡ Ok r.0) × (new ≡ r.1)
-Gives (Err e) old result new = (result ≡ Err e) × (new ≡ old)
+abbrev pub CursorGives : {V : Type 0} → Result (V × List ℕ) Wrong → List ℕ → Result V Wrong → List ℕ → Type 0
+CursorGives (Ok r) old result new = (result ≡ Ok r.0) × (new ≡ r.1)
+CursorGives (Err e) old result new = (result ≡ Err e) × (new ≡ old)
 
 -- Each number in the list is a byte.
 abbrev pub IsBytes : List ℕ → Type 0

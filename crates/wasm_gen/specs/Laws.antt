@@ -5,9 +5,9 @@ use Rattle.wasm_valid.specs.Prelude.{IsValid}
 use Rattle.wasm_gen.specs.Modules.{first_module, second_module}
 
 -- the module is valid and bounded
-abbrev pub IsSound : Module → Type 0
-IsSound m = IsValid m × IsBounded m
+abbrev pub IsValidAndBounded : Module → Type 0
+IsValidAndBounded m = IsValid m × IsBounded m
 
 -- both modules are sound, for each seed and for 1 to 100,000 functions
 abbrev pub SampleModulesAreValid : Type 0
-SampleModulesAreValid = (seed count : ℕ) → 1 ≤ count → count ≤ 100000 → IsSound (first_module seed count) × IsSound (second_module seed count)
+SampleModulesAreValid = (seed count : ℕ) → 1 ≤ count → count ≤ 100000 → IsValidAndBounded (first_module seed count) × IsValidAndBounded (second_module seed count)

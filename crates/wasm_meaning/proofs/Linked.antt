@@ -4,7 +4,7 @@ use Rattle.wasm_tree_spec.specs.Prelude.{Globals, Import, GlobalDef, ConstExpr, 
 use Rattle.wasm_tree.specs.declared.module.ConstExpr.TheVariants as const
 use Rattle.wasm_meaning.specs.Prelude.{PathStep, EndsWith, LeadsTo, Part, Site, End, Defined, Outside, Entity, Read, places, module_at, import_at, imports_of, has_kind, joined, imported_as, entity_step, joined_step, import_step, sites_in, sites_from, sites, end_of, initial, outside_read, global_import, end_step, read_step, initials_from, read_of}
 use Rattle.wasm_meaning.specs.Paths.{In, here, there}
-use Rattle.wasm_meaning.specs.Linking.{Leads, expr_step, Reads}
+use Rattle.wasm_meaning.specs.Linking.{LeadsToEnd, expr_step, Reads}
 use Rattle.wasm_meaning.proofs.Walks.{walk_is}
 
 in_front : {A : Type 0} {x : A} {xs : List A} (ys : List A) → In x xs → In x (xs ++ ys)
@@ -83,7 +83,7 @@ goes_to_import parts s t h = by (import_at parts s) h
     by None k = cc
     by (Some i) k = at_joined (joined parts i) k
 
-pub ends_are : (parts : List Part) (s : Site) (e : End) → Leads parts s e ↔ (end_of parts s ≡ Some e)
+pub ends_are : (parts : List Part) (s : Site) (e : End) → LeadsToEnd parts s e ↔ (end_of parts s ≡ Some e)
 ends_are parts = walk_is (import_step parts) (sites parts) (goes_to_import parts)
 
 -- ---- reads ----

@@ -1,7 +1,7 @@
 -- Laws of runs and of joining imports by name.
 use Rattle.std.proofs.Common.{◌≡◌, ℕ, ◌+◌, List, Some, ◌↔◌}
 use Rattle.wasm_tree_spec.specs.Prelude.{ConstExpr}
-use Rattle.wasm_meaning.specs.Linking.{Part, Site, End, Read, Leads, end_of, Reads, read_of}
+use Rattle.wasm_meaning.specs.Linking.{Part, Site, End, Read, LeadsToEnd, end_of, Reads, read_of}
 use Rattle.wasm_meaning.specs.Environment.{Environment}
 use Rattle.wasm_meaning.specs.World.{World}
 use Rattle.wasm_meaning.specs.Run.{Move, IsPrefix, events}
@@ -35,7 +35,7 @@ ShorterLoadedRunsArePrefixes = (w : LoaderWorld) (env : Environment) (moves : Li
 -- The end of an import is where its path of joined imports and exports leads. An import whose path
 -- does not end has no end.
 abbrev pub EndsArePaths : Type 0
-EndsArePaths = (parts : List Part) (s : Site) (e : End) → Leads parts s e ↔ (end_of parts s ≡ Some e)
+EndsArePaths = (parts : List Part) (s : Site) (e : End) → LeadsToEnd parts s e ↔ (end_of parts s ≡ Some e)
 
 -- A constant expression reads what its path through joined globals ends with.
 abbrev pub ReadsArePaths : Type 0

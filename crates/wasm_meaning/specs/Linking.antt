@@ -111,8 +111,8 @@ abbrev pub import_step : List Part → Site → Option (PathStep Site End)
 import_step parts s = import_at parts s >>= λ i. Some (joined_step parts s (joined parts i))
 
 -- A path of joined imports and exports leads from an import to its end.
-abbrev pub Leads : List Part → Site → End → Type 0
-Leads parts = Path (import_step parts)
+abbrev pub LeadsToEnd : List Part → Site → End → Type 0
+LeadsToEnd parts = Path (import_step parts)
 
 -- The places of `count` imports of a part, beginning with the position `from`.
 abbrev pub sites_in : (part count from : ℕ) → List Site

@@ -1,7 +1,7 @@
 -- What is read as a name map is one.
 use Rattle.base_lists.proofs.Common.{◌≡◌, ℕ, zero, suc, ◌+◌, ◌≤◌, List, [], ◌∷◌, ◌++◌, length, Ok, ⊎_elim, sym, ap, ◌∙◌, subst, arith, append-nil, le-ltb, eqb-true, IsStrictlyIncreasing, cond_is, bind_ok, ok_pair, err_ok, within_most}
 use Rattle.std.proofs.lemmas.List.{nil_from_length}
-use Rattle.wasm_bytes.specs.Prelude.{Took, U32, Named, Sized, Vector, IsBytes}
+use Rattle.wasm_bytes.specs.Prelude.{TakesOff, U32, Named, Sized, Vector, IsBytes}
 use Rattle.wasm_bytes.proofs.Lists.{small_rest}
 use Rattle.wasm_read_spec.specs.declared.fault.Fault.{Fault}
 use Rattle.wasm_read_spec.specs.declared.fault.Fault.TheVariants.{Malformed}
@@ -35,7 +35,7 @@ func_name_exact reads least = record {
       let two = (reads.names.sound i.0.1 t.0.0 t.0.1 (small_rest _ bytes i.0.1 small one) t.1).0 in
       let p = ok_pair {E = Fault} (record { index = i.0.0; name = t.0.0 }) n t.0.1 rest t.2 in
       let both = took_then (λ b. U32 b i.0.0) (λ b. Named b t.0.0) bytes i.0.1 t.0.1 one two in
-      (subst (Took (λ b. SpellsFuncName b n) bytes) p.1 (subst (λ (z : FuncName). Took (λ b. SpellsFuncName b z) bytes t.0.1) p.0 both), subst (NoLess least) p.0 le.0);
+      (subst (TakesOff (λ b. SpellsFuncName b n) bytes) p.1 (subst (λ (z : FuncName). TakesOff (λ b. SpellsFuncName b z) bytes t.0.1) p.0 both), subst (NoLess least) p.0 le.0);
   complete = λ text rest n h k. rw (split _ _ text rest h, reads.numbers.complete h.0 (h.1 ++ rest) n.index h.2 tt, le-ltb n.index least k, reads.names.complete h.1 rest n.name h.3 tt);
 }
 
@@ -71,7 +71,7 @@ func_names_exact reads = record {
       let n = bind_ok (u32_at bytes) _ _ e in
       let count = (reads.numbers.sound bytes n.0.0 n.0.1 small n.1).0 in
       let later = each_sound SpellsFuncName NoLess func_name_at least_after (func_name_exact reads) n.0.0 0 n.0.1 ns rest (small_rest _ bytes n.0.1 small count) n.2 in
-      (took_then (λ b. U32 b (length ns)) _ bytes n.0.1 rest (subst (λ k. Took (λ b. U32 b k) bytes n.0.1) later.1 count) later.0, rising 0 ns later.2);
+      (took_then (λ b. U32 b (length ns)) _ bytes n.0.1 rest (subst (λ k. TakesOff (λ b. U32 b k) bytes n.0.1) later.1 count) later.0, rising 0 ns later.2);
   complete = λ text rest ns h k.
       rw (split _ _ text rest h, reads.numbers.complete h.0 (h.1 ++ rest) (length ns) h.2 tt, each_complete SpellsFuncName NoLess func_name_at least_after (func_name_exact reads) ns 0 h.1 rest h.3 (all_ascending ns k));
 }

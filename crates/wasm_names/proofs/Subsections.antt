@@ -1,7 +1,7 @@
 -- What is read of the subsections of a name section is what they spell.
 use Rattle.base_lists.proofs.Common.{◌≡◌, ◌≢◌, ℕ, zero, suc, ◌≤◌, List, [], ◌∷◌, ◌++◌, length, Option, Some, None, Ok, Err, Bool, true, false, refl, sym, ap, ◌∙◌, subst, arith, append-nil, Bor, ◌==◌, is_some, option_to_list, bind_ok, ok_pair}
 use Rattle.std.proofs.Common.{length-append}
-use Rattle.wasm_bytes.specs.Prelude.{Took, Section, Each, ◌>>=◌, IsBytes}
+use Rattle.wasm_bytes.specs.Prelude.{TakesOff, Section, Each, ◌>>=◌, IsBytes}
 use Rattle.wasm_bytes.specs.declared.cursor.Wrong.{Wrong}
 use Rattle.wasm_bytes.specs.Reading.{byte_at}
 use Rattle.wasm_bytes.proofs.Lists.{small_rest}
@@ -47,7 +47,7 @@ one_map_sound reads (suc fuel) found (b ∷ bs) r small e =
     let t = (reads.sized.sound bs s.0.0 s.0.1 (λ i. small (suc i)) s.1).0 in
     let next = bind_ok (found_after found (b, s.0.0)) _ _ s.2 in
     let later = one_map_sound reads fuel next.0 s.0.1 r (small_rest _ bs s.0.1 (λ i. small (suc i)) t) next.2 in
-    let first : Took (λ z. SpellsSubsection z (b, s.0.0)) (b ∷ bs) s.0.1 = (b ∷ t.0, (b ∷ [], t.0, refl, t.1, refl), ap (λ z. b ∷ z) t.2) in
+    let first : TakesOff (λ z. SpellsSubsection z (b, s.0.0)) (b ∷ bs) s.0.1 = (b ∷ t.0, (b ∷ [], t.0, refl, t.1, refl), ap (λ z. b ∷ z) t.2) in
     ((b, s.0.0) ∷ later.0, (first.0, s.0.1, first.1, later.1, first.2), found_step found next.0 (b, s.0.0) later.0 r next.1 later.2)
 
 pub one_map_complete : ReadsExactly → (fuel : ℕ) (found : Option (List ℕ)) (bytes : List ℕ) (ss : List Section) (r : Option (List ℕ)) → length bytes ≤ fuel → Each SpellsSubsection bytes ss → IsFound found (func_name_maps ss) r → name_map_at fuel found bytes ≡ Ok r

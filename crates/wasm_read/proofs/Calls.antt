@@ -5,11 +5,11 @@ use Rattle.wasm_tree_spec.specs.Prelude.{Module, IsBounded, memory_zero_funcs}
 use Rattle.wasm_read_spec.specs.declared.fault.ReadFault.{ReadFault}
 use Rattle.wasm_read_spec.specs.declared.fault.ReadFault.TheVariants.{NoMemory, NotModule, Malformed, MalformedBody, Unsupported, Limit}
 use Rattle.wasm_read_spec.specs.Prelude.{Spells, Within, read_at, read_fault, Cause}
-use Rattle.wasm_read_spec.specs.Contents.{Fails, GivesAll, fault_of}
+use Rattle.wasm_read_spec.specs.Contents.{FileFails, FileGivesAll, fault_of}
 use Rattle.wasm_read_spec.proofs.FileLaws.{told}
 use Rattle.wasm_read.specs.Told.{Told}
 
-fault_is : {A : Type 0} (e : ReadFault) (r : Result A ReadFault) → Fails e r → (e ≡ NoMemory) ⊎ (r ≡ Err e)
+fault_is : {A : Type 0} (e : ReadFault) (r : Result A ReadFault) → FileFails e r → (e ≡ NoMemory) ⊎ (r ≡ Err e)
 fault_is NoMemory r h = inl refl
 fault_is NotModule r h = inr h
 fault_is (Malformed s) r h = inr h
@@ -19,20 +19,20 @@ fault_is (Limit w) r h = inr h
 
 -- a tree is read exactly where it is spelled within the limits
 module _ (files : (many : Bool) (bytes : List ℕ) (m : Module) → IsBytes bytes → (read_at many bytes ≡ Ok m) ↔ (Spells bytes m many × Within bytes many)) (many : Bool) (bytes : List ℕ) (small : IsBytes bytes) where
-  pub call_found : (r : Result Module ReadFault) → GivesAll r (read_at many bytes) → IfOk r (λ m. Spells bytes m many × Within bytes many)
+  pub call_found : (r : Result Module ReadFault) → FileGivesAll r (read_at many bytes) → IfOk r (λ m. Spells bytes m many × Within bytes many)
   call_found (Ok m) g = (files many bytes m small).0 g
   call_found (Err e) g = tt
 
-  pub call_only : (r : Result Module ReadFault) → GivesAll r (read_at many bytes) → (m : Module) → Spells bytes m many → Within bytes many → (r ≡ Ok m) ⊎ (r ≡ Err NoMemory)
+  pub call_only : (r : Result Module ReadFault) → FileGivesAll r (read_at many bytes) → (m : Module) → Spells bytes m many → Within bytes many → (r ≡ Ok m) ⊎ (r ≡ Err NoMemory)
   call_only (Ok q) g m h k = let e = sym g ∙ (files many bytes m small).1 (h, k) in inl e
   call_only (Err e) g m h k = ⊎_elim (λ n. inr (ap Err n)) (λ n. absurd (let t = sym n ∙ (files many bytes m small).1 (h, k) in cc)) (fault_is e (read_at many bytes) g)
 
 module _ (many : Bool) (bytes : List ℕ) where
-  pub call_fault : (r : Result Module ReadFault) → GivesAll r (read_at many bytes) → IfErr r (λ e. (e ≡ NoMemory) ⊎ (read_fault bytes many ≡ Some e))
+  pub call_fault : (r : Result Module ReadFault) → FileGivesAll r (read_at many bytes) → IfErr r (λ e. (e ≡ NoMemory) ⊎ (read_fault bytes many ≡ Some e))
   call_fault (Ok q) g = tt
   call_fault (Err e) g = ⊎_elim inl (λ n. inr (ap fault_of n)) (fault_is e (read_at many bytes) g)
 
-  pub call_first : (r : Result Module ReadFault) → GivesAll r (read_at many bytes) → (e : ReadFault) → read_fault bytes many ≡ Some e → (r ≡ Err e) ⊎ (r ≡ Err NoMemory)
+  pub call_first : (r : Result Module ReadFault) → FileGivesAll r (read_at many bytes) → (e : ReadFault) → read_fault bytes many ≡ Some e → (r ≡ Err e) ⊎ (r ≡ Err NoMemory)
   call_first (Ok q) g e h = absurd (let t = sym g ∙ told (read_at many bytes) e h in cc)
   call_first (Err w) g e h = ⊎_elim (λ n. inr (ap Err n)) (λ n. inl (sym n ∙ told (read_at many bytes) e h)) (fault_is w (read_at many bytes) g)
 
@@ -50,7 +50,7 @@ found_zero law bytes (Err e) h = tt
 
 -- a fault is answered exactly where its cause holds
 pub told_by : (bytes : List ℕ) (r : Result Module ReadFault) → IsBytes bytes → ((bytes : List ℕ) (many : Bool) (e : ReadFault) → IsBytes bytes → (read_fault bytes many ≡ Some e) ↔ Cause bytes many e) →
-    GivesAll r (read_at false bytes) → (e : ReadFault) → (e ≡ NoMemory → ⊥) → Told r e (Cause bytes false e)
+    FileGivesAll r (read_at false bytes) → (e : ReadFault) → (e ≡ NoMemory → ⊥) → Told r e (Cause bytes false e)
 told_by bytes r small law gives e some = (
   λ h. ⊎_elim (λ none. absurd (some none)) (λ f. (law bytes false e small).0 f) (of_err r h (call_fault false bytes r gives)),
   λ h. call_first false bytes r gives e ((law bytes false e small).1 h),

@@ -7,7 +7,7 @@ use Rattle.wasm_read_spec.specs.declared.fault.ReadFault.{ReadFault}
 use Rattle.wasm_read_spec.specs.declared.fault.ReadFault.TheVariants.{NoMemory, NotModule, Malformed, MalformedBody, Unsupported, Limit}
 use Rattle.wasm_read_spec.specs.declared.parts.Parts.{Parts}
 use Rattle.wasm_read_spec.specs.Prelude.{section_at, typed}
-use Rattle.wasm_read_spec.specs.Contents.{Fails, contents_at}
+use Rattle.wasm_read_spec.specs.Contents.{FileFails, contents_at}
 
 pub drop_some : {A : Type 0} (xs : List A) (i : ℕ) (d : A) → i < length xs → drop i xs ≡ get_or xs i d ∷ drop (i + 1) xs
 drop_some [] i d lt = absurd (omega arith)
@@ -16,7 +16,7 @@ drop_some (y ∷ ys) (suc i) d lt = let j : suc i + 1 ≡ suc (i + 1) = omega ar
 
 -- ---- faults
 
-fails_in_through : {A B : Type 0} (e : ReadFault) (r : Result A ReadFault) (f : A → Result B ReadFault) → Fails e r → Fails e (r >>= f)
+fails_in_through : {A B : Type 0} (e : ReadFault) (r : Result A ReadFault) (f : A → Result B ReadFault) → FileFails e r → FileFails e (r >>= f)
 fails_in_through NoMemory r f h = tt
 fails_in_through NotModule r f h = rw h
 fails_in_through (Malformed s) r f h = rw h
@@ -32,10 +32,10 @@ module _ (many : Bool) (bytes : List ℕ) (fs : List Place) (whole : Result Part
   unfolding contents_at
   contents_more i k d p q lt same e h = let f : section_at many i p (framed bytes (get_or fs i d)) ≡ Ok q = subst (λ j. section_at many j p (framed bytes (get_or fs i d)) ≡ Ok q) same e in h ∙ rw (drop_some fs i d lt, f)
 
-  pub contents_stop : (i k : ℕ) (d : Place) (p : Parts) (e : ReadFault) → i < length fs → k ≡ i → Fails e (section_at many k p (framed bytes (get_or fs i d))) →
-      whole ≡ contents_at many i p (framed_all bytes (drop i fs)) → Fails e whole
+  pub contents_stop : (i k : ℕ) (d : Place) (p : Parts) (e : ReadFault) → i < length fs → k ≡ i → FileFails e (section_at many k p (framed bytes (get_or fs i d))) →
+      whole ≡ contents_at many i p (framed_all bytes (drop i fs)) → FileFails e whole
   unfolding contents_at
-  contents_stop i k d p e lt same bad h = subst (Fails e) (sym h) (rw (drop_some fs i d lt) (fails_in_through e (section_at many i p (framed bytes (get_or fs i d))) _ (subst (λ j. Fails e (section_at many j p (framed bytes (get_or fs i d)))) same bad)))
+  contents_stop i k d p e lt same bad h = subst (FileFails e) (sym h) (rw (drop_some fs i d lt) (fails_in_through e (section_at many i p (framed bytes (get_or fs i d))) _ (subst (λ j. FileFails e (section_at many j p (framed bytes (get_or fs i d)))) same bad)))
 
   pub contents_end : (i : ℕ) (p : Parts) → length fs ≤ i → whole ≡ contents_at many i p (framed_all bytes (drop i fs)) → whole ≡ Ok p
   unfolding contents_at

@@ -5,7 +5,7 @@ ghost use Rattle.wasm_tree.specs.declared.which.Which.TheVariants.{Imports};
 ghost use Rattle.wasm_read_spec.specs.Bodies.{code_in, code_read, codes_read};
 ghost use Rattle.wasm_read_spec.specs.Files.{untyped};
 ghost use Rattle.wasm_read_spec.specs.Reading.{each_from};
-ghost use Rattle.wasm_read_spec.specs.Contents.{placed, Gives, GivesAll, entry_at, next_func, codes_at};
+ghost use Rattle.wasm_read_spec.specs.Contents.{placed, FileGives, FileGivesAll, entry_at, next_func, codes_at};
 
 use std::alloc::Global;
 use wasm_bytes::{Cursor, Items};
@@ -39,7 +39,7 @@ fn read_entry(
     func: u32,
     pile: &mut Pile,
 ) -> Result<Func, ReadFault>
-    ensures gives { Gives (code_read result) cursor.new (entry_at many section func cursor.old) }
+    ensures gives { FileGives (code_read result) cursor.new (entry_at many section func cursor.old) }
     ensures no_type { IfOk result (λ f. f.ty ≡ 0) }
     ensures uses { IfOk result (λ f. pile.new.uses_data ≡ (pile.old.uses_data || uses_data f.body)) }
 {
@@ -65,7 +65,7 @@ fn read_entries(
     pile: &mut Pile,
 ) -> Result<Items<Func>, ReadFault>
     requires { first + count < 2 ^ 32 }
-    ensures gives { Gives (codes_read result) cursor.new (each_from (entry_at many section) next_func count first cursor.old) }
+    ensures gives { FileGives (codes_read result) cursor.new (each_from (entry_at many section) next_func count first cursor.old) }
     ensures no_types { IfOk result (λ fs. map untyped (map code_in fs) ≡ fs) }
     ensures uses { IfOk result (λ fs. pile.new.uses_data ≡ (pile.old.uses_data || any_uses_data fs)) }
 {
@@ -91,7 +91,7 @@ pub fn read_codes(
     pile: &mut Pile,
 ) -> Result<Items<Func>, ReadFault>
     requires { first ≤ limit Imports }
-    ensures gives { GivesAll (codes_read result) (codes_at many section first content.now) }
+    ensures gives { FileGivesAll (codes_read result) (codes_at many section first content.now) }
     ensures no_types { IfOk result (λ fs. map untyped (map code_in fs) ≡ fs) }
     ensures uses { IfOk result (λ fs. pile.new.uses_data ≡ (pile.old.uses_data || any_uses_data fs)) }
 {

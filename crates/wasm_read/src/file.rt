@@ -12,7 +12,7 @@ ghost use Rattle.wasm_tree.specs.declared.which.Which.{Which as SomeWhich};
 ghost use Rattle.wasm_read_spec.specs.Stops.{NotSupported, Over};
 ghost use Rattle.wasm_read_spec.specs.Causes.{Cause, SectionStops, EntryStops, MalformedSection, MalformedEntry, FaultyWhole};
 ghost use Rattle.wasm_read_spec.specs.Files.{nothing, tree_of, Spells, Within};
-ghost use Rattle.wasm_read_spec.specs.Contents.{GivesAll, contents_at, read_at, read_fault};
+ghost use Rattle.wasm_read_spec.specs.Contents.{FileGivesAll, contents_at, read_at, read_fault};
 ghost use Rattle.wasm_read.specs.Views.{GivesFramed, GivesParts};
 ghost use Rattle.wasm_read.specs.Told.{Told};
 
@@ -115,7 +115,7 @@ fn tree(parts: Parts) -> Module
 #[tactic(auto, unfolding(wasm_read_spec::specs::Contents::parts_at, wasm_read_spec::specs::Contents::read_at))]
 fn read_file(alloc: Global, bytes: &[u8], many: bool) -> Result<Module, ReadFault>
     requires { length bytes.now < 2 ^ 32 }
-    ensures gives { GivesAll result (read_at many bytes.now) }
+    ensures gives { FileGivesAll result (read_at many bytes.now) }
     ensures bytes { IsBytes bytes.now }
 {
     let all = frame_list(alloc, bytes)?;

@@ -1,7 +1,7 @@
 -- Reading a sequence finds the tree that the tokens nest to, and nothing else.
 use Rattle.base_lists.proofs.Common.{◌≡◌, ℕ, zero, suc, ◌<◌, ◌≤◌, List, [], ◌∷◌, ◌++◌, length, Ok, Err, Bool, true, false, cond, refl, sym, ap, ◌∙◌, subst, arith, append_assoc, append-nil, inl, inr, ⊎_elim, ◌⊎◌, eqb-suc-zero, bind_ok, ok_pair, err_ok}
 use Rattle.std.proofs.Common.{length-append}
-use Rattle.wasm_bytes.specs.Prelude.{Took, Then, Each, IsBytes}
+use Rattle.wasm_bytes.specs.Prelude.{TakesOff, Then, Each, IsBytes}
 use Rattle.wasm_bytes.proofs.Lists.{small_rest}
 use Rattle.wasm_tree_spec.specs.Prelude.{BlockType, Instr, Block, Loop, If, Nesting, limit}
 use Rattle.wasm_read_spec.specs.declared.fault.Fault.{Fault}
@@ -155,11 +155,11 @@ module _ (many : Bool) where
 
   -- the bytes begin with tokens that nest to the items, and with the token that ends them
   abbrev pub Found : ℕ → List ℕ → Sequence → List ℕ → Type 0
-  Found d bytes s rest = (ts : List Token) × NestsIn d ts s.items × Took (λ text. Each (SpellsToken many) text (ts ++ ender s.by_else ∷ [])) bytes rest
+  Found d bytes s rest = (ts : List Token) × NestsIn d ts s.items × TakesOff (λ text. Each (SpellsToken many) text (ts ++ ender s.by_else ∷ [])) bytes rest
 
   -- the bytes begin with tokens that with an opening one before them are the instruction, whatever follows
   abbrev pub Node : ℕ → Opener → BlockType → Instr → List ℕ → List ℕ → Type 0
-  Node d k ty i bytes rest = (mid : List Token) × ((ts : List Token) (is : List Instr) → NestsIn d ts is → NestsIn d (Open k ty ∷ (mid ++ ts)) (i ∷ is)) × Took (λ text. Each (SpellsToken many) text mid) bytes rest
+  Node d k ty i bytes rest = (mid : List Token) × ((ts : List Token) (is : List Instr) → NestsIn d ts is → NestsIn d (Open k ty ∷ (mid ++ ts)) (i ∷ is)) × TakesOff (λ text. Each (SpellsToken many) text mid) bytes rest
 
   behind_ok : (a : List Instr) (r : ReadResult Sequence) (s : Sequence) (rest : List ℕ) → behind a r ≡ Ok (s, rest) → (t : Sequence) × (r ≡ Ok (t, rest)) × (record { items = a ++ t.items; by_else = t.by_else } ≡ s)
   behind_ok a (Ok p) s rest e = let q = ok_pair {E = Fault} _ s p.1 rest e in (p.0, ap (λ xs. Ok (p.0, xs)) q.1, q.0)
@@ -174,16 +174,16 @@ module _ (many : Bool) where
   armed false x y z e = inr (refl, e)
 
   -- the tokens and the end
-  pub ended : (d : ℕ) (bytes : List ℕ) (s : Sequence) (rest : List ℕ) (b : Bool) (f : Found d bytes s rest) → s.by_else ≡ b → Took (λ text. Each (SpellsToken many) text (f.0 ++ ender b ∷ [])) bytes rest
-  ended d bytes s rest b f e = subst (λ c. Took (λ text. Each (SpellsToken many) text (f.0 ++ ender c ∷ [])) bytes rest) e f.2
+  pub ended : (d : ℕ) (bytes : List ℕ) (s : Sequence) (rest : List ℕ) (b : Bool) (f : Found d bytes s rest) → s.by_else ≡ b → TakesOff (λ text. Each (SpellsToken many) text (f.0 ++ ender b ∷ [])) bytes rest
+  ended d bytes s rest b f e = subst (λ c. TakesOff (λ text. Each (SpellsToken many) text (f.0 ++ ender c ∷ [])) bytes rest) e f.2
 
-  pub took_join : (a b : List Token) (bytes mid rest : List ℕ) → Took (λ t. Each (SpellsToken many) t a) bytes mid → Took (λ t. Each (SpellsToken many) t b) mid rest → Took (λ t. Each (SpellsToken many) t (a ++ b)) bytes rest
+  pub took_join : (a b : List Token) (bytes mid rest : List ℕ) → TakesOff (λ t. Each (SpellsToken many) t a) bytes mid → TakesOff (λ t. Each (SpellsToken many) t b) mid rest → TakesOff (λ t. Each (SpellsToken many) t (a ++ b)) bytes rest
   took_join a b bytes mid rest p q = (p.0 ++ q.0, tokens_join a b p.0 q.0 p.1 q.1, p.2 ∙ ap (λ xs. p.0 ++ xs) q.2 ∙ sym (append_assoc p.0 q.0 rest))
 
   place : (d : ℕ) (k : Opener) (ty : BlockType) (x i : Instr) (a b : List Token) (is : List Instr) → a ≡ b → x ≡ i → NestsIn d (Open k ty ∷ b) (x ∷ is) → NestsIn d (Open k ty ∷ a) (i ∷ is)
   place d k ty x i a b is p q n = rw (p, ← q) n
 
-  pub one_token : (t : Token) (bytes rest : List ℕ) → Took (λ x. SpellsToken many x t) bytes rest → Took (λ x. Each (SpellsToken many) x (t ∷ [])) bytes rest
+  pub one_token : (t : Token) (bytes rest : List ℕ) → TakesOff (λ x. SpellsToken many x t) bytes rest → TakesOff (λ x. Each (SpellsToken many) x (t ∷ [])) bytes rest
   one_token t bytes rest k = (k.0, (k.0, [], k.1, refl, sym (append-nil k.0)), k.2)
 
   module _ (next : ℕ → List ℕ → ReadResult Sequence) (ih : (d : ℕ) (bytes : List ℕ) (s : Sequence) (rest : List ℕ) → IsBytes bytes → next d bytes ≡ Ok (s, rest) → Found d bytes s rest) where
@@ -194,12 +194,12 @@ module _ (many : Bool) where
         let r = bind_ok (next d bytes) _ _ e in
         let c = closed_by r.0.0.by_else (Block ty r.0.0.items) i r.0.1 rest r.2 in
         let f = ih d bytes r.0.0 r.0.1 small r.1 in
-        (f.0 ++ End ∷ [], λ ts is n. place (suc d) opener.Block ty (Block ty r.0.0.items) i _ _ is (append_assoc f.0 (End ∷ []) ts) c.1 (one_block ty f.1 n), subst (Took _ bytes) c.2 (ended d bytes r.0.0 r.0.1 false f c.0))
+        (f.0 ++ End ∷ [], λ ts is n. place (suc d) opener.Block ty (Block ty r.0.0.items) i _ _ is (append_assoc f.0 (End ∷ []) ts) c.1 (one_block ty f.1 n), subst (TakesOff _ bytes) c.2 (ended d bytes r.0.0 r.0.1 false f c.0))
     block_sound (suc d) opener.Loop ty bytes i rest small e =
         let r = bind_ok (next d bytes) _ _ e in
         let c = closed_by r.0.0.by_else (Loop ty r.0.0.items) i r.0.1 rest r.2 in
         let f = ih d bytes r.0.0 r.0.1 small r.1 in
-        (f.0 ++ End ∷ [], λ ts is n. place (suc d) opener.Loop ty (Loop ty r.0.0.items) i _ _ is (append_assoc f.0 (End ∷ []) ts) c.1 (one_loop ty f.1 n), subst (Took _ bytes) c.2 (ended d bytes r.0.0 r.0.1 false f c.0))
+        (f.0 ++ End ∷ [], λ ts is n. place (suc d) opener.Loop ty (Loop ty r.0.0.items) i _ _ is (append_assoc f.0 (End ∷ []) ts) c.1 (one_loop ty f.1 n), subst (TakesOff _ bytes) c.2 (ended d bytes r.0.0 r.0.1 false f c.0))
     block_sound (suc d) opener.If ty bytes i rest small e =
         let r = bind_ok (next d bytes) _ _ e in
         let f = ih d bytes r.0.0 r.0.1 small r.1 in
@@ -212,20 +212,20 @@ module _ (many : Bool) where
         let second = ended d r.0.1 o.0.0 o.0.1 false g c.0 in (
           (f.0 ++ Else ∷ []) ++ (g.0 ++ End ∷ []),
           λ ts is n. place (suc d) opener.If ty (If ty r.0.0.items o.0.0.items) i _ _ is (four f.0 g.0 ts) c.1 (one_if_else ty f.1 g.1 n),
-          subst (Took _ bytes) c.2 (took_join (f.0 ++ Else ∷ []) (g.0 ++ End ∷ []) bytes r.0.1 o.0.1 first second),
+          subst (TakesOff _ bytes) c.2 (took_join (f.0 ++ Else ∷ []) (g.0 ++ End ∷ []) bytes r.0.1 o.0.1 first second),
         ))
         (λ a.
         let q = ok_pair {E = Fault} (If ty r.0.0.items []) i r.0.1 rest a.1 in
-        (f.0 ++ End ∷ [], λ ts is n. place (suc d) opener.If ty (If ty r.0.0.items []) i _ _ is (append_assoc f.0 (End ∷ []) ts) q.0 (one_if ty f.1 n), subst (Took _ bytes) q.1 (ended d bytes r.0.0 r.0.1 false f a.0)))
+        (f.0 ++ End ∷ [], λ ts is n. place (suc d) opener.If ty (If ty r.0.0.items []) i _ _ is (append_assoc f.0 (End ∷ []) ts) q.0 (one_if ty f.1 n), subst (TakesOff _ bytes) q.1 (ended d bytes r.0.0 r.0.1 false f a.0)))
         (armed r.0.0.by_else _ _ _ r.2)
 
-    token_step : (d : ℕ) (t : Token) (bytes mid : List ℕ) (s : Sequence) (rest : List ℕ) → IsBytes mid → Took (λ text. SpellsToken many text t) bytes mid → after_token next d t mid ≡ Ok (s, rest) → Found d bytes s rest
+    token_step : (d : ℕ) (t : Token) (bytes mid : List ℕ) (s : Sequence) (rest : List ℕ) → IsBytes mid → TakesOff (λ text. SpellsToken many text t) bytes mid → after_token next d t mid ≡ Ok (s, rest) → Found d bytes s rest
     token_step d End bytes mid s rest small took e =
         let q = ok_pair {E = Fault} _ s mid rest e in
-        subst (λ x. Found d bytes x rest) q.0 ([], no_more, subst (Took _ bytes) q.1 (one_token End bytes mid took))
+        subst (λ x. Found d bytes x rest) q.0 ([], no_more, subst (TakesOff _ bytes) q.1 (one_token End bytes mid took))
     token_step d Else bytes mid s rest small took e =
         let q = ok_pair {E = Fault} _ s mid rest e in
-        subst (λ x. Found d bytes x rest) q.0 ([], no_more, subst (Took _ bytes) q.1 (one_token Else bytes mid took))
+        subst (λ x. Found d bytes x rest) q.0 ([], no_more, subst (TakesOff _ bytes) q.1 (one_token Else bytes mid took))
     token_step d (Plain i) bytes mid s rest small took e =
         let b = behind_ok (i ∷ []) (next d mid) s rest e in
         let f = ih d mid b.0 rest small b.1 in
@@ -239,7 +239,7 @@ module _ (many : Bool) where
         let inside = took_join node.0 (f.0 ++ ender b.0.by_else ∷ []) mid r.0.1 rest node.2 f.2 in
         let whole = took_join (Open k ty ∷ []) (node.0 ++ (f.0 ++ ender b.0.by_else ∷ [])) bytes mid rest (one_token (Open k ty) bytes mid took) inside in
         subst (λ x. Found d bytes x rest) b.2
-        (Open k ty ∷ (node.0 ++ f.0), node.1 f.0 b.0.items f.1, subst (λ ts. Took (λ text. Each (SpellsToken many) text (Open k ty ∷ ts)) bytes rest) (sym (append_assoc node.0 f.0 (ender b.0.by_else ∷ []))) whole)
+        (Open k ty ∷ (node.0 ++ f.0), node.1 f.0 b.0.items f.1, subst (λ ts. TakesOff (λ text. Each (SpellsToken many) text (Open k ty ∷ ts)) bytes rest) (sym (append_assoc node.0 f.0 (ender b.0.by_else ∷ []))) whole)
 
   pub sequence_sound : (n d : ℕ) (bytes : List ℕ) (s : Sequence) (rest : List ℕ) → IsBytes bytes → sequence_at many n d bytes ≡ Ok (s, rest) → Found d bytes s rest
   unfolding sequence_at

@@ -1,7 +1,7 @@
 -- Reading a body tells the stops of its bytes, and no others; and so does reading what is inside an entry.
 use Rattle.base_lists.proofs.Common.{◌≡◌, ℕ, zero, suc, ◌≤◌, List, [], ◌∷◌, ◌++◌, length, Result, Ok, Err, Bool, true, false, cond, ◌⊎◌, inl, inr, ⊎_elim, refl, sym, ap, ◌∙◌, subst, arith, append_assoc, ◌==◌, cond_is}
 use Rattle.std.proofs.Common.{length-append}
-use Rattle.wasm_bytes.specs.Prelude.{Took, Then, Each, ◌>>=◌, IsBytes}
+use Rattle.wasm_bytes.specs.Prelude.{TakesOff, Then, Each, ◌>>=◌, IsBytes}
 use Rattle.wasm_bytes.proofs.Lists.{small_rest}
 use Rattle.wasm_tree_spec.specs.Prelude.{BlockType, Instr, Block, Loop, If, Nesting, limit}
 use Rattle.wasm_read_spec.specs.declared.fault.Fault.{Fault}
@@ -79,19 +79,19 @@ module _ (many : Bool) where
   closed_err : (make : List Instr → Instr) (s : Sequence × List ℕ) (e : Fault) → closed make s ≡ Err e → e ≡ Malformed
   closed_err make (s, rest) e h = one_of s.by_else (make s.items, rest) e h
 
-  join_tokens : (a b : List Token) (Q : List ℕ → Type 0) (bytes rest : List ℕ) → Took (Tokens a) bytes rest → Then (Tokens b) Q rest → Then (Tokens (a ++ b)) Q bytes
+  join_tokens : (a b : List Token) (Q : List ℕ → Type 0) (bytes rest : List ℕ) → TakesOff (Tokens a) bytes rest → Then (Tokens b) Q rest → Then (Tokens (a ++ b)) Q bytes
   join_tokens a b Q bytes rest t h = (t.0 ++ h.0, h.1, tokens_join many a b t.0 h.0 t.1 h.2, h.3, t.2 ∙ ap (λ z. t.0 ++ z) h.4 ∙ sym (append_assoc t.0 h.0 h.1))
 
   -- behind an instruction
-  carried : (d : ℕ) (front : List Token) (i : Instr) → ((ts : List Token) (is : List Instr) → NestsIn d ts is → NestsIn d (front ++ ts) (i ∷ is)) → (bytes rest : List ℕ) (s : Stop) → Took (Tokens front) bytes rest → StopsIn d s rest → StopsIn d s bytes
+  carried : (d : ℕ) (front : List Token) (i : Instr) → ((ts : List Token) (is : List Instr) → NestsIn d ts is → NestsIn d (front ++ ts) (i ∷ is)) → (bytes rest : List ℕ) (s : Stop) → TakesOff (Tokens front) bytes rest → StopsIn d s rest → StopsIn d s bytes
   carried d front i g bytes rest s t h = (front ++ h.0, h.1, further front i g h.2, join_tokens front h.0 _ bytes rest t h.3)
 
   -- inside a block
-  entered : (d : ℕ) (k : Opener) (ty : BlockType) (bytes rest : List ℕ) (s : Stop) → Took (λ x. SpellsToken many x (Open k ty)) bytes rest → StopsIn d s rest → StopsIn (suc d) s bytes
+  entered : (d : ℕ) (k : Opener) (ty : BlockType) (bytes rest : List ℕ) (s : Stop) → TakesOff (λ x. SpellsToken many x (Open k ty)) bytes rest → StopsIn d s rest → StopsIn (suc d) s bytes
   entered d k ty bytes rest s t h = (Open k ty ∷ h.0, h.1, inside k ty no_more h.2, join_tokens (Open k ty ∷ []) h.0 _ bytes rest (one_token many (Open k ty) bytes rest t) h.3)
 
   -- behind the else of an if
-  entered_else : (d : ℕ) (ty : BlockType) (bytes mid rest : List ℕ) (arm : List Token) (js : List Instr) (s : Stop) → Took (λ x. SpellsToken many x (Open opener.If ty)) bytes mid → NestsIn d arm js → Took (Tokens (arm ++ Else ∷ [])) mid rest → StopsIn d s rest → StopsIn (suc d) s bytes
+  entered_else : (d : ℕ) (ty : BlockType) (bytes mid rest : List ℕ) (arm : List Token) (js : List Instr) (s : Stop) → TakesOff (λ x. SpellsToken many x (Open opener.If ty)) bytes mid → NestsIn d arm js → TakesOff (Tokens (arm ++ Else ∷ [])) mid rest → StopsIn d s rest → StopsIn (suc d) s bytes
   entered_else d ty bytes mid rest arm js s t n u h =
       let first = one_token many (Open opener.If ty) bytes mid t in
       let both = took_join many (Open opener.If ty ∷ []) (arm ++ Else ∷ []) bytes mid rest first u in
@@ -99,7 +99,7 @@ module _ (many : Bool) where
       (Open opener.If ty ∷ (arm ++ Else ∷ h.0), h.1, behind_else ty no_more n h.2, subst (λ z. Then (Tokens z) (λ b. TokenStops s b ⊎ NestingStops many h.1 s b) bytes) same (join_tokens (Open opener.If ty ∷ (arm ++ Else ∷ [])) h.0 _ bytes rest both h.3))
 
   module _ (n : ℕ) (ih : (d : ℕ) (bytes : List ℕ) (e : Fault) → IsBytes bytes → sequence_at many n d bytes ≡ Err e → Known (λ s. StopsIn d s bytes) e) where
-    block_found : (d : ℕ) (k : Opener) (ty : BlockType) (bytes mid : List ℕ) (e : Fault) → IsBytes mid → Took (λ x. SpellsToken many x (Open k ty)) bytes mid → block_at (sequence_at many n) d k ty mid ≡ Err e → Known (λ s. StopsIn d s bytes) e
+    block_found : (d : ℕ) (k : Opener) (ty : BlockType) (bytes mid : List ℕ) (e : Fault) → IsBytes mid → TakesOff (λ x. SpellsToken many x (Open k ty)) bytes mid → block_at (sequence_at many n) d k ty mid ≡ Err e → Known (λ s. StopsIn d s bytes) e
     unfolding block_at
     block_found zero k ty bytes mid e small t h =
         inr (Over Nesting, sym (same_err {A = Instr × List ℕ} (Limit Nesting) e h), ([], zero, nests no_more, ([], bytes, refl, inr (k, ty, (t.0, mid, t.1, tt, t.2), refl, refl), refl)))
@@ -108,7 +108,7 @@ module _ (many : Bool) where
         (λ good. end_found k good.0.0 good.0.1 good.1 t good.2)
         (bind_err (sequence_at many n d mid) (enclosed k ty (sequence_at many n d)) e h)
       where
-        end_found : (k : Opener) (s : Sequence) (rest : List ℕ) → sequence_at many n d mid ≡ Ok (s, rest) → Took (λ x. SpellsToken many x (Open k ty)) bytes mid → enclosed k ty (sequence_at many n d) (s, rest) ≡ Err e → Known (λ s. StopsIn (suc d) s bytes) e
+        end_found : (k : Opener) (s : Sequence) (rest : List ℕ) → sequence_at many n d mid ≡ Ok (s, rest) → TakesOff (λ x. SpellsToken many x (Open k ty)) bytes mid → enclosed k ty (sequence_at many n d) (s, rest) ≡ Err e → Known (λ s. StopsIn (suc d) s bytes) e
         end_found opener.Block s rest read t h = inl (closed_err (Block ty) (s, rest) e h)
         end_found opener.Loop s rest read t h = inl (closed_err (Loop ty) (s, rest) e h)
         end_found opener.If s rest read t h = ⊎_elim
@@ -122,7 +122,7 @@ module _ (many : Bool) where
             (λ a. absurd (ok_err (If ty s.items [], rest) e a.1))
             (cond_is s.by_else _ _ _ h)
 
-    token_found : (d : ℕ) (t : Token) (bytes mid : List ℕ) (e : Fault) → IsBytes mid → Took (λ x. SpellsToken many x t) bytes mid → after_token (sequence_at many n) d t mid ≡ Err e → Known (λ s. StopsIn d s bytes) e
+    token_found : (d : ℕ) (t : Token) (bytes mid : List ℕ) (e : Fault) → IsBytes mid → TakesOff (λ x. SpellsToken many x t) bytes mid → after_token (sequence_at many n) d t mid ≡ Err e → Known (λ s. StopsIn d s bytes) e
     token_found d End bytes mid e small t h = absurd (ok_err _ e h)
     token_found d Else bytes mid e small t h = absurd (ok_err _ e h)
     token_found d (Plain i) bytes mid e small t h =

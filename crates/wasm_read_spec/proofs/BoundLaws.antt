@@ -7,7 +7,7 @@ use Rattle.wasm_tree.specs.OperandLaws.{BlockPasses, LoopPasses, IfPasses}
 use Rattle.wasm_tree.specs.declared.which.Which.TheVariants.{Types, Functions, Tables, Memories, Globals, ElementSegments, DataSegments}
 use Rattle.wasm_read_spec.specs.declared.parts.Parts.{Parts}
 use Rattle.base_lists.specs.Every.{Every}
-use Rattle.wasm_read_spec.specs.Prelude.{Never, Made, When, Any, Few, Limited, WhenSmall, SmallFuncType, Code, SpellsEntry, SmallCode, HasSmallCode, nothing, with_types, with_imports, with_func_types, with_tables, with_mems, with_globals, with_exports, with_start, with_elems, with_codes, with_datas, with_count, SpellsCustom, SectionIsSmall, Contents, typed, untyped, tree_of, Spells, Within}
+use Rattle.wasm_read_spec.specs.Prelude.{Never, MadeFrom, When, Any, Few, Limited, WhenSmall, SmallFuncType, CodeEntry, SpellsEntry, SmallCode, HasSmallCode, nothing, with_types, with_imports, with_func_types, with_tables, with_mems, with_globals, with_exports, with_start, with_elems, with_codes, with_datas, with_count, SpellsCustom, SectionIsSmall, SectionContents, typed, untyped, tree_of, Spells, Within}
 use Rattle.wasm_read_spec.specs.Files.{section_form, small_form}
 use Rattle.wasm_read_spec.proofs.NestLaws.{body_zero}
 
@@ -34,10 +34,10 @@ module _ {K : Parts → Type 0} where
   keep_when false a b = b
 
   -- where the value is small, what is put keeps it
-  keep_put : {A : Type 0} {P : List ℕ → A → Type 0} {S : A → Type 0} (make : A → Parts) → ((x : A) → S x → K (make x)) → Keeps K (Made make P) (Limited P S)
+  keep_put : {A : Type 0} {P : List ℕ → A → Type 0} {S : A → Type 0} (make : A → Parts) → ((x : A) → S x → K (make x)) → Keeps K (MadeFrom make P) (Limited P S)
   keep_put make keep = record { keep = λ c q h s. rw h.2 (keep h.0 (s h.0 h.1)) }
 
-  keep_free : {A : Type 0} {P : List ℕ → A → Type 0} (make : A → Parts) → ((x : A) → K (make x)) → Keeps K (Made make P) Any
+  keep_free : {A : Type 0} {P : List ℕ → A → Type 0} (make : A → Parts) → ((x : A) → K (make x)) → Keeps K (MadeFrom make P) Any
   keep_free make keep = record { keep = λ c q h s. rw h.2 (keep h.0) }
 
   keep_same : (p : Parts) → K p → Keeps K (SpellsCustom p) Any
@@ -47,10 +47,10 @@ module _ {K : Parts → Type 0} where
   keep_never = record { keep = λ c q h s. absurd h }
 
 -- what has small codes as codes has them as functions
-small_untyped : (cs : List Code) → Few (limit Functions) SmallCode cs → Few (limit Functions) HasSmallCode (map untyped cs)
+small_untyped : (cs : List CodeEntry) → Few (limit Functions) SmallCode cs → Few (limit Functions) HasSmallCode (map untyped cs)
 small_untyped cs h = (rw (length-map cs untyped) h.0, each cs h.1)
   where
-    each : (cs : List Code) → Every SmallCode cs → Every HasSmallCode (map untyped cs)
+    each : (cs : List CodeEntry) → Every SmallCode cs → Every HasSmallCode (map untyped cs)
     each [] h = tt
     each (c ∷ cs) h = (h.0, each cs h.1)
 
@@ -72,7 +72,7 @@ small_kept many p id s =
     (keep_when (id == 12) (keep_free (with_count p) (λ x. assumption))
     keep_never))))))))))))
 
-small_contents : (many : Bool) (p : Parts) (ss : List Section) (q : Parts) → Small p → Contents many p ss q → Every (SectionIsSmall many) ss → Small q
+small_contents : (many : Bool) (p : Parts) (ss : List Section) (q : Parts) → Small p → SectionContents many p ss q → Every (SectionIsSmall many) ss → Small q
 small_contents many p [] q s h k = rw (← h) s
 small_contents many p (t ∷ ss) q s h k = small_contents many h.0 ss q ((small_kept many p t.0 s).keep t.1 h.0 h.1 k.0) h.2 k.1
 
@@ -128,11 +128,11 @@ module _ {K : Parts → Type 0} where
   when_keeps true a b = a
   when_keeps false a b = b
 
-  put_keeps : {A : Type 0} {P : List ℕ → A → Type 0} (make : A → Parts) → ((c : List ℕ) (x : A) → P c x → K (make x)) → Keeps' K (Made make P)
+  put_keeps : {A : Type 0} {P : List ℕ → A → Type 0} (make : A → Parts) → ((c : List ℕ) (x : A) → P c x → K (make x)) → Keeps' K (MadeFrom make P)
   put_keeps make keep = record { keep = λ c q h. rw h.2 (keep c h.0 h.1) }
 
 module _ (blocks : BlockPasses) (loops : LoopPasses) (ifs : IfPasses) where
-  entries_zero : (cs : List Code) (bytes : List ℕ) → Each (SpellsEntry false) bytes cs → memory_zero_funcs (map untyped cs) ≡ true
+  entries_zero : (cs : List CodeEntry) (bytes : List ℕ) → Each (SpellsEntry false) bytes cs → memory_zero_funcs (map untyped cs) ≡ true
   entries_zero [] bytes h = refl
   entries_zero (c ∷ cs) bytes h = rw (body_zero blocks loops ifs h.2.2.1 c.body h.2.2.3, entries_zero cs h.1 h.3)
 
@@ -154,7 +154,7 @@ module _ (blocks : BlockPasses) (loops : LoopPasses) (ifs : IfPasses) where
       (when_keeps (id == 12) (put_keeps (with_count p) (λ c x h. z))
       (record { keep = λ c q h. absurd h })))))))))))))
 
-  zeros_contents : (p : Parts) (ss : List Section) (q : Parts) → Zeros p → Contents false p ss q → Zeros q
+  zeros_contents : (p : Parts) (ss : List Section) (q : Parts) → Zeros p → SectionContents false p ss q → Zeros q
   zeros_contents p [] q z h = rw (← h) z
   zeros_contents p (t ∷ ss) q z h = zeros_contents h.0 ss q ((zeros_kept p t.0 z).keep t.1 h.0 h.1) h.2
 

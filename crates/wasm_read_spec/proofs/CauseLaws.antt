@@ -9,7 +9,7 @@ use Rattle.wasm_read_spec.specs.declared.fault.Fault.TheVariants as fault
 use Rattle.wasm_read_spec.specs.declared.fault.ReadFault.{ReadFault}
 use Rattle.wasm_read_spec.specs.declared.fault.ReadFault.TheVariants.{NoMemory, NotModule, Malformed, MalformedBody, Unsupported, Limit}
 use Rattle.wasm_read_spec.specs.declared.parts.Parts.{Parts}
-use Rattle.wasm_read_spec.specs.Prelude.{Code, nothing, SectionIsSmall, Contents, Stop, NotSupported, Over, code_at, placed, codes_at, agrees, framed_at, read_fault, EntryOf, Cause}
+use Rattle.wasm_read_spec.specs.Prelude.{CodeEntry, nothing, SectionIsSmall, SectionContents, Stop, NotSupported, Over, code_at, placed, codes_at, agrees, framed_at, read_fault, EntryOf, Cause}
 use Rattle.wasm_read_spec.specs.Contents.{AreBytes, section_at, contents_at, parts_at, read_at}
 use Rattle.wasm_read_spec.specs.Causes.{UpTo, InEntry, SectionStops, EntryStops, IsCode, MalformedContent, MalformedSection, FaultyWhole}
 use Rattle.wasm_read_spec.proofs.Framing.{framed_reads, framed_sound, framed_fault, header_reads, bad_reads}
@@ -24,7 +24,7 @@ use Rattle.wasm_read_spec.proofs.SectionStops.{InnerFault, section_tells, entry_
 
 -- ---- the contents of the sections, one of which has a fault
 
-contents_met : (many : Bool) (front : List Section) (n : ℕ) (p q : Parts) (s : Section) (back : List Section) (e : ReadFault) → Contents many p front q → Every (SectionIsSmall many) front → section_at many (n + length front) q s ≡ Err e →
+contents_met : (many : Bool) (front : List Section) (n : ℕ) (p q : Parts) (s : Section) (back : List Section) (e : ReadFault) → SectionContents many p front q → Every (SectionIsSmall many) front → section_at many (n + length front) q s ≡ Err e →
     contents_at many n p (front ++ s ∷ back) ≡ Err e
 unfolding contents_at
 contents_met many [] n p q s back e h k bad = let same : n + 0 ≡ n = omega arith in rw h (rw (← same, bad))
@@ -45,7 +45,7 @@ record Stopped (many : Bool) (n : ℕ) (p : Parts) (ss : List Section) (e : Read
   back : List Section
   parts : Parts
   all : ss ≡ front ++ here ∷ back
-  spelled : Contents many p front parts
+  spelled : SectionContents many p front parts
   within : Every (SectionIsSmall many) front
   bytes : IsBytes here.1
   stops : section_at many (n + length front) parts here ≡ Err e
@@ -220,8 +220,8 @@ module _ (reads : FramesAreRead) (bytes : List ℕ) (many : Bool) (small : IsByt
         (λ is.
         let bad : code_at many t.1 ≡ Err fault.Malformed = t.4 ∙ ap Err is in
         let malformed : MalformedContent many t.1 = record {
-          unspelled = λ g h. not_malformed {A = Code} fault.Limit fault.Malformed (code_at many t.1) g (λ w e. (let k : ◌≡◌ {A = Fault} (fault.Limit w) fault.Malformed = e in cc)) (code_gets many t.1 g h) bad;
-          no_stop = λ s k. never s (same_err {A = Code} _ _ (sym ((code_tells many).met t.1 s k) ∙ bad));
+          unspelled = λ g h. not_malformed {A = CodeEntry} fault.Limit fault.Malformed (code_at many t.1) g (λ w e. (let k : ◌≡◌ {A = Fault} (fault.Limit w) fault.Malformed = e in cc)) (code_gets many t.1 g h) bad;
+          no_stop = λ s k. never s (same_err {A = CodeEntry} _ _ (sym ((code_tells many).met t.1 s k) ∙ bad));
         } in
         subst (Cause bytes many) (sym (t.5 ∙ ap (placed place (Some t.0)) is)) (place, (t.1, inside, malformed)))
         (λ k. subst (Cause bytes many) (sym (t.5 ∙ ap (placed place (Some t.0)) k.1)) (entry_stop_cause place t.0 k.0 (t.1, inside, k.2)))

@@ -1,7 +1,7 @@
 -- A prefix that is framed has the first frames of the whole.
 use Rattle.base_lists.proofs.Common.{◌≡◌, ℕ, List, [], ◌∷◌, ◌++◌, length, Bool, ◌⊎◌, inl, inr, refl, sym, ap, ◌∙◌, subst, arith, append_assoc, append-nil, ◌≢◌}
 use Rattle.wasm_bytes.specs.Prelude.{Sized, Section, header, Frames, Framed, order_after}
-use Rattle.wasm_bytes.specs.Frames.{Frame}
+use Rattle.wasm_bytes.specs.Frames.{SectionFrame}
 use Rattle.wasm_tree_spec.specs.Prelude.{Module}
 use Rattle.wasm_read_spec.specs.Prelude.{Spells}
 use Rattle.wasm_read_spec.specs.Cut.{EndsWithAFrame}
@@ -16,7 +16,7 @@ head_same : (a b : ℕ) (xs ys : List ℕ) → ◌≡◌ {A = List ℕ} (a ∷ x
 head_same a b xs ys h = (cc, cc)
 
 -- what is framed first is one frame
-frame_same : (last : ℕ) (one other rest more : List ℕ) (s t : Section) → one ++ rest ≡ other ++ more → Frame last one s → Frame last other t → (s ≡ t) × (rest ≡ more)
+frame_same : (last : ℕ) (one other rest more : List ℕ) (s t : Section) → one ++ rest ≡ other ++ more → SectionFrame last one s → SectionFrame last other t → (s ≡ t) × (rest ≡ more)
 frame_same last one other rest more s t e f g =
     let a = f.1 in
     let b = g.1 in

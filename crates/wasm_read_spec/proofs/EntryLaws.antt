@@ -1,6 +1,6 @@
 -- Code entries: what is read is what is spelled and small.
 use Rattle.base_lists.proofs.Common.{◌≡◌, ℕ, zero, suc, ◌+◌, ◌≤◌, List, [], ◌∷◌, ◌++◌, length, Result, Ok, Err, Bool, cond, Option, Some, None, refl, sym, ap, ◌∙◌, subst, arith, append-nil, le-ltb, eqb-suc-zero, ◌==◌, bind_ok, ok_pair, within_most}
-use Rattle.wasm_bytes.specs.Prelude.{Took, U32, Each, Vector, Sized, IsBytes}
+use Rattle.wasm_bytes.specs.Prelude.{TakesOff, U32, Each, Vector, Sized, IsBytes}
 use Rattle.wasm_bytes.proofs.Lists.{small_rest}
 use Rattle.wasm_tree.specs.declared.which.Which.TheVariants.{Functions}
 use Rattle.wasm_tree_spec.specs.Prelude.{LocalGroup, limit}
@@ -8,7 +8,7 @@ use Rattle.wasm_read_spec.specs.declared.fault.Fault.{Fault}
 use Rattle.wasm_read_spec.specs.declared.fault.ReadFault.{ReadFault}
 use Rattle.wasm_read_spec.specs.declared.fault.ReadFault.TheVariants.{Malformed, Limit}
 use Rattle.base_lists.specs.Every.{Every}
-use Rattle.wasm_read_spec.specs.Prelude.{Any, Few, Code, SpellsGroup, SpellsCode, SpellsEntry, SmallCode, u32_at, sized_at, locals_at, each_from, body_at, code_of, in_place, next_func}
+use Rattle.wasm_read_spec.specs.Prelude.{Any, Few, CodeEntry, SpellsGroup, SpellsCode, SpellsEntry, SmallCode, u32_at, sized_at, locals_at, each_from, body_at, code_of, in_place, next_func}
 use Rattle.wasm_read_spec.specs.BodyReading.{code_at}
 use Rattle.wasm_read_spec.specs.Contents.{entry_at, codes_at}
 use Rattle.wasm_read_spec.specs.Unambiguous.{IsPrefixFree}
@@ -39,7 +39,7 @@ vector_prefix_free {A} {P} free = λ one other rest more xs ys e h k.
 -- ---- what is inside an entry
 
 module _ (many : Bool) where
-  pub code_sound : (bytes : List ℕ) (f : Code) → IsBytes bytes → code_at many bytes ≡ Ok f → SpellsCode many bytes f × SmallCode f
+  pub code_sound : (bytes : List ℕ) (f : CodeEntry) → IsBytes bytes → code_at many bytes ≡ Ok f → SpellsCode many bytes f × SmallCode f
   unfolding code_at
   code_sound bytes f small e =
       let ls = bind_ok (locals_at bytes) _ _ e in
@@ -47,16 +47,16 @@ module _ (many : Bool) where
       let is = bind_ok (body_at many ls.0.1) _ _ ls.2 in
       let two = body_found many ls.0.1 is.0 (small_rest _ bytes ls.0.1 small one.0) is.1 in
       let same : code_of ls.0.0 is.0 ≡ f = let k = is.2 in cc in
-      subst (λ (z : Code). SpellsCode many bytes z × SmallCode z) same ((one.0.0, ls.0.1, one.0.1, two.0, one.0.2), (one.1, two.1))
+      subst (λ (z : CodeEntry). SpellsCode many bytes z × SmallCode z) same ((one.0.0, ls.0.1, one.0.1, two.0, one.0.2), (one.1, two.1))
 
-  pub code_complete : (bytes : List ℕ) (f : Code) → SpellsCode many bytes f → SmallCode f → code_at many bytes ≡ Ok f
+  pub code_complete : (bytes : List ℕ) (f : CodeEntry) → SpellsCode many bytes f → SmallCode f → code_at many bytes ≡ Ok f
   unfolding code_at
   code_complete bytes f h k = rw (h.4, locals_exact.complete h.0 h.1 f.locals h.2 k.0, body_read many h.1 f.body h.3 k.1) refl
 
   group_prefix_free : IsPrefixFree SpellsGroup
   group_prefix_free = prefix_free_of (mapped_exact {A = ℕ × _} {B = LocalGroup} (λ p. record { count = p.0; ty = p.1 }) (λ g. (g.count, g.ty)) (λ x. refl) (λ y. refl) (both_exact u32_exact val_exact))
 
-  code_one : (bytes : List ℕ) (f g : Code) → SpellsCode many bytes f → SpellsCode many bytes g → f ≡ g
+  code_one : (bytes : List ℕ) (f g : CodeEntry) → SpellsCode many bytes f → SpellsCode many bytes g → f ≡ g
   code_one bytes f g h k =
       let locals = vector_prefix_free group_prefix_free h.0 k.0 h.1 k.1 f.locals g.locals (sym h.4 ∙ k.4) h.2 k.2 in
       let body = body_prefix_free many h.1 k.1 [] [] f.body g.body (ap (λ z. z ++ []) locals.1) h.3 k.3 in
@@ -80,7 +80,7 @@ module _ (many : Bool) where
   bytes_front (x ∷ a) b h (suc i) = bytes_front a b (λ j. h (suc j)) i
 
   -- the content of a size is made of bytes, as the whole is
-  pub content_bytes : (bytes content rest : List ℕ) → IsBytes bytes → Took (λ t. Sized t content) bytes rest → IsBytes content
+  pub content_bytes : (bytes content rest : List ℕ) → IsBytes bytes → TakesOff (λ t. Sized t content) bytes rest → IsBytes content
   content_bytes bytes content rest small t =
       let text = bytes_front t.0 rest (subst IsBytes t.2 small) in
       small_rest (λ z. U32 z (length content)) t.0 content text (t.1.0, t.1.1, t.1.2)
@@ -100,11 +100,11 @@ module _ (many : Bool) where
 
   -- ---- the code section
 
-  along_every : (state : ℕ) (fs : List Code) → Along (λ s. SmallCode) next_func state fs → Every SmallCode fs
+  along_every : (state : ℕ) (fs : List CodeEntry) → Along (λ s. SmallCode) next_func state fs → Every SmallCode fs
   along_every state [] h = tt
   along_every state (f ∷ fs) h = (h.0, along_every (state + 1) fs h.1)
 
-  every_along : (state : ℕ) (fs : List Code) → Every SmallCode fs → Along (λ s. SmallCode) next_func state fs
+  every_along : (state : ℕ) (fs : List CodeEntry) → Every SmallCode fs → Along (λ s. SmallCode) next_func state fs
   every_along state [] h = tt
   every_along state (f ∷ fs) h = (h.0, every_along (state + 1) fs h.1)
 
@@ -112,7 +112,7 @@ module _ (many : Bool) where
   ends n [] xs ys e = let same : xs ≡ ys = cc in (refl, same)
   ends n (b ∷ bs) xs ys e = absurd (let bad = rw (eqb-suc-zero (length bs)) at e in cc)
 
-  pub codes_sound : (n func : ℕ) (c : List ℕ) (fs : List Code) → IsBytes c → codes_at many n func c ≡ Ok fs → Vector (SpellsEntry many) c fs × Few (limit Functions) SmallCode fs
+  pub codes_sound : (n func : ℕ) (c : List ℕ) (fs : List CodeEntry) → IsBytes c → codes_at many n func c ≡ Ok fs → Vector (SpellsEntry many) c fs × Few (limit Functions) SmallCode fs
   unfolding codes_at
   codes_sound n func c fs small e =
       let k = bind_ok (in_place n None (u32_at c)) _ _ e in
@@ -121,12 +121,12 @@ module _ (many : Bool) where
       let r = bind_ok (each_from (entry_at many n) next_func k.0.0 func k.0.1) _ _ few.1 in
       let later = each_sound (SpellsEntry many) (λ s. SmallCode) (entry_at many n) next_func (entry_exact n) k.0.0 func k.0.1 r.0.0 r.0.1 (small_rest _ c k.0.1 small count) r.1 in
       let done = ends n r.0.1 r.0.0 fs r.2 in
-      let all = took_then (λ b. U32 b (length r.0.0)) (λ b. Each (SpellsEntry many) b r.0.0) c k.0.1 r.0.1 (subst (λ z. Took (λ b. U32 b z) c k.0.1) later.1 count) later.0 in
+      let all = took_then (λ b. U32 b (length r.0.0)) (λ b. Each (SpellsEntry many) b r.0.0) c k.0.1 r.0.1 (subst (λ z. TakesOff (λ b. U32 b z) c k.0.1) later.1 count) later.0 in
       let whole : c ≡ all.0 = all.2 ∙ ap (λ z. all.0 ++ z) done.0 ∙ append-nil all.0 in
       subst (λ z. Vector (SpellsEntry many) c z × Few (limit Functions) SmallCode z) done.1
       (subst (λ b. Vector (SpellsEntry many) b r.0.0) (sym whole) all.1, (subst (λ z. z ≤ limit Functions) later.1 few.0, along_every func r.0.0 later.2))
 
-  pub codes_complete : (n func : ℕ) (c : List ℕ) (fs : List Code) → Vector (SpellsEntry many) c fs → Few (limit Functions) SmallCode fs → codes_at many n func c ≡ Ok fs
+  pub codes_complete : (n func : ℕ) (c : List ℕ) (fs : List CodeEntry) → Vector (SpellsEntry many) c fs → Few (limit Functions) SmallCode fs → codes_at many n func c ≡ Ok fs
   unfolding codes_at
   codes_complete n func c fs h k =
       let items : each_from (entry_at many n) next_func (length fs) func h.1 ≡ Ok (fs, []) =

@@ -2,9 +2,9 @@
 use Rattle.base_lists.proofs.Common.{◌≡◌, ℕ, zero, suc, ◌≤◌, List, [], ◌∷◌, ◌++◌, length, Option, Result, Ok, Err, Bool, true, false, cond, refl, sym, ap, ◌∙◌, subst, arith, append_assoc, le-ltb, eqb-true, IsUtf8-from_is_utf8, is_utf8-from_IsUtf8, ◌==◌, IsUtf8, is_utf8, bind_ok, ok_pair, err_ok, within_most}
 use Rattle.wasm_bytes.specs.declared.cursor.Wrong.{Wrong}
 use Rattle.wasm_bytes.specs.declared.cursor.Wrong.TheVariants.{Spelling}
-use Rattle.wasm_bytes.specs.Prelude.{Took, Signed, last_unsigned, join_unsigned, last_signed, join_signed, Then, U32, Each, Vector, Sized, Named, ◌>>=◌, IsBytes}
+use Rattle.wasm_bytes.specs.Prelude.{TakesOff, Signed, last_unsigned, join_unsigned, last_signed, join_signed, Then, U32, Each, Vector, Sized, Named, ◌>>=◌, IsBytes}
 use Rattle.wasm_bytes.specs.Reading.{reading, unsigned_at, signed_at, name_at as text_at, sized_at as content_at}
-use Rattle.wasm_bytes.specs.Numbers.{Spells as SpellsNumber}
+use Rattle.wasm_bytes.specs.Numbers.{SpellsNumber as SpellsNumber}
 use Rattle.wasm_bytes.proofs.NumberLaws.{reading_of_spelled, spelled_of_reading}
 use Rattle.wasm_bytes.proofs.Lists.{small_rest}
 use Rattle.wasm_bytes.proofs.Sized.{content_sound, content_complete}
@@ -12,7 +12,7 @@ use Rattle.wasm_tree_spec.specs.Prelude.{Which, limit}
 use Rattle.wasm_read_spec.specs.declared.fault.Fault.{Fault}
 use Rattle.wasm_read_spec.specs.declared.fault.Fault.TheVariants.{Malformed, Limit}
 use Rattle.base_lists.specs.Every.{Every}
-use Rattle.wasm_read_spec.specs.Prelude.{Byte, Never, Both, Made, When, After, Any, Few, Reader, or_malformed, byte_at, u32_at, name_at, sized_at, fault_at, pair_at, mapped_at, chosen_at, when_at, tagged_at, each_at}
+use Rattle.wasm_read_spec.specs.Prelude.{Byte, Never, Both, MadeFrom, When, After, Any, Few, Reader, or_malformed, byte_at, u32_at, name_at, sized_at, fault_at, pair_at, mapped_at, chosen_at, when_at, tagged_at, each_at}
 use Rattle.wasm_read_spec.specs.Exact.{Exact, Along}
 use Rattle.wasm_read_spec.specs.SpellingForms.{S32, S64, Coded, Just, Chosen, Closed}
 use Rattle.wasm_read_spec.specs.Reading.{s32_at, s64_at, just_at, coded_at, tag_at, closed_at, each_from, list_at, vector_at}
@@ -23,10 +23,10 @@ pub or_ok : {A : Type 0} (r : Result A Wrong) (x : A) → or_malformed r ≡ Ok 
 or_ok (Ok y) x e = let same : y ≡ x = cc in ap Ok same
 or_ok (Err w) x e = cc
 
-pub took_then : (P Q : List ℕ → Type 0) (bytes mid rest : List ℕ) → Took P bytes mid → Took Q mid rest → Took (Then P Q) bytes rest
+pub took_then : (P Q : List ℕ → Type 0) (bytes mid rest : List ℕ) → TakesOff P bytes mid → TakesOff Q mid rest → TakesOff (Then P Q) bytes rest
 took_then P Q bytes mid rest a b = (a.0 ++ b.0, (a.0, b.0, a.1, b.1, refl), a.2 ∙ ap (λ xs. a.0 ++ xs) b.2 ∙ sym (append_assoc a.0 b.0 rest))
 
-pub took_as : (P Q : List ℕ → Type 0) (bytes rest : List ℕ) → ((text : List ℕ) → P text → Q text) → Took P bytes rest → Took Q bytes rest
+pub took_as : (P Q : List ℕ → Type 0) (bytes rest : List ℕ) → ((text : List ℕ) → P text → Q text) → TakesOff P bytes rest → TakesOff Q bytes rest
 took_as P Q bytes rest f t = (t.0, f t.0 t.1, t.2)
 
 pub split : (P Q : List ℕ → Type 0) (text rest : List ℕ) (h : Then P Q text) → text ++ rest ≡ h.0 ++ (h.1 ++ rest)
@@ -41,7 +41,7 @@ other_small {A} {E} {P} {S} {T} {r} to back exact = record {
   complete = λ text rest x h k. exact.complete text rest x h (back x k);
 }
 
-byte_sound : (bytes : List ℕ) (x : ℕ) (rest : List ℕ) → byte_at bytes ≡ Ok (x, rest) → Took (λ t. Byte t x) bytes rest
+byte_sound : (bytes : List ℕ) (x : ℕ) (rest : List ℕ) → byte_at bytes ≡ Ok (x, rest) → TakesOff (λ t. Byte t x) bytes rest
 byte_sound [] x rest e = cc
 byte_sound (b ∷ bs) x rest e = let p = ok_pair {E = Fault} b x bs rest e in (x ∷ [], refl, ap (λ c. c ∷ bs) p.0 ∙ ap (λ t. x ∷ t) p.1)
 
@@ -87,7 +87,7 @@ text_is : (b : Bool) (content rest x more : List ℕ) → ◌≡◌ {A = Result 
 text_is true content rest x more e = let p = ok_pair {E = Wrong} content x rest more e in (refl, p.0, p.1)
 text_is false content rest x more e = cc
 
-name_sound : (bytes x rest : List ℕ) → IsBytes bytes → text_at bytes ≡ Ok (x, rest) → Took (λ t. Named t x) bytes rest
+name_sound : (bytes x rest : List ℕ) → IsBytes bytes → text_at bytes ≡ Ok (x, rest) → TakesOff (λ t. Named t x) bytes rest
 unfolding text_at
 name_sound bytes x rest small e =
     let c = bind_ok (content_at bytes) _ _ e in
@@ -128,8 +128,8 @@ pair_exact {A} {B} {P = P} {Q = Q} {S = S} {T = T} {r = r} {q = q} a b = record 
       let one = a.sound bytes x.0.0 x.0.1 small x.1 in
       let two = b.sound x.0.1 y.0.0 y.0.1 (small_rest _ bytes x.0.1 small one.0) y.1 in
       let same = ok_pair {E = Fault} (x.0.0, y.0.0) p y.0.1 rest y.2 in (
-        subst (Took (λ t. Both P Q t p) bytes) same.1
-            (subst (λ z. Took (λ t. Both P Q t z) bytes y.0.1) same.0 (took_then _ _ bytes x.0.1 y.0.1 one.0 two.0)),
+        subst (TakesOff (λ t. Both P Q t p) bytes) same.1
+            (subst (λ z. TakesOff (λ t. Both P Q t z) bytes y.0.1) same.0 (took_then _ _ bytes x.0.1 y.0.1 one.0 two.0)),
         subst (λ (z : A × B). S z.0 × T z.1) same.0 (one.1, two.1),
       );
   complete = λ text rest p h k. rw (split _ _ text rest h, a.complete h.0 (h.1 ++ rest) p.0 h.2 k.0, b.complete h.1 rest p.1 h.3 k.1);
@@ -148,11 +148,11 @@ mapped_exact {A} {B} {P} {S} {r} make back one two exact = record {
       let t = exact.sound bytes x.0.0 x.0.1 small x.1 in
       let p = ok_pair {E = Fault} (make x.0.0) y x.0.1 rest x.2 in
       let same : x.0.0 ≡ back y = sym (one x.0.0) ∙ ap back p.0 in
-      (subst (λ z. Took (λ b. P b z) bytes rest) same (subst (Took (λ b. P b x.0.0) bytes) p.1 t.0), subst S same t.1);
+      (subst (λ z. TakesOff (λ b. P b z) bytes rest) same (subst (TakesOff (λ b. P b x.0.0) bytes) p.1 t.0), subst S same t.1);
   complete = λ text rest y h k. rw (exact.complete text rest (back y) h k) (ap (λ z. Ok (z, rest)) (two y));
 }
 
-pub made_exact : {A B : Type 0} {P : List ℕ → A → Type 0} {r : Reader A} (make : A → B) → Exact P Any r → Exact (Made make P) Any (mapped_at make r)
+pub made_exact : {A B : Type 0} {P : List ℕ → A → Type 0} {r : Reader A} (make : A → B) → Exact P Any r → Exact (MadeFrom make P) Any (mapped_at make r)
 made_exact {A} {B} {P} {r} make exact = record {
   sound = λ bytes y rest small e.
       let x = bind_ok (r bytes) _ _ e in
@@ -177,7 +177,7 @@ pub when_exact : {A : Type 0} {P Q : List ℕ → A → Type 0} {S : A → Type 
 when_exact true a b = record { sound = a.sound; complete = a.complete }
 when_exact false a b = record { sound = b.sound; complete = b.complete }
 
-coded_sound : {A : Type 0} (code : ℕ → Result A Fault) (bytes : List ℕ) (x : A) (rest : List ℕ) → coded_at code bytes ≡ Ok (x, rest) → Took (λ t. Coded code t x) bytes rest
+coded_sound : {A : Type 0} (code : ℕ → Result A Fault) (bytes : List ℕ) (x : A) (rest : List ℕ) → coded_at code bytes ≡ Ok (x, rest) → TakesOff (λ t. Coded code t x) bytes rest
 coded_sound code [] x rest e = cc
 coded_sound {A} code (b ∷ bs) x rest e =
     let c = bind_ok (code b) _ _ e in
@@ -220,15 +220,15 @@ closed_exact {A} {P} {r} tag exact = record {
       let one = (exact.sound bytes y.0.0 y.0.1 small y.1).0 in
       let t = tag_then tag (λ bs. Ok (y.0.0, bs)) y.0.1 (x, rest) y.2 in
       let p = ok_pair {E = Fault} y.0.0 x t.0 rest t.2 in
-      let two : Took (λ b. b ≡ tag ∷ []) y.0.1 rest = (tag ∷ [], refl, t.1 ∙ ap (λ b. tag ∷ b) p.1) in
-      (took_then (λ b. P b x) (λ b. b ≡ tag ∷ []) bytes y.0.1 rest (subst (λ z. Took (λ b. P b z) bytes y.0.1) p.0 one) two, tt);
+      let two : TakesOff (λ b. b ≡ tag ∷ []) y.0.1 rest = (tag ∷ [], refl, t.1 ∙ ap (λ b. tag ∷ b) p.1) in
+      (took_then (λ b. P b x) (λ b. b ≡ tag ∷ []) bytes y.0.1 rest (subst (λ z. TakesOff (λ b. P b z) bytes y.0.1) p.0 one) two, tt);
   complete = λ text rest x h k. rw (split _ _ text rest h, exact.complete h.0 (h.1 ++ rest) x h.2 tt, h.3) (tag_self tag (λ bs. Ok (x, bs)) rest);
 }
 
 -- ---- so many items
 
 module _ {A E : Type 0} (P : List ℕ → A → Type 0) (S : ℕ → A → Type 0) (item : ℕ → List ℕ → Result (A × List ℕ) E) (next : ℕ → A → ℕ) (exact : (state : ℕ) → Exact P (S state) (item state)) where
-  pub each_sound : (n state : ℕ) (bytes : List ℕ) (xs : List A) (rest : List ℕ) → IsBytes bytes → each_from item next n state bytes ≡ Ok (xs, rest) → Took (λ b. Each P b xs) bytes rest × (n ≡ length xs) × Along S next state xs
+  pub each_sound : (n state : ℕ) (bytes : List ℕ) (xs : List A) (rest : List ℕ) → IsBytes bytes → each_from item next n state bytes ≡ Ok (xs, rest) → TakesOff (λ b. Each P b xs) bytes rest × (n ≡ length xs) × Along S next state xs
   unfolding each_from
   each_sound zero state bytes xs rest small e =
       let p = ok_pair {E = E} [] xs bytes rest e in
@@ -240,7 +240,7 @@ module _ {A E : Type 0} (P : List ℕ → A → Type 0) (S : ℕ → A → Type 
       let later = each_sound n (next state x.0.0) x.0.1 others.0.0 others.0.1 (small_rest _ bytes x.0.1 small first.0) others.1 in
       let p = ok_pair {E = E} (x.0.0 ∷ others.0.0) xs others.0.1 rest others.2 in
       let both = took_then (λ b. P b x.0.0) (λ b. Each P b others.0.0) bytes x.0.1 others.0.1 first.0 later.0 in (
-        subst (Took (λ b. Each P b xs) bytes) p.1 (took_as _ (λ b. Each P b xs) bytes others.0.1 (λ text h. subst (Each P text) p.0 h) both),
+        subst (TakesOff (λ b. Each P b xs) bytes) p.1 (took_as _ (λ b. Each P b xs) bytes others.0.1 (λ text h. subst (Each P text) p.0 h) both),
         ap suc later.1 ∙ ap length p.0,
         subst (Along S next state) p.0 (first.1, later.2),
       )
@@ -264,7 +264,7 @@ every_any [] = tt
 every_any (x ∷ xs) = (tt, every_any xs)
 
 module _ {A : Type 0} (P : List ℕ → A → Type 0) (S : A → Type 0) (item : Reader A) (exact : Exact P S item) where
-  same_sound : (n : ℕ) (bytes : List ℕ) (xs : List A) (rest : List ℕ) → IsBytes bytes → each_at item n bytes ≡ Ok (xs, rest) → Took (λ b. Each P b xs) bytes rest × (n ≡ length xs) × Every S xs
+  same_sound : (n : ℕ) (bytes : List ℕ) (xs : List A) (rest : List ℕ) → IsBytes bytes → each_at item n bytes ≡ Ok (xs, rest) → TakesOff (λ b. Each P b xs) bytes rest × (n ≡ length xs) × Every S xs
   same_sound n bytes xs rest small e =
       let t = each_sound P (λ s. S) (λ s. item) (λ s x. 0) (λ s. exact) n 0 bytes xs rest small e in (t.0, t.1, along_every S xs t.2)
 
@@ -279,7 +279,7 @@ module _ {A : Type 0} (P : List ℕ → A → Type 0) (S : A → Type 0) (item :
         let n = bind_ok (u32_at bytes) _ _ e in
         let count = (u32_exact.sound bytes n.0.0 n.0.1 small n.1).0 in
         let later = same_sound n.0.0 n.0.1 xs rest (small_rest _ bytes n.0.1 small count) n.2 in
-        (took_then (λ b. U32 b (length xs)) (λ b. Each P b xs) bytes n.0.1 rest (subst (λ k. Took (λ b. U32 b k) bytes n.0.1) later.1 count) later.0, later.2);
+        (took_then (λ b. U32 b (length xs)) (λ b. Each P b xs) bytes n.0.1 rest (subst (λ k. TakesOff (λ b. U32 b k) bytes n.0.1) later.1 count) later.0, later.2);
     complete = λ text rest xs h k. rw (split _ _ text rest h, u32_exact.complete h.0 (h.1 ++ rest) (length xs) h.2 tt, same_complete xs h.1 rest h.3 k);
   }
 
@@ -292,7 +292,7 @@ module _ {A : Type 0} (P : List ℕ → A → Type 0) (S : A → Type 0) (item :
         let count = (u32_exact.sound bytes n.0.0 n.0.1 small n.1).0 in
         let few = within_most (Limit which) (limit which) n.0.0 _ _ n.2 in
         let later = same_sound n.0.0 n.0.1 xs rest (small_rest _ bytes n.0.1 small count) few.1 in (
-          took_then (λ b. U32 b (length xs)) (λ b. Each P b xs) bytes n.0.1 rest (subst (λ k. Took (λ b. U32 b k) bytes n.0.1) later.1 count) later.0,
+          took_then (λ b. U32 b (length xs)) (λ b. Each P b xs) bytes n.0.1 rest (subst (λ k. TakesOff (λ b. U32 b k) bytes n.0.1) later.1 count) later.0,
           (subst (λ k. k ≤ limit which) later.1 few.0, later.2),
         );
     complete = λ text rest xs h k.

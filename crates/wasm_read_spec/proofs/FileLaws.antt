@@ -6,7 +6,7 @@ use Rattle.wasm_tree_spec.specs.Prelude.{Module, any_uses_data}
 use Rattle.wasm_read_spec.specs.declared.fault.ReadFault.{ReadFault}
 use Rattle.wasm_read_spec.specs.declared.parts.Parts.{Parts}
 use Rattle.base_lists.specs.Every.{Every}
-use Rattle.wasm_read_spec.specs.Prelude.{nothing, Contents, tree_of, Spells, SectionIsSmall, Within, section_at, framed_at, read_fault}
+use Rattle.wasm_read_spec.specs.Prelude.{nothing, SectionContents, tree_of, Spells, SectionIsSmall, Within, section_at, framed_at, read_fault}
 use Rattle.wasm_read_spec.specs.Files.{Counted, Rules}
 use Rattle.wasm_read_spec.specs.Contents.{AreBytes, contents_at, counted, agrees, parts_at, read_at, fault_of}
 use Rattle.wasm_read_spec.proofs.Framing.{framed_reads, framed_sound}
@@ -40,7 +40,7 @@ one_framing reads bytes ss ts f g = let e = sym (framed_reads reads bytes ss f) 
 -- ---- contents
 
 module _ (many : Bool) where
-  pub contents_sound : (n : ℕ) (p : Parts) (ss : List Section) (q : Parts) → AreBytes ss → contents_at many n p ss ≡ Ok q → Contents many p ss q × Every (SectionIsSmall many) ss
+  pub contents_sound : (n : ℕ) (p : Parts) (ss : List Section) (q : Parts) → AreBytes ss → contents_at many n p ss ≡ Ok q → SectionContents many p ss q × Every (SectionIsSmall many) ss
   unfolding contents_at
   contents_sound n p [] q small e = (let same : p ≡ q = cc in same, tt)
   contents_sound n p (s ∷ ss) q small e =
@@ -49,18 +49,18 @@ module _ (many : Bool) where
       let later = contents_sound (n + 1) m.0 ss q small.1 m.2 in
       ((m.0, one.0, later.0), (one.1, later.1))
 
-  pub contents_complete : (n : ℕ) (p : Parts) (ss : List Section) (q : Parts) → Contents many p ss q → Every (SectionIsSmall many) ss → contents_at many n p ss ≡ Ok q
+  pub contents_complete : (n : ℕ) (p : Parts) (ss : List Section) (q : Parts) → SectionContents many p ss q → Every (SectionIsSmall many) ss → contents_at many n p ss ≡ Ok q
   unfolding contents_at
   contents_complete n p [] q h k = ap Ok h
   contents_complete n p (s ∷ ss) q h k =
       let one : section_at many n p s ≡ Ok h.0 = (section_right many n p s.0).complete s.1 h.0 h.1 k.0 in
       rw one (contents_complete (n + 1) h.0 ss q h.2 k.1)
 
-  pub contents_one : (p : Parts) (ss : List Section) (q r : Parts) → Contents many p ss q → Contents many p ss r → q ≡ r
+  pub contents_one : (p : Parts) (ss : List Section) (q r : Parts) → SectionContents many p ss q → SectionContents many p ss r → q ≡ r
   contents_one p [] q r h k = sym h ∙ k
   contents_one p (s ∷ ss) q r h k =
       let same = (section_right many 0 p s.0).one s.1 h.0 k.0 h.1 k.1 in
-      contents_one k.0 ss q r (subst (λ z. Contents many z ss q) same h.2) k.2
+      contents_one k.0 ss q r (subst (λ z. SectionContents many z ss q) same h.2) k.2
 
 -- ---- the rules on the whole file
 
@@ -97,7 +97,7 @@ whole_ok false p q e h = cc
 
 module _ (reads : FramesAreRead) (many : Bool) (bytes : List ℕ) (small : IsBytes bytes) where
   -- the parts of a file that is read
-  pub parts_found : (p : Parts) → parts_at many bytes ≡ Ok p → (ss : List Section) × Framed bytes ss × Contents many nothing ss p × Every (SectionIsSmall many) ss × Rules p
+  pub parts_found : (p : Parts) → parts_at many bytes ≡ Ok p → (ss : List Section) × Framed bytes ss × SectionContents many nothing ss p × Every (SectionIsSmall many) ss × Rules p
   unfolding parts_at
   parts_found p h =
       let f = bind_ok (framed_at bytes) _ _ h in
@@ -105,7 +105,7 @@ module _ (reads : FramesAreRead) (many : Bool) (bytes : List ℕ) (small : IsByt
       let c = bind_ok (contents_at many 0 nothing f.0) _ _ f.2 in
       let w = whole_ok (agrees c.0) c.0 p _ c.2 in
       let t = contents_sound many 0 nothing f.0 c.0 (framed_bytes bytes f.0 small framed) c.1 in
-      (f.0, framed, subst (Contents many nothing f.0) w.1 t.0, t.1, rules_of p (ap agrees (sym w.1) ∙ w.0))
+      (f.0, framed, subst (SectionContents many nothing f.0) w.1 t.0, t.1, rules_of p (ap agrees (sym w.1) ∙ w.0))
 
   pub tree_found : (m : Module) → read_at many bytes ≡ Ok m → Spells bytes m many × Within bytes many
   unfolding read_at
@@ -128,7 +128,7 @@ read_exactly reads many bytes m small = (tree_found reads many bytes small m, λ
 pub decoding_is_unique : FramesAreRead → (many : Bool) (bytes : List ℕ) (m n : Module) → Spells bytes m many → Spells bytes n many → m ≡ n
 decoding_is_unique reads many bytes m n h k =
     let frames = one_framing reads bytes h.0 k.0 h.2 k.2 in
-    h.5 ∙ ap tree_of (contents_one many nothing k.0 h.1 k.1 (subst (λ ss. Contents many nothing ss h.1) frames h.3) k.3) ∙ sym k.5
+    h.5 ∙ ap tree_of (contents_one many nothing k.0 h.1 k.1 (subst (λ ss. SectionContents many nothing ss h.1) frames h.3) k.3) ∙ sym k.5
 
 -- ---- faults
 

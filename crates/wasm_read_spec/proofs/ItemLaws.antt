@@ -2,7 +2,7 @@
 use Rattle.base_lists.proofs.Common.{◌≡◌, ℕ, ◌+◌, ◌-◌, ◌≤◌, List, [], ◌∷◌, ◌++◌, length, refl, subst, arith, ◌∙◌, ap, sym, ◌==◌, bind_ok, ok_pair, within_most}
 use Rattle.std.proofs.Common.{le-ltb}
 use Rattle.std.proofs.lemmas.List.Sums.{sum-map, sum_by-cons}
-use Rattle.wasm_bytes.specs.Prelude.{Took, U32, Vector}
+use Rattle.wasm_bytes.specs.Prelude.{TakesOff, U32, Vector}
 use Rattle.wasm_bytes.proofs.Lists.{small_rest}
 use Rattle.wasm_tree_spec.specs.Prelude.{Parameters, Results, Locals, LocalGroup, limit, declared_count}
 use Rattle.wasm_tree.specs.declared.module.ConstExpr.TheVariants as const
@@ -123,7 +123,7 @@ group_exact sum = record {
       let two = (val_exact.sound n.0.1 t.0.0 t.0.1 (small_rest _ bytes n.0.1 small one) t.1).0 in
       let p = ok_pair {E = Fault} (record { count = n.0.0; ty = t.0.0 }) g t.0.1 rest t.2 in
       let both = took_then (λ b. U32 b n.0.0) (λ b. SpellsVal b t.0.0) bytes n.0.1 t.0.1 one two in
-      (subst (Took (λ b. SpellsGroup b g) bytes) p.1 (subst (λ (z : LocalGroup). Took (λ b. SpellsGroup b z) bytes t.0.1) p.0 both), subst (small_group sum) p.0 few.0);
+      (subst (TakesOff (λ b. SpellsGroup b g) bytes) p.1 (subst (λ (z : LocalGroup). TakesOff (λ b. SpellsGroup b z) bytes t.0.1) p.0 both), subst (small_group sum) p.0 few.0);
   complete = λ text rest g h k. rw (split _ _ text rest h, u32_exact.complete h.0 (h.1 ++ rest) g.count h.2 tt, le-ltb (limit Locals - sum) g.count k, val_exact.complete h.1 rest g.ty h.3 tt);
 }
 
@@ -149,7 +149,7 @@ locals_exact = record {
       let count = (u32_exact.sound bytes n.0.0 n.0.1 small n.1).0 in
       let later = each_sound SpellsGroup small_group local_at with_group group_exact n.0.0 0 n.0.1 gs rest (small_rest _ bytes n.0.1 small count) n.2 in
       let few = along_sum 0 gs (omega arith) later.2 in
-      (took_then (λ b. U32 b (length gs)) _ bytes n.0.1 rest (subst (λ k. Took (λ b. U32 b k) bytes n.0.1) later.1 count) later.0, omega (arith, few));
+      (took_then (λ b. U32 b (length gs)) _ bytes n.0.1 rest (subst (λ k. TakesOff (λ b. U32 b k) bytes n.0.1) later.1 count) later.0, omega (arith, few));
   complete = λ text rest gs h k.
       rw (split _ _ text rest h, u32_exact.complete h.0 (h.1 ++ rest) (length gs) h.2 tt, each_complete SpellsGroup small_group local_at with_group group_exact gs 0 h.1 rest h.3 (sum_along 0 gs (omega (arith, k))));
 }

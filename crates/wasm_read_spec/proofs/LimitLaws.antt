@@ -9,7 +9,7 @@ use Rattle.wasm_read_spec.specs.declared.token.Opener.TheVariants as opener
 use Rattle.wasm_read_spec.specs.declared.token.Token.{Token}
 use Rattle.wasm_read_spec.specs.declared.token.Token.TheVariants.{Open, Else, End, Plain}
 use Rattle.wasm_read_spec.specs.declared.token.Sequence.{Sequence}
-use Rattle.wasm_read_spec.specs.Prelude.{Code, Any, Both, After, SpellsVal, SpellsFuncType, SpellsGroup, SpellsBody, SpellsCode, Reader, tag_at, u32_at, val_at, pair_at, mapped_at, tagged_at, func_type_of, with_group, ReadResult, behind, token_at, after_token, whole, enclosed}
+use Rattle.wasm_read_spec.specs.Prelude.{CodeEntry, Any, Both, After, SpellsVal, SpellsFuncType, SpellsGroup, SpellsBody, SpellsCode, Reader, tag_at, u32_at, val_at, pair_at, mapped_at, tagged_at, func_type_of, with_group, ReadResult, behind, token_at, after_token, whole, enclosed}
 use Rattle.wasm_read_spec.specs.Bodies.{depth}
 use Rattle.wasm_read_spec.specs.Reading.{each_from, vector_at, func_type_at, local_at, locals_at}
 use Rattle.wasm_read_spec.specs.BodyReading.{block_at, sequence_at, body_at, closed, code_at}
@@ -163,7 +163,7 @@ module _ (many : Bool) where
       let all : sequence_at many (length bytes) d bytes ≡ Ok (record { items = is; by_else = false }, []) = subst (λ z. sequence_at many (length z) d z ≡ Ok (record { items = is; by_else = false }, [])) (append-nil bytes) reads in
       read_or_deep (length bytes) (limit Nesting) d bytes (record { items = is; by_else = false }, []) is all refl (sequence_same (length bytes) (limit Nesting) d (omega arith) bytes)
 
-  pub code_gets : (bytes : List ℕ) (f : Code) → SpellsCode many bytes f → Got fault.Limit (code_at many bytes) f
+  pub code_gets : (bytes : List ℕ) (f : CodeEntry) → SpellsCode many bytes f → Got fault.Limit (code_at many bytes) f
   unfolding code_at
   code_gets bytes f h =
       subst (λ z. Got fault.Limit (code_at many z) f) (sym h.4)

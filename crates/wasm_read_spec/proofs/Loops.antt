@@ -7,7 +7,7 @@ use Rattle.wasm_read_spec.specs.declared.fault.ReadFault.{ReadFault}
 use Rattle.wasm_read_spec.specs.declared.fault.ReadFault.TheVariants.{NoMemory, NotModule, Malformed, MalformedBody, Unsupported, Limit}
 use Rattle.wasm_read_spec.specs.Prelude.{Fails, with_front}
 use Rattle.wasm_read_spec.specs.Reading.{each_from}
-use Rattle.wasm_read_spec.specs.Contents.{Fails as FailsIn}
+use Rattle.wasm_read_spec.specs.Contents.{FileFails}
 
 pub front_none : {A E : Type 0} (r : Result (List A × List ℕ) E) → with_front [] r ≡ r
 front_none (Ok r) = refl
@@ -52,7 +52,7 @@ each_stop item next whole n i state items bs fault.Unsupported lt bad h = each_e
 each_stop item next whole n i state items bs (fault.Limit w) lt bad h = each_err item next whole n i state items bs (fault.Limit w) lt bad h
 
 pub each_stop_in : {A : Type 0} (item : ℕ → List ℕ → Result (A × List ℕ) ReadFault) (next : ℕ → A → ℕ) (whole : Result (List A × List ℕ) ReadFault) (n i state : ℕ) (items : List A) (bs : List ℕ) (e : ReadFault) →
-    i < n → FailsIn e (item state bs) → whole ≡ with_front items (each_from item next (n - i) state bs) → FailsIn e whole
+    i < n → FileFails e (item state bs) → whole ≡ with_front items (each_from item next (n - i) state bs) → FileFails e whole
 each_stop_in item next whole n i state items bs NoMemory lt bad h = tt
 each_stop_in item next whole n i state items bs NotModule lt bad h = each_err item next whole n i state items bs NotModule lt bad h
 each_stop_in item next whole n i state items bs (Malformed s) lt bad h = each_err item next whole n i state items bs (Malformed s) lt bad h

@@ -6,7 +6,7 @@ use Rattle.wasm_tree_spec.specs.Prelude.{imported_funcs}
 use Rattle.wasm_read_spec.specs.declared.fault.Fault.{Fault}
 use Rattle.wasm_read_spec.specs.declared.fault.ReadFault.{ReadFault}
 use Rattle.wasm_read_spec.specs.declared.parts.Parts.{Parts}
-use Rattle.wasm_read_spec.specs.Prelude.{Code, SpellsEntry, SmallCode, nothing, SectionIsSmall, Contents, u32_at, Stop, code_at, placed, entry_at, section_at, EntryOf}
+use Rattle.wasm_read_spec.specs.Prelude.{CodeEntry, SpellsEntry, SmallCode, nothing, SectionIsSmall, SectionContents, u32_at, Stop, code_at, placed, entry_at, section_at, EntryOf}
 use Rattle.wasm_read_spec.specs.Files.{SpellsSection}
 use Rattle.wasm_read_spec.specs.Stops.{section_stops}
 use Rattle.wasm_read_spec.specs.Causes.{UpTo, InEntry, SectionStops, EntryStops, StopsAt}
@@ -32,8 +32,8 @@ module _ (many : Bool) (e e' : ReadFault) where
       ok_err m w (sym (section_read n p m t h k) ∙ ap (λ z. section_at many z p t) (sym here) ∙ ap (λ z. section_at many (n + 0) z t) parts ∙ ap (section_at many (n + 0) q) (sym same) ∙ bad)
 
   fronts_same : (n : ℕ) (p q q' : Parts) (front front' : List Section) (s s' : Section) (back back' : List Section) → front ++ s ∷ back ≡ front' ++ s' ∷ back' →
-      Contents many p front q → Every (SectionIsSmall many) front → section_at many (n + length front) q s ≡ Err e →
-      Contents many p front' q' → Every (SectionIsSmall many) front' → section_at many (n + length front') q' s' ≡ Err e' → (length front ≡ length front') × (s ≡ s') × (q ≡ q')
+      SectionContents many p front q → Every (SectionIsSmall many) front → section_at many (n + length front) q s ≡ Err e →
+      SectionContents many p front' q' → Every (SectionIsSmall many) front' → section_at many (n + length front') q' s' ≡ Err e' → (length front ≡ length front') × (s ≡ s') × (q ≡ q')
   fronts_same n p q q' [] [] s s' back back' is c w bad c' w' bad' = let same : s ≡ s' = cc in (refl, same, sym c ∙ c')
   fronts_same n p q q' [] (t ∷ front') s s' back back' is c w bad c' w' bad' = let same : s ≡ t = cc in absurd (not_here e n p q c'.0 s t same c c'.1 w'.0 bad)
   fronts_same n p q q' (t ∷ front) [] s s' back back' is c w bad c' w' bad' = let same : s' ≡ t = cc in absurd (not_here e' n p q' c.0 s' t same c' c.1 w.0 bad')
@@ -44,7 +44,7 @@ module _ (many : Bool) (e e' : ReadFault) where
       let parts : c.0 ≡ c'.0 = cc in
       let here : (n + 1) + length front ≡ n + suc (length front) = omega arith in
       let here' : (n + 1) + length front' ≡ n + suc (length front') = omega arith in
-      let r = fronts_same (n + 1) c.0 q q' front front' s s' back back' others c.2 w.1 (ap (λ z. section_at many z q s) here ∙ bad) (subst (λ z. Contents many z front' q') (sym parts) c'.2) w'.1 (ap (λ z. section_at many z q' s') here' ∙ bad') in
+      let r = fronts_same (n + 1) c.0 q q' front front' s s' back back' others c.2 w.1 (ap (λ z. section_at many z q s) here ∙ bad) (subst (λ z. SectionContents many z front' q') (sym parts) c'.2) w'.1 (ap (λ z. section_at many z q' s') here' ∙ bad') in
       (ap suc r.0, r.1, r.2)
 
   sections_same : FramesAreRead → (bytes : List ℕ) (n n' : ℕ) (s s' : Section) (p p' : Parts) → UpTo bytes many n s p → UpTo bytes many n' s' p' → section_at many n p s ≡ Err e → section_at many n' p' s' ≡ Err e' → (n ≡ n') × (s ≡ s') × (p ≡ p')
@@ -58,14 +58,14 @@ module _ (many : Bool) (e e' : ReadFault) where
 -- ---- the entries of the code section
 
 module _ (many : Bool) (n : ℕ) where
-  entry_read : (func : ℕ) (front rest : List ℕ) (x : Code) (codes : List Code) (p : Each (SpellsEntry many) front (x ∷ codes)) → SmallCode x → entry_at many n func (front ++ rest) ≡ Ok (x, p.1 ++ rest)
+  entry_read : (func : ℕ) (front rest : List ℕ) (x : CodeEntry) (codes : List CodeEntry) (p : Each (SpellsEntry many) front (x ∷ codes)) → SmallCode x → entry_at many n func (front ++ rest) ≡ Ok (x, p.1 ++ rest)
   entry_read func front rest x codes p small = rw (p.4, append_assoc p.0 p.1 rest) ((entry_exact many n func).complete p.0 (p.1 ++ rest) x p.2 small)
 
-  not_this : (func : ℕ) (front entry back content more : List ℕ) (w : Fault) (x : Code) (codes : List Code) (p : Each (SpellsEntry many) front (x ∷ codes)) → SmallCode x → entry ++ back ≡ front ++ more → Sized entry content → code_at many content ≡ Err w → ⊥
+  not_this : (func : ℕ) (front entry back content more : List ℕ) (w : Fault) (x : CodeEntry) (codes : List CodeEntry) (p : Each (SpellsEntry many) front (x ∷ codes)) → SmallCode x → entry ++ back ≡ front ++ more → Sized entry content → code_at many content ≡ Err w → ⊥
   not_this func front entry back content more w x codes p small is z bad =
       ok_err (x, p.1 ++ more) (placed n (Some func) w) (sym (entry_read func front more x codes p small) ∙ sym (ap (entry_at many n func) is) ∙ here_met many n func entry back content w z bad)
 
-  entries_same : (codes codes' : List Code) (func : ℕ) (front front' entry entry' back back' content content' : List ℕ) (w w' : Fault) → front ++ (entry ++ back) ≡ front' ++ (entry' ++ back') →
+  entries_same : (codes codes' : List CodeEntry) (func : ℕ) (front front' entry entry' back back' content content' : List ℕ) (w w' : Fault) → front ++ (entry ++ back) ≡ front' ++ (entry' ++ back') →
       Each (SpellsEntry many) front codes → Every SmallCode codes → Sized entry content → code_at many content ≡ Err w →
       Each (SpellsEntry many) front' codes' → Every SmallCode codes' → Sized entry' content' → code_at many content' ≡ Err w' → length codes ≡ length codes'
   entries_same [] [] func front front' entry entry' back back' content content' w w' is p s z bad p' s' z' bad' = refl
@@ -74,10 +74,10 @@ module _ (many : Bool) (n : ℕ) where
   entries_same (x ∷ codes) [] func front front' entry entry' back back' content content' w w' is p s z bad p' s' z' bad' =
       absurd (not_this func front entry' back' content' (entry ++ back) w' x codes p s.0 (sym (ap (λ f. f ++ (entry' ++ back')) p') ∙ sym is) z' bad')
   entries_same (x ∷ codes) (x' ∷ codes') func front front' entry entry' back back' content content' w w' is p s z bad p' s' z' bad' =
-      let read : ◌≡◌ {A = Result (Code × List ℕ) ReadFault} (Ok (x, p.1 ++ (entry ++ back))) (Ok (x', p'.1 ++ (entry' ++ back'))) =
+      let read : ◌≡◌ {A = Result (CodeEntry × List ℕ) ReadFault} (Ok (x, p.1 ++ (entry ++ back))) (Ok (x', p'.1 ++ (entry' ++ back'))) =
       sym (entry_read func front (entry ++ back) x codes p s.0) ∙ ap (entry_at many n func) is ∙ entry_read func front' (entry' ++ back') x' codes' p' s'.0 in
-      let pair : ◌≡◌ {A = Code × List ℕ} (x, p.1 ++ (entry ++ back)) (x', p'.1 ++ (entry' ++ back')) = cc in
-      let rest : p.1 ++ (entry ++ back) ≡ p'.1 ++ (entry' ++ back') = ap (λ (t : Code × List ℕ). t.1) pair in
+      let pair : ◌≡◌ {A = CodeEntry × List ℕ} (x, p.1 ++ (entry ++ back)) (x', p'.1 ++ (entry' ++ back')) = cc in
+      let rest : p.1 ++ (entry ++ back) ≡ p'.1 ++ (entry' ++ back') = ap (λ (t : CodeEntry × List ℕ). t.1) pair in
       ap suc (entries_same codes codes' (func + 1) p.1 p'.1 entry entry' back back' content content' w w' rest p.3 s.1 z bad p'.3 s'.1 z' bad')
 
   counts_same : (c count count' rest rest' : List ℕ) (k k' : ℕ) → c ≡ count ++ rest → c ≡ count' ++ rest' → U32 count k → U32 count' k' → (k ≡ k') × (rest ≡ rest')

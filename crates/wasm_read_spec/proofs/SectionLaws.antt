@@ -8,7 +8,7 @@ use Rattle.wasm_read_spec.specs.declared.fault.Fault.TheVariants as fault
 use Rattle.wasm_read_spec.specs.declared.fault.ReadFault.{ReadFault}
 use Rattle.wasm_read_spec.specs.declared.fault.ReadFault.TheVariants.{Malformed}
 use Rattle.wasm_read_spec.specs.declared.parts.Parts.{Parts}
-use Rattle.wasm_read_spec.specs.Prelude.{Never, Made, When, Any, Few, Limited, WhenSmall, SpellsFuncType, SpellsEntry, SmallCode, with_types, with_imports, with_func_types, with_tables, with_mems, with_globals, with_exports, with_start, with_elems, with_codes, with_datas, with_count, SpellsCustom, Reader, name_at, func_type_of, in_place, codes_at, custom_at, put_at}
+use Rattle.wasm_read_spec.specs.Prelude.{Never, MadeFrom, When, Any, Few, Limited, WhenSmall, SpellsFuncType, SpellsEntry, SmallCode, with_types, with_imports, with_func_types, with_tables, with_mems, with_globals, with_exports, with_start, with_elems, with_codes, with_datas, with_count, SpellsCustom, Reader, name_at, func_type_of, in_place, codes_at, custom_at, put_at}
 use Rattle.wasm_read_spec.specs.Files.{section_form, small_form}
 use Rattle.wasm_read_spec.specs.Reading.{whole_at}
 use Rattle.wasm_read_spec.specs.Contents.{section_at}
@@ -72,7 +72,7 @@ put_ok n make r q e =
     let w = bind_ok (in_place n None r) _ _ e in
     (w.0, in_ok false n None r w.0 w.1, let k = w.2 in let same : make w.0 ≡ q = cc in sym same)
 
-right_put : {A : Type 0} {P : List ℕ → A → Type 0} {S : A → Type 0} {r : Reader A} (n : ℕ) (make : A → Parts) → Exact P S r → IsPrefixFree P → Right (Made make P) (Limited P S) (λ c. put_at n make (whole_at r c))
+right_put : {A : Type 0} {P : List ℕ → A → Type 0} {S : A → Type 0} {r : Reader A} (n : ℕ) (make : A → Parts) → Exact P S r → IsPrefixFree P → Right (MadeFrom make P) (Limited P S) (λ c. put_at n make (whole_at r c))
 right_put {A} {P} {S} {r} n make exact free = record {
   sound = λ c q small e.
       let p = put_ok n make (whole_at r c) q e in
@@ -83,7 +83,7 @@ right_put {A} {P} {S} {r} n make exact free = record {
 }
 
 -- a section without a limit
-right_free : {A : Type 0} {P : List ℕ → A → Type 0} {r : Reader A} (n : ℕ) (make : A → Parts) → Exact P Any r → IsPrefixFree P → Right (Made make P) Any (λ c. put_at n make (whole_at r c))
+right_free : {A : Type 0} {P : List ℕ → A → Type 0} {r : Reader A} (n : ℕ) (make : A → Parts) → Exact P Any r → IsPrefixFree P → Right (MadeFrom make P) Any (λ c. put_at n make (whole_at r c))
 right_free {A} {P} {r} n make exact free = record {
   sound = λ c q small e. let w = (right_put n make exact free).sound c q small e in (w.0, tt);
   complete = λ c q h k. (right_put n make exact free).complete c q h (λ x y. tt);
@@ -104,7 +104,7 @@ right_custom n p = record {
   one = λ c q r h k. h.1 ∙ sym k.1;
 }
 
-right_codes : (many : Bool) (n func : ℕ) (p : Parts) → Right (Made (with_codes p) (Vector (SpellsEntry many))) (Limited (Vector (SpellsEntry many)) (Few (limit Functions) SmallCode)) (λ c. codes_at many n func c >>= (λ xs. Ok (with_codes p xs)))
+right_codes : (many : Bool) (n func : ℕ) (p : Parts) → Right (MadeFrom (with_codes p) (Vector (SpellsEntry many))) (Limited (Vector (SpellsEntry many)) (Few (limit Functions) SmallCode)) (λ c. codes_at many n func c >>= (λ xs. Ok (with_codes p xs)))
 right_codes many n func p = record {
   sound = λ c q small e.
       let w = bind_ok (codes_at many n func c) _ _ e in

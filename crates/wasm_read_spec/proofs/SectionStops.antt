@@ -10,7 +10,7 @@ use Rattle.wasm_read_spec.specs.declared.fault.Fault.TheVariants as fault
 use Rattle.wasm_read_spec.specs.declared.fault.ReadFault.{ReadFault}
 use Rattle.wasm_read_spec.specs.declared.fault.ReadFault.TheVariants.{Malformed, Limit}
 use Rattle.wasm_read_spec.specs.declared.parts.Parts.{Parts}
-use Rattle.wasm_read_spec.specs.Prelude.{Code, SpellsEntry, SmallCode, with_types, with_imports, with_func_types, with_tables, with_mems, with_globals, with_exports, with_start, with_elems, with_codes, with_datas, with_count, Stop, Over, NoStop, EntryOf, Reader, u32_at, name_at, sized_at, code_at, placed, in_place, next_func, put_at, custom_at}
+use Rattle.wasm_read_spec.specs.Prelude.{CodeEntry, SpellsEntry, SmallCode, with_types, with_imports, with_func_types, with_tables, with_mems, with_globals, with_exports, with_start, with_elems, with_codes, with_datas, with_count, Stop, Over, NoStop, EntryOf, Reader, u32_at, name_at, sized_at, code_at, placed, in_place, next_func, put_at, custom_at}
 use Rattle.wasm_read_spec.specs.Stops.{WhenStops, VectorStops, section_stops}
 use Rattle.wasm_read_spec.specs.Reading.{each_from, whole_at}
 use Rattle.wasm_read_spec.specs.Contents.{entry_at, codes_at, section_at}
@@ -37,7 +37,7 @@ module _ (many : Bool) (n : ℕ) where
     entry : List ℕ
     back : List ℕ
     text : bytes ≡ front ++ (entry ++ back)
-    codes : List Code
+    codes : List CodeEntry
     more : length codes < k
     spelled : Each (SpellsEntry many) front codes
     within : Every SmallCode codes
@@ -78,7 +78,7 @@ module _ (many : Bool) (n : ℕ) where
       size_is : (w : Fault) → sized_at bytes ≡ Err w → placed n None w ≡ e → e ≡ Malformed n
       size_is w bad is = ⊎_elim (λ m. sym is ∙ ap (placed n None) m) (λ k. absurd k.2) (sized_tells.found bytes w small bad)
 
-  later : (k func : ℕ) (bytes text rest : List ℕ) (x : Code) (e : ReadFault) → SpellsEntry many text x → SmallCode x → bytes ≡ text ++ rest → FaultyEntry k (func + 1) rest e → FaultyEntry (suc k) func bytes e
+  later : (k func : ℕ) (bytes text rest : List ℕ) (x : CodeEntry) (e : ReadFault) → SpellsEntry many text x → SmallCode x → bytes ≡ text ++ rest → FaultyEntry k (func + 1) rest e → FaultyEntry (suc k) func bytes e
   later k func bytes text rest x e spelled small is h = record {
     front = text ++ h.front;
     entry = h.entry;
@@ -122,7 +122,7 @@ module _ (many : Bool) (n : ℕ) where
       ⊎_elim
       (λ lt.
       let over = rw (lt-ltb (limit Functions) k.0 lt) at good.2 in
-      inr (inl (Over Functions, sym (same_err {A = List Code} (Limit Functions) e over), (k.0, (count.0, k.1, count.1, inl (lt, refl), count.2)))))
+      inr (inl (Over Functions, sym (same_err {A = List CodeEntry} (Limit Functions) e over), (k.0, (count.0, k.1, count.1, inl (lt, refl), count.2)))))
       (λ le.
       let within = rw (le-ltb (limit Functions) k.0 le) at good.2 in
       ⊎_elim
@@ -153,7 +153,7 @@ module _ (many : Bool) (n : ℕ) where
       (entries_found k.0 func k.1 e (small_rest _ c k.1 small count) bad))
       (λ ok. ⊎_elim
       (λ done. absurd (ok_err _ e done.1))
-      (λ left. inl (sym (same_err {A = List Code} (Malformed n) e left.1)))
+      (λ left. inl (sym (same_err {A = List CodeEntry} (Malformed n) e left.1)))
       (cond_is (length ok.0.1 == 0) _ _ _ ok.2))
       (bind_err (each_from (entry_at many n) next_func k.0 func k.1) _ e within))
       (cases_lt (limit Functions) k.0))
@@ -172,7 +172,7 @@ module _ (many : Bool) (n : ℕ) where
   unfolding entry_at
   here_met func entry back content w z bad = rw (sized_exact.complete entry back content z tt, bad)
 
-  each_met : (codes : List Code) (k func : ℕ) (front entry back content : List ℕ) (w : Fault) → length codes < k → Each (SpellsEntry many) front codes → Every SmallCode codes → Sized entry content → code_at many content ≡ Err w →
+  each_met : (codes : List CodeEntry) (k func : ℕ) (front entry back content : List ℕ) (w : Fault) → length codes < k → Each (SpellsEntry many) front codes → Every SmallCode codes → Sized entry content → code_at many content ≡ Err w →
       each_from (entry_at many n) next_func k func (front ++ (entry ++ back)) ≡ Err (placed n (Some (func + length codes)) w)
   unfolding each_from
   each_met codes zero func front entry back content w lt p s z bad = absurd (omega (arith, lt))

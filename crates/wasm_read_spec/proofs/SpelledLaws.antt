@@ -8,7 +8,7 @@ use Rattle.wasm_read_spec.specs.declared.fault.Fault.TheVariants as fault
 use Rattle.wasm_read_spec.specs.declared.fault.ReadFault.{ReadFault}
 use Rattle.wasm_read_spec.specs.declared.fault.ReadFault.TheVariants.{Limit, Malformed}
 use Rattle.wasm_read_spec.specs.declared.parts.Parts.{Parts}
-use Rattle.wasm_read_spec.specs.Prelude.{Code, Made, When, SpellsEntry, nothing, with_types, with_imports, with_func_types, with_tables, with_mems, with_globals, with_exports, with_start, with_elems, with_codes, with_datas, with_count, SpellsCustom, Contents, Spells, Reader, u32_at, sized_at, each_from, code_at, in_place, next_func, custom_at, put_at, framed_at, agrees}
+use Rattle.wasm_read_spec.specs.Prelude.{CodeEntry, MadeFrom, When, SpellsEntry, nothing, with_types, with_imports, with_func_types, with_tables, with_mems, with_globals, with_exports, with_start, with_elems, with_codes, with_datas, with_count, SpellsCustom, SectionContents, Spells, Reader, u32_at, sized_at, each_from, code_at, in_place, next_func, custom_at, put_at, framed_at, agrees}
 use Rattle.wasm_read_spec.specs.Files.{section_form}
 use Rattle.wasm_read_spec.specs.Reading.{whole_at}
 use Rattle.wasm_read_spec.specs.Contents.{entry_at, codes_at, section_at, contents_at, parts_at, read_at}
@@ -34,7 +34,7 @@ module _ (many : Bool) (n : ℕ) where
         (bind_got Limit (in_place n (Some func) (code_at many h.0)) f _ (f, rest) (in_place_got n (Some func) _ f (code_gets many h.0 f h.2)) (inl refl));
   }
 
-  codes_got : (func : ℕ) (c : List ℕ) (fs : List Code) → Vector (SpellsEntry many) c fs → Got Limit (codes_at many n func c) fs
+  codes_got : (func : ℕ) (c : List ℕ) (fs : List CodeEntry) → Vector (SpellsEntry many) c fs → Got Limit (codes_at many n func c) fs
   unfolding codes_at
   codes_got func c fs h =
       let items : Got Limit (each_from (entry_at many n) next_func (length fs) func h.1) (fs, []) =
@@ -52,7 +52,7 @@ gets_when : {P Q : List ℕ → Parts → Type 0} {r q : List ℕ → Result Par
 gets_when true a b = a
 gets_when false a b = b
 
-gets_put : {A : Type 0} {P : List ℕ → A → Type 0} {r : Reader A} (n : ℕ) (make : A → Parts) → Gets fault.Limit P r → SectionGets (Made make P) (λ c. put_at n make (whole_at r c))
+gets_put : {A : Type 0} {P : List ℕ → A → Type 0} {r : Reader A} (n : ℕ) (make : A → Parts) → Gets fault.Limit P r → SectionGets (MadeFrom make P) (λ c. put_at n make (whole_at r c))
 unfolding whole_at
 gets_put {A} {P} {r} n make a = λ c q h.
     let one : Got fault.Limit (r c) (h.0, []) = subst (λ z. Got fault.Limit (r z) (h.0, [])) (append-nil c) (a.gets c [] h.0 h.1) in
@@ -62,7 +62,7 @@ gets_put {A} {P} {r} n make a = λ c q h.
 gets_custom : (n : ℕ) (p : Parts) → SectionGets (SpellsCustom p) (λ c. put_at n (λ u. p) (custom_at c))
 gets_custom n p = λ c q h. let t = h.0.1 in inl (rw (t.4, name_exact.complete t.0 t.1 h.0.0 t.2 tt, h.1))
 
-gets_codes : (many : Bool) (n func : ℕ) (p : Parts) → SectionGets (Made (with_codes p) (Vector (SpellsEntry many))) (λ c. codes_at many n func c >>= (λ xs. Ok (with_codes p xs)))
+gets_codes : (many : Bool) (n func : ℕ) (p : Parts) → SectionGets (MadeFrom (with_codes p) (Vector (SpellsEntry many))) (λ c. codes_at many n func c >>= (λ xs. Ok (with_codes p xs)))
 gets_codes many n func p = λ c q h. subst (λ z. Got Limit (codes_at many n func c >>= (λ xs. Ok (with_codes p xs))) z) (sym h.2) (bind_got Limit (codes_at many n func c) h.0 (λ xs. Ok (with_codes p xs)) (with_codes p h.0) (codes_got many n func c h.0 h.1) (inl refl))
 
 pub section_gets : (many : Bool) (n : ℕ) (p : Parts) (id : ℕ) → SectionGets (section_form many p id) (λ c. section_at many n p (id, c))
@@ -83,7 +83,7 @@ section_gets many n p id =
     (gets_when (id == 12) (gets_put n (with_count p) (exact_gets u32_exact))
     (λ c q h. absurd h)))))))))))))
 
-contents_got : (many : Bool) (n : ℕ) (p : Parts) (ss : List Section) (q : Parts) → Contents many p ss q → Got Limit (contents_at many n p ss) q
+contents_got : (many : Bool) (n : ℕ) (p : Parts) (ss : List Section) (q : Parts) → SectionContents many p ss q → Got Limit (contents_at many n p ss) q
 unfolding contents_at
 contents_got many n p [] q h = inl (ap Ok h)
 contents_got many n p (s ∷ ss) q h = bind_got Limit (section_at many n p s) h.0 _ q (section_gets many n p s.0 s.1 h.0 h.1) (contents_got many (n + 1) h.0 ss q h.2)

@@ -1,7 +1,7 @@
 -- Tokens: what is read is what is spelled.
 use Rattle.base_lists.proofs.Common.{◌≡◌, ℕ, ◌<◌, ◌≤◌, List, [], ◌∷◌, ◌++◌, Result, Ok, Bool, true, false, cond, Option, Some, None, ◌⊎◌, inl, inr, ⊎_elim, refl, ap, ◌∙◌, subst, arith, ℤ, pos, negsuc, ◌-ℤ◌, ints, cases_lt, eqb-true, ne_eqb, ◌&&◌, nat_lt, and_false, cond_is, bind_ok, ok_pair, err_ok}
 use Rattle.std.proofs.Common.{le-ltb, eqb, leb}
-use Rattle.wasm_bytes.specs.Prelude.{Took, Signed, ◌>>=◌, IsBytes, signed_at}
+use Rattle.wasm_bytes.specs.Prelude.{TakesOff, Signed, ◌>>=◌, IsBytes, signed_at}
 use Rattle.wasm_tree_spec.specs.Prelude.{ValType, BlockType, Value, BrTable, SelectTyped, I32Const, I64Const, RefNull}
 use Rattle.wasm_tree.specs.declared.types.BlockType.TheVariants.{Empty, Index}
 use Rattle.wasm_read_spec.specs.declared.fault.Fault.{Fault}
@@ -29,35 +29,35 @@ leb_no : (a b : ℕ) → b < a → leb a b ≡ false
 leb_no a b h = grind arith
 
 -- a value type read as a block type
-value_sound : (bytes : List ℕ) (ty : BlockType) (rest : List ℕ) → IsBytes bytes → mapped_at Value val_at bytes ≡ Ok (ty, rest) → Took (λ t. SpellsBlockType t ty) bytes rest
+value_sound : (bytes : List ℕ) (ty : BlockType) (rest : List ℕ) → IsBytes bytes → mapped_at Value val_at bytes ≡ Ok (ty, rest) → TakesOff (λ t. SpellsBlockType t ty) bytes rest
 value_sound bytes ty rest small e =
     let x = bind_ok (val_at bytes) _ _ e in
     let t = (val_exact.sound bytes x.0.0 x.0.1 small x.1).0 in
     let p = ok_pair {E = Fault} (Value x.0.0) ty x.0.1 rest x.2 in
-    subst (λ z. Took (λ t. SpellsBlockType t z) bytes rest) p.0 (t.0, t.1, t.2 ∙ ap (λ z. t.0 ++ z) p.1)
+    subst (λ z. TakesOff (λ t. SpellsBlockType t z) bytes rest) p.0 (t.0, t.1, t.2 ∙ ap (λ z. t.0 ++ z) p.1)
 
 index_sound : (z : ℤ) (mid rest : List ℕ) (ty : BlockType) → index_of (z, mid) ≡ Ok (ty, rest) → (n : ℕ) × (z ≡ pos n) × (Index n ≡ ty) × (mid ≡ rest)
 index_sound (pos n) mid rest ty e = let p = ok_pair {E = Fault} (Index n) ty mid rest e in (n, refl, p.0, p.1)
 index_sound (negsuc n) mid rest ty e = cc
 
-empty_sound : (b : ℕ) (bs rest : List ℕ) (ty : BlockType) → eqb b 0x40 ≡ true → ◌≡◌ {A = Result (BlockType × List ℕ) Fault} (Ok (Empty, bs)) (Ok (ty, rest)) → Took (λ t. SpellsBlockType t ty) (b ∷ bs) rest
+empty_sound : (b : ℕ) (bs rest : List ℕ) (ty : BlockType) → eqb b 0x40 ≡ true → ◌≡◌ {A = Result (BlockType × List ℕ) Fault} (Ok (Empty, bs)) (Ok (ty, rest)) → TakesOff (λ t. SpellsBlockType t ty) (b ∷ bs) rest
 empty_sound b bs rest ty same e =
     let p = ok_pair {E = Fault} Empty ty bs rest e in
-    subst (λ z. Took (λ t. SpellsBlockType t z) (b ∷ bs) rest) p.0 (0x40 ∷ [], refl, ap (λ c. c ∷ bs) (eqb-true b 0x40 same) ∙ ap (λ xs. 0x40 ∷ xs) p.1)
+    subst (λ z. TakesOff (λ t. SpellsBlockType t z) (b ∷ bs) rest) p.0 (0x40 ∷ [], refl, ap (λ c. c ∷ bs) (eqb-true b 0x40 same) ∙ ap (λ xs. 0x40 ∷ xs) p.1)
 
-number_sound : (b : ℕ) (bs rest : List ℕ) (ty : BlockType) → IsBytes (b ∷ bs) → (or_malformed (signed_at 33 (b ∷ bs)) >>= index_of) ≡ Ok (ty, rest) → Took (λ t. SpellsBlockType t ty) (b ∷ bs) rest
+number_sound : (b : ℕ) (bs rest : List ℕ) (ty : BlockType) → IsBytes (b ∷ bs) → (or_malformed (signed_at 33 (b ∷ bs)) >>= index_of) ≡ Ok (ty, rest) → TakesOff (λ t. SpellsBlockType t ty) (b ∷ bs) rest
 number_sound b bs rest ty small e =
     let z = bind_ok (or_malformed (signed_at 33 (b ∷ bs))) index_of _ e in
     let t = (s33_exact.sound (b ∷ bs) z.0.0 z.0.1 small z.1).0 in
     let i = index_sound z.0.0 z.0.1 rest ty z.2 in
-    subst (Took (λ t. SpellsBlockType t ty) (b ∷ bs)) i.3 (t.0, subst (SpellsBlockType t.0) i.2 (subst (Signed 33 t.0) i.1 t.1), t.2)
+    subst (TakesOff (λ t. SpellsBlockType t ty) (b ∷ bs)) i.3 (t.0, subst (SpellsBlockType t.0) i.2 (subst (Signed 33 t.0) i.1 t.1), t.2)
 
-either_sound : (c : Bool) (b : ℕ) (bs rest : List ℕ) (ty : BlockType) (other : Result (BlockType × List ℕ) Fault) → IsBytes (b ∷ bs) → (other ≡ Ok (ty, rest) → Took (λ t. SpellsBlockType t ty) (b ∷ bs) rest) →
-    cond c (mapped_at Value val_at (b ∷ bs)) other ≡ Ok (ty, rest) → Took (λ t. SpellsBlockType t ty) (b ∷ bs) rest
+either_sound : (c : Bool) (b : ℕ) (bs rest : List ℕ) (ty : BlockType) (other : Result (BlockType × List ℕ) Fault) → IsBytes (b ∷ bs) → (other ≡ Ok (ty, rest) → TakesOff (λ t. SpellsBlockType t ty) (b ∷ bs) rest) →
+    cond c (mapped_at Value val_at (b ∷ bs)) other ≡ Ok (ty, rest) → TakesOff (λ t. SpellsBlockType t ty) (b ∷ bs) rest
 either_sound true b bs rest ty other small next e = value_sound (b ∷ bs) ty rest small e
 either_sound false b bs rest ty other small next e = next e
 
-block_type_sound : (bytes : List ℕ) (ty : BlockType) (rest : List ℕ) → IsBytes bytes → block_type_at bytes ≡ Ok (ty, rest) → Took (λ t. SpellsBlockType t ty) bytes rest
+block_type_sound : (bytes : List ℕ) (ty : BlockType) (rest : List ℕ) → IsBytes bytes → block_type_at bytes ≡ Ok (ty, rest) → TakesOff (λ t. SpellsBlockType t ty) bytes rest
 unfolding block_type_at
 block_type_sound [] ty rest small e = cc
 block_type_sound (b ∷ bs) ty rest small e = ⊎_elim (λ h. empty_sound b bs rest ty h.0 h.1)
@@ -176,7 +176,7 @@ pub token_exact : (many : Bool) → Exact (SpellsToken many) Any (token_at many)
 unfolding token_at
 token_exact many = chosen_exact byte_exact (λ b. follows_exact many (the_form b))
 
-pub token_sound : (many : Bool) (bytes : List ℕ) (t : Token) (rest : List ℕ) → IsBytes bytes → token_at many bytes ≡ Ok (t, rest) → Took (λ b. SpellsToken many b t) bytes rest
+pub token_sound : (many : Bool) (bytes : List ℕ) (t : Token) (rest : List ℕ) → IsBytes bytes → token_at many bytes ≡ Ok (t, rest) → TakesOff (λ b. SpellsToken many b t) bytes rest
 token_sound many bytes t rest small e = ((token_exact many).sound bytes t rest small e).0
 
 pub token_complete : (many : Bool) (text : List ℕ) (t : Token) (rest : List ℕ) → SpellsToken many text t → token_at many (text ++ rest) ≡ Ok (t, rest)

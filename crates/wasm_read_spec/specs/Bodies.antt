@@ -30,29 +30,29 @@ abbrev pub SpellsGroup : List ℕ → LocalGroup → Type 0
 SpellsGroup bytes g = Both U32 SpellsVal bytes (g.count, g.ty)
 
 -- What a code entry has of a function: its locals and its body. The function section has its type.
-pub record Code : Type 0 where
+pub record CodeEntry : Type 0 where
   pub locals : List LocalGroup
   pub body : List Instr
 
-abbrev pub code_in : Func → Code
+abbrev pub code_in : Func → CodeEntry
 code_in f = record { locals = f.locals; body = f.body }
 
 -- The code of the function that is read, or the fault.
-abbrev pub code_read : {E : Type 0} → Result Func E → Result Code E
+abbrev pub code_read : {E : Type 0} → Result Func E → Result CodeEntry E
 code_read (Ok f) = Ok (code_in f)
 code_read (Err e) = Err e
 
 -- The same of several functions.
-abbrev pub codes_read : {E : Type 0} → Result (List Func) E → Result (List Code) E
+abbrev pub codes_read : {E : Type 0} → Result (List Func) E → Result (List CodeEntry) E
 codes_read (Ok fs) = Ok (map code_in fs)
 codes_read (Err e) = Err e
 
 -- The content of a code entry.
-abbrev pub SpellsCode : Bool → List ℕ → Code → Type 0
+abbrev pub SpellsCode : Bool → List ℕ → CodeEntry → Type 0
 SpellsCode many bytes c = Both (Vector SpellsGroup) (SpellsBody many) bytes (c.locals, c.body)
 
 -- A code entry, with its size.
-abbrev pub SpellsEntry : Bool → List ℕ → Code → Type 0
+abbrev pub SpellsEntry : Bool → List ℕ → CodeEntry → Type 0
 SpellsEntry many bytes c = (content : List ℕ) × Sized bytes content × SpellsCode many content c
 
 -- ---- sizes
@@ -114,7 +114,7 @@ abbrev pub depth : List Instr → ℕ
 depth is = deepest (map depth_of is)
 
 -- The sum of the locals and the nesting are within their limits.
-abbrev pub SmallCode : Code → Type 0
+abbrev pub SmallCode : CodeEntry → Type 0
 SmallCode c = (declared_count c.locals ≤ limit Locals) × (depth c.body ≤ limit Nesting)
 
 -- The sum of the locals and the nesting of the function are within their limits.

@@ -10,7 +10,7 @@ use Rattle.wasm_read_spec.specs.declared.token.Token.{Token}
 use Rattle.wasm_read_spec.specs.declared.token.Token.TheVariants.{Open, Else, End, Plain}
 use Rattle.wasm_read_spec.specs.declared.token.Sequence.{Sequence}
 use Rattle.wasm_read_spec.specs.Tokens.{Form, plain, number, numbers, const32, const64, table, typed, access, memory, memories, with_memory, null, open', else', end', prefixed, unsupported, unknown, the_form, sub_form, arg_of, arg_in}
-use Rattle.wasm_read_spec.specs.Bodies.{Code}
+use Rattle.wasm_read_spec.specs.Bodies.{CodeEntry}
 use Rattle.wasm_read_spec.specs.Reading.{Reader, byte_at, u32_at, s32_at, s64_at, just_at, fault_at, pair_at, mapped_at, chosen_at, when_at, tagged_at, list_at, val_at, ref_at, block_type_at, locals_at}
 
 -- ---- tokens
@@ -112,8 +112,8 @@ body_at many bs = sequence_at many (length bs) (limit Nesting) bs >>= whole
 
 -- ---- the content of an entry
 
-abbrev pub code_of : List LocalGroup → List Instr → Code
+abbrev pub code_of : List LocalGroup → List Instr → CodeEntry
 code_of ls is = record { locals = ls; body = is }
 
-unfoldable pub code_at : Bool → List ℕ → Result Code Fault
+unfoldable pub code_at : Bool → List ℕ → Result CodeEntry Fault
 code_at many bs = locals_at bs >>= (λ ls. body_at many ls.1 >>= (λ is. Ok (code_of ls.0 is)))

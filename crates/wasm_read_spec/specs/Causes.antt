@@ -10,8 +10,8 @@ use Rattle.wasm_read_spec.specs.declared.fault.ReadFault.{ReadFault}
 use Rattle.wasm_read_spec.specs.declared.fault.ReadFault.TheVariants.{NoMemory, NotModule, Malformed, MalformedBody, Unsupported, Limit}
 use Rattle.wasm_read_spec.specs.declared.parts.Parts.{Parts}
 use Rattle.base_lists.specs.Every.{Every}
-use Rattle.wasm_read_spec.specs.Bodies.{Code, SpellsCode, SpellsEntry, SmallCode}
-use Rattle.wasm_read_spec.specs.Files.{nothing, SpellsSection, SectionIsSmall, Contents, Rules}
+use Rattle.wasm_read_spec.specs.Bodies.{CodeEntry, SpellsCode, SpellsEntry, SmallCode}
+use Rattle.wasm_read_spec.specs.Files.{nothing, SpellsSection, SectionIsSmall, SectionContents, Rules}
 use Rattle.wasm_read_spec.specs.Stops.{Stop, NotSupported, Over, CodeStops, section_stops}
 
 -- ---- places
@@ -23,7 +23,7 @@ pub record UpTo (bytes : List ℕ) (many : Bool) (n : ℕ) (s : Section) (p : Pa
   pub back : List Section
   pub framed : Framed bytes (front ++ s ∷ back)
   pub number : length front ≡ n
-  pub spelled : Contents many nothing front p
+  pub spelled : SectionContents many nothing front p
   pub within : Every (SectionIsSmall many) front
 
 -- In the content of a code section whose first entry is of function `func`, the count and the
@@ -38,7 +38,7 @@ pub record EntryOf (many : Bool) (func : ℕ) (section : List ℕ) (f : ℕ) (co
   pub text : section ≡ count ++ (front ++ (entry ++ back))
   pub counted : U32 count total
   pub few : total ≤ limit Functions
-  pub codes : List Code
+  pub codes : List CodeEntry
   pub more : length codes < total
   pub spelled : Each (SpellsEntry many) front codes
   pub within : Every SmallCode codes
@@ -73,11 +73,11 @@ StopsAt bytes many n (Some f) stop = EntryStops bytes many n f stop
 
 -- The content of an entry is encoded and within the limits.
 abbrev pub IsCode : Bool → List ℕ → Type 0
-IsCode many content = (c : Code) × SpellsCode many content c × SmallCode c
+IsCode many content = (c : CodeEntry) × SpellsCode many content c × SmallCode c
 
 -- The content of an entry is no encoding and has no stop. Left-over bytes are one case.
 pub record MalformedContent (many : Bool) (content : List ℕ) : Type 0 where
-  pub unspelled : (c : Code) → SpellsCode many content c → ⊥
+  pub unspelled : (c : CodeEntry) → SpellsCode many content c → ⊥
   pub no_stop : (stop : Stop) → CodeStops many stop content → ⊥
 
 -- In section `n` the entry of function `f` is malformed.
@@ -101,7 +101,7 @@ pub record FaultyWhole (bytes : List ℕ) (many : Bool) (n : ℕ) : Type 0 where
   pub parts : Parts
   pub framed : Framed bytes sections
   pub number : length sections ≡ n
-  pub spelled : Contents many nothing sections parts
+  pub spelled : SectionContents many nothing sections parts
   pub within : Every (SectionIsSmall many) sections
   pub faulty : Rules parts → ⊥
 

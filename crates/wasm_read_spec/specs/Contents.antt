@@ -12,7 +12,7 @@ use Rattle.wasm_read_spec.specs.declared.fault.ReadFault.TheVariants.{NoMemory, 
 use Rattle.wasm_read_spec.specs.declared.parts.Parts.{Parts}
 use Rattle.wasm_read_spec.specs.Files.{nothing, with_types, with_imports, with_func_types, with_tables, with_mems, with_globals, with_exports, with_start, with_elems, with_codes, with_datas, with_count, tree_of}
 use Rattle.wasm_read_spec.specs.Reading.{u32_at, name_at, sized_at, each_from, vector_at, whole_at, func_type_at, import_at, table_at, limits_at, global_def_at, export_at, elem_at, data_at}
-use Rattle.wasm_read_spec.specs.Bodies.{Code}
+use Rattle.wasm_read_spec.specs.Bodies.{CodeEntry}
 use Rattle.wasm_read_spec.specs.BodyReading.{code_at}
 
 -- A fault in a section, or in the entry of a function in it, as a fault of the file.
@@ -29,35 +29,35 @@ in_place section func (Err e) = Err (placed section func e)
 
 -- ---- the result of a call is that of the reading function, unless memory ran out
 
-abbrev pub Fails : {Y : Type 0} → ReadFault → Result Y ReadFault → Type 0
-Fails NoMemory read = Unit {0}
-Fails NotModule read = read ≡ Err NotModule
-Fails (Malformed s) read = read ≡ Err (Malformed s)
-Fails (MalformedBody f) read = read ≡ Err (MalformedBody f)
-Fails (Unsupported s f) read = read ≡ Err (Unsupported s f)
-Fails (Limit w) read = read ≡ Err (Limit w)
+abbrev pub FileFails : {Y : Type 0} → ReadFault → Result Y ReadFault → Type 0
+FileFails NoMemory read = Unit {0}
+FileFails NotModule read = read ≡ Err NotModule
+FileFails (Malformed s) read = read ≡ Err (Malformed s)
+FileFails (MalformedBody f) read = read ≡ Err (MalformedBody f)
+FileFails (Unsupported s f) read = read ≡ Err (Unsupported s f)
+FileFails (Limit w) read = read ≡ Err (Limit w)
 
-abbrev pub Gives : {A : Type 0} → Result A ReadFault → List ℕ → Result (A × List ℕ) ReadFault → Type 0
-Gives (Ok x) rest read = read ≡ Ok (x, rest)
-Gives (Err e) rest read = Fails e read
+abbrev pub FileGives : {A : Type 0} → Result A ReadFault → List ℕ → Result (A × List ℕ) ReadFault → Type 0
+FileGives (Ok x) rest read = read ≡ Ok (x, rest)
+FileGives (Err e) rest read = FileFails e read
 
-abbrev pub GivesAll : {A : Type 0} → Result A ReadFault → Result A ReadFault → Type 0
-GivesAll (Ok x) read = read ≡ Ok x
-GivesAll (Err e) read = Fails e read
+abbrev pub FileGivesAll : {A : Type 0} → Result A ReadFault → Result A ReadFault → Type 0
+FileGivesAll (Ok x) read = read ≡ Ok x
+FileGivesAll (Err e) read = FileFails e read
 
 abbrev pub GivesAfter : {A : Type 0} → Result (Unit {0}) ReadFault → A → Result A ReadFault → Type 0
 GivesAfter (Ok x) new read = read ≡ Ok new
-GivesAfter (Err e) new read = Fails e read
+GivesAfter (Err e) new read = FileFails e read
 
 -- ---- the code section: each entry has a size; faults inside an entry are the function's
 
-unfoldable pub entry_at : Bool → ℕ → ℕ → List ℕ → Result (Code × List ℕ) ReadFault
+unfoldable pub entry_at : Bool → ℕ → ℕ → List ℕ → Result (CodeEntry × List ℕ) ReadFault
 entry_at many section func bs = in_place section None (sized_at bs) >>= (λ s. in_place section (Some func) (code_at many s.0) >>= (λ c. Ok (c, s.1)))
 
 abbrev pub next_func : {A : Type 0} → ℕ → A → ℕ
 next_func func x = func + 1
 
-unfoldable pub codes_at : Bool → ℕ → ℕ → List ℕ → Result (List Code) ReadFault
+unfoldable pub codes_at : Bool → ℕ → ℕ → List ℕ → Result (List CodeEntry) ReadFault
 codes_at many section func bs = in_place section None (u32_at bs) >>= (λ n.
     if nat_lt (limit Functions) n.0 then Err (Limit Functions)
     else (each_from (entry_at many section) next_func n.0 func n.1 >>= (λ r. if length r.1 == 0 then Ok r.0 else Err (Malformed section))))

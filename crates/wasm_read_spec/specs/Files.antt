@@ -5,10 +5,10 @@ use Rattle.wasm_tree_spec.specs.Prelude.{Limits, TableType, FuncType, Import, Gl
 use Rattle.wasm_tree.specs.declared.which.Which.TheVariants.{Types, Functions, Tables, Memories, Globals, ElementSegments, DataSegments}
 use Rattle.wasm_read_spec.specs.declared.parts.Parts.{Parts}
 use Rattle.base_lists.specs.Every.{Every}
-use Rattle.wasm_read_spec.specs.SpellingForms.{Never, Made, When, Any, Few, Limited, WhenSmall}
+use Rattle.wasm_read_spec.specs.SpellingForms.{Never, MadeFrom, When, Any, Few, Limited, WhenSmall}
 use Rattle.wasm_read_spec.specs.Values.{SpellsFuncType, SmallFuncType, SpellsTable, SpellsLimits}
 use Rattle.wasm_read_spec.specs.Sections.{SpellsImport, SpellsGlobalDef, SpellsExport, SpellsElem, SpellsData}
-use Rattle.wasm_read_spec.specs.Bodies.{Code, SpellsEntry, SmallCode}
+use Rattle.wasm_read_spec.specs.Bodies.{CodeEntry, SpellsEntry, SmallCode}
 
 -- ---- sections
 
@@ -45,10 +45,10 @@ abbrev pub with_elems : Parts → List ElemSeg → Parts
 with_elems p xs = record p { elems = xs }
 
 -- The function with this code, before its type index is put in: until then it has index 0.
-abbrev pub untyped : Code → Func
+abbrev pub untyped : CodeEntry → Func
 untyped c = record { ty = 0; locals = c.locals; body = c.body }
 
-abbrev pub with_codes : Parts → List Code → Parts
+abbrev pub with_codes : Parts → List CodeEntry → Parts
 with_codes p xs = record p { codes = map untyped xs }
 
 abbrev pub with_datas : Parts → List DataSeg → Parts
@@ -65,27 +65,27 @@ SpellsCustom p bytes q = ((name : List ℕ) × Then (λ b. Named b name) Any byt
 unfoldable pub section_form : Bool → Parts → ℕ → List ℕ → Parts → Type 0
 section_form many p id =
     When (id == 0) (SpellsCustom p)
-    (When (id == 1) (Made (with_types p) (Vector SpellsFuncType))
-    (When (id == 2) (Made (with_imports p) (Vector SpellsImport))
-    (When (id == 3) (Made (with_func_types p) (Vector U32))
-    (When (id == 4) (Made (with_tables p) (Vector SpellsTable))
-    (When (id == 5) (Made (with_mems p) (Vector SpellsLimits))
-    (When (id == 6) (Made (with_globals p) (Vector SpellsGlobalDef))
-    (When (id == 7) (Made (with_exports p) (Vector SpellsExport))
-    (When (id == 8) (Made (with_start p) U32)
-    (When (id == 9) (Made (with_elems p) (Vector SpellsElem))
-    (When (id == 10) (Made (with_codes p) (Vector (SpellsEntry many)))
-    (When (id == 11) (Made (with_datas p) (Vector SpellsData))
-    (When (id == 12) (Made (with_count p) U32)
+    (When (id == 1) (MadeFrom (with_types p) (Vector SpellsFuncType))
+    (When (id == 2) (MadeFrom (with_imports p) (Vector SpellsImport))
+    (When (id == 3) (MadeFrom (with_func_types p) (Vector U32))
+    (When (id == 4) (MadeFrom (with_tables p) (Vector SpellsTable))
+    (When (id == 5) (MadeFrom (with_mems p) (Vector SpellsLimits))
+    (When (id == 6) (MadeFrom (with_globals p) (Vector SpellsGlobalDef))
+    (When (id == 7) (MadeFrom (with_exports p) (Vector SpellsExport))
+    (When (id == 8) (MadeFrom (with_start p) U32)
+    (When (id == 9) (MadeFrom (with_elems p) (Vector SpellsElem))
+    (When (id == 10) (MadeFrom (with_codes p) (Vector (SpellsEntry many)))
+    (When (id == 11) (MadeFrom (with_datas p) (Vector SpellsData))
+    (When (id == 12) (MadeFrom (with_count p) U32)
     Never))))))))))))
 
 abbrev pub SpellsSection : Bool → Parts → Section → Parts → Type 0
 SpellsSection many p s q = section_form many p s.0 s.1 q
 
 -- The contents of the sections, in order, make the parts `q` of `p`.
-abbrev pub Contents : Bool → Parts → List Section → Parts → Type 0
-Contents many p [] q = p ≡ q
-Contents many p (s ∷ ss) q = (m : Parts) × SpellsSection many p s m × Contents many m ss q
+abbrev pub SectionContents : Bool → Parts → List Section → Parts → Type 0
+SectionContents many p [] q = p ≡ q
+SectionContents many p (s ∷ ss) q = (m : Parts) × SpellsSection many p s m × SectionContents many m ss q
 
 -- ---- the whole file
 
@@ -112,7 +112,7 @@ tree_of p = record { types = p.types; imports = p.imports; funcs = typed p.func_
 
 -- The bytes of the file encode the tree. If `many` is true, memories have indices in bodies.
 abbrev pub Spells : List ℕ → Module → Bool → Type 0
-Spells bytes tree many = (ss : List Section) × (p : Parts) × Framed bytes ss × Contents many nothing ss p × Rules p × (tree ≡ tree_of p)
+Spells bytes tree many = (ss : List Section) × (p : Parts) × Framed bytes ss × SectionContents many nothing ss p × Rules p × (tree ≡ tree_of p)
 
 -- ---- files within the limits
 

@@ -8,16 +8,16 @@ use Rattle.wasm_tree.specs.declared.module.ExportDesc.TheVariants as export
 use Rattle.wasm_tree.specs.declared.module.ConstExpr.TheVariants as const
 use Rattle.wasm_tree.specs.declared.module.ElemMode.TheVariants as elem
 use Rattle.wasm_tree.specs.declared.module.DataMode.TheVariants as data'
-use Rattle.wasm_read_spec.specs.SpellingForms.{Byte, Never, Both, Made, Chosen, When, After}
+use Rattle.wasm_read_spec.specs.SpellingForms.{Byte, Never, Both, MadeFrom, Chosen, When, After}
 use Rattle.wasm_read_spec.specs.Values.{SpellsRef, SpellsLimits, SpellsTable, SpellsGlobal, SpellsConst}
 
 -- An import (5.5.5): the kind byte decides what follows it.
 unfoldable pub import_form : ℕ → List ℕ → ImportDesc → Type 0
 import_form k =
-    When (k == 0x00) (Made import.Func U32)
-    (When (k == 0x01) (Made import.Table SpellsTable)
-    (When (k == 0x02) (Made import.Memory SpellsLimits)
-    (When (k == 0x03) (Made import.Global SpellsGlobal)
+    When (k == 0x00) (MadeFrom import.Func U32)
+    (When (k == 0x01) (MadeFrom import.Table SpellsTable)
+    (When (k == 0x02) (MadeFrom import.Memory SpellsLimits)
+    (When (k == 0x03) (MadeFrom import.Global SpellsGlobal)
     Never)))
 
 abbrev pub SpellsImport : List ℕ → Import → Type 0
@@ -30,10 +30,10 @@ SpellsGlobalDef bytes g = Both SpellsGlobal SpellsConst bytes (g.ty, g.init)
 -- An export (5.5.10).
 unfoldable pub export_form : ℕ → List ℕ → ExportDesc → Type 0
 export_form k =
-    When (k == 0x00) (Made export.Func U32)
-    (When (k == 0x01) (Made export.Table U32)
-    (When (k == 0x02) (Made export.Memory U32)
-    (When (k == 0x03) (Made export.Global U32)
+    When (k == 0x00) (MadeFrom export.Func U32)
+    (When (k == 0x01) (MadeFrom export.Table U32)
+    (When (k == 0x02) (MadeFrom export.Memory U32)
+    (When (k == 0x03) (MadeFrom export.Global U32)
     Never)))
 
 abbrev pub SpellsExport : List ℕ → Export → Type 0
@@ -42,7 +42,7 @@ SpellsExport bytes e = Both Named (Chosen Byte export_form) bytes (e.name, e.des
 -- An element segment (5.5.12): a number decides between eight forms. A function index as an item is
 -- the item `ref.func`.
 abbrev pub FuncItems : List ℕ → List ConstExpr → Type 0
-FuncItems = Vector (Made const.Func U32)
+FuncItems = Vector (MadeFrom const.Func U32)
 
 abbrev pub ConstItems : List ℕ → List ConstExpr → Type 0
 ConstItems = Vector SpellsConst
@@ -73,14 +73,14 @@ elem7 p = elem_of elem.Declarative p.0 p.1
 
 unfoldable pub elem_form : ℕ → List ℕ → ElemSeg → Type 0
 elem_form n =
-    When (n == 0) (Made elem0 (Both SpellsConst FuncItems))
-    (When (n == 1) (Made elem1 (After 0x00 FuncItems))
-    (When (n == 2) (Made elem2 (Both U32 (Both SpellsConst (After 0x00 FuncItems))))
-    (When (n == 3) (Made elem3 (After 0x00 FuncItems))
-    (When (n == 4) (Made elem0 (Both SpellsConst ConstItems))
-    (When (n == 5) (Made elem5 (Both SpellsRef ConstItems))
-    (When (n == 6) (Made elem6 (Both U32 (Both SpellsConst (Both SpellsRef ConstItems))))
-    (When (n == 7) (Made elem7 (Both SpellsRef ConstItems))
+    When (n == 0) (MadeFrom elem0 (Both SpellsConst FuncItems))
+    (When (n == 1) (MadeFrom elem1 (After 0x00 FuncItems))
+    (When (n == 2) (MadeFrom elem2 (Both U32 (Both SpellsConst (After 0x00 FuncItems))))
+    (When (n == 3) (MadeFrom elem3 (After 0x00 FuncItems))
+    (When (n == 4) (MadeFrom elem0 (Both SpellsConst ConstItems))
+    (When (n == 5) (MadeFrom elem5 (Both SpellsRef ConstItems))
+    (When (n == 6) (MadeFrom elem6 (Both U32 (Both SpellsConst (Both SpellsRef ConstItems))))
+    (When (n == 7) (MadeFrom elem7 (Both SpellsRef ConstItems))
     Never)))))))
 
 abbrev pub SpellsElem : List ℕ → ElemSeg → Type 0
@@ -99,9 +99,9 @@ data2 p = record { mode = data'.Active p.0 p.1.0; bytes = p.1.1 }
 
 unfoldable pub data_form : ℕ → List ℕ → DataSeg → Type 0
 data_form n =
-    When (n == 0) (Made data0 (Both SpellsConst Sized))
-    (When (n == 1) (Made data1 Sized)
-    (When (n == 2) (Made data2 (Both U32 (Both SpellsConst Sized)))
+    When (n == 0) (MadeFrom data0 (Both SpellsConst Sized))
+    (When (n == 1) (MadeFrom data1 Sized)
+    (When (n == 2) (MadeFrom data2 (Both U32 (Both SpellsConst Sized)))
     Never))
 
 abbrev pub SpellsData : List ℕ → DataSeg → Type 0

@@ -31,8 +31,8 @@ abbrev pub Both : {A B : Type 0} → (List ℕ → A → Type 0) → (List ℕ �
 Both P Q bytes p = Then (λ b. P b p.0) (λ b. Q b p.1) bytes
 
 -- What `make` makes of a value that the bytes encode.
-abbrev pub Made : {A B : Type 0} → (A → B) → (List ℕ → A → Type 0) → List ℕ → B → Type 0
-Made {A} make P bytes y = (x : A) × P bytes x × (y ≡ make x)
+abbrev pub MadeFrom : {A B : Type 0} → (A → B) → (List ℕ → A → Type 0) → List ℕ → B → Type 0
+MadeFrom {A} make P bytes y = (x : A) × P bytes x × (y ≡ make x)
 
 -- A first value, and then what depends on it.
 abbrev pub Chosen : {K A : Type 0} → (List ℕ → K → Type 0) → (K → List ℕ → A → Type 0) → List ℕ → A → Type 0

@@ -7,7 +7,7 @@ use Rattle.wasm_read_spec.specs.declared.token.Opener.{Opener}
 use Rattle.wasm_read_spec.specs.declared.token.Opener.TheVariants as opener
 use Rattle.wasm_read_spec.specs.declared.token.Token.{Token}
 use Rattle.wasm_read_spec.specs.declared.token.Token.TheVariants.{Open, Else, End, Plain}
-use Rattle.wasm_read_spec.specs.SpellingForms.{S32, S64, Byte, Just, Never, Both, Made, Chosen, When, After}
+use Rattle.wasm_read_spec.specs.SpellingForms.{S32, S64, Byte, Just, Never, Both, MadeFrom, Chosen, When, After}
 use Rattle.wasm_read_spec.specs.Values.{SpellsVal, SpellsRef, SpellsBlockType}
 use Rattle.wasm_read_spec.specs.Operations.{un_of, bin_of, load_of, store_of}
 
@@ -105,8 +105,8 @@ abbrev pub arg_in : ℕ → ℕ × ℕ → MemArg
 arg_in a p = record { align = a - 64; offset = p.1; memory = p.0 }
 
 unfoldable pub arg_form : Bool → ℕ → List ℕ → MemArg → Type 0
-arg_form false a = Made (arg_of a) U32
-arg_form true a = When (nat_lt a 64) (Made (arg_of a) U32) (When (nat_lt a 128) (Made (arg_in a) (Both U32 U32)) Never)
+arg_form false a = MadeFrom (arg_of a) U32
+arg_form true a = When (nat_lt a 64) (MadeFrom (arg_of a) U32) (When (nat_lt a 128) (MadeFrom (arg_in a) (Both U32 U32)) Never)
 
 abbrev pub SpellsMemArg : Bool → List ℕ → MemArg → Type 0
 SpellsMemArg many = Chosen U32 (arg_form many)
@@ -118,18 +118,18 @@ SpellsMemory true = U32
 
 abbrev pub Simple : Bool → Form → List ℕ → Token → Type 0
 Simple many (plain i) = Just (Plain i)
-Simple many (number f) = Made (λ x. Plain (f x)) U32
-Simple many (numbers f) = Made (λ (p : ℕ × ℕ). Plain (f p.0 p.1)) (Both U32 U32)
-Simple many const32 = Made (λ z. Plain (I32Const z)) S32
-Simple many const64 = Made (λ z. Plain (I64Const z)) S64
-Simple many table = Made (λ (p : List ℕ × ℕ). Plain (BrTable p.0 p.1)) (Both (Vector U32) U32)
-Simple many typed = Made (λ ts. Plain (SelectTyped ts)) (Vector SpellsVal)
-Simple many (access f) = Made (λ m. Plain (f m)) (SpellsMemArg many)
-Simple many (memory f) = Made (λ m. Plain (f m)) (SpellsMemory many)
-Simple many (memories f) = Made (λ (p : ℕ × ℕ). Plain (f p.0 p.1)) (Both (SpellsMemory many) (SpellsMemory many))
-Simple many (with_memory f) = Made (λ (p : ℕ × ℕ). Plain (f p.0 p.1)) (Both U32 (SpellsMemory many))
-Simple many null = Made (λ t. Plain (RefNull t)) SpellsRef
-Simple many (open' k) = Made (λ t. Open k t) SpellsBlockType
+Simple many (number f) = MadeFrom (λ x. Plain (f x)) U32
+Simple many (numbers f) = MadeFrom (λ (p : ℕ × ℕ). Plain (f p.0 p.1)) (Both U32 U32)
+Simple many const32 = MadeFrom (λ z. Plain (I32Const z)) S32
+Simple many const64 = MadeFrom (λ z. Plain (I64Const z)) S64
+Simple many table = MadeFrom (λ (p : List ℕ × ℕ). Plain (BrTable p.0 p.1)) (Both (Vector U32) U32)
+Simple many typed = MadeFrom (λ ts. Plain (SelectTyped ts)) (Vector SpellsVal)
+Simple many (access f) = MadeFrom (λ m. Plain (f m)) (SpellsMemArg many)
+Simple many (memory f) = MadeFrom (λ m. Plain (f m)) (SpellsMemory many)
+Simple many (memories f) = MadeFrom (λ (p : ℕ × ℕ). Plain (f p.0 p.1)) (Both (SpellsMemory many) (SpellsMemory many))
+Simple many (with_memory f) = MadeFrom (λ (p : ℕ × ℕ). Plain (f p.0 p.1)) (Both U32 (SpellsMemory many))
+Simple many null = MadeFrom (λ t. Plain (RefNull t)) SpellsRef
+Simple many (open' k) = MadeFrom (λ t. Open k t) SpellsBlockType
 Simple many else' = Just Else
 Simple many end' = Just End
 Simple many prefixed = Never

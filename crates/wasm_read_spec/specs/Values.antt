@@ -7,7 +7,7 @@ use Rattle.wasm_tree.specs.declared.types.BlockType.TheVariants as bt
 use Rattle.wasm_tree.specs.declared.module.ConstExpr.TheVariants as const
 use Rattle.wasm_read_spec.specs.declared.fault.Fault.{Fault}
 use Rattle.wasm_read_spec.specs.declared.fault.Fault.TheVariants.{Malformed, Unsupported}
-use Rattle.wasm_read_spec.specs.SpellingForms.{S32, S64, Byte, Coded, Never, Both, Made, Chosen, When, After, Closed, Few, Any}
+use Rattle.wasm_read_spec.specs.SpellingForms.{S32, S64, Byte, Coded, Never, Both, MadeFrom, Chosen, When, After, Closed, Few, Any}
 
 -- A value type (5.3.4); f32, f64 and v128 are known but not supported.
 unfoldable pub val_of_code : ℕ → Result ValType Fault
@@ -44,7 +44,7 @@ abbrev pub between : ℕ × ℕ → Limits
 between p = record { min = p.0; max = Some p.1 }
 
 unfoldable pub limits_form : ℕ → List ℕ → Limits → Type 0
-limits_form b = When (b == 0x00) (Made at_least U32) (When (b == 0x01) (Made between (Both U32 U32)) Never)
+limits_form b = When (b == 0x00) (MadeFrom at_least U32) (When (b == 0x01) (MadeFrom between (Both U32 U32)) Never)
 
 abbrev pub SpellsLimits : List ℕ → Limits → Type 0
 SpellsLimits = Chosen Byte limits_form
@@ -69,11 +69,11 @@ SpellsBlockType bytes (bt.Index n) = Signed 33 bytes (pos n)
 -- A constant expression: one of these instructions, and `end`.
 unfoldable pub const_form : ℕ → List ℕ → ConstExpr → Type 0
 const_form b =
-    When (b == 0x41) (Made const.I32 S32)
-    (When (b == 0x42) (Made const.I64 S64)
-    (When (b == 0xD0) (Made const.Null SpellsRef)
-    (When (b == 0xD2) (Made const.Func U32)
-    (When (b == 0x23) (Made const.Global U32)
+    When (b == 0x41) (MadeFrom const.I32 S32)
+    (When (b == 0x42) (MadeFrom const.I64 S64)
+    (When (b == 0xD0) (MadeFrom const.Null SpellsRef)
+    (When (b == 0xD2) (MadeFrom const.Func U32)
+    (When (b == 0x23) (MadeFrom const.Global U32)
     Never))))
 
 abbrev pub SpellsConst : List ℕ → ConstExpr → Type 0

@@ -7,7 +7,7 @@ use Rattle.wasm_tree.specs.declared.instr.Instr.TheViews.{roll-Instr, outs-Block
 use Rattle.std.specs.Bool.{OnTrue}
 use Rattle.std.specs.declared.alloc.AllocError.{AllocError}
 use Rattle.wasm_valid_bodies.specs.Typing.{Stack, AllMatch, operands, Effect, Gives, Acts, Signature, Context, under, signature_of, effect_of, LeadsToMatch, ActsAs, Fits, Leads, LeadsAll, WellTyped}
-use Rattle.wasm_valid_bodies.specs.Tracking.{Instance, Concrete, StepsTo, Fails, TracksStep, pop_all, act, answer_of}
+use Rattle.wasm_valid_bodies.specs.Tracking.{Instance, Concrete, StepsTo, LeadsNowhere, TracksStep, pop_all, act, answer_of}
 use Rattle.wasm_valid_bodies.specs.Kept.{when}
 use Rattle.wasm_valid_bodies.proofs.Rows.{to_list, to_row}
 use Rattle.wasm_valid_bodies.proofs.Pops.{pop_all-on, pop_all-back, padded}
@@ -65,7 +65,7 @@ pub block_arm : (c : Context) (bt : BlockType) (v : List Instr) (f : Signature) 
 block_arm c bt v f xs o ys p ok sig w h =
     follows_map (Acts (Gives f.params f.results)) (Fits c (Block bt v)) (λ s t a. (f, sym sig, ends_from (under c f.results) v f.params f.results w, a)) (λ s t (g, e, l, a). subst (λ z. Acts (Gives z.params z.results) s t) (same_signature _ f g sig e) a) xs o ys p ok (follows_acts (Gives f.params f.results) xs o ys p ok h)
 
-pub block_stop : (c : Context) (bt : BlockType) (v : List Instr) (f : Signature) (xs : Stack) (o : Bool) → Some f ≡ signature_of c.types bt → (WellTyped (under c f.results) v f.params f.results → ⊥) → Fails (Fits c (Block bt v)) xs o
+pub block_stop : (c : Context) (bt : BlockType) (v : List Instr) (f : Signature) (xs : Stack) (o : Bool) → Some f ≡ signature_of c.types bt → (WellTyped (under c f.results) v f.params f.results → ⊥) → LeadsNowhere (Fits c (Block bt v)) xs o
 block_stop c bt v f xs o sig never s t i (g, e, l, a) =
     never (subst (λ z. WellTyped (under c z.results) v z.params z.results) (same_signature _ f g sig e) (ends_to (under c g.results) v g.params g.results l))
 
@@ -73,7 +73,7 @@ pub loop_arm : (c : Context) (bt : BlockType) (v : List Instr) (f : Signature) (
 loop_arm c bt v f xs o ys p ok sig w h =
     follows_map (Acts (Gives f.params f.results)) (Fits c (Loop bt v)) (λ s t a. (f, sym sig, ends_from (under c f.params) v f.params f.results w, a)) (λ s t (g, e, l, a). subst (λ z. Acts (Gives z.params z.results) s t) (same_signature _ f g sig e) a) xs o ys p ok (follows_acts (Gives f.params f.results) xs o ys p ok h)
 
-pub loop_stop : (c : Context) (bt : BlockType) (v : List Instr) (f : Signature) (xs : Stack) (o : Bool) → Some f ≡ signature_of c.types bt → (WellTyped (under c f.params) v f.params f.results → ⊥) → Fails (Fits c (Loop bt v)) xs o
+pub loop_stop : (c : Context) (bt : BlockType) (v : List Instr) (f : Signature) (xs : Stack) (o : Bool) → Some f ≡ signature_of c.types bt → (WellTyped (under c f.params) v f.params f.results → ⊥) → LeadsNowhere (Fits c (Loop bt v)) xs o
 loop_stop c bt v f xs o sig never s t i (g, e, l, a) =
     never (subst (λ z. WellTyped (under c z.params) v z.params z.results) (same_signature _ f g sig e) (ends_to (under c g.params) v g.params g.results l))
 
@@ -81,11 +81,11 @@ pub if_arm : (c : Context) (bt : BlockType) (v w : List Instr) (f : Signature) (
 if_arm c bt v w f xs o ys p ok sig vt wt h =
     follows_map (Acts (Gives (f.params ++ I32 ∷ []) f.results)) (Fits c (If bt v w)) (λ s t a. (f, sym sig, ends_from (under c f.results) v f.params f.results vt, ends_from (under c f.results) w f.params f.results wt, a)) (λ s t (g, e, l, m, a). subst (λ z. Acts (Gives (z.params ++ I32 ∷ []) z.results) s t) (same_signature _ f g sig e) a) xs o ys p ok (follows_acts (Gives (f.params ++ I32 ∷ []) f.results) xs o ys p ok h)
 
-pub then_stop : (c : Context) (bt : BlockType) (v w : List Instr) (f : Signature) (xs : Stack) (o : Bool) → Some f ≡ signature_of c.types bt → (WellTyped (under c f.results) v f.params f.results → ⊥) → Fails (Fits c (If bt v w)) xs o
+pub then_stop : (c : Context) (bt : BlockType) (v w : List Instr) (f : Signature) (xs : Stack) (o : Bool) → Some f ≡ signature_of c.types bt → (WellTyped (under c f.results) v f.params f.results → ⊥) → LeadsNowhere (Fits c (If bt v w)) xs o
 then_stop c bt v w f xs o sig never s t i (g, e, l, m, a) =
     never (subst (λ z. WellTyped (under c z.results) v z.params z.results) (same_signature _ f g sig e) (ends_to (under c g.results) v g.params g.results l))
 
-pub else_stop : (c : Context) (bt : BlockType) (v w : List Instr) (f : Signature) (xs : Stack) (o : Bool) → Some f ≡ signature_of c.types bt → (WellTyped (under c f.results) w f.params f.results → ⊥) → Fails (Fits c (If bt v w)) xs o
+pub else_stop : (c : Context) (bt : BlockType) (v w : List Instr) (f : Signature) (xs : Stack) (o : Bool) → Some f ≡ signature_of c.types bt → (WellTyped (under c f.results) w f.params f.results → ⊥) → LeadsNowhere (Fits c (If bt v w)) xs o
 else_stop c bt v w f xs o sig never s t i (g, e, l, m, a) =
     never (subst (λ z. WellTyped (under c z.results) w z.params z.results) (same_signature _ f g sig e) (ends_to (under c g.results) w g.params g.results m))
 
@@ -125,7 +125,7 @@ rest_step c is ps xs o ys p n d lt r f =
     let e : n + 1 ≡ suc n = omega arith in
     subst (λ m. Rest c is ps ys p (drop m is)) (sym e) (step_on c is ps xs o ys p (get_or is n d) (drop (suc n) is) (subst (Rest c is ps xs o) (drop-cons is n d lt) r) f)
 
-pub rest_stop : (c : Context) (is : List Instr) (ps rs : List ValType) (xs : Stack) (o : Bool) (n : ℕ) (d : Instr) → n < length is → Rest c is ps xs o (drop n is) → Fails (Fits c (get_or is n d)) xs o → WellTyped c is ps rs → ⊥
+pub rest_stop : (c : Context) (is : List Instr) (ps rs : List ValType) (xs : Stack) (o : Bool) (n : ℕ) (d : Instr) → n < length is → Rest c is ps xs o (drop n is) → LeadsNowhere (Fits c (get_or is n d)) xs o → WellTyped c is ps rs → ⊥
 rest_stop c is ps rs xs o n d lt r f (last, l, m) =
     let a = (subst (Rest c is ps xs o) (drop-cons is n d lt) r).on last l in f a.0 a.2.0 a.1 a.2.1
 
@@ -170,21 +170,21 @@ not_typed P ok e h x = let t : ok ≡ true = e.1 x in cc
 
 -- the same facts as the code's steps have them
 module _ (c : Context) (i : Instr) (bt : BlockType) (v : List Instr) (f : Signature) (is : List Instr) (xs : Stack) (o : Bool) (sig : Some f ≡ signature_of c.types bt) (same : is ≡ v) where
-  pub block_stopped : (ok : Bool) → i ≡ Block bt v → IsTrue ok ↔ WellTyped (under c f.results) is f.params f.results → ok ≡ false → Fails (Fits c i) xs o
+  pub block_stopped : (ok : Bool) → i ≡ Block bt v → IsTrue ok ↔ WellTyped (under c f.results) is f.params f.results → ok ≡ false → LeadsNowhere (Fits c i) xs o
   block_stopped ok e w n =
-      subst (λ z. Fails (Fits c z) xs o) (sym e) (block_stop c bt v f xs o sig (λ x. not_typed _ ok w n (subst (λ z. WellTyped (under c f.results) z f.params f.results) (sym same) x)))
+      subst (λ z. LeadsNowhere (Fits c z) xs o) (sym e) (block_stop c bt v f xs o sig (λ x. not_typed _ ok w n (subst (λ z. WellTyped (under c f.results) z f.params f.results) (sym same) x)))
 
-  pub loop_stopped : (ok : Bool) → i ≡ Loop bt v → IsTrue ok ↔ WellTyped (under c f.params) is f.params f.results → ok ≡ false → Fails (Fits c i) xs o
+  pub loop_stopped : (ok : Bool) → i ≡ Loop bt v → IsTrue ok ↔ WellTyped (under c f.params) is f.params f.results → ok ≡ false → LeadsNowhere (Fits c i) xs o
   loop_stopped ok e w n =
-      subst (λ z. Fails (Fits c z) xs o) (sym e) (loop_stop c bt v f xs o sig (λ x. not_typed _ ok w n (subst (λ z. WellTyped (under c f.params) z f.params f.results) (sym same) x)))
+      subst (λ z. LeadsNowhere (Fits c z) xs o) (sym e) (loop_stop c bt v f xs o sig (λ x. not_typed _ ok w n (subst (λ z. WellTyped (under c f.params) z f.params f.results) (sym same) x)))
 
-  pub then_stopped : (u : List Instr) (ok : Bool) → i ≡ If bt v u → IsTrue ok ↔ WellTyped (under c f.results) is f.params f.results → ok ≡ false → Fails (Fits c i) xs o
+  pub then_stopped : (u : List Instr) (ok : Bool) → i ≡ If bt v u → IsTrue ok ↔ WellTyped (under c f.results) is f.params f.results → ok ≡ false → LeadsNowhere (Fits c i) xs o
   then_stopped u ok e w n =
-      subst (λ z. Fails (Fits c z) xs o) (sym e) (then_stop c bt v u f xs o sig (λ x. not_typed _ ok w n (subst (λ z. WellTyped (under c f.results) z f.params f.results) (sym same) x)))
+      subst (λ z. LeadsNowhere (Fits c z) xs o) (sym e) (then_stop c bt v u f xs o sig (λ x. not_typed _ ok w n (subst (λ z. WellTyped (under c f.results) z f.params f.results) (sym same) x)))
 
-  pub else_stopped : (u : List Instr) (ok : Bool) → i ≡ If bt u v → IsTrue ok ↔ WellTyped (under c f.results) is f.params f.results → ok ≡ false → Fails (Fits c i) xs o
+  pub else_stopped : (u : List Instr) (ok : Bool) → i ≡ If bt u v → IsTrue ok ↔ WellTyped (under c f.results) is f.params f.results → ok ≡ false → LeadsNowhere (Fits c i) xs o
   else_stopped u ok e w n =
-      subst (λ z. Fails (Fits c z) xs o) (sym e) (else_stop c bt u v f xs o sig (λ x. not_typed _ ok w n (subst (λ z. WellTyped (under c f.results) z f.params f.results) (sym same) x)))
+      subst (λ z. LeadsNowhere (Fits c z) xs o) (sym e) (else_stop c bt u v f xs o sig (λ x. not_typed _ ok w n (subst (λ z. WellTyped (under c f.results) z f.params f.results) (sym same) x)))
 
   pub block_done : (ok : Bool) (r : Result Bool AllocError) (ys : Stack) (p : Bool) → i ≡ Block bt v → IsTrue ok ↔ WellTyped (under c f.results) is f.params f.results → ok ≡ true → IfOk r (λ b. act (Gives f.params f.results) xs o ≡ when b (ys, p)) → IfOk r (λ b. TracksStep (Fits c i) xs o ys p b)
   block_done ok r ys p e w y =
@@ -221,4 +221,4 @@ turn c is ps xs o ys p ok n i lt e r f y =
 
 pub stopped : (c : Context) (is : List Instr) (ps rs : List ValType) (xs : Stack) (o : Bool) (ys : Stack) (p ok : Bool) (n : ℕ) (i : Instr) → n < length is → i ≡ get_or is n i → Rest c is ps xs o (drop n is) → TracksStep (Fits c i) xs o ys p ok → ok ≡ false → IsTrue false ↔ WellTyped c is ps rs
 stopped c is ps rs xs o ys p ok n i lt e r f y =
-    (λ h. cc, λ w. absurd (rest_stop c is ps rs xs o n i lt r (subst (λ z. Fails (Fits c z) xs o) e (subst (TracksStep (Fits c i) xs o ys p) y f)) w))
+    (λ h. cc, λ w. absurd (rest_stop c is ps rs xs o n i lt r (subst (λ z. LeadsNowhere (Fits c z) xs o) e (subst (TracksStep (Fits c i) xs o ys p) y f)) w))

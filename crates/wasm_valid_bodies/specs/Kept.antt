@@ -25,8 +25,8 @@ when true x = Some x
 
 -- The checker returns whether an instruction of this type can follow, and if so keeps what
 -- `answer_of` gives. The operands of the blocks around the innermost one are unchanged.
-abbrev pub Answers : Option Effect → Kept → Kept → Bool → Type 0
-Answers e old new ok =
+abbrev pub AnswersEffect : Option Effect → Kept → Kept → Bool → Type 0
+AnswersEffect e old new ok =
     (answer_of e (stack_of old) old.any_below ≡ when ok (stack_of new, new.any_below)) × (beneath new ≡ beneath old)
 
 -- A new innermost block with operands of these types; `outer` is what is saved of the block around

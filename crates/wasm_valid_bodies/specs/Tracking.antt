@@ -35,12 +35,12 @@ pub record StepsTo (F : Stack → Stack → Type 0) (xs : Stack) (o : Bool) (ys 
   pub on : (s t : Stack) → Instance xs o s → F s t → Instance ys p t
 
 -- `F` leads nowhere from the stacks of `xs`.
-abbrev pub Fails : (Stack → Stack → Type 0) → Stack → Bool → Type 0
-Fails F xs o = (s t : Stack) → Instance xs o s → F s t → ⊥
+abbrev pub LeadsNowhere : (Stack → Stack → Type 0) → Stack → Bool → Type 0
+LeadsNowhere F xs o = (s t : Stack) → Instance xs o s → F s t → ⊥
 
 -- If the last flag is true, `F` leads from `xs` to `ys`, and otherwise nowhere.
 abbrev pub TracksStep : (Stack → Stack → Type 0) → Stack → Bool → Stack → Bool → Bool → Type 0
-TracksStep F xs o ys p false = Fails F xs o
+TracksStep F xs o ys p false = LeadsNowhere F xs o
 TracksStep F xs o ys p true = StepsTo F xs o ys p
 
 -- A number for each value type.

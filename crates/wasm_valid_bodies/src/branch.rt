@@ -3,7 +3,7 @@
 ghost use Rattle.std.specs.Prelude.{◌≡◌, ◌∷◌, slice_get, slice_set, Some, true, IfOk, IsTrue, option_map};
 ghost use Rattle.wasm_valid_bodies.specs.Typing.{Branches, labels_at};
 ghost use Rattle.wasm_valid_bodies.specs.Tracking.{allows_types, allows_all};
-ghost use Rattle.wasm_valid_bodies.specs.Kept.{stack_of, Answers};
+ghost use Rattle.wasm_valid_bodies.specs.Kept.{stack_of, AnswersEffect};
 ghost use Rattle.wasm_valid_bodies.specs.Labels.{label_list};
 
 use crate::kept::Kept;
@@ -71,7 +71,7 @@ impl Kept {
         last: u32,
         others: &[u32],
     ) -> Result<bool, AllocError>
-        ensures { IfOk result (λ ok. Answers (option_map Branches (labels_at (label_list labels.now) (last ∷ others.now))) self.old self.new ok) }
+        ensures { IfOk result (λ ok. AnswersEffect (option_map Branches (labels_at (label_list labels.now) (last ∷ others.now))) self.old self.new ok) }
     {
         let Some(types) = labels.types_at(last) else {
             return Ok(false);

@@ -3,7 +3,7 @@
 ghost use Rattle.std.specs.Prelude.{[], IfOk};
 ghost use Rattle.wasm_tree.specs.declared.instr.Instr.TheVariants.{Br, BrIf, Call, CallIndirect};
 ghost use Rattle.wasm_valid_bodies.specs.Typing.{effect_of};
-ghost use Rattle.wasm_valid_bodies.specs.Kept.{Answers};
+ghost use Rattle.wasm_valid_bodies.specs.Kept.{AnswersEffect};
 ghost use Rattle.wasm_valid_bodies.specs.Labels.{label_list};
 ghost use Rattle.wasm_valid_bodies.specs.ScopeContexts.{context_of};
 
@@ -15,7 +15,7 @@ use wasm_tree::{RefType, ValType};
 
 /// `br`.
 pub fn branch(scope: &Scope<'_>, labels: &Labels<'_>, kept: &mut Kept, label: u32) -> bool
-    ensures { Answers (effect_of (context_of scope.now (label_list labels.now)) (Br label)) kept.old kept.new result }
+    ensures { AnswersEffect (effect_of (context_of scope.now (label_list labels.now)) (Br label)) kept.old kept.new result }
 {
     match labels.types_at(label) {
         Some(types) => kept.leaves(types),
@@ -30,7 +30,7 @@ pub fn branch_if(
     kept: &mut Kept,
     label: u32,
 ) -> Result<bool, AllocError>
-    ensures { IfOk result (λ ok. Answers (effect_of (context_of scope.now (label_list labels.now)) (BrIf label)) kept.old kept.new ok) }
+    ensures { IfOk result (λ ok. AnswersEffect (effect_of (context_of scope.now (label_list labels.now)) (BrIf label)) kept.old kept.new ok) }
 {
     match labels.types_at(label) {
         Some(types) => kept.gives_over(types, ValType::I32, types),
@@ -40,7 +40,7 @@ pub fn branch_if(
 
 /// `call`.
 pub fn call(scope: &Scope<'_>, kept: &mut Kept, func: u32) -> Result<bool, AllocError>
-    ensures { IfOk result (λ ok. Answers (effect_of (context_of scope.now []) (Call func)) kept.old kept.new ok) }
+    ensures { IfOk result (λ ok. AnswersEffect (effect_of (context_of scope.now []) (Call func)) kept.old kept.new ok) }
 {
     match scope.type_of_func(func) {
         Some(ty) => kept.gives(ty.params.as_slice(), ty.results.as_slice()),
@@ -55,7 +55,7 @@ pub fn call_indirect(
     ty: u32,
     table: u32,
 ) -> Result<bool, AllocError>
-    ensures { IfOk result (λ ok. Answers (effect_of (context_of scope.now []) (CallIndirect ty table)) kept.old kept.new ok) }
+    ensures { IfOk result (λ ok. AnswersEffect (effect_of (context_of scope.now []) (CallIndirect ty table)) kept.old kept.new ok) }
 {
     let Some(RefType::Func) = scope.tables.get(table as usize) else {
         return Ok(false);

@@ -3,7 +3,7 @@
 ghost use Rattle.std.specs.Prelude.{◌≡◌, ◌≤◌, ◌^◌, nat_le, [], IfOk};
 ghost use Rattle.wasm_tree.specs.declared.instr.Instr.TheVariants.{Load, Store, MemorySize, MemoryGrow, MemoryFill, MemoryCopy, MemoryInit};
 ghost use Rattle.wasm_valid_bodies.specs.Typing.{effect_of, fits_memory};
-ghost use Rattle.wasm_valid_bodies.specs.Kept.{Answers};
+ghost use Rattle.wasm_valid_bodies.specs.Kept.{AnswersEffect};
 ghost use Rattle.wasm_valid_bodies.specs.ScopeContexts.{context_of};
 
 use crate::kept::Kept;
@@ -41,7 +41,7 @@ pub fn load(
     op: LoadOp,
     arg: &MemArg,
 ) -> Result<bool, AllocError>
-    ensures { IfOk result (λ ok. Answers (effect_of (context_of scope.now []) (Load op arg.now)) kept.old kept.new ok) }
+    ensures { IfOk result (λ ok. AnswersEffect (effect_of (context_of scope.now []) (Load op arg.now)) kept.old kept.new ok) }
 {
     let fits = fits_memory(scope, load_width(op), arg);
     if fits {
@@ -58,7 +58,7 @@ pub fn store(
     op: StoreOp,
     arg: &MemArg,
 ) -> Result<bool, AllocError>
-    ensures { IfOk result (λ ok. Answers (effect_of (context_of scope.now []) (Store op arg.now)) kept.old kept.new ok) }
+    ensures { IfOk result (λ ok. AnswersEffect (effect_of (context_of scope.now []) (Store op arg.now)) kept.old kept.new ok) }
 {
     let fits = fits_memory(scope, store_width(op), arg);
     kept.gives_where(fits, &[ValType::I32, store_type(op)], &[])
@@ -66,21 +66,21 @@ pub fn store(
 
 /// `memory.size`.
 pub fn memory_size(scope: &Scope<'_>, kept: &mut Kept, memory: u32) -> Result<bool, AllocError>
-    ensures { IfOk result (λ ok. Answers (effect_of (context_of scope.now []) (MemorySize memory)) kept.old kept.new ok) }
+    ensures { IfOk result (λ ok. AnswersEffect (effect_of (context_of scope.now []) (MemorySize memory)) kept.old kept.new ok) }
 {
     kept.gives_where(scope.has_memory(memory), &[], &[ValType::I32])
 }
 
 /// `memory.grow`.
 pub fn memory_grow(scope: &Scope<'_>, kept: &mut Kept, memory: u32) -> Result<bool, AllocError>
-    ensures { IfOk result (λ ok. Answers (effect_of (context_of scope.now []) (MemoryGrow memory)) kept.old kept.new ok) }
+    ensures { IfOk result (λ ok. AnswersEffect (effect_of (context_of scope.now []) (MemoryGrow memory)) kept.old kept.new ok) }
 {
     kept.gives_where(scope.has_memory(memory), &[ValType::I32], &[ValType::I32])
 }
 
 /// `memory.fill`.
 pub fn memory_fill(scope: &Scope<'_>, kept: &mut Kept, memory: u32) -> Result<bool, AllocError>
-    ensures { IfOk result (λ ok. Answers (effect_of (context_of scope.now []) (MemoryFill memory)) kept.old kept.new ok) }
+    ensures { IfOk result (λ ok. AnswersEffect (effect_of (context_of scope.now []) (MemoryFill memory)) kept.old kept.new ok) }
 {
     let found = scope.has_memory(memory);
     kept.gives_where(found, &[ValType::I32, ValType::I32, ValType::I32], &[])
@@ -93,7 +93,7 @@ pub fn memory_copy(
     to: u32,
     from: u32,
 ) -> Result<bool, AllocError>
-    ensures { IfOk result (λ ok. Answers (effect_of (context_of scope.now []) (MemoryCopy to from)) kept.old kept.new ok) }
+    ensures { IfOk result (λ ok. AnswersEffect (effect_of (context_of scope.now []) (MemoryCopy to from)) kept.old kept.new ok) }
 {
     let found = scope.has_memory(to) && scope.has_memory(from);
     kept.gives_where(found, &[ValType::I32, ValType::I32, ValType::I32], &[])
@@ -106,7 +106,7 @@ pub fn memory_init(
     segment: u32,
     memory: u32,
 ) -> Result<bool, AllocError>
-    ensures { IfOk result (λ ok. Answers (effect_of (context_of scope.now []) (MemoryInit segment memory)) kept.old kept.new ok) }
+    ensures { IfOk result (λ ok. AnswersEffect (effect_of (context_of scope.now []) (MemoryInit segment memory)) kept.old kept.new ok) }
 {
     let found = scope.has_data(segment) && scope.has_memory(memory);
     kept.gives_where(found, &[ValType::I32, ValType::I32, ValType::I32], &[])

@@ -4,7 +4,7 @@ ghost use Rattle.std.specs.Prelude.{◌≡◌, false, min, ◌↔◌, ◌≤◌,
 ghost use Rattle.wasm_tree.specs.SameTypes.{same_ref, same_type, same_types};
 ghost use Rattle.wasm_valid_bodies.specs.Typing.{operands, only, Gives, Leaves, Drops, Selects, TestsNull};
 ghost use Rattle.wasm_valid_bodies.specs.Tracking.{pop_one, pop_type, pop_all, chosen, letter};
-ghost use Rattle.wasm_valid_bodies.specs.Kept.{lowest, stack_of, beneath, when, Answers, IsInside};
+ghost use Rattle.wasm_valid_bodies.specs.Kept.{lowest, stack_of, beneath, when, AnswersEffect, IsInside};
 
 use crate::kept::{Kept, Outer};
 use std::alloc::{AllocError, Global};
@@ -229,7 +229,7 @@ impl Kept {
 
     /// Pushes an operand of this type.
     pub fn puts(&mut self, ty: ValType) -> Result<bool, AllocError>
-        ensures { IfOk result (λ ok. Answers (Some (Gives [] (ty ∷ []))) self.old self.new ok) }
+        ensures { IfOk result (λ ok. AnswersEffect (Some (Gives [] (ty ∷ []))) self.old self.new ok) }
     {
         self.push(ty)?;
         Ok(true)
@@ -237,7 +237,7 @@ impl Kept {
 
     /// Pops an operand of this type.
     pub fn consumes(&mut self, ty: ValType) -> bool
-        ensures { Answers (Some (Gives (ty ∷ []) [])) self.old self.new result }
+        ensures { AnswersEffect (Some (Gives (ty ∷ []) [])) self.old self.new result }
     {
         if !self.pop_type(ty) {
             return false;
@@ -247,7 +247,7 @@ impl Kept {
 
     /// Pops an operand of type `from`, and pushes one of type `to`.
     pub fn turns(&mut self, from: ValType, to: ValType) -> Result<bool, AllocError>
-        ensures { IfOk result (λ ok. Answers (Some (Gives (from ∷ []) (to ∷ []))) self.old self.new ok) }
+        ensures { IfOk result (λ ok. AnswersEffect (Some (Gives (from ∷ []) (to ∷ []))) self.old self.new ok) }
     {
         if !self.pop_type(from) {
             return Ok(false);
@@ -258,7 +258,7 @@ impl Kept {
 
     /// Pops two operands of type `from`, and pushes one of type `to`.
     pub fn joins(&mut self, from: ValType, to: ValType) -> Result<bool, AllocError>
-        ensures { IfOk result (λ ok. Answers (Some (Gives (from ∷ from ∷ []) (to ∷ []))) self.old self.new ok) }
+        ensures { IfOk result (λ ok. AnswersEffect (Some (Gives (from ∷ from ∷ []) (to ∷ []))) self.old self.new ok) }
     {
         if !self.pop_type(from) {
             return Ok(false);
@@ -272,7 +272,7 @@ impl Kept {
 
     /// Pops operands of types `params`, and pushes operands of types `results`.
     pub fn gives(&mut self, params: &[ValType], results: &[ValType]) -> Result<bool, AllocError>
-        ensures { IfOk result (λ ok. Answers (Some (Gives params.now results.now)) self.old self.new ok) }
+        ensures { IfOk result (λ ok. AnswersEffect (Some (Gives params.now results.now)) self.old self.new ok) }
     {
         if !self.pop_all(params) {
             return Ok(false);
@@ -289,7 +289,7 @@ impl Kept {
         top: ValType,
         results: &[ValType],
     ) -> Result<bool, AllocError>
-        ensures { IfOk result (λ ok. Answers (Some (Gives (under.now ++ top ∷ []) results.now)) self.old self.new ok) }
+        ensures { IfOk result (λ ok. AnswersEffect (Some (Gives (under.now ++ top ∷ []) results.now)) self.old self.new ok) }
     {
         if !self.pop_type(top) {
             return Ok(false);
@@ -308,7 +308,7 @@ impl Kept {
         params: &[ValType],
         results: &[ValType],
     ) -> Result<bool, AllocError>
-        ensures { IfOk result (λ ok. Answers (only holds (Some (Gives params.now results.now))) self.old self.new ok) }
+        ensures { IfOk result (λ ok. AnswersEffect (only holds (Some (Gives params.now results.now))) self.old self.new ok) }
     {
         if holds {
             self.gives(params, results)
@@ -332,7 +332,7 @@ impl Kept {
     /// Pops operands of these types and then all others of the innermost block. The code that
     /// follows is unreachable and can pop operands of any types.
     pub fn leaves(&mut self, ts: &[ValType]) -> bool
-        ensures { Answers (Some (Leaves ts.now)) self.old self.new result }
+        ensures { AnswersEffect (Some (Leaves ts.now)) self.old self.new result }
     {
         if !self.can_pop(ts) {
             return false;
@@ -342,7 +342,7 @@ impl Kept {
     }
 
     pub fn drops(&mut self) -> bool
-        ensures { Answers (Some Drops) self.old self.new result }
+        ensures { AnswersEffect (Some Drops) self.old self.new result }
     {
         match self.pop_one() {
             Some(_) => true,
@@ -351,7 +351,7 @@ impl Kept {
     }
 
     pub fn tests_null(&mut self) -> Result<bool, AllocError>
-        ensures { IfOk result (λ ok. Answers (Some TestsNull) self.old self.new ok) }
+        ensures { IfOk result (λ ok. AnswersEffect (Some TestsNull) self.old self.new ok) }
     {
         match self.pop_one() {
             None => Ok(false),
@@ -369,7 +369,7 @@ impl Kept {
     }
 
     pub fn selects(&mut self) -> Result<bool, AllocError>
-        ensures { IfOk result (λ ok. Answers (Some Selects) self.old self.new ok) }
+        ensures { IfOk result (λ ok. AnswersEffect (Some Selects) self.old self.new ok) }
     {
         if !self.pop_type(ValType::I32) {
             return Ok(false);

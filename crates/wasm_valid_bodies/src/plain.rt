@@ -2,7 +2,7 @@
 
 ghost use Rattle.std.specs.Prelude.{IfOk};
 ghost use Rattle.wasm_valid_bodies.specs.Typing.{effect_of};
-ghost use Rattle.wasm_valid_bodies.specs.Kept.{Answers};
+ghost use Rattle.wasm_valid_bodies.specs.Kept.{AnswersEffect};
 ghost use Rattle.wasm_valid_bodies.specs.Labels.{label_list};
 ghost use Rattle.wasm_valid_bodies.specs.ScopeContexts.{context_of};
 
@@ -32,7 +32,7 @@ pub fn plain(
     kept: &mut Kept,
     instr: &Instr,
 ) -> Result<bool, AllocError>
-    ensures { IfOk result (λ ok. Answers (effect_of (context_of scope.now (label_list labels.now)) instr.now) kept.old kept.new ok) }
+    ensures { IfOk result (λ ok. AnswersEffect (effect_of (context_of scope.now (label_list labels.now)) instr.now) kept.old kept.new ok) }
 {
     match instr {
         Instr::Unreachable => Ok(kept.leaves(&[])),

@@ -3,7 +3,7 @@
 ghost use Rattle.std.specs.Prelude.{◌≡◌, [], option_copied, IfOk};
 ghost use Rattle.wasm_tree.specs.declared.instr.Instr.TheVariants.{TableGet, TableSet, TableSize, TableGrow, TableFill, TableCopy, TableInit, ElemDrop};
 ghost use Rattle.wasm_valid_bodies.specs.Typing.{both, effect_of};
-ghost use Rattle.wasm_valid_bodies.specs.Kept.{Answers};
+ghost use Rattle.wasm_valid_bodies.specs.Kept.{AnswersEffect};
 ghost use Rattle.wasm_valid_bodies.specs.ScopeContexts.{context_of};
 
 use crate::kept::Kept;
@@ -24,7 +24,7 @@ fn both(left: Option<&RefType>, right: Option<&RefType>) -> bool
 
 /// `table.get`.
 pub fn table_get(scope: &Scope<'_>, kept: &mut Kept, table: u32) -> Result<bool, AllocError>
-    ensures { IfOk result (λ ok. Answers (effect_of (context_of scope.now []) (TableGet table)) kept.old kept.new ok) }
+    ensures { IfOk result (λ ok. AnswersEffect (effect_of (context_of scope.now []) (TableGet table)) kept.old kept.new ok) }
 {
     match scope.tables.get(table as usize) {
         Some(ty) => kept.gives(&[ValType::I32], &[ValType::Ref(*ty)]),
@@ -34,7 +34,7 @@ pub fn table_get(scope: &Scope<'_>, kept: &mut Kept, table: u32) -> Result<bool,
 
 /// `table.set`.
 pub fn table_set(scope: &Scope<'_>, kept: &mut Kept, table: u32) -> Result<bool, AllocError>
-    ensures { IfOk result (λ ok. Answers (effect_of (context_of scope.now []) (TableSet table)) kept.old kept.new ok) }
+    ensures { IfOk result (λ ok. AnswersEffect (effect_of (context_of scope.now []) (TableSet table)) kept.old kept.new ok) }
 {
     match scope.tables.get(table as usize) {
         Some(ty) => kept.gives(&[ValType::I32, ValType::Ref(*ty)], &[]),
@@ -44,7 +44,7 @@ pub fn table_set(scope: &Scope<'_>, kept: &mut Kept, table: u32) -> Result<bool,
 
 /// `table.size`.
 pub fn table_size(scope: &Scope<'_>, kept: &mut Kept, table: u32) -> Result<bool, AllocError>
-    ensures { IfOk result (λ ok. Answers (effect_of (context_of scope.now []) (TableSize table)) kept.old kept.new ok) }
+    ensures { IfOk result (λ ok. AnswersEffect (effect_of (context_of scope.now []) (TableSize table)) kept.old kept.new ok) }
 {
     match scope.tables.get(table as usize) {
         Some(_) => kept.gives(&[], &[ValType::I32]),
@@ -54,7 +54,7 @@ pub fn table_size(scope: &Scope<'_>, kept: &mut Kept, table: u32) -> Result<bool
 
 /// `table.grow`.
 pub fn table_grow(scope: &Scope<'_>, kept: &mut Kept, table: u32) -> Result<bool, AllocError>
-    ensures { IfOk result (λ ok. Answers (effect_of (context_of scope.now []) (TableGrow table)) kept.old kept.new ok) }
+    ensures { IfOk result (λ ok. AnswersEffect (effect_of (context_of scope.now []) (TableGrow table)) kept.old kept.new ok) }
 {
     match scope.tables.get(table as usize) {
         Some(ty) => kept.gives(&[ValType::Ref(*ty), ValType::I32], &[ValType::I32]),
@@ -64,7 +64,7 @@ pub fn table_grow(scope: &Scope<'_>, kept: &mut Kept, table: u32) -> Result<bool
 
 /// `table.fill`.
 pub fn table_fill(scope: &Scope<'_>, kept: &mut Kept, table: u32) -> Result<bool, AllocError>
-    ensures { IfOk result (λ ok. Answers (effect_of (context_of scope.now []) (TableFill table)) kept.old kept.new ok) }
+    ensures { IfOk result (λ ok. AnswersEffect (effect_of (context_of scope.now []) (TableFill table)) kept.old kept.new ok) }
 {
     match scope.tables.get(table as usize) {
         Some(ty) => kept.gives(&[ValType::I32, ValType::Ref(*ty), ValType::I32], &[]),
@@ -79,7 +79,7 @@ pub fn table_copy(
     to: u32,
     from: u32,
 ) -> Result<bool, AllocError>
-    ensures { IfOk result (λ ok. Answers (effect_of (context_of scope.now []) (TableCopy to from)) kept.old kept.new ok) }
+    ensures { IfOk result (λ ok. AnswersEffect (effect_of (context_of scope.now []) (TableCopy to from)) kept.old kept.new ok) }
 {
     let same = both(
         scope.tables.get(to as usize),
@@ -95,7 +95,7 @@ pub fn table_init(
     segment: u32,
     table: u32,
 ) -> Result<bool, AllocError>
-    ensures { IfOk result (λ ok. Answers (effect_of (context_of scope.now []) (TableInit segment table)) kept.old kept.new ok) }
+    ensures { IfOk result (λ ok. AnswersEffect (effect_of (context_of scope.now []) (TableInit segment table)) kept.old kept.new ok) }
 {
     let same = both(
         scope.elems.get(segment as usize),
@@ -106,7 +106,7 @@ pub fn table_init(
 
 /// `elem.drop`.
 pub fn elem_drop(scope: &Scope<'_>, kept: &mut Kept, segment: u32) -> Result<bool, AllocError>
-    ensures { IfOk result (λ ok. Answers (effect_of (context_of scope.now []) (ElemDrop segment)) kept.old kept.new ok) }
+    ensures { IfOk result (λ ok. AnswersEffect (effect_of (context_of scope.now []) (ElemDrop segment)) kept.old kept.new ok) }
 {
     match scope.elems.get(segment as usize) {
         Some(_) => kept.gives(&[], &[]),

@@ -4,7 +4,7 @@
 ghost use Rattle.std.specs.Prelude.{[], IfOk};
 ghost use Rattle.wasm_tree.specs.declared.instr.Instr.TheVariants.{SelectTyped, LocalGet, LocalSet, LocalTee, GlobalGet, GlobalSet, RefFunc};
 ghost use Rattle.wasm_valid_bodies.specs.Typing.{effect_of};
-ghost use Rattle.wasm_valid_bodies.specs.Kept.{Answers};
+ghost use Rattle.wasm_valid_bodies.specs.Kept.{AnswersEffect};
 ghost use Rattle.wasm_valid_bodies.specs.ScopeContexts.{context_of};
 
 use crate::kept::Kept;
@@ -19,7 +19,7 @@ pub fn select_typed(
     kept: &mut Kept,
     types: &Items<ValType>,
 ) -> Result<bool, AllocError>
-    ensures { IfOk result (λ ok. Answers (effect_of (context_of scope.now []) (SelectTyped types.now)) kept.old kept.new ok) }
+    ensures { IfOk result (λ ok. AnswersEffect (effect_of (context_of scope.now []) (SelectTyped types.now)) kept.old kept.new ok) }
 {
     match types.as_slice() {
         [ty] => kept.gives(&[*ty, *ty, ValType::I32], &[*ty]),
@@ -29,7 +29,7 @@ pub fn select_typed(
 
 /// `local.get`.
 pub fn local_get(scope: &Scope<'_>, kept: &mut Kept, local: u32) -> Result<bool, AllocError>
-    ensures { IfOk result (λ ok. Answers (effect_of (context_of scope.now []) (LocalGet local)) kept.old kept.new ok) }
+    ensures { IfOk result (λ ok. AnswersEffect (effect_of (context_of scope.now []) (LocalGet local)) kept.old kept.new ok) }
 {
     match scope.locals.type_at(local) {
         Some(ty) => kept.puts(ty),
@@ -39,7 +39,7 @@ pub fn local_get(scope: &Scope<'_>, kept: &mut Kept, local: u32) -> Result<bool,
 
 /// `local.set`.
 pub fn local_set(scope: &Scope<'_>, kept: &mut Kept, local: u32) -> Result<bool, AllocError>
-    ensures { IfOk result (λ ok. Answers (effect_of (context_of scope.now []) (LocalSet local)) kept.old kept.new ok) }
+    ensures { IfOk result (λ ok. AnswersEffect (effect_of (context_of scope.now []) (LocalSet local)) kept.old kept.new ok) }
 {
     match scope.locals.type_at(local) {
         Some(ty) => Ok(kept.consumes(ty)),
@@ -49,7 +49,7 @@ pub fn local_set(scope: &Scope<'_>, kept: &mut Kept, local: u32) -> Result<bool,
 
 /// `local.tee`.
 pub fn local_tee(scope: &Scope<'_>, kept: &mut Kept, local: u32) -> Result<bool, AllocError>
-    ensures { IfOk result (λ ok. Answers (effect_of (context_of scope.now []) (LocalTee local)) kept.old kept.new ok) }
+    ensures { IfOk result (λ ok. AnswersEffect (effect_of (context_of scope.now []) (LocalTee local)) kept.old kept.new ok) }
 {
     match scope.locals.type_at(local) {
         Some(ty) => kept.turns(ty, ty),
@@ -59,7 +59,7 @@ pub fn local_tee(scope: &Scope<'_>, kept: &mut Kept, local: u32) -> Result<bool,
 
 /// `global.get`.
 pub fn global_get(scope: &Scope<'_>, kept: &mut Kept, global: u32) -> Result<bool, AllocError>
-    ensures { IfOk result (λ ok. Answers (effect_of (context_of scope.now []) (GlobalGet global)) kept.old kept.new ok) }
+    ensures { IfOk result (λ ok. AnswersEffect (effect_of (context_of scope.now []) (GlobalGet global)) kept.old kept.new ok) }
 {
     match scope.globals.get(global as usize) {
         Some(global) => kept.puts(global.ty),
@@ -69,7 +69,7 @@ pub fn global_get(scope: &Scope<'_>, kept: &mut Kept, global: u32) -> Result<boo
 
 /// `global.set`, which needs a mutable global.
 pub fn global_set(scope: &Scope<'_>, kept: &mut Kept, global: u32) -> Result<bool, AllocError>
-    ensures { IfOk result (λ ok. Answers (effect_of (context_of scope.now []) (GlobalSet global)) kept.old kept.new ok) }
+    ensures { IfOk result (λ ok. AnswersEffect (effect_of (context_of scope.now []) (GlobalSet global)) kept.old kept.new ok) }
 {
     match scope.globals.get(global as usize) {
         Some(global) => kept.gives_where(global.mutable, &[global.ty], &[]),
@@ -79,7 +79,7 @@ pub fn global_set(scope: &Scope<'_>, kept: &mut Kept, global: u32) -> Result<boo
 
 /// `ref.func`, which needs a function that the module names outside its bodies.
 pub fn ref_func(scope: &Scope<'_>, kept: &mut Kept, func: u32) -> Result<bool, AllocError>
-    ensures { IfOk result (λ ok. Answers (effect_of (context_of scope.now []) (RefFunc func)) kept.old kept.new ok) }
+    ensures { IfOk result (λ ok. AnswersEffect (effect_of (context_of scope.now []) (RefFunc func)) kept.old kept.new ok) }
 {
     match scope.named.get(func as usize) {
         Some(named) => kept.gives_where(*named, &[], &[ValType::Ref(RefType::Func)]),

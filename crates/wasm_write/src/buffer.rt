@@ -56,7 +56,7 @@ impl Target for Buffer {
 
     ghost preceded = { λ b text. text ++ b };
 
-    ghost place = { λ b. length b };
+    ghost written_so_far = { λ b. length b };
 
     ghost nothing = { λ b. refl };
 
@@ -84,7 +84,7 @@ impl Target for Buffer {
         }
     }
 
-    fn place(&self) -> u64 {
+    fn written_so_far(&self) -> u64 {
         self.backwards.len() as u64
     }
 }

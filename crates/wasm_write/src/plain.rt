@@ -53,9 +53,9 @@ pub(crate) fn spell_vector<T: Target, P: Plain>(
 
 /// Writes the size of what was written after the first `from` bytes.
 pub(crate) fn spell_size<T: Target>(target: &mut T, from: u64) -> Result<(), T::Refusal>
-    requires { from ≤ T.place target.old }
-    ensures { OnOk result ((before : T) (content : List ℕ) → from ≡ T.place before → target.old ≡ T.preceded before content → target.new ≡ T.preceded before (sized_text content)) }
+    requires { from ≤ T.written_so_far target.old }
+    ensures { OnOk result ((before : T) (content : List ℕ) → from ≡ T.written_so_far before → target.old ≡ T.preceded before content → target.new ≡ T.preceded before (sized_text content)) }
 {
-    let size = target.place() - from;
+    let size = target.written_so_far() - from;
     spell_number(target, size)
 }

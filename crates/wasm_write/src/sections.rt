@@ -48,7 +48,7 @@ fn spell_entry<T: Target>(target: &mut T, func: &Func, uses: &mut bool) -> Resul
     ensures uses { OnOk result (uses.new ≡ (uses_data func.now.body || uses.old)) }
     ensures range { OnOk result (CodeInRange func.now) }
 {
-    let from = target.place();
+    let from = target.written_so_far();
     spell_code(target, func, uses)?;
     spell_size(target, from)
 }
@@ -83,8 +83,8 @@ fn spell_func_types<T: Target>(target: &mut T, funcs: &[Func]) -> Result<(), T::
 /// Writes the size of the content of a section, which was written after the first `from` bytes, and
 /// the id of the section.
 fn spell_section<T: Target>(target: &mut T, id: u8, from: u64) -> Result<(), T::Refusal>
-    requires { from ≤ T.place target.old }
-    ensures { OnOk result ((before : T) (content : List ℕ) → from ≡ T.place before → target.old ≡ T.preceded before content → target.new ≡ T.preceded before (section_text id content)) }
+    requires { from ≤ T.written_so_far target.old }
+    ensures { OnOk result ((before : T) (content : List ℕ) → from ≡ T.written_so_far before → target.old ≡ T.preceded before content → target.new ≡ T.preceded before (section_text id content)) }
 {
     spell_size(target, from)?;
     target.byte(id)
@@ -98,7 +98,7 @@ fn spell_list<T: Target, P: Plain>(target: &mut T, id: u8, items: &[P]) -> Resul
     if items.len() == 0 {
         return Ok(());
     }
-    let from = target.place();
+    let from = target.written_so_far();
     spell_vector(target, items)?;
     spell_section(target, id, from)
 }
@@ -111,7 +111,7 @@ fn spell_func_section<T: Target>(target: &mut T, funcs: &[Func]) -> Result<(), T
     if funcs.len() == 0 {
         return Ok(());
     }
-    let from = target.place();
+    let from = target.written_so_far();
     spell_func_types(target, funcs)?;
     spell_number(target, funcs.len() as u64)?;
     spell_section(target, 3, from)
@@ -131,7 +131,7 @@ fn spell_code_section<T: Target>(
     if funcs.len() == 0 {
         return Ok(());
     }
-    let from = target.place();
+    let from = target.written_so_far();
     spell_entries(target, funcs, uses)?;
     spell_number(target, funcs.len() as u64)?;
     spell_section(target, 10, from)
@@ -141,7 +141,7 @@ fn spell_code_section<T: Target>(
 fn spell_one<T: Target>(target: &mut T, id: u8, value: u64) -> Result<(), T::Refusal>
     ensures { OnOk result (target.new ≡ T.preceded target.old (section_text id (u32_text value))) }
 {
-    let from = target.place();
+    let from = target.written_so_far();
     spell_number(target, value)?;
     spell_section(target, id, from)
 }

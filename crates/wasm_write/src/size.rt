@@ -47,7 +47,7 @@ impl Target for Size {
 
     ghost preceded = { λ s text. counted s (length text) };
 
-    ghost place = { λ s. s };
+    ghost written_so_far = { λ s. s };
 
     ghost nothing = { λ s. no_more s };
 
@@ -65,7 +65,7 @@ impl Target for Size {
         self.count(more.len() as u64)
     }
 
-    fn place(&self) -> u64 {
+    fn written_so_far(&self) -> u64 {
         self.bytes
     }
 }

@@ -13,7 +13,7 @@ pub(crate) trait Target {
     ghost preceded: { Self → List ℕ → Self };
 
     // how many bytes were written
-    ghost place: { Self → ℕ };
+    ghost written_so_far: { Self → ℕ };
 
     /// Writes a byte.
     fn byte(&mut self, value: u8) -> Result<(), Self::Refusal>
@@ -24,16 +24,16 @@ pub(crate) trait Target {
         ensures { OnOk result (self.new ≡ preceded self.old more.now) };
 
     /// Returns how many bytes were written.
-    fn place(&self) -> u64
-        ensures { result ≡ place self.now };
+    fn written_so_far(&self) -> u64
+        ensures { result ≡ written_so_far self.now };
 
     ghost nothing: { (t : Self) → preceded t [] ≡ t };
 
     ghost joined: { (t : Self) (a b : List ℕ) → preceded (preceded t b) a ≡ preceded t (a ++ b) };
 
-    ghost farther: { (t : Self) (a : List ℕ) → place t ≤ place (preceded t a) };
+    ghost farther: { (t : Self) (a : List ℕ) → written_so_far t ≤ written_so_far (preceded t a) };
 
-    // the place moves by the length of what is written; when a count has reached its maximum, what
-    // is written next makes no difference
-    ghost told: { (t : Self) (a : List ℕ) (f : ℕ → List ℕ) → preceded (preceded t a) (f (place (preceded t a) - place t)) ≡ preceded (preceded t a) (f (length a)) };
+    // the number of bytes written grows by the length of what is written; when a count has reached
+    // its maximum, what is written next makes no difference
+    ghost told: { (t : Self) (a : List ℕ) (f : ℕ → List ℕ) → preceded (preceded t a) (f (written_so_far (preceded t a) - written_so_far t)) ≡ preceded (preceded t a) (f (length a)) };
 }

@@ -7,7 +7,7 @@ use Rattle.wasm_bytes.specs.Writing.{unsigned_text}
 use Rattle.wasm_tree_spec.specs.Prelude.{FuncType, Limits, TableType, Func, Import, GlobalDef, Export, ElemSeg, DataSeg, Module, any_uses_data, memory_zero_funcs, limit, Imports, Exports}
 use Rattle.wasm_read_spec.specs.declared.parts.Parts.{Parts}
 use Rattle.base_lists.specs.Every.{Every}
-use Rattle.wasm_read_spec.specs.Prelude.{SmallFuncType, SpellsFuncType, SpellsTable, SpellsLimits, SpellsImport, SpellsGlobalDef, SpellsExport, SpellsElem, SpellsData, SpellsEntry, SmallCode, Any, Few, Limited, SectionIsSmall, Within, nothing, with_types, with_imports, with_func_types, with_tables, with_mems, with_globals, with_exports, with_elems, with_codes, with_datas, Contents, typed, tree_of, Spells, HasSmallCode, code_in, untyped}
+use Rattle.wasm_read_spec.specs.Prelude.{SmallFuncType, SpellsFuncType, SpellsTable, SpellsLimits, SpellsImport, SpellsGlobalDef, SpellsExport, SpellsElem, SpellsData, SpellsEntry, SmallCode, Any, Few, Limited, SectionIsSmall, Within, nothing, with_types, with_imports, with_func_types, with_tables, with_mems, with_globals, with_exports, with_elems, with_codes, with_datas, SectionContents, typed, tree_of, Spells, HasSmallCode, code_in, untyped}
 use Rattle.wasm_tree.specs.declared.which.Which.TheVariants.{Types, Functions, Tables, Memories, Globals, ElementSegments, DataSegments}
 use Rattle.wasm_read_spec.specs.Files.{small_form, section_form, Counted, Rules}
 use Rattle.wasm_read_spec.specs.Unambiguous.{IsPrefixFree, ItemsArePrefixFree, FramesAreUnique}
@@ -29,7 +29,7 @@ use Rattle.wasm_write_proof.proofs.EntryTexts.{Spellable, all_spellable, entry_s
 
 -- from the parts p the bytes make the parts q, behind any section whose place is at most bound; and where W is so, they are within the limits
 abbrev Rest : Type 0 → ℕ → Parts → List ℕ → Parts → Type 0
-Rest W bound p bytes q = (last : ℕ) → last ≤ bound → (ss : List Section) × Frames last bytes ss × Contents false p ss q × (W → Every (SectionIsSmall false) ss)
+Rest W bound p bytes q = (last : ℕ) → last ≤ bound → (ss : List Section) × Frames last bytes ss × SectionContents false p ss q × (W → Every (SectionIsSmall false) ss)
 
 one_more : TextLaws → (W : Type 0) (bound next id : ℕ) (p m q : Parts) (content bytes : List ℕ) → ((last : ℕ) → last ≤ bound → may_follow last id ≡ true) → ((last : ℕ) → order_after last id ≤ next) →
     length content < 2 ^ 32 → section_form false p id content m → (W → small_form false id content) → Rest W next m bytes q → Rest W bound p (section_text id content ++ bytes) q

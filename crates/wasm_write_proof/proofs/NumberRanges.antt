@@ -4,8 +4,8 @@ use Rattle.wasm_bytes.specs.Prelude.{Signed, IsWithin, U32, Each, Vector}
 use Rattle.wasm_bytes.specs.Numbers.{Unsigned}
 use Rattle.wasm_tree_spec.specs.Prelude.{PassesInside}
 use Rattle.base_lists.specs.Every.{Every}
-use Rattle.wasm_read_spec.specs.Prelude.{Made, When, Never}
-use Rattle.wasm_write_proof.specs.Ranges.{small, small_signed, IsU32, Says}
+use Rattle.wasm_read_spec.specs.Prelude.{MadeFrom, When, Never}
+use Rattle.wasm_write_proof.specs.Ranges.{small, small_signed, IsU32, EncodesOnly}
 
 -- what laws of wasm_bytes and wasm_tree say of numbers that bytes encode, and of operands
 pub record RangeLaws : Type 0 where
@@ -34,19 +34,19 @@ is_index laws text n h = let k = (laws.signed 33 text (pos n) h).1 in let lt : n
 
 -- ---- what spellings say of their values
 
-pub says_when : {A : Type 0} (K : A → Type 0) (P Q : List ℕ → A → Type 0) (test : Bool) → Says K P → Says K Q → Says K (When test P Q)
+pub says_when : {A : Type 0} (K : A → Type 0) (P Q : List ℕ → A → Type 0) (test : Bool) → EncodesOnly K P → EncodesOnly K Q → EncodesOnly K (When test P Q)
 says_when K P Q true a b = a
 says_when K P Q false a b = b
 
-pub says_made : {A B : Type 0} (K : B → Type 0) (make : A → B) (P : List ℕ → A → Type 0) → Says (λ x. K (make x)) P → Says K (Made make P)
+pub says_made : {A B : Type 0} (K : B → Type 0) (make : A → B) (P : List ℕ → A → Type 0) → EncodesOnly (λ x. K (make x)) P → EncodesOnly K (MadeFrom make P)
 says_made K make P a bytes y h = subst K (sym h.2) (a bytes h.0 h.1)
 
-pub says_never : {A : Type 0} (K : A → Type 0) → Says K Never
+pub says_never : {A : Type 0} (K : A → Type 0) → EncodesOnly K Never
 says_never K bytes x h = absurd h
 
-pub says_each : {A : Type 0} (K : A → Type 0) (P : List ℕ → A → Type 0) → Says K P → Says (Every K) (Each P)
+pub says_each : {A : Type 0} (K : A → Type 0) (P : List ℕ → A → Type 0) → EncodesOnly K P → EncodesOnly (Every K) (Each P)
 says_each K P a bytes [] h = tt
 says_each K P a bytes (x ∷ xs) h = (a h.0 x h.2, says_each K P a h.1 xs h.3)
 
-pub says_vector : {A : Type 0} (K : A → Type 0) (P : List ℕ → A → Type 0) → Says K P → Says (Every K) (Vector P)
+pub says_vector : {A : Type 0} (K : A → Type 0) (P : List ℕ → A → Type 0) → EncodesOnly K P → EncodesOnly (Every K) (Vector P)
 says_vector K P a bytes xs h = says_each K P a h.1 xs h.3

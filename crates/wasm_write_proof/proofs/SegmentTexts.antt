@@ -9,7 +9,7 @@ use Rattle.wasm_tree.specs.declared.module.ConstExpr.TheVariants as const
 use Rattle.wasm_tree.specs.declared.module.ElemMode.TheVariants as elem
 use Rattle.wasm_tree.specs.declared.module.DataMode.TheVariants as segment
 use Rattle.base_lists.specs.Every.{Every}
-use Rattle.wasm_read_spec.specs.Prelude.{Made, SpellsConst, FuncItems, ConstItems, SpellsElem, SpellsData}
+use Rattle.wasm_read_spec.specs.Prelude.{MadeFrom, SpellsConst, FuncItems, ConstItems, SpellsElem, SpellsData}
 use Rattle.wasm_read_spec.specs.Sections.{elem_of, elem_form, data_form}
 use Rattle.wasm_write_spec.specs.PlainValues.{ref_code, ref_text, const_text, is_func, func_of, is_funcref, all_funcs, by_index, index_items, const_items, active_by_index, active_by_const, mode_by_index, mode_by_const, elem_text, data_mode_text, data_text}
 use Rattle.wasm_write_proof.specs.Ranges.{IsU32, ConstInRange, ElemModeInRange, ElemInRange, DataModeInRange}
@@ -18,7 +18,7 @@ use Rattle.wasm_write_proof.proofs.ItemTexts.{ref_spells, const_spells, const_so
 
 -- ---- items
 
-func_item : TextLaws → (c : ConstExpr) → is_func c ≡ true → ConstInRange c → Made const.Func U32 (u32_text (func_of c)) c
+func_item : TextLaws → (c : ConstExpr) → is_func c ≡ true → ConstInRange c → MadeFrom const.Func U32 (u32_text (func_of c)) c
 unfolding is_func func_of
 func_item laws (const.Func x) f h = (x, u32_spells laws x h, refl)
 func_item laws (const.I32 z) f h = absurd (true≢false (sym f))
@@ -26,13 +26,13 @@ func_item laws (const.I64 z) f h = absurd (true≢false (sym f))
 func_item laws (const.Null t) f h = absurd (true≢false (sym f))
 func_item laws (const.Global x) f h = absurd (true≢false (sym f))
 
-func_each : TextLaws → (cs : List ConstExpr) → all_funcs cs ≡ true → Every ConstInRange cs → Every (λ c. Made const.Func U32 (u32_text (func_of c)) c) cs
+func_each : TextLaws → (cs : List ConstExpr) → all_funcs cs ≡ true → Every ConstInRange cs → Every (λ c. MadeFrom const.Func U32 (u32_text (func_of c)) c) cs
 func_each laws [] f h = tt
 func_each laws (c ∷ cs) f h = (func_item laws c (left_true (is_func c) _ f) h.0, func_each laws cs (right_true (is_func c) _ f) h.1)
 
 func_items : TextLaws → (cs : List ConstExpr) → all_funcs cs ≡ true → Every ConstInRange cs → length (index_items cs) < 2 ^ 32 → FuncItems (index_items cs) cs
 unfolding index_items
-func_items laws cs f h few = vector_spells laws (Made const.Func U32) (λ c. u32_text (func_of c)) cs (λ c. u32_some (func_of c)) few (func_each laws cs f h)
+func_items laws cs f h few = vector_spells laws (MadeFrom const.Func U32) (λ c. u32_text (func_of c)) cs (λ c. u32_some (func_of c)) few (func_each laws cs f h)
 
 const_vector : TextLaws → (cs : List ConstExpr) → Every ConstInRange cs → length (const_items cs) < 2 ^ 32 → ConstItems (const_items cs) cs
 unfolding const_items

@@ -7,19 +7,19 @@ use Rattle.wasm_tree.specs.declared.module.ExportDesc.TheVariants as export
 use Rattle.wasm_tree.specs.declared.module.ConstExpr.TheVariants as const
 use Rattle.wasm_read_spec.specs.declared.parts.Parts.{Parts}
 use Rattle.base_lists.specs.Every.{Every}
-use Rattle.wasm_read_spec.specs.Prelude.{Made, Both, After, SpellsRef, SpellsFuncType, at_least, between, SpellsLimits, SpellsTable, SpellsGlobal, SpellsConst, SpellsImport, SpellsGlobalDef, SpellsExport, FuncItems, ConstItems, elem0, elem1, elem2, elem3, elem5, elem6, elem7, SpellsElem, data0, data1, data2, SpellsData, SpellsGroup, SpellsEntry, nothing, with_types, with_imports, with_func_types, with_tables, with_mems, with_globals, with_exports, with_start, with_elems, with_codes, with_datas, with_count, Contents, typed, tree_of, Spells, Code, code_in, untyped}
+use Rattle.wasm_read_spec.specs.Prelude.{MadeFrom, Both, After, SpellsRef, SpellsFuncType, at_least, between, SpellsLimits, SpellsTable, SpellsGlobal, SpellsConst, SpellsImport, SpellsGlobalDef, SpellsExport, FuncItems, ConstItems, elem0, elem1, elem2, elem3, elem5, elem6, elem7, SpellsElem, data0, data1, data2, SpellsData, SpellsGroup, SpellsEntry, nothing, with_types, with_imports, with_func_types, with_tables, with_mems, with_globals, with_exports, with_start, with_elems, with_codes, with_datas, with_count, SectionContents, typed, tree_of, Spells, CodeEntry, code_in, untyped}
 use Rattle.wasm_read_spec.specs.SpellingForms.{S32, S64}
 use Rattle.wasm_read_spec.specs.Values.{limits_form, const_form}
 use Rattle.wasm_read_spec.specs.Sections.{import_form, export_form, elem_form, data_form}
 use Rattle.wasm_read_spec.specs.Files.{section_form}
-use Rattle.wasm_write_proof.specs.Ranges.{all_in_range, IsU32, MaxInRange, LimitsInRange, ConstInRange, ImportDescInRange, ImportInRange, ExportDescInRange, ExportInRange, ElemInRange, DataModeInRange, FuncInRange, InRange, Says}
+use Rattle.wasm_write_proof.specs.Ranges.{all_in_range, IsU32, MaxInRange, LimitsInRange, ConstInRange, ImportDescInRange, ImportInRange, ExportDescInRange, ExportInRange, ElemInRange, DataModeInRange, FuncInRange, InRange, EncodesOnly}
 use Rattle.wasm_write_proof.proofs.NumberRanges.{RangeLaws, u32_in, says_when, says_made, says_never, says_vector}
 use Rattle.wasm_write_proof.proofs.BodyRanges.{body_in}
 
 abbrev DataInRange : DataSeg → Type 0
 DataInRange s = DataModeInRange s.mode
 
-abbrev CodeInRange : Code → Type 0
+abbrev CodeInRange : CodeEntry → Type 0
 CodeInRange c = Every (λ (g : LocalGroup). IsU32 g.count) c.locals × (all_in_range c.body ≡ true)
 
 record PartsInRange (p : Parts) : Type 0 where
@@ -37,17 +37,17 @@ record PartsInRange (p : Parts) : Type 0 where
 module _ (laws : RangeLaws) where
   -- ---- what the sections hold
 
-  limits_in : Says LimitsInRange SpellsLimits
+  limits_in : EncodesOnly LimitsInRange SpellsLimits
   unfolding limits_form
   limits_in bytes l h =
       says_when LimitsInRange _ _ (h.0 == 0x00) (says_made LimitsInRange at_least U32 (λ b n u. (u32_in laws b n u, tt)))
       (says_when LimitsInRange _ _ (h.0 == 0x01) (says_made LimitsInRange between (Both U32 U32) (λ b p u. (u32_in laws u.0 p.0 u.2, u32_in laws u.1 p.1 u.3)))
       (says_never LimitsInRange)) h.1.1 l h.1.3
 
-  table_in : Says (λ (t : TableType). LimitsInRange t.limits) SpellsTable
+  table_in : EncodesOnly (λ (t : TableType). LimitsInRange t.limits) SpellsTable
   table_in bytes t h = limits_in h.1 t.limits h.3
 
-  const_in : Says ConstInRange SpellsConst
+  const_in : EncodesOnly ConstInRange SpellsConst
   unfolding const_form
   const_in bytes c h =
       let k = h.2 in
@@ -58,7 +58,7 @@ module _ (laws : RangeLaws) where
       (says_when ConstInRange _ _ (k.0 == 0x23) (says_made ConstInRange const.Global U32 (u32_in laws))
       (says_never ConstInRange))))) k.1.1 c k.1.3
 
-  import_desc_in : (k : ℕ) → Says ImportDescInRange (import_form k)
+  import_desc_in : (k : ℕ) → EncodesOnly ImportDescInRange (import_form k)
   unfolding import_form
   import_desc_in k =
       says_when ImportDescInRange _ _ (k == 0x00) (says_made ImportDescInRange import.Func U32 (u32_in laws))
@@ -67,13 +67,13 @@ module _ (laws : RangeLaws) where
       (says_when ImportDescInRange _ _ (k == 0x03) (says_made ImportDescInRange import.Global SpellsGlobal (λ b g s. tt))
       (says_never ImportDescInRange))))
 
-  import_in : Says ImportInRange SpellsImport
+  import_in : EncodesOnly ImportInRange SpellsImport
   import_in bytes i h = let d = h.3.3 in (h.2.0, h.3.2.0, import_desc_in d.0 d.1.1 i.desc d.1.3)
 
-  global_in : Says (λ (g : GlobalDef). ConstInRange g.init) SpellsGlobalDef
+  global_in : EncodesOnly (λ (g : GlobalDef). ConstInRange g.init) SpellsGlobalDef
   global_in bytes g h = const_in h.1 g.init h.3
 
-  export_desc_in : (k : ℕ) → Says ExportDescInRange (export_form k)
+  export_desc_in : (k : ℕ) → EncodesOnly ExportDescInRange (export_form k)
   unfolding export_form
   export_desc_in k =
       says_when ExportDescInRange _ _ (k == 0x00) (says_made ExportDescInRange export.Func U32 (u32_in laws))
@@ -82,7 +82,7 @@ module _ (laws : RangeLaws) where
       (says_when ExportDescInRange _ _ (k == 0x03) (says_made ExportDescInRange export.Global U32 (u32_in laws))
       (says_never ExportDescInRange))))
 
-  export_in : Says ExportInRange SpellsExport
+  export_in : EncodesOnly ExportInRange SpellsExport
   export_in bytes e h = let d = h.3 in (h.2.0, export_desc_in d.0 d.1.1 e.desc d.1.3)
 
   -- ---- segments
@@ -90,16 +90,16 @@ module _ (laws : RangeLaws) where
   zero_in : IsU32 0
   zero_in = omega arith
 
-  func_item_in : Says ConstInRange (Made const.Func U32)
+  func_item_in : EncodesOnly ConstInRange (MadeFrom const.Func U32)
   func_item_in = says_made ConstInRange const.Func U32 (u32_in laws)
 
-  func_items_in : Says (Every ConstInRange) FuncItems
-  func_items_in = says_vector ConstInRange (Made const.Func U32) func_item_in
+  func_items_in : EncodesOnly (Every ConstInRange) FuncItems
+  func_items_in = says_vector ConstInRange (MadeFrom const.Func U32) func_item_in
 
-  const_items_in : Says (Every ConstInRange) ConstItems
+  const_items_in : EncodesOnly (Every ConstInRange) ConstItems
   const_items_in = says_vector ConstInRange SpellsConst const_in
 
-  elem_form_in : (n : ℕ) → Says ElemInRange (elem_form n)
+  elem_form_in : (n : ℕ) → EncodesOnly ElemInRange (elem_form n)
   unfolding elem_form
   elem_form_in n =
       says_when ElemInRange _ _ (n == 0) (says_made ElemInRange elem0 (Both SpellsConst FuncItems) (λ b p s. ((zero_in, const_in s.0 p.0 s.2), func_items_in s.1 p.1 s.3)))
@@ -114,10 +114,10 @@ module _ (laws : RangeLaws) where
       (says_when ElemInRange _ _ (n == 7) (says_made ElemInRange elem7 (Both SpellsRef ConstItems) (λ b p s. (tt, const_items_in s.1 p.1 s.3)))
       (says_never ElemInRange))))))))
 
-  elem_in : Says ElemInRange SpellsElem
+  elem_in : EncodesOnly ElemInRange SpellsElem
   elem_in bytes s h = elem_form_in h.0 h.1.1 s h.1.3
 
-  data_form_in : (n : ℕ) → Says DataInRange (data_form n)
+  data_form_in : (n : ℕ) → EncodesOnly DataInRange (data_form n)
   unfolding data_form
   data_form_in n =
       says_when DataInRange _ _ (n == 0) (says_made DataInRange data0 (Both SpellsConst Sized) (λ b p s. (zero_in, const_in s.0 p.0 s.2)))
@@ -125,24 +125,24 @@ module _ (laws : RangeLaws) where
       (says_when DataInRange _ _ (n == 2) (says_made DataInRange data2 (Both U32 (Both SpellsConst Sized)) (λ b p s. let r = s.3 in (u32_in laws s.0 p.0 s.2, const_in r.0 p.1.0 r.2)))
       (says_never DataInRange)))
 
-  data_in : Says DataInRange SpellsData
+  data_in : EncodesOnly DataInRange SpellsData
   data_in bytes s h = data_form_in h.0 h.1.1 s h.1.3
 
   -- ---- code entries
 
-  group_in : Says (λ (g : LocalGroup). IsU32 g.count) SpellsGroup
+  group_in : EncodesOnly (λ (g : LocalGroup). IsU32 g.count) SpellsGroup
   group_in bytes g h = u32_in laws h.0 g.count h.2
 
-  entry_in : Says CodeInRange (SpellsEntry false)
+  entry_in : EncodesOnly CodeInRange (SpellsEntry false)
   entry_in bytes c h = let b = h.2 in (says_vector (λ (g : LocalGroup). IsU32 g.count) SpellsGroup group_in b.0 c.locals b.2, body_in laws b.1 c.body b.3)
 
-  codes_in : (cs : List Code) → Every CodeInRange cs → Every (λ f. CodeInRange (code_in f)) (map untyped cs)
+  codes_in : (cs : List CodeEntry) → Every CodeInRange cs → Every (λ f. CodeInRange (code_in f)) (map untyped cs)
   codes_in [] h = tt
   codes_in (c ∷ cs) h = (h.0, codes_in cs h.1)
 
   -- ---- the parts
 
-  in_kept : (p : Parts) (id : ℕ) → PartsInRange p → Says PartsInRange (section_form false p id)
+  in_kept : (p : Parts) (id : ℕ) → PartsInRange p → EncodesOnly PartsInRange (section_form false p id)
   unfolding section_form
   in_kept p id r =
       says_when PartsInRange _ _ (id == 0) (λ c q h. subst PartsInRange (sym h.1) r)
@@ -160,7 +160,7 @@ module _ (laws : RangeLaws) where
       (says_when PartsInRange _ _ (id == 12) (says_made PartsInRange (with_count p) (U32) (λ c x h. record { imports = r.imports; func_types = r.func_types; tables = r.tables; mems = r.mems; globals = r.globals; exports = r.exports; start = r.start; elems = r.elems; codes = r.codes; datas = r.datas }))
       (says_never PartsInRange)))))))))))))
 
-  contents_in : (p : Parts) (ss : List Section) (q : Parts) → PartsInRange p → Contents false p ss q → PartsInRange q
+  contents_in : (p : Parts) (ss : List Section) (q : Parts) → PartsInRange p → SectionContents false p ss q → PartsInRange q
   contents_in p [] q r h = subst PartsInRange h r
   contents_in p (s ∷ ss) q r h = contents_in h.0 ss q (in_kept p s.0 r s.1 h.0 h.1) h.2
 

@@ -111,8 +111,8 @@ all_spellable is = all_operands_pass spelled_operand is && all_numbers_in is
 -- ---- the contents of sections
 
 -- Each value that bytes encode by `P` has the property `K`.
-abbrev pub Says : {A : Type 0} → (A → Type 0) → (List ℕ → A → Type 0) → Type 0
-Says {A} K P = (bytes : List ℕ) (x : A) → P bytes x → K x
+abbrev pub EncodesOnly : {A : Type 0} → (A → Type 0) → (List ℕ → A → Type 0) → Type 0
+EncodesOnly {A} K P = (bytes : List ℕ) (x : A) → P bytes x → K x
 
 abbrev pub IsU32 : ℕ → Type 0
 IsU32 n = n < 2 ^ 32

@@ -4,7 +4,7 @@ use Rattle.wasm_tree_spec.specs.Prelude.{Space, Functions, ElementSegments, Data
 use Rattle.wasm_meaning.specs.Prelude.{Inst, Store, ExternalValue, Filled, PlacedSegment, numbers, const_value, store_with, joined_stores, segments_in, run_elem_with, run_data_with, and_then, one_by_one, Added, added, own_segments, next_inst}
 use Rattle.index_remap.specs.Prelude.{Pairing, BothRel, both, StoreRel, turned, HasNoPartner}
 use Rattle.world_contents_proof.specs.Added.{WritesAlone}
-use Rattle.world_simulation.specs.Prelude.{Kept, in_first, in_second}
+use Rattle.world_simulation.specs.Prelude.{RelatedStay, in_first, in_second}
 use Rattle.world_simulation.proofs.Ordered.{kept_rel}
 
 -- ---- what is added comes behind ----
@@ -62,28 +62,28 @@ added_is s m things a h = grind arith
 
 module _ (related alone : Space → ℕ → Type 0) (never : (k : Space) (a : ℕ) → alone k a → related k a → ⊥) where
   -- what each of two runs keeps, the one after the other keeps
-  then_kept : (s : Store) (f : Filled) (g : Store → Filled) → Kept related s f.store → ((t : Store) → Kept related t (g t).store) → Kept related s (and_then f g).store
+  then_kept : (s : Store) (f : Filled) (g : Store → Filled) → RelatedStay related s f.store → ((t : Store) → RelatedStay related t (g t).store) → RelatedStay related s (and_then f g).store
   then_kept s f g h next = grind (arith, next f.store)
 
   -- segments that are run in turn keep what each of them keeps
   turn_kept : {A : Type 0} (run : Store → PlacedSegment A → Filled) (i : Inst) (ns : List ℕ) (xs : List A) →
-      ((n a : ℕ) (x : A) → slice_get ns n ≡ Some a → slice_get xs n ≡ Some x → (s : Store) → Kept related s (run s (record { part = 0; inst = i; address = a; segment = x })).store) → (s : Store) → Kept related s (one_by_one run s (segments_in 0 i ns xs)).store
+      ((n a : ℕ) (x : A) → slice_get ns n ≡ Some a → slice_get xs n ≡ Some x → (s : Store) → RelatedStay related s (run s (record { part = 0; inst = i; address = a; segment = x })).store) → (s : Store) → RelatedStay related s (one_by_one run s (segments_in 0 i ns xs)).store
   turn_kept run i (a ∷ ns) (x ∷ xs) h s = then_kept s _ (λ s. one_by_one run s (segments_in 0 i ns xs)) (h 0 a x refl refl s) (turn_kept run i ns xs (λ n. h (suc n)))
   turn_kept run i _ _ h s = assumption
 
   -- If all related segments were there before, and those of the added module write only what is alone, then what is related is kept.
   added_kept : (s : Store) (m : Module) (things : List ExternalValue) (a : Added) → added s m things ≡ Some a →
-      ((n : ℕ) → related ElementSegments n → n < length s.elems) → ((n : ℕ) → related DataSegments n → n < length s.datas) → WritesAlone alone m a.inst → (t : Store) × Kept related (joined_stores s t) a.filled.store
+      ((n : ℕ) → related ElementSegments n → n < length s.elems) → ((n : ℕ) → related DataSegments n → n < length s.datas) → WritesAlone alone m a.inst → (t : Store) × RelatedStay related (joined_stores s t) a.filled.store
   added_kept s m things a h elems datas writes =
       let i = next_inst s m things in
       let value = const_value s.globals i in
       let t = added_is s m things a h in
-      let kept : WritesAlone alone m i → Kept related (joined_stores s t.0) (own_segments value m i (joined_stores s t.0)).store = λ writes.
+      let kept : WritesAlone alone m i → RelatedStay related (joined_stores s t.0) (own_segments value m i (joined_stores s t.0)).store = λ writes.
       let run_elem = λ (s : Store) (task : PlacedSegment ElemSeg). run_elem_with value s task task.segment.mode in
       let run_data = λ (s : Store) (task : PlacedSegment DataSeg). run_data_with value s task task.segment.mode in
       then_kept (joined_stores s t.0) (one_by_one run_elem (joined_stores s t.0) (segments_in 0 i i.elems m.elems)) (λ s. one_by_one run_data s (segments_in 0 i i.datas m.datas))
       (turn_kept run_elem i i.elems m.elems (λ n b x b_is x_is s. grind (arith, set_other, number_past)) (joined_stores s t.0)) (turn_kept run_data i i.datas m.datas (λ n b x b_is x_is s. grind (arith, set_other, number_past))) in
-      (t.0, subst (λ (a : Added). WritesAlone alone m a.inst → Kept related (joined_stores s t.0) a.filled.store) t.2 kept writes)
+      (t.0, subst (λ (a : Added). WritesAlone alone m a.inst → RelatedStay related (joined_stores s t.0) a.filled.store) t.2 kept writes)
 
 module _ (R : Pairing) where
   first_apart : (k : Space) (a : ℕ) → HasNoPartner (turned R) k a → in_first R k a → ⊥

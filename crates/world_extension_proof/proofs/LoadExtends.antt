@@ -11,7 +11,7 @@ use Rattle.index_remap.specs.Prelude.{IsBegun}
 use Rattle.world_simulation.specs.Prelude.{offset_in}
 use Rattle.world_simulation.proofs.Copied.{then_holds}
 use Rattle.wasm_meaning.proofs.Outcomes.{stopped}
-use Rattle.world_extension_proof.specs.Extends.{TableExtends, MemoryExtends, GlobalExtends, Extends, StaysIn, Kept, OwnSegmentsExtend, SegmentsExtend, AddedModulesExtend, LoaderKept, LoadersExtend}
+use Rattle.world_extension_proof.specs.Extends.{TableExtends, MemoryExtends, GlobalExtends, Extends, StaysIn, RunExtends, OwnSegmentsExtend, SegmentsExtend, AddedModulesExtend, LoaderKept, LoadersExtend}
 use Rattle.world_extension_proof.proofs.Extends
 use Rattle.world_extension_proof.proofs.Extends.{stays, table_stays, memory_stays, global_stays, table, memory, elem_drops, data_drops, changed_extends}
 use Rattle.world_extension_proof.proofs.TickExtends.{after_kept, answer_leaves, tick_extends, stepping_begun, call_extends}
@@ -141,7 +141,7 @@ module _ (writes : StepsWriteWhatTheyTouch) (w : LoaderWorld) (q : LoaderRun) (b
   made_kept t e = by t e (plain t e)
     where
       plain : (t : Transition) → transition q.run ≡ t → LoaderKept q (loader_with q (made t))
-      plain t e = let k = subst (λ t. Kept q.run (made t)) e (tick_extends writes q.run begun) in record { store = stays_in q.run.store _ k.store; inst = refl; begun = k.begun begun }
+      plain t e = let k = subst (λ t. RunExtends q.run (made t)) e (tick_extends writes q.run begun) in record { store = stays_in q.run.store _ k.store; inst = refl; begun = k.begun begun }
 
       by : (t : Transition) → transition q.run ≡ t → LoaderKept q (loader_with q (made t)) → LoaderKept q (loader_made w q t)
       by (Makes o) e k = k

@@ -6,7 +6,7 @@ use Rattle.wasm_meaning.specs.Loader.{call_answered}
 use Rattle.wasm_meaning.specs.Run.{grown_memory, with_change}
 use Rattle.index_remap.specs.Prelude.{IsBegun}
 use Rattle.base_lists.specs.Related.{IfThere, absent, present}
-use Rattle.world_extension_proof.specs.Extends.{TableExtends, MemoryExtends, Extends, Kept, StepsExtend, CallsExtend}
+use Rattle.world_extension_proof.specs.Extends.{TableExtends, MemoryExtends, Extends, RunExtends, StepsExtend, CallsExtend}
 use Rattle.world_extension_proof.proofs.Extends.{stays, and_then, Extending, global, memory, table, changed_extends}
 use Rattle.world_extension_proof.proofs.StepExtends.{Grows, act_all}
 use Rattle.wasm_meaning.proofs.Outcomes.{with_is, with_found, cond_all, ill_typed, AllOf, stopped, just}
@@ -65,18 +65,18 @@ InPhase p (Steps q o) = q.phase ≡ p
 InPhase p (Makes o) = Unit {0}
 
 abbrev Both : Run → Transition → Type 0
-Both r t = Kept r (made t) × InPhase r.phase t
+Both r t = RunExtends r (made t) × InPhase r.phase t
 
 abbrev All : Run → Option Transition → Type 0
 All r = IfThere (Both r)
 
-trapped_kept : (r : Run) (s : Store) (es : List Entry) (o : Outcome (Caller × List Entry)) → Extends r.store s → Kept r (trapped_to (record r { store = s; entries = es }) o)
+trapped_kept : (r : Run) (s : Store) (es : List Entry) (o : Outcome (Caller × List Entry)) → Extends r.store s → RunExtends r (trapped_to (record r { store = s; entries = es }) o)
 trapped_kept r s es Traps h = record { store = h; owned = refl; begun = λ b. b }
 trapped_kept r s es IllTyped h = record { store = h; owned = refl; begun = λ b. b }
 trapped_kept r s es (Gives (Host, fs)) h = record { store = h; owned = refl; begun = λ b. b }
 trapped_kept r s es (Gives (Starter, fs)) h = record { store = h; owned = refl; begun = λ b. tt }
 
-pub after_kept : (r : Run) (o : Outcome Next) → Leaves r.store o → Kept r (run_after r o)
+pub after_kept : (r : Run) (o : Outcome Next) → Leaves r.store o → RunExtends r (run_after r o)
 after_kept r (Gives (Ran s es)) (just h) = record { store = h; owned = refl; begun = λ b. b }
 after_kept r (Gives (CallsOwn p t vs s es)) (just h) = record { store = h; owned = refl; begun = λ b. b }
 after_kept r (Gives (WaitsGrowth g m n s es)) (just h) = record { store = h; owned = refl; begun = λ b. b }

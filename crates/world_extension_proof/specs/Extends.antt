@@ -59,14 +59,14 @@ ExtensionsKeepWhatIsThere = (s t : Store) → Extends s t → StaysIn s t
 
 -- the store is extended, the environment's own entities stay where they were, and a run that was
 -- instantiated stays so
-pub record Kept (r : Run) (o : Out) : Type 0 where
+pub record RunExtends (r : Run) (o : Out) : Type 0 where
   pub store : Extends r.store o.0.store
   pub owned : o.0.owned ≡ r.owned
   pub begun : IsBegun r.phase → IsBegun o.0.phase
 
 -- Once a run is instantiated, each of its steps extends its store.
 abbrev pub StepsExtend : Type 0
-StepsExtend = (r : Run) → IsBegun r.phase → Kept r (tick r)
+StepsExtend = (r : Run) → IsBegun r.phase → RunExtends r (tick r)
 
 -- So does a step that calls a placeholder, up to the call.
 abbrev pub CallsExtend : Type 0

@@ -5,7 +5,7 @@ use Rattle.wasm_meaning.specs.Prelude.{Text, Func, Code, Own, Store, Entry, Runn
 use Rattle.wasm_meaning.specs.StartFrames.{goes_on}
 use Rattle.index_remap.specs.Prelude.{Pairing, nil, cons, opening, pending, RunRel, OutRel, KeepsOthers, HasNoPartner, EntryByEntry, RelatedTicksAgree, OthersStay}
 use Rattle.index_remap.specs.Related as to
-use Rattle.world_extension_proof.specs.Extends.{Extends, Kept}
+use Rattle.world_extension_proof.specs.Extends.{Extends, RunExtends}
 use Rattle.world_sequential_proof.proofs.Reached.{count_upto, is_reached, reaching, reached_at, reached_is, one_to_one}
 use Rattle.world_sequential_proof.proofs.Closed.{Sound, own_func, code}
 use Rattle.world_sequential_proof.proofs.Beside.{Beside}
@@ -87,7 +87,7 @@ module _ (below : StartDependsOnlyOnItsFrames) (extend : ExtensionLaws) (ticks :
     };
   }
 
-  abreast_on : {es fs es' fs' : List Entry} {r u r' u' : Run} {e f : Option Event} → Abreast es fs r u → RunsRelated (over_one u' fs') (over_one r' es') → Kept r (r', e) → Kept u (u', f) → KeepsOthers R r.store r'.store → Abreast es' fs' r' u'
+  abreast_on : {es fs es' fs' : List Entry} {r u r' u' : Run} {e f : Option Event} → Abreast es fs r u → RunsRelated (over_one u' fs') (over_one r' es') → RunExtends r (r', e) → RunExtends u (u', f) → KeepsOthers R r.store r'.store → Abreast es' fs' r' u'
   abreast_on {r = r} {r' = r'} h related kr ku k = record {
     related = related;
     beside = beside_on h.beside related.store ku.store kr.store k;
@@ -101,7 +101,7 @@ module _ (below : StartDependsOnlyOnItsFrames) (extend : ExtensionLaws) (ticks :
     ds = Opening [] ∷ []
 
     both_step : (o q : Out) → AgreeOnFrames cs ds (Pending view) (Pending []) r.store.funcs o q → (o' q' : Out) → AgreeOnFrames ds ds (Pending v) (Pending []) u.store.funcs o' q' →
-        OutRel R (EntryByEntry R) (EntryByEntry R) q' q → KeepsOthers R r.store q.0.store → Kept r o → Kept u o' → Stepped cs view v o o'
+        OutRel R (EntryByEntry R) (EntryByEntry R) q' q → KeepsOthers R r.store q.0.store → RunExtends r o → RunExtends u o' → Stepped cs view v o o'
     both_step _ _ (goes_on rr es' f k) _ _ (goes_on uu fs' f' k') out keeps kr ku = rw (← out.event) (on es' fs' k k' (abreast_on h out.run kr ku keeps) refl refl refl refl)
     both_step _ _ (ended rr f) _ _ (ended uu f') out keeps kr ku = done (abreast_on h out.run kr ku keeps) refl refl refl refl
     both_step _ _ (trapped rr) _ _ (trapped uu) out keeps kr ku = stopped out.run refl refl refl refl

@@ -5,7 +5,7 @@ use Rattle.wasm_tree_spec.specs.Prelude.{Space, Tables, Memories, ElementSegment
 use Rattle.wasm_meaning.specs.Prelude.{Store, Environment, Filled, or_trapped}
 use Rattle.base_lists.proofs.Related.{at_put_here}
 use Rattle.world_simulation.specs.Prelude.{Instantiated, DefinedAt}
-use Rattle.world_simulation.specs.Segments.{Kept}
+use Rattle.world_simulation.specs.Segments.{RelatedStay}
 
 -- ---- lists ----
 
@@ -35,5 +35,5 @@ then_holds Q s o f t h = grind arith
 
 -- ---- a segment without partner ----
 
-pub nothing_kept : (related : Space → ℕ → Type 0) (s : Store) → Kept related s s
+pub nothing_kept : (related : Space → ℕ → Type 0) (s : Store) → RelatedStay related s s
 nothing_kept related s = assumption

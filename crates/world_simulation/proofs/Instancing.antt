@@ -2,7 +2,7 @@
 use Rattle.base_lists.proofs.Common.{◌≡◌, ap, ℕ, zero, suc, List, [], ◌∷◌, Some, arith, add-zero, inl, inr, slice_get, length-append, same_Some, length-numbers, and_then_is, all_there_length, append_from, all_there_back, number_is, add_next}
 use Rattle.wasm_tree_spec.specs.Prelude.{Space, Module}
 use Rattle.wasm_meaning.specs.Prelude.{Inst, Part, module_at, imports_of, Environment, space, numbers, inst_of, insts_from, defined_count, base}
-use Rattle.world_simulation.specs.IndexSpaces.{EachInst, Entry, IsInst, IsSpace, defines, import_address, imports}
+use Rattle.world_simulation.specs.IndexSpaces.{EachInst, SpaceEntry, IsInst, IsSpace, defines, import_address, imports}
 
 -- ---- an index space ----
 
@@ -10,7 +10,7 @@ module _ (env : Environment) (parts : List Part) (k : Space) (p : ℕ) (m : Modu
   pub is_space : (xs : List ℕ) → space env parts k p m ≡ Some xs → IsSpace env parts k p m xs
   is_space xs h = search (arith, length-append, length-numbers, all_there_length)
 
-  pub entry_at : (xs : List ℕ) → IsSpace env parts k p m xs → (x a : ℕ) → slice_get xs x ≡ Some a → Entry env parts k p m x a
+  pub entry_at : (xs : List ℕ) → IsSpace env parts k p m xs → (x a : ℕ) → slice_get xs x ≡ Some a → SpaceEntry env parts k p m x a
   entry_at xs s x a h =
       elim (append_from s.imported (numbers (base env parts k p) (defined_count k m)) x a (rw (← s.all) h)) [
         | inl e ↦ let r = all_there_back _ _ _ s.are x a e in imports r.0 r.1 r.2

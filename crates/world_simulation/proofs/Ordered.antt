@@ -5,10 +5,10 @@ use Rattle.wasm_meaning.specs.Prelude.{overwrite, no_items, no_bytes, RefVal, Va
 use Rattle.index_remap.specs.Prelude.{Pairing, OneToOne, OptRel, none, some, StoreRel, set_table, set_memory, drop_elem, drop_data, turned, HasNoPartner}
 use Rattle.index_remap.proofs.Rel.{written}
 use Rattle.index_remap.proofs.StepsAgree.{changed_rel}
-use Rattle.world_simulation.specs.Prelude.{Instantiated, DefinedAt, values_in, InOrder, both, ends, only_second, ElemsPartner, ElemAlone, DatasPartner, DataAlone, offset_in, IsInst, Kept}
+use Rattle.world_simulation.specs.Prelude.{Instantiated, DefinedAt, values_in, InOrder, both, ends, only_second, ElemsPartner, ElemAlone, DatasPartner, DataAlone, offset_in, IsInst, RelatedStay}
 use Rattle.world_simulation.specs.Segments as segments
 use Rattle.world_simulation.specs.Segments.{in_first, in_second}
-use Rattle.world_simulation.specs.ByPart.{tasks_by}
+use Rattle.world_simulation.specs.ByPart.{segments_by_part}
 use Rattle.world_simulation.proofs.Instancing.{inst_in}
 use Rattle.world_simulation.proofs.Copied.{set_holds, HasRoom, nothing_kept}
 
@@ -31,15 +31,15 @@ module _ {A : Type 0} (p : ℕ) (i : Inst) where
 -- what holds of each segment of each module, with the address that stands at its place in the module's instance, holds of every segment of the list by part
 each_task : {A : Type 0} {P : PlacedSegment A → Type 0} (segs : Module → List A) (adds : Inst → List ℕ) (p : ℕ) (parts : List Part) (is : List Inst) →
     ((q : ℕ) (m : Module) (i : Inst) → module_at parts q ≡ Some m → slice_get is q ≡ Some i → (n : ℕ) (x : PlacedSegment A) → slice_get (adds i) n ≡ Some x.address → slice_get (segs m) n ≡ Some x.segment → P x) →
-    (n : ℕ) (x : PlacedSegment A) → slice_get (tasks_by segs adds p parts is) n ≡ Some x → P x
+    (n : ℕ) (x : PlacedSegment A) → slice_get (segments_by_part segs adds p parts is) n ≡ Some x → P x
 each_task segs adds p (part ∷ parts) (i ∷ is) f n x h = grind (arith, append_from, task_at, f 0 part.«module» i refl refl, each_task segs adds (suc p) parts is (λ q. f (suc q)))
 each_task segs adds p _ _ f n x h = cc
 
-pub elems_by : (p : ℕ) (parts : List Part) (is : List Inst) → placed_elems p parts is ≡ tasks_by (λ m. m.elems) (λ i. i.elems) p parts is
+pub elems_by : (p : ℕ) (parts : List Part) (is : List Inst) → placed_elems p parts is ≡ segments_by_part (λ m. m.elems) (λ i. i.elems) p parts is
 elems_by p (part ∷ parts) (i ∷ is) = rw (elems_by (suc p) parts is)
 elems_by p _ _ = refl
 
-pub datas_by : (p : ℕ) (parts : List Part) (is : List Inst) → placed_datas p parts is ≡ tasks_by (λ m. m.datas) (λ i. i.datas) p parts is
+pub datas_by : (p : ℕ) (parts : List Part) (is : List Inst) → placed_datas p parts is ≡ segments_by_part (λ m. m.datas) (λ i. i.datas) p parts is
 datas_by p (part ∷ parts) (i ∷ is) = rw (datas_by (suc p) parts is)
 datas_by p _ _ = refl
 
@@ -50,7 +50,7 @@ module _ (env : Environment) (w : Instantiated) (are : insts_from env w.parts 0 
 
   -- parts define all segments of a kind, if each instance has the addresses of what its part defines of it
   all_defined : {k : Space} {A : Type 0} (definitions : Module → List A) (adds : Inst → List ℕ) → own_count k env ≡ 0 →
-      ((p : ℕ) (m : Module) (i : Inst) → IsInst env w.parts p m i → adds i ≡ numbers (defined_before k w.parts p) (length (definitions m))) → Defines env w k definitions (tasks_by definitions adds 0 w.parts w.insts)
+      ((p : ℕ) (m : Module) (i : Inst) → IsInst env w.parts p m i → adds i ≡ numbers (defined_before k w.parts p) (length (definitions m))) → Defines env w k definitions (segments_by_part definitions adds 0 w.parts w.insts)
   all_defined definitions adds none_own first = each_task definitions adds 0 w.parts w.insts (λ p m i is_part is_inst n x address stands.
       (record { part = p; of = m; is_part = is_part; inst = i; is_inst = is_inst; place = n; definition = x.segment; stands = stands; address = grind (arith, number_is, first p m i (inst_at p m i is_part is_inst)) }, refl))
 
@@ -63,7 +63,7 @@ module _ (env : Environment) (w : Instantiated) (are : insts_from env w.parts 0 
 -- ---- what is kept where it is related ----
 
 module _ (R : Pairing) where
-  pub kept_rel : {s t z y : Store} → StoreRel R s z → Kept (in_first R) s t → Kept (in_second R) z y → StoreRel R t y
+  pub kept_rel : {s t z y : Store} → StoreRel R s z → RelatedStay (in_first R) s t → RelatedStay (in_second R) z y → StoreRel R t y
   kept_rel like f g = grind (arith, both)
 
 -- ---- the segments of one world ----
@@ -82,7 +82,7 @@ module _ (R : Pairing) (env : Environment) (w : Instantiated) where
 
   -- a run does not trap, and leaves the store as it was at the second addresses that R relates
   abbrev Copies : Store → Filled → Type 0
-  Copies s f = (f.trapped ≡ false) × Kept (in_second R) s f.store
+  Copies s f = (f.trapped ≡ false) × RelatedStay (in_second R) s f.store
 
   -- Of each run of a segment of one kind, in a store with room: it leaves room, and where the segment has no partner it does not trap and keeps what is related.
   abbrev Runs : Space → {A : Type 0} → (Module → List A) → (PlacedSegment A → Type 0) → (Store → PlacedSegment A → Filled) → Type 0

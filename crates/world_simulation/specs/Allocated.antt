@@ -23,8 +23,8 @@ abbrev pub Adds : Environment → List Part → List Inst → ℕ → Module →
 Adds env all insts p = AddsWith (value_of env all insts p)
 
 -- what a part adds that has these functions, globals and element segments
-abbrev pub with_elems : Module → List Func → List Global → List Elem → Store
-with_elems m funcs globals elems = record {
+abbrev pub added_store : Module → List Func → List Global → List Elem → Store
+added_store m funcs globals elems = record {
   funcs = funcs;
   globals = globals;
   elems = elems;

@@ -21,9 +21,9 @@ module _ (env : Environment) (parts : List Part) (k : Space) (p : ℕ) where
       pub size : length xs ≡ length (imports_of k m) + defined_count k m
 
     -- what the index `x` names, with its address `a`: an import, or what the part defines
-    pub data Entry (x a : ℕ) : Type 0 where
-      imports : (n : ℕ) → slice_get (imports_of k m) x ≡ Some n → import_address n ≡ Some a → Entry x a
-      defines : (j : ℕ) → x ≡ length (imports_of k m) + j → j < defined_count k m → a ≡ base env parts k p + j → Entry x a
+    pub data SpaceEntry (x a : ℕ) : Type 0 where
+      imports : (n : ℕ) → slice_get (imports_of k m) x ≡ Some n → import_address n ≡ Some a → SpaceEntry x a
+      defines : (j : ℕ) → x ≡ length (imports_of k m) + j → j < defined_count k m → a ≡ base env parts k p + j → SpaceEntry x a
 
 -- ---- an instance ----
 
@@ -49,7 +49,7 @@ abbrev pub SpacesAreImportsAndDefinitions : Type 0
 SpacesAreImportsAndDefinitions = (env : Environment) (parts : List Part) (k : Space) (p : ℕ) (m : Module) (xs : List ℕ) → space env parts k p m ≡ Some xs → IsSpace env parts k p m xs
 
 abbrev pub IndicesNameImportsOrDefinitions : Type 0
-IndicesNameImportsOrDefinitions = (env : Environment) (parts : List Part) (k : Space) (p : ℕ) (m : Module) (xs : List ℕ) → IsSpace env parts k p m xs → (x a : ℕ) → slice_get xs x ≡ Some a → Entry env parts k p m x a
+IndicesNameImportsOrDefinitions = (env : Environment) (parts : List Part) (k : Space) (p : ℕ) (m : Module) (xs : List ℕ) → IsSpace env parts k p m xs → (x a : ℕ) → slice_get xs x ≡ Some a → SpaceEntry env parts k p m x a
 
 abbrev pub EachPartHasAnInstance : Type 0
 EachPartHasAnInstance = (env : Environment) (all : List Part) (p : ℕ) (parts : List Part) (is : List Inst) → insts_from env all p parts ≡ Some is → EachInst env all p parts is

@@ -73,7 +73,7 @@ abbrev pub in_second : Pairing → Space → ℕ → Type 0
 in_second R k b = (a : ℕ) × R.of k a b
 
 -- the store is as it was where it is related
-pub record Kept (related : Space → ℕ → Type 0) (s t : Store) : Type 0 where
+pub record RelatedStay (related : Space → ℕ → Type 0) (s t : Store) : Type 0 where
   pub funcs : t.funcs ≡ s.funcs
   pub globals : t.globals ≡ s.globals
   pub tables : (a : ℕ) → related Tables a → slice_get t.tables a ≡ slice_get s.tables a

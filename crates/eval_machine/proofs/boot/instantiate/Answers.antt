@@ -3,7 +3,7 @@ use Rattle.wasm_tree_spec.specs.Prelude.{memories_of}
 use Rattle.eval_spec.specs.declared.limits.TheConstants.{MOST_TURNS}
 use Rattle.eval_spec.specs.Prelude.{stop_of, instantiated}
 use Rattle.eval_machine.specs.declared.kept.Kept.{Kept}
-use Rattle.eval_machine.specs.Prelude.{FillsTables, IsInstantiated, PoursDatas, elems_end}
+use Rattle.eval_machine.specs.Prelude.{FillsTables, IsInitialMachine, PoursDatas, elems_end}
 use Rattle.wasm_valid.specs.Prelude.{ItemsHold}
 use Rattle.eval_machine.proofs.Instantiated.{datas_stop, elems_stop, globals_typed, is_instantiated, limits_few}
 use Rattle.eval_machine.proofs.boot.instantiate.Goals as goal
@@ -41,6 +41,6 @@ returns c =
     let none : c.in_ok-dropped.dropped ≡ replicate (length c.module-input.result.now.datas) false = c.in_ok-dropped.ensures ∙ ap (λ n. replicate n false) c.len.ensures in
     let pours : PoursDatas c.module-input.result.now c.in_ok-memory.memory c.in_ok-dropped.dropped None c.pour_all.new.memory c.pour_all.new.dropped = c.in-None-pour_all.ensures.pours in
     let k : Kept = record { globals = c.in_ok-globals.globals; memory = c.pour_all.new.memory; dropped = c.pour_all.new.dropped; slots = c.fill.new.self; imports = c.import_counts-imports.result; turns = MOST_TURNS; undo = c.in_ok-undo.undo } in
-    subst (λ m. IsInstantiated m k) c.module-input.ensures.value
+    subst (λ m. IsInitialMachine m k) c.module-input.ensures.value
     (is_instantiated c.module-input.result.now hold single c.in_ok-globals.globals c.in_ok-globals.ensures c.fill.new.self fills c.in_ok-memory.memory c.in_ok-memory.ensures c.in_ok-dropped.dropped none k pours refl refl refl
     c.in-None-pour_all.ensures.fits c.in-None-pour_all.ensures.unmarked (c.in-None-pour_all.ensures.many refl) c.import_counts-imports.ensures c.in_ok-undo.ensures)

@@ -2,7 +2,7 @@ use Rattle.base_lists.proofs.Common.{◌≡◌, ◌∙◌, sym, ap, refl, subst,
 use Rattle.wasm_tree_spec.specs.Prelude.{Module, space_of_import}
 use Rattle.wasm_meaning.specs.Prelude.{numbers, places, has_kind, imports_of}
 use Rattle.merge_spec.specs.Prelude.{named_modules, new_index}
-use Rattle.merge_join.specs.LinkedParts.{IsEnd}
+use Rattle.merge_join.specs.LinkedParts.{EndExists}
 use Rattle.merge_join.proofs.Fits.{entry_there}
 use Rattle.merge_join.proofs.NewIndex.{new_index_at, import_place}
 use Rattle.merge_join.proofs.Sites.{places_length}
@@ -23,8 +23,8 @@ loop-place-preserved c =
     let more : length (places (has_kind k) (take (i + 1) imports) 0) ≡ count + 1 = places_length (has_kind k) imports import i at ∙ ap (λ (b : Bool). count + cond b 1 0) held in
     let place_is : slice_get (imports_of k m) count ≡ Some i = ap (λ is. slice_get (places (has_kind k) is 0) count) (sym c.as_slice-imports.ensures) ∙ import_place (has_kind k) imports import i at held in
     let z : count ≡ 0 + count = omega arith in
-    c.in_ok-keep.ensures.ok ∙ ap (λ x. x ++ c.place.result ∷ []) c.loop-place.invariant
-    ∙ ap (λ x. map (new_index ps p k) (numbers 0 count) ++ x ∷ []) (c.place.ensures ∙ sym (new_index_at ps p k count i m c.end_of.result c.module_of.ensures.at place_is c.end_of.ensures) ∙ ap (new_index ps p k) z)
+    c.in_ok-keep.ensures.ok ∙ ap (λ x. x ++ c.place_of_end.result ∷ []) c.loop-place.invariant
+    ∙ ap (λ x. map (new_index ps p k) (numbers 0 count) ++ x ∷ []) (c.place_of_end.ensures ∙ sym (new_index_at ps p k count i m c.end_of.result c.module_of.ensures.at place_is c.end_of.ensures) ∙ ap (new_index ps p k) z)
     ∙ sym (ap (λ n. map (new_index ps p k) (numbers 0 n)) more ∙ ap (map (new_index ps p k)) (numbers_more 0 count) ∙ map_push (new_index ps p k) (numbers 0 count) (0 + count))
 
 pub loop-place-preserved-then-not-is_in : goal.loop-place-preserved-then-not-is_in
@@ -40,8 +40,8 @@ loop-place-preserved-then-not-is_in c =
     let same : count ≡ count + 0 = omega arith in
     c.loop-place.invariant ∙ ap (λ n. map (new_index ps c.args.part k) (numbers 0 n)) (same ∙ sym (places_length (has_kind k) imports import i at ∙ ap (λ (b : Bool). count + cond b 1 0) missing))
 
-pub place-requires : goal.place-requires
-place-requires c =
+pub place_of_end-requires : goal.place_of_end-requires
+place_of_end-requires c =
     let ps = named_modules c.args.into.now.parts.now in
     let m = c.module_of.result.now in
     let i = c.loop-place.place in
@@ -49,7 +49,7 @@ place-requires c =
     let import = c.index-imports-place.result in
     let here : slice_get m.imports i ≡ Some import = ap (λ is. slice_get is i) (sym c.as_slice-imports.ensures) ∙ slice_get_read imports (length imports) i import refl c.loop-place-test.true c.index-imports-place.is in
     let kind : c.args.into.now.space ≡ space_of_import import.desc = grind (arith, ap (has_kind c.args.into.now.space) c.index-imports-place.is ∙ sym c.is_in.ensures ∙ c.if-not-is_in.false) in
-    subst (λ k. IsEnd ps k c.end_of.result) (sym kind) (entry_there ps c.args.part i m import c.end_of.result c.requires.linked.no_fault c.module_of.ensures.at here c.end_of.ensures)
+    subst (λ k. EndExists ps k c.end_of.result) (sym kind) (entry_there ps c.args.part i m import c.end_of.result c.requires.linked.no_fault c.module_of.ensures.at here c.end_of.ensures)
 
 pub returns : goal.returns
 returns c = λ m at.

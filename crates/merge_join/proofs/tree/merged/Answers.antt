@@ -5,13 +5,13 @@ use Rattle.merge_spec.specs.declared.parts.Part.{Part}
 use Rattle.merge_spec.specs.Prelude.{named_modules}
 use Rattle.merge_join.specs.declared.tree.Plan.{Plan}
 use Rattle.merge_join.specs.Moved.{AreAllValues}
-use Rattle.merge_join.specs.Planned.{IsPlan}
+use Rattle.merge_join.specs.Planned.{IsMergePlan}
 use Rattle.merge_join.specs.LinkedParts.{AreMaps}
 use Rattle.merge_join.proofs.MergedTrees.{funcs_few, merged_is}
 use Rattle.merge_join.proofs.tree.merged.Goals as goal
 
-planned : (parts lent : List Part) (names : List (Option Text)) (plan : Plan) → lent ≡ parts → IsPlan (named_modules lent) names plan → IsPlan (named_modules parts) names plan
-planned parts lent names plan is made = subst (λ (xs : List Part). IsPlan (named_modules xs) names plan) is made
+planned : (parts lent : List Part) (names : List (Option Text)) (plan : Plan) → lent ≡ parts → IsMergePlan (named_modules lent) names plan → IsMergePlan (named_modules parts) names plan
+planned parts lent names plan is made = subst (λ (xs : List Part). IsMergePlan (named_modules xs) names plan) is made
 
 pub moved_parts-moved-requires : goal.moved_parts-moved-requires
 moved_parts-moved-requires c =

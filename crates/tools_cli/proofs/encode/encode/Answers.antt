@@ -1,5 +1,5 @@
 use Rattle.base_lists.proofs.Common.{◌≡◌, ◌∙◌, ap, sym, true, false, rules, cond, map, List, list_all}
-use Rattle.tools_cli.specs.Prelude.{Entry, output_values, Done, Refused, is_within, spelled_output}
+use Rattle.tools_cli.specs.Prelude.{NamedFile, output_values, Done, Refused, is_within, spelled_output}
 use Rattle.tools_cli.specs.Texts.{too_many}
 use Rattle.wasm_tree.specs.declared.which.Which.TheVariants.{OutputBytes}
 use Rattle.tools_cli.proofs.encode.encode.Goals as goal
@@ -13,4 +13,4 @@ pub returns-clause-plan : goal.returns-clause-plan
 returns-clause-plan c =
     let fits : list_all is_within (output_values c.args.decision.outputs.items) ≡ true = search rules in
     ap (λ b. cond b (Done (map spelled_output (output_values c.args.decision.outputs.items)) c.args.decision.lines.items) (Refused (too_many OutputBytes))) fits
-    ∙ ap (λ (l : List Entry). Done l c.args.decision.lines.items) (sym c.in_ok-writes.ensures)
+    ∙ ap (λ (l : List NamedFile). Done l c.args.decision.lines.items) (sym c.in_ok-writes.ensures)

@@ -1,5 +1,5 @@
 use Rattle.base_lists.proofs.Common.{◌≡◌, false, Err, arith}
-use Rattle.tools_cli.specs.Prelude.{Text, Loads, OneFails, input_entries}
+use Rattle.tools_cli.specs.Prelude.{Text, LoadsFile, OneFails, input_entries}
 use Rattle.tools_cli.proofs.Loading.{short_input, all_load, stops_weaker, fails_here}
 use Rattle.tools_cli.proofs.load.load_all.Goals as goal
 
@@ -14,6 +14,6 @@ returns-in_err-tree-clause-stops c =
     let x = c.input-item.result in
     let stop = c.in_err-tree.field-0.0 in
     let gone : c.from_residual.result ≡ Err stop = grind arith in
-    let P : Text → Type 0 = λ text. Loads false x.name.now x.bytes.items (Err text) in
+    let P : Text → Type 0 = λ text. LoadsFile false x.name.now x.bytes.items (Err text) in
     let Q : Text → Type 0 = OneFails false (input_entries c.args.inputs.now) in
     rw gone (stops_weaker P Q (fails_here c.args.inputs.now c.loop-input.input-index x c.loop-input-test.true c.input-item.is c.loop-input.invariant.fail) stop c.in_err-tree.ensures.stops)

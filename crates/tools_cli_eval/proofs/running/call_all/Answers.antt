@@ -1,7 +1,7 @@
 use Rattle.base_lists.proofs.Common.{◌≡◌, Ok, get_or, subst}
 use Rattle.wasm_bytes.specs.declared.name.NoMemory.{NoMemory}
 use Rattle.eval_spec.specs.Prelude.{Finished, call_end}
-use Rattle.eval_machine.specs.Prelude.{IsLeft, StopsCall, state_in}
+use Rattle.eval_machine.specs.Prelude.{SameButForTurns, StopsCall, state_in}
 use Rattle.eval_machine.specs.Calls.{IfDone, IfNotDone, IfStopped}
 use Rattle.eval_machine.specs.declared.machine.Ran.{Ran}
 use Rattle.tools_cli_eval.proofs.Called.{stands_more, stopped_here, stopped_nowhere}
@@ -13,7 +13,7 @@ returns-in-Stopped-clause-ended c =
     let k = c.loop-count.machine in
     let j = c.run_ctor.new.self in
     let P : Ran → Type 0 = IfStopped (λ stop. StopsCall m (get_or c.args.funcs.now c.loop-count.count 0) k stop j) in
-    let Q : Ran → Type 0 = λ r. IfNotDone {E = NoMemory} (IsLeft m k j) (Ok r) in
+    let Q : Ran → Type 0 = λ r. IfNotDone {E = NoMemory} (SameButForTurns m k j) (Ok r) in
     stopped_here m c.args.funcs.now c.loop-count.count k c.loop-count.invariant c.loop-count-test.true c.in-Stopped.stop j (subst P c.in-Stopped.is c.in_ok-run_ctor.ensures.stopped) (subst Q c.in-Stopped.is c.in_ok-run_ctor.ensures.left)
 
 pub loop-count-preserved : goal.loop-count-preserved

@@ -1,5 +1,5 @@
 use Rattle.std.proofs.Common.{◌≡◌, drop}
-use Rattle.tools_cli_words.specs.Words.{joined_value}
+use Rattle.tools_cli_words.specs.Arguments.{joined_value}
 use Rattle.tools_cli_words.specs.Meaning.{names_of}
 use Rattle.tools_cli_words.proofs.argument.joined_value.Given as goal
 

@@ -1,5 +1,5 @@
 use Rattle.std.proofs.Common.{◌∙◌, ap, sym, ◌++◌, option_and_then}
-use Rattle.tools_cli_words.specs.Words.{value_behind}
+use Rattle.tools_cli_words.specs.Arguments.{value_behind}
 use Rattle.tools_cli_words.proofs.Lines.{behind_found, behind_lacks}
 use Rattle.tools_cli_words.proofs.argument.value_in.Goals as goal
 

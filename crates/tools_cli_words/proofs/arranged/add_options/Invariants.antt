@@ -1,5 +1,5 @@
 use Rattle.std.proofs.Common.{◌≡◌, ◌++◌, map, string_bytes, drop}
-use Rattle.tools_cli_words.specs.Words.{option_word}
+use Rattle.tools_cli_words.specs.Arguments.{option_word}
 use Rattle.tools_cli_words.specs.Meaning.{said_option}
 use Rattle.tools_cli_words.proofs.arranged.add_options.Given as goal
 

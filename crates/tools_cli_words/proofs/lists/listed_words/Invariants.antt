@@ -1,5 +1,5 @@
 use Rattle.base_lists.proofs.Common.{◌≡◌, ◌++◌, into_iter_items}
-use Rattle.tools_cli_words.specs.Words.{listed_words}
+use Rattle.tools_cli_words.specs.Arguments.{listed_words}
 use Rattle.tools_cli_words.specs.Meaning.{names_of}
 use Rattle.tools_cli_words.proofs.lists.listed_words.Given as goal
 

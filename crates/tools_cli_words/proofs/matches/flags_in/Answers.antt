@@ -1,7 +1,7 @@
 use Rattle.base_lists.proofs.Common.{◌≡◌, ◌∙◌, ap, sym, subst, true, false, List, ℕ, ◌+◌, ◌++◌, ◌∷◌, [], drop, drop-cons, add-one, get_or, length, ◌<◌, map, Bor, map-append}
 use Rattle.base_lists.specs.Every.{Every}
 use Rattle.clap.specs.Words.{found_of}
-use Rattle.tools_cli_words.specs.Words.{Text, said_flags}
+use Rattle.tools_cli_words.specs.Arguments.{Text, said_flags}
 use Rattle.tools_cli_words.specs.Reader.{GivesFlag}
 use Rattle.tools_cli_words.specs.Meaning.{names_of}
 use Rattle.tools_cli_words.proofs.Given.{flag_set, flag_unset}

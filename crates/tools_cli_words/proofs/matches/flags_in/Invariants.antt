@@ -1,7 +1,7 @@
 use Rattle.std.proofs.Common.{◌≡◌, ◌++◌, List, ℕ, drop}
 use Rattle.base_lists.specs.Every.{Every}
 use Rattle.clap.specs.Words.{found_of}
-use Rattle.tools_cli_words.specs.Words.{said_flags}
+use Rattle.tools_cli_words.specs.Arguments.{said_flags}
 use Rattle.tools_cli_words.specs.Reader.{GivesFlag}
 use Rattle.tools_cli_words.specs.Meaning.{names_of}
 use Rattle.tools_cli_words.proofs.matches.flags_in.Given as goal

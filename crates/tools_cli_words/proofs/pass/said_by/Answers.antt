@@ -1,5 +1,5 @@
 use Rattle.base_lists.proofs.Common.{◌≡◌, ◌∙◌, sym, ap, true, false, rules, ◌+◌, drop, map, option_map, string_bytes, Some, None, ◌&&◌, is_none}
-use Rattle.tools_cli_words.specs.Words.{Vocabulary, said_from, arguments_of, takes_value, next_argument}
+use Rattle.tools_cli_words.specs.Arguments.{Vocabulary, said_from, arguments_of, takes_value, next_argument}
 use Rattle.tools_cli_words.specs.Meaning.{said_value, argument_value, names_of}
 use Rattle.tools_cli_words.proofs.Lines.{and_then_arguments, arguments_from, none_before, words_at, begun_word, fresh_word, now_due, wrong_word, right_word}
 use Rattle.tools_cli_words.proofs.pass.said_by.Goals as goal

@@ -1,5 +1,5 @@
 use Rattle.std.proofs.Common.{◌≡◌, map, string_bytes, drop, option_map, None}
-use Rattle.tools_cli_words.specs.Words.{said_from, arguments_of}
+use Rattle.tools_cli_words.specs.Arguments.{said_from, arguments_of}
 use Rattle.tools_cli_words.specs.Meaning.{said_value, names_of}
 use Rattle.tools_cli_words.proofs.Lines.{and_then_arguments, arguments_from}
 use Rattle.tools_cli_words.proofs.pass.said_by.Given as goal

@@ -1,5 +1,5 @@
 use Rattle.base_lists.proofs.Common.{rules, ◌≡◌, ◌∙◌, sym, ap, ap₂, subst, map, string_bytes, option_map, option_and_then, true, false, Bool, [], ◌∷◌, codes, Option, Some, None, ℕ, ◌<◌, ◌^◌, length, arith, Bor, length-map}
-use Rattle.tools_cli_words.specs.Words.{Text, Arguments, said_from, arguments_of, said_once, said_together, arranged_words, are_apart, options_and_flags, in_order}
+use Rattle.tools_cli_words.specs.Arguments.{Text, Arguments, said_from, arguments_of, said_once, said_together, arranged_words, are_apart, options_and_flags, in_order}
 use Rattle.tools_cli_words.specs.Vocabularies.{vocabulary_of}
 use Rattle.tools_cli_words.specs.Reader.{Parsed, ReadFrom, app_of_vocabulary}
 use Rattle.tools_cli_words.specs.Meaning.{arguments_value, said_value}

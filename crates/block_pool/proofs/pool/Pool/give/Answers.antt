@@ -1,5 +1,5 @@
 use Rattle.std.proofs.Common.{rules, ◌<◌, length, None, refl}
-use Rattle.block_pool.specs.Kept.{IsKept, live_blocks}
+use Rattle.block_pool.specs.Kept.{FreeBlocksAreListed, live_blocks}
 use Rattle.block_pool.proofs.Kept.{inside_flags, kept_given, used_given, live_given, live_length, changes_set, inside}
 use Rattle.block_pool.proofs.pool.Pool.give.Goals as goal
 
@@ -15,7 +15,7 @@ invariant_of-self c =
 
 pub returns-clause-gone : goal.returns-clause-gone
 returns-clause-gone c =
-    let is : IsKept c.self.inside.live.items c.self.inside.blocks.items c.self.inside.free.items = c.self.invariant.0 in
+    let is : FreeBlocksAreListed c.self.inside.live.items c.self.inside.blocks.items c.self.inside.free.items = c.self.invariant.0 in
     let h : c.args.block.number < length c.self.inside.blocks.items = inside _ _ _ is c.args.block.number (rw (← c.self.view_is) at c.requires) in
     rw (← c.self.view_is) (changes_set (live_blocks c.self.inside.live.items c.self.inside.blocks.items) c.args.block.number None _ _ refl (live_given c.self.inside.live.items c.self.inside.blocks.items c.args.block.number is.many)
     (rw (live_length _ _ is.many) h))

@@ -1,5 +1,5 @@
 use Rattle.std.proofs.Common.{rules, ◌≡◌, ◌<◌, length, Some, true, refl, ◌∙◌, length-set}
-use Rattle.block_pool.specs.Kept.{IsKept, live_blocks}
+use Rattle.block_pool.specs.Kept.{FreeBlocksAreListed, live_blocks}
 use Rattle.block_pool.proofs.Kept.{kept_taken, kept_pushed, used_taken, used_pushed, taken_within, taken_dead, fresh_past, live_set, live_pushed, live_length, changes_set, changes_pushed}
 use Rattle.block_pool.proofs.pool.Pool.put.Goals as goal
 
@@ -15,7 +15,7 @@ returns-in-Some-clause-fresh c =
 
 pub returns-in-Some-clause-bytes : goal.returns-in-Some-clause-bytes
 returns-in-Some-clause-bytes c =
-    let is : IsKept c.self.inside.live.items c.self.inside.blocks.items c.self.inside.free.items = c.self.invariant.0 in
+    let is : FreeBlocksAreListed c.self.inside.live.items c.self.inside.blocks.items c.self.inside.free.items = c.self.invariant.0 in
     let h : c.in-Some.number < length c.self.inside.blocks.items = taken_within _ _ _ is c.pop.new.self.items c.in-Some.number c.in-Some.ensures.items in
     rw (← c.self.view_is) (changes_set (live_blocks c.self.inside.live.items c.self.inside.blocks.items) c.in-Some.number (Some c.args.bytes) _ _ refl (live_set c.self.inside.live.items c.self.inside.blocks.items c.in-Some.number true c.args.bytes is.many)
     (rw (live_length _ _ is.many) h))
@@ -38,7 +38,7 @@ returns-clause-fresh c =
 
 pub returns-clause-bytes : goal.returns-clause-bytes
 returns-clause-bytes c =
-    let is : IsKept c.self.inside.live.items c.self.inside.blocks.items c.self.inside.free.items = c.self.invariant.0 in
+    let is : FreeBlocksAreListed c.self.inside.live.items c.self.inside.blocks.items c.self.inside.free.items = c.self.invariant.0 in
     let h : length c.self.inside.blocks.items ≡ c.len-number.result = search rules in
     rw (← c.self.view_is) (changes_pushed (live_blocks c.self.inside.live.items c.self.inside.blocks.items) c.len-number.result (Some c.args.bytes) _ _ refl
     (rw (c.push_reserved.ensures.items, c.push_reserved-2.ensures.items) (live_pushed c.self.inside.live.items c.self.inside.blocks.items true c.args.bytes is.many))

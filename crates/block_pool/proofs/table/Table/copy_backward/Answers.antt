@@ -1,6 +1,6 @@
 use Rattle.std.proofs.Common.{ℕ, ◌≡◌, ◌≤◌, ◌+◌, ◌-◌, List, length, ap₂, subst, arith}
 use Rattle.block_pool.specs.Table.{pages_of}
-use Rattle.block_pool.specs.Pages.{Writes, part}
+use Rattle.block_pool.specs.Pages.{WritesBytes, part}
 use Rattle.block_pool.proofs.Written.{size_is}
 use Rattle.block_pool.proofs.Reading.{part_size}
 use Rattle.block_pool.proofs.Rooms.{Puts, puts_nothing, puts_room}
@@ -54,10 +54,10 @@ pub returns-clause-writes : goal.returns-clause-writes
 returns-clause-writes c =
     let b : List ℕ = (pages_of c.args.self.now).now.bytes in
     let none : c.loop-left.left ≡ 0 = omega arith in
-    let w : Writes (pages_of c.args.self.now) (pages_of c.loop-left.self) (c.args.to + 0) (part b (c.args.from + 0) (c.args.count - 0)) =
-    subst (λ (n : ℕ). Writes (pages_of c.args.self.now) (pages_of c.loop-left.self) (c.args.to + n) (part b (c.args.from + n) (c.args.count - n))) none c.loop-left.invariant.1.writes in
+    let w : WritesBytes (pages_of c.args.self.now) (pages_of c.loop-left.self) (c.args.to + 0) (part b (c.args.from + 0) (c.args.count - 0)) =
+    subst (λ (n : ℕ). WritesBytes (pages_of c.args.self.now) (pages_of c.loop-left.self) (c.args.to + n) (part b (c.args.from + n) (c.args.count - n))) none c.loop-left.invariant.1.writes in
     let to : c.args.to + 0 ≡ c.args.to = omega arith in
     let source : c.args.from + 0 ≡ c.args.from = omega arith in
     let all : c.args.count - 0 ≡ c.args.count = omega arith in
-    subst (λ (n : ℕ). Writes (pages_of c.args.self.now) (pages_of c.loop-left.self) n (part b c.args.from c.args.count)) to
-    (subst (λ (xs : List ℕ). Writes (pages_of c.args.self.now) (pages_of c.loop-left.self) (c.args.to + 0) xs) (ap₂ (part b) source all) w)
+    subst (λ (n : ℕ). WritesBytes (pages_of c.args.self.now) (pages_of c.loop-left.self) n (part b c.args.from c.args.count)) to
+    (subst (λ (xs : List ℕ). WritesBytes (pages_of c.args.self.now) (pages_of c.loop-left.self) (c.args.to + 0) xs) (ap₂ (part b) source all) w)

@@ -1,6 +1,6 @@
 use Rattle.std.proofs.Common.{ℕ, ◌≡◌, ◌+◌, List, length, subst, arith}
 use Rattle.block_pool.specs.Table.{pages_of}
-use Rattle.block_pool.specs.Pages.{Writes, part}
+use Rattle.block_pool.specs.Pages.{WritesBytes, part}
 use Rattle.block_pool.proofs.Written.{size_is}
 use Rattle.block_pool.proofs.Reading.{part_size}
 use Rattle.block_pool.proofs.Rooms.{puts_nothing, puts_room}
@@ -41,4 +41,4 @@ returns-clause-sound c = c.loop-done.invariant.1.sound
 pub returns-clause-writes : goal.returns-clause-writes
 returns-clause-writes c =
     let b : List ℕ = (pages_of c.args.self.now).now.bytes in
-    subst (λ (n : ℕ). Writes (pages_of c.args.self.now) (pages_of c.loop-done.self) c.args.to (part b c.args.from n)) (let e : c.loop-done.done ≡ c.args.count = omega arith in e) c.loop-done.invariant.1.writes
+    subst (λ (n : ℕ). WritesBytes (pages_of c.args.self.now) (pages_of c.loop-done.self) c.args.to (part b c.args.from n)) (let e : c.loop-done.done ≡ c.args.count = omega arith in e) c.loop-done.invariant.1.writes

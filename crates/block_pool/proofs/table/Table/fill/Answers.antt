@@ -1,7 +1,7 @@
 use Rattle.std.proofs.Common.{ℕ, ◌≡◌, ◌+◌, length, replicate, sym, ap, subst, arith}
 use Rattle.std.proofs.lemmas.List.{length-replicate, replicate-append-replicate}
 use Rattle.block_pool.specs.Table.{pages_of}
-use Rattle.block_pool.specs.Pages.{Writes}
+use Rattle.block_pool.specs.Pages.{WritesBytes}
 use Rattle.block_pool.proofs.Rooms.{puts_nothing, puts_on, puts_room}
 use Rattle.block_pool.proofs.table.Table.fill.Goals as goal
 
@@ -39,4 +39,4 @@ returns-clause-sound c = c.loop-done.invariant.1.sound
 
 pub returns-clause-writes : goal.returns-clause-writes
 returns-clause-writes c =
-    subst (λ (n : ℕ). Writes (pages_of c.args.self.now) (pages_of c.loop-done.self) c.args.at (replicate n c.args.byte)) (let e : c.loop-done.done ≡ c.args.count = omega arith in e) c.loop-done.invariant.1.writes
+    subst (λ (n : ℕ). WritesBytes (pages_of c.args.self.now) (pages_of c.loop-done.self) c.args.at (replicate n c.args.byte)) (let e : c.loop-done.done ≡ c.args.count = omega arith in e) c.loop-done.invariant.1.writes

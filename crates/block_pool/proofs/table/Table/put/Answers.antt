@@ -2,7 +2,7 @@ use Rattle.std.proofs.Common.{ℕ, ◌≡◌, ◌≤◌, ◌+◌, ◌-◌, List,
 use Rattle.std.proofs.Math.Seq.{take-add}
 use Rattle.std.proofs.lemmas.List.{take_all}
 use Rattle.block_pool.specs.Table.{pages_of}
-use Rattle.block_pool.specs.Pages.{Writes}
+use Rattle.block_pool.specs.Pages.{WritesBytes}
 use Rattle.block_pool.proofs.Rooms.{puts_nothing, puts_on, puts_room, next_piece, piece_size}
 use Rattle.block_pool.proofs.table.Table.put.Goals as goal
 
@@ -37,7 +37,7 @@ loop-done-preserved c =
       rw take-add (
           puts_on c.args.self.now c.loop-done.self c.write_within.new.self c.args.at (c.args.at + c.loop-done.done) (take c.loop-done.done bytes) (take n (drop c.loop-done.done bytes))
           c.loop-done.invariant.1 (ap (λ k. c.args.at + k) (sym many)) (omega arith) e.sound e.fixed
-          (subst (λ (xs : List ℕ). Writes (pages_of c.loop-done.self) (pages_of c.write_within.new.self) (c.args.at + c.loop-done.done) xs) (next_piece bytes c.loop-done.done n) e.writes)),
+          (subst (λ (xs : List ℕ). WritesBytes (pages_of c.loop-done.self) (pages_of c.write_within.new.self) (c.args.at + c.loop-done.done) xs) (next_piece bytes c.loop-done.done n) e.writes)),
     )
 
 pub returns-clause-sound : goal.returns-clause-sound
@@ -45,4 +45,4 @@ returns-clause-sound c = c.loop-done.invariant.1.sound
 
 pub returns-clause-writes : goal.returns-clause-writes
 returns-clause-writes c =
-    subst (λ (xs : List ℕ). Writes (pages_of c.args.self.now) (pages_of c.loop-done.self) c.args.at xs) (take_all c.loop-done.done c.args.bytes.now (omega arith)) c.loop-done.invariant.1.writes
+    subst (λ (xs : List ℕ). WritesBytes (pages_of c.args.self.now) (pages_of c.loop-done.self) c.args.at xs) (take_all c.loop-done.done c.args.bytes.now (omega arith)) c.loop-done.invariant.1.writes

@@ -1,5 +1,5 @@
 use Rattle.std.proofs.Common.{◌≡◌, ℕ, length, Some, sym, ap, ◌∙◌, subst, arith}
-use Rattle.block_pool.specs.Pages.{Fits, little_bytes}
+use Rattle.block_pool.specs.Pages.{HasRoomFor, little_bytes}
 use Rattle.block_pool.specs.Table.{pages_of}
 use Rattle.block_pool.proofs.Rooms.{written_fits}
 use Rattle.block_pool.proofs.Stored.{little_bytes_size, written_ready}
@@ -27,5 +27,5 @@ returns-in-Some-clause-fits c _ =
     (c.in-Some.ensures.named ∙ ap Some (sym c.block.ensures)) c.in-Some.ensures.private c.write_number.ensures.wrote
     (rw many (omega (arith, c.requires.width))) (rw many (omega arith)) (rw many c.requires.inside)
     in
-    subst (λ (n : ℕ). Fits (pages_of c.args.self.now) c.args.at n) many
+    subst (λ (n : ℕ). HasRoomFor (pages_of c.args.self.now) c.args.at n) many
     (written_fits c.args.self.now (record c.args.self.now { pool = c.write_number.new.self }) c.args.at (little_bytes c.args.width c.args.value) both.0 both.1)

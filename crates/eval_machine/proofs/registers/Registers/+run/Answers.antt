@@ -64,9 +64,9 @@ run_instr-run_call-requires t c = (
   (c.requires.deep, (c.requires.valid, fits_still c.args.input.now c.args.self.now.kept c.begin.new.self.kept c.requires.fits (stays_then _ _ _ (stays_less c.args.self.now.kept _ (omega arith)) c.begin.ensures.stays))),
 )
 
-pub run_instr-returns-in-Goes-clause-runs : goal.run_instr-returns-in-Goes-clause-runs
-run_instr-returns-in-Goes-clause-runs t c = λ rest p es d.
-    spends c.args.input.now c.args.self.now _ c.args.instr.now rest p es _ (omega (arith, c.if-self-eq0.false)) refl (came ((rw c.in-Goes.is at c.in_ok-begin.ensures.begins) rest p es) here)
+pub run_instr-returns-in-Continues-clause-runs : goal.run_instr-returns-in-Continues-clause-runs
+run_instr-returns-in-Continues-clause-runs t c = λ rest p es d.
+    spends c.args.input.now c.args.self.now _ c.args.instr.now rest p es _ (omega (arith, c.if-self-eq0.false)) refl (came ((rw c.in-Continues.is at c.in_ok-begin.ensures.begins) rest p es) here)
 
 pub run_instr-returns-in-Leaves-clause-runs : goal.run_instr-returns-in-Leaves-clause-runs
 run_instr-returns-in-Leaves-clause-runs t c = λ rest p es d.

@@ -1,7 +1,7 @@
 use Rattle.base_lists.proofs.Common.{◌≡◌, ◌+◌, ◌*◌, ◌≤◌, List, length, drop}
 use Rattle.wasm_meaning.specs.Prelude.{Entry}
 use Rattle.eval_spec.specs.Prelude.{ComesTo}
-use Rattle.eval_machine.specs.Prelude.{Place, depth, running, Stays}
+use Rattle.eval_machine.specs.Prelude.{LevelPlace, depth, running, Stays}
 use Rattle.eval_machine.proofs.registers.Registers.+run.Given as goal
 
 abbrev pub decreases-run_call : goal.decreases-run_call
@@ -22,7 +22,7 @@ decreases-run_instr l = 4 * l.self.now.kept.turns + 2
 -- the whole comes to the rest
 abbrev pub invariant-run_code-code : goal.invariant-run_code-code
 invariant-run_code-code l = record {
-  runs : (p : Place) (es : List Entry) → depth p es ≡ l.depth → ComesTo l.input (running l.input l.initial.self l.code p es) (running l.input l.self (drop l.at l.code) p es);
+  runs : (p : LevelPlace) (es : List Entry) → depth p es ≡ l.depth → ComesTo l.input (running l.input l.initial.self l.code p es) (running l.input l.self (drop l.at l.code) p es);
   stays : Stays l.initial.self.kept l.self.kept;
   inside : l.at ≤ length l.code;
 }

@@ -15,7 +15,7 @@ returns-in_err-place c =
     let t = c.in_ok-table.table.now in
     let at : slice_get ts e.part ≡ Some t = read_at ts c.deref.result.now e.part t c.deref.ensures.value c.in_ok-table.ensures.lookup.3.0 c.in_ok-table.ensures.lookup.1 in
     let found : slice_get (places_of t (space_of_export e.what)) (index_of_export e.what) ≡ None =
-    ap (λ (k : Space). slice_get (places_of t k) (index_of_export e.what)) (sym c.space.ensures) ∙ ap (slice_get (places_of t _)) (sym c.index.ensures) ∙ sym c.place.ensures ∙ c.in_err-place.was in
+    ap (λ (k : Space). slice_get (places_of t k) (index_of_export e.what)) (sym c.space.ensures) ∙ ap (slice_get (places_of t _)) (sym c.index.ensures) ∙ sym c.import_place.ensures ∙ c.in_err-place.was in
     subst (IsImportedAs lp e) (sym c.from_residual-in_err-place.ensures) (imported_none lp ts e t c.requires.tables at found)
 
 pub overflow_add-result : goal.overflow_add-result
@@ -26,7 +26,7 @@ overflow_add-result c =
     let t = c.in_ok-table.table.now in
     let at : slice_get ts e.part ≡ Some t = read_at ts c.deref.result.now e.part t c.deref.ensures.value c.in_ok-table.ensures.lookup.3.0 c.in_ok-table.ensures.lookup.1 in
     let found : slice_get (places_of t (space_of_export e.what)) (index_of_export e.what) ≡ Some c.in_ok-place.place =
-    ap (λ (k : Space). slice_get (places_of t k) (index_of_export e.what)) (sym c.space.ensures) ∙ ap (slice_get (places_of t _)) (sym c.index.ensures) ∙ sym c.place.ensures ∙ c.in_ok-place.was in
+    ap (λ (k : Space). slice_get (places_of t k) (index_of_export e.what)) (sym c.space.ensures) ∙ ap (slice_get (places_of t _)) (sym c.index.ensures) ∙ sym c.import_place.ensures ∙ c.in_ok-place.was in
     let r = imported_some lp ts e t c.in_ok-place.place c.requires.tables at found in
     omega (arith, slice_get_within (linking.sites lp) (t.first_import + c.in_ok-place.place) r.0 r.1, c.requires.imports, c.first_import.ensures)
 
@@ -38,5 +38,5 @@ returns c =
     let t = c.in_ok-table.table.now in
     let at : slice_get ts e.part ≡ Some t = read_at ts c.deref.result.now e.part t c.deref.ensures.value c.in_ok-table.ensures.lookup.3.0 c.in_ok-table.ensures.lookup.1 in
     let found : slice_get (places_of t (space_of_export e.what)) (index_of_export e.what) ≡ Some c.in_ok-place.place =
-    ap (λ (k : Space). slice_get (places_of t k) (index_of_export e.what)) (sym c.space.ensures) ∙ ap (slice_get (places_of t _)) (sym c.index.ensures) ∙ sym c.place.ensures ∙ c.in_ok-place.was in
+    ap (λ (k : Space). slice_get (places_of t k) (index_of_export e.what)) (sym c.space.ensures) ∙ ap (slice_get (places_of t _)) (sym c.index.ensures) ∙ sym c.import_place.ensures ∙ c.in_ok-place.was in
     subst (λ (n : ℕ). IsImportedAs lp e (Some (n + c.in_ok-place.place))) (sym c.first_import.ensures) (imported_some lp ts e t c.in_ok-place.place c.requires.tables at found)

@@ -2,7 +2,7 @@ use Rattle.base_lists.proofs.Common.{◌∙◌, inr, sym, ap, subst, map}
 use Rattle.merge_spec.specs.Faults as faults
 use Rattle.merge_spec.specs.Prelude.{named_modules}
 use Rattle.merge_link.specs.declared.globals.DefinedGlobal.{DefinedGlobal}
-use Rattle.merge_link.specs.Prelude.{the_own, value_at, AreValues}
+use Rattle.merge_link.specs.Prelude.{the_own, value_at, AreGlobalReads}
 use Rattle.merge_link.specs.Resolving.{read_entry_at}
 use Rattle.merge_link.proofs.Whole.{global_faults_are, values_own}
 use Rattle.merge_link.proofs.part_tables.PartTables.read_values.Goals as goal
@@ -16,7 +16,7 @@ returns-in-Some c =
 pub reads-requires-clause-values : goal.reads-requires-clause-values
 reads-requires-clause-values c =
     let ps = c.args.self.now.parts.now in
-    subst (AreValues ps) (sym c.deref-in-None.ensures.value)
+    subst (AreGlobalReads ps) (sym c.deref-in-None.ensures.value)
     (values_own ps c.in_ok-globals.globals.items c.in_ok-values.values.items c.in_ok-globals.ensures (c.in_ok-values.ensures ∙ ap (map (value_at ps)) c.deref.ensures.value))
 
 pub returns : goal.returns

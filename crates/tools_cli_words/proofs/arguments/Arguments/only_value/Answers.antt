@@ -1,5 +1,5 @@
 use Rattle.std.proofs.Common.{◌∙◌, ap, option_map}
-use Rattle.tools_cli_words.specs.Words.{values_of}
+use Rattle.tools_cli_words.specs.Arguments.{values_of}
 use Rattle.tools_cli_words.specs.Meaning.{arguments_value}
 use Rattle.tools_cli_words.proofs.Lines.{only_from}
 use Rattle.tools_cli_words.proofs.arguments.Arguments.only_value.Goals as goal

@@ -1,5 +1,5 @@
 use Rattle.base_lists.proofs.Common.{◌≡◌, ◌∙◌, ap, sym, true, false, rules, ◌+◌, ◌∷◌, drop, map, length, ◌≤◌, arith, Some, drop_all, is_some, bytes_eq}
-use Rattle.tools_cli_words.specs.Words.{values_of}
+use Rattle.tools_cli_words.specs.Arguments.{values_of}
 use Rattle.tools_cli_words.specs.Meaning.{option_value}
 use Rattle.tools_cli_words.proofs.Lines.{words_at, found_then, found_again, found_first, passed_value, all_found}
 use Rattle.tools_cli_words.proofs.arguments.Arguments.value_if_any.Goals.{then-eq+else-is_some, else-eq}

@@ -1,5 +1,5 @@
 use Rattle.std.proofs.Common.{◌≡◌, map, drop}
-use Rattle.tools_cli_words.specs.Words.{values_of, value_if_any}
+use Rattle.tools_cli_words.specs.Arguments.{values_of, value_if_any}
 use Rattle.tools_cli_words.specs.Meaning.{arguments_value, option_value}
 use Rattle.tools_cli_words.proofs.Lines.{found_then}
 use Rattle.tools_cli_words.proofs.arguments.Arguments.value_if_any.Given as goal

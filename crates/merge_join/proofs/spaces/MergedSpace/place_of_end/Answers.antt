@@ -4,7 +4,7 @@ use Rattle.merge_spec.specs.Parts.{named_modules}
 use Rattle.merge_join.specs.LinkedParts.{place_at, site}
 use Rattle.merge_join.specs.Spaces.{staying_place}
 use Rattle.merge_join.proofs.Ends.{or_zero}
-use Rattle.merge_join.proofs.spaces.MergedSpace.place.Goals as goal
+use Rattle.merge_join.proofs.spaces.MergedSpace.place_of_end.Goals as goal
 
 pub returns-in-Outside : goal.returns-in-Outside
 unfolding place_at

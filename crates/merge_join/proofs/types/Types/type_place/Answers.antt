@@ -5,7 +5,7 @@ use Rattle.wasm_tree.specs.SameTypes.{same_func_type}
 use Rattle.merge_join.specs.Texts.{text_of_type}
 use Rattle.merge_join.proofs.Ends.{or_zero}
 use Rattle.merge_join.proofs.Interning.{place_by_text, has_text}
-use Rattle.merge_join.proofs.types.Types.place.Goals as goal
+use Rattle.merge_join.proofs.types.Types.type_place.Goals as goal
 
 pub returns : goal.returns
 returns c =
