@@ -17,7 +17,7 @@ AsManySegmentsAreLeft = (s : State) (n : ℕ) (ds : List DataSeg) → length (se
 abbrev pub no_data_or : Bool → Operand → Bool
 no_data_or so o = not (names_data o) || so
 
--- If the code does not use data segments, none of its operands is one.
+-- If the code does not use data segments, none of its operands names one.
 abbrev pub DataOperandsPass : Type 0
 DataOperandsPass = (so : Bool) (is : List Instr) → (uses_data is ≡ true → so ≡ true) → all_operands_pass (no_data_or so) is ≡ true
 

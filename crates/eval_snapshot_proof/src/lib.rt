@@ -33,9 +33,9 @@ pub fn snapshots_are_valid()
 
 /// States what is left of a module's globals and data segments.
 ///
-/// - `globals`: each global that is left is that of the global at its place.
+/// - `globals`: each global that is left is what is left of the global at its place.
 /// - `segments`: what is left of a list of data segments is a list of the same length.
-/// - `code`: if code does not use data segments, none of its operands is one.
+/// - `code`: if code does not use data segments, none of its operands names one.
 pub fn snapshots_have_what_is_left()
     ensures globals { EachGlobalIsLeft }
     ensures segments { AsManySegmentsAreLeft }

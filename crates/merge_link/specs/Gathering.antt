@@ -40,6 +40,7 @@ abbrev pub first_memory : List Part → Pair → List Site → Option Site
 first_memory parts pair [] = None
 first_memory parts pair (s ∷ ss) = cond (is_memory_of parts pair s) (Some s) (first_memory parts pair ss)
 
+-- the map has for each pair of names the first of the sites that import a memory by it
 abbrev pub HasFirstSites : List Part → List Site → BTreeMap (Bor (List ℕ) × Bor (List ℕ)) Site → Type 0
 HasFirstSites parts sites firsts = (a b : List ℕ) → get_by (λ k. ordering_then (slice_cmp nat_cmp a k.0.now) (slice_cmp nat_cmp b k.1.now)) firsts ≡ first_memory parts (a, b) sites
 

@@ -13,9 +13,9 @@ use Rattle.split_plan.specs.NamedFunctions.{entries_with_name, exported_among, f
 use Rattle.split_plan.specs.Plans.{kept_fault, words_of, plan_fault}
 use Rattle.split_plan.specs.Causes.{NamesFunction, NamesNone, IsShared, IsNamedInKeep, PlanCause, FaultsHaveCauses, PlanFaultTold}
 
-or_else_twice : {A : Type 0} (a b c d : Option A) → d ≡ option_or b c → option_or a d ≡ option_or (option_or a b) c
-or_else_twice (Some x) b c d e = refl
-or_else_twice None b c d e = e
+option_or_twice : {A : Type 0} (a b c d : Option A) → d ≡ option_or b c → option_or a d ≡ option_or (option_or a b) c
+option_or_twice (Some x) b c d e = refl
+option_or_twice None b c d e = e
 
 -- one of two
 either : {A : Type 0} (a b : Option A) (y : A) → option_or a b ≡ Some y → (a ≡ Some y) ⊎ ((a ≡ None) × (b ≡ Some y))
@@ -55,7 +55,7 @@ module _ {A B : Type 0} (f : A → Option B) where
 
   in_two : (xs ys : List A) → first_given f (xs ++ ys) ≡ option_or (first_given f xs) (first_given f ys)
   in_two [] ys = refl
-  in_two (x ∷ xs) ys = or_else_twice (f x) (first_given f xs) (first_given f ys) (first_given f (xs ++ ys)) (in_two xs ys)
+  in_two (x ∷ xs) ys = option_or_twice (f x) (first_given f xs) (first_given f ys) (first_given f (xs ++ ys)) (in_two xs ys)
 
 -- ---- a word
 
@@ -143,7 +143,7 @@ module _ (m : Module) (names : List FuncName) where
     -- the words' faults go first
     in_order : plan_fault m names split keep ≡ option_or (first_given (word_fault m names) all_words) last_fault
     in_order =
-        or_else_twice (first_given (word_fault m names) (words_of split)) (first_given (word_fault m names) (words_of keep)) last_fault _ refl
+        option_or_twice (first_given (word_fault m names) (words_of split)) (first_given (word_fault m names) (words_of keep)) last_fault _ refl
         ∙ ap (λ o. option_or o last_fault) (sym (in_two (word_fault m names) (words_of split) (words_of keep)))
 
     word_cause : (e : PlanFault) → first_given (word_fault m names) all_words ≡ Some e → PlanCause m names split keep e

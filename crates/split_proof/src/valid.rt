@@ -82,8 +82,8 @@ pub fn maps_of_a_split_fit()
 /// The primary module imports what the input module imports, and a placeholder for each function
 /// that moves (`imports`). Each module, before its references are declared, has at most as many
 /// functions as the input module and the functions that move: all of them for the primary module
-/// (`primary`), its own for a secondary one (`secondary`). For these two, the input module is valid,
-/// and the functions can move.
+/// (`primary`), its own for a secondary one (`secondary`). The premises of these two are that the
+/// input module is valid and that the functions can move.
 pub fn split_modules_are_counted()
     ensures imports { (namespace : ℕ → List ℕ) (prefix : List ℕ) (m : Module) (moved : List ℕ) → length (primary_with namespace prefix m moved).imports ≡ length m.imports + length moved }
     ensures primary { (namespace : ℕ → List ℕ) (prefix : List ℕ) (m : Module) (moved : List ℕ) → IsValid m → CanMove m moved → length (funcs_of (renumbered_tree (primary_map m moved) (primary_tree namespace prefix m moved))) ≤ length (funcs_of m) + length moved }

@@ -16,6 +16,7 @@ unfoldable pub little_bytes : ℕ → ℕ → List ℕ
 little_bytes zero n = []
 little_bytes (suc count) n = n % 256 ∷ little_bytes count (n / 256)
 
+-- How many bytes a load reads: `read_width`, unfolded only where a proof names it.
 unfoldable pub load_width : LoadOp → ℕ
 load_width op = read_width op
 

@@ -28,6 +28,8 @@ in_place section func (Ok x) = Ok x
 in_place section func (Err e) = Err (placed section func e)
 
 -- ---- the result of a call is that of the reading function, unless memory ran out
+-- (with a fault of the file, `ReadFault`; `Fails`, `Gives` and `GivesAll` of `Reading` are the same for
+-- a fault without its place)
 
 abbrev pub FileFails : {Y : Type 0} → ReadFault → Result Y ReadFault → Type 0
 FileFails NoMemory read = Unit {0}

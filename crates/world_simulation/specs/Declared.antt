@@ -1,6 +1,6 @@
 -- A module with its references declared: it has perhaps one more element segment, which is
--- declarative. In a world of any module alone, it is allocated if the instance names as many
--- functions as the first module has.
+-- declarative. In a world of any one module, it is allocated if the instance has as many functions
+-- as the module whose references it declares.
 use Rattle.std.specs.Prelude.{◌≡◌, ℕ, List, [], ◌∷◌, ◌++◌, length, Some}
 use Rattle.wasm_tree_spec.specs.Prelude.{ElemSeg, Module, funcs_of}
 use Rattle.wasm_meaning.specs.Prelude.{Inst, Elem, Environment, all_there, elem_of}
